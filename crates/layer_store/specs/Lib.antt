@@ -1,0 +1,9 @@
+pub mod Boxes
+pub mod Refusals
+pub mod Table
+pub mod Codes
+pub mod Commands
+pub mod Step
+pub mod Lawful
+pub mod Answers
+pub mod Standing
