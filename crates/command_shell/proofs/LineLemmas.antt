@@ -1,77 +1,46 @@
--- Where the first newline stands, and reads one after another.
-use Rattle.std.proofs.Common.{◌≡◌, ◌≢◌, ℕ, suc, ◌+◌, ◌-◌, ◌<◌, ◌≤◌, Bool, true, false, not, cond, ltb, eqb, ◌==◌, List, [], ◌∷◌, ◌++◌, length, take, drop, Option, Some, None, MatchOption, refl, sym, ap, ◌∙◌, one-add, arith, rules, append_assoc}
-use Rattle.std.specs.Prelude.{position, ⊤}
-use Rattle.std.specs.List.{prefix_len, AllByRecursion}
-use Rattle.std.specs.Io.KnownBytes.{Consumes, Keeps}
-use Rattle.std.proofs.lemmas.Bool.{false≢true}
+-- Where the first newline stands, and how the bytes of a buffer move.
+use Rattle.std.proofs.Common.{◌≡◌, ℕ, suc, add-suc, true, ◌+◌, ◌-◌, ◌<◌, ◌≤◌, ◌==◌, List, [], ◌∷◌, ◌++◌, length, take, drop, get_or, Option, Some, None, MatchOption, refl, sym, ap, ◌∙◌, subst, arith}
 use Rattle.std.proofs.lemmas.Bool.Decides.{nat_tests}
-use Rattle.std.proofs.lemmas.List.{take_all, drop-take, take-append-le, length-take-le}
-use Rattle.std.proofs.Math.Seq.{take-append-add, drop-drop}
-use Rattle.command_shell.specs.Found.{is_newline, IsOneLine, BeginsLine, ReadsTo}
+use Rattle.std.proofs.lemmas.List.{drop-take, drop-drop, get_or-take, take-append-drop, take-append-le, length-take-le, length-drop}
+use Rattle.std.proofs.Math.Seq.{take-append-add, take-add, drop-cons}
+use Rattle.memchr.specs.Find.{IsFirstByte, is_byte}
+use Rattle.command_shell.specs.Lines.{newline, IsOneLine}
+use Rattle.command_shell.specs.Reading.{BeginsLine}
 
-abbrev pub in_line : ℕ → Bool
-in_line b = not (is_newline b)
+-- a newline at no index is no newline
+one_line_by_index : (xs : List ℕ) → ((k : ℕ) → k < length xs → get_or xs k 0 ≡ newline → ⊥) → IsOneLine xs
+one_line_by_index [] h = tt
+one_line_by_index (x ∷ xs) h = (h 0 (omega arith), one_line_by_index xs (λ k lt e. h (suc k) (omega arith) e))
 
-abbrev line_len : List ℕ → ℕ
-line_len xs = prefix_len in_line xs
+is_newline : (x : ℕ) → (x == newline) ≡ true → x ≡ newline
+is_newline x e = grind (arith, nat_tests)
 
-not_newline : (x : ℕ) → is_newline x ≡ false → x ≢ 10
-not_newline x e h = false≢true (sym e ∙ ap is_newline h)
-
-is_ten : (x : ℕ) → is_newline x ≡ true → x ≡ 10
-is_ten x e = grind (arith, nat_tests)
-
-line_step : (x : ℕ) (xs : List ℕ) → IsOneLine (take (line_len xs) xs) → (b : Bool) → is_newline x ≡ b → IsOneLine (take (cond (not b) (1 + line_len xs) 0) (x ∷ xs))
-line_step x xs ih true e = tt
-line_step x xs ih false e = rw one-add (not_newline x e, ih)
-
-pub line_is : (xs : List ℕ) → IsOneLine (take (line_len xs) xs)
-line_is [] = tt
-line_is (x ∷ xs) = line_step x xs (line_is xs) (is_newline x) refl
-
-end_step : (x : ℕ) (xs : List ℕ) → (line_len xs < length xs → drop (line_len xs) xs ≡ 10 ∷ drop (suc (line_len xs)) xs) → (b : Bool) → is_newline x ≡ b → cond (not b) (1 + line_len xs) 0 < length (x ∷ xs) → drop (cond (not b) (1 + line_len xs) 0) (x ∷ xs) ≡ 10 ∷ drop (suc (cond (not b) (1 + line_len xs) 0)) (x ∷ xs)
-end_step x xs ih true e h = ap (λ y. y ∷ xs) (is_ten x e)
-end_step x xs ih false e h = rw one-add (ih (omega arith))
-
-pub newline_is : (xs : List ℕ) → line_len xs < length xs → drop (line_len xs) xs ≡ 10 ∷ drop (suc (line_len xs)) xs
-newline_is [] h = absurd (omega arith)
-newline_is (x ∷ xs) h = end_step x xs (newline_is xs) (is_newline x) refl h
-
-found : (xs : List ℕ) (b : Bool) → ltb (line_len xs) (length xs) ≡ b → MatchOption (cond b (Some (line_len xs)) None) (IsOneLine xs) (BeginsLine xs)
-found xs true e = let h : line_len xs < length xs = grind (arith, nat_tests) in record { within = h; line = line_is xs; newline = newline_is xs h }
-found xs false e = let h : length xs ≤ line_len xs = grind (arith, nat_tests) in rw (take_all (line_len xs) xs h) at (line_is xs)
-
-pub newline_found : (xs : List ℕ) → MatchOption (position is_newline xs) (IsOneLine xs) (BeginsLine xs)
-newline_found xs = found xs (ltb (line_len xs) (length xs)) refl
-
-pub consumes_more : (a b c : Option (List ℕ)) (x y : List ℕ) → Consumes a b x → Consumes b c y → Consumes a c (x ++ y)
-consumes_more None b c x y p q = tt
-consumes_more (Some a) None c x y p q = elim p [ ]
-consumes_more (Some a) (Some b) None x y p q = elim q [ ]
-consumes_more (Some a) (Some b) (Some c) x y p q = p ∙ ap (λ t. x ++ t) q ∙ sym (append_assoc x y c)
-
-pub consumes_kept : (a b c : Option (List ℕ)) (x : List ℕ) → Consumes a b x → Keeps b c → Consumes a c x
-consumes_kept None b c x p q = tt
-consumes_kept (Some a) None c x p q = elim p [ ]
-consumes_kept (Some a) (Some b) None x p q = elim q [ ]
-consumes_kept (Some a) (Some b) (Some c) x p q = p ∙ ap (λ t. x ++ t) (sym q)
-
-pub consumes_none : (a b : Option (List ℕ)) → Keeps a b → Consumes a b []
-consumes_none None b q = tt
-consumes_none (Some a) None q = elim q [ ]
-consumes_none (Some a) (Some b) q = sym q
-
-module _ {R : Type 0} {remaining : R → Option (List ℕ)} where
-  -- one read after another
-  pub reads_on : {old mid new : R} {P Q S : List ℕ → Type 0} → ReadsTo remaining old mid P → ReadsTo remaining mid new Q → ((x y : List ℕ) → P x → Q y → S (x ++ y)) → ReadsTo remaining old new S
-  reads_on p q f = record { more = p.more ++ q.more; read = consumes_more _ _ _ p.more q.more p.read q.read; so = f p.more q.more p.so q.so }
-
-one_line_append : (x y : List ℕ) → IsOneLine x → IsOneLine y → IsOneLine (x ++ y)
-one_line_append [] y p q = q
-one_line_append (a ∷ x) y p q = (p.0, one_line_append x y p.1 q)
+-- what a search for the first newline says
+pub newline_found : (xs : List ℕ) (r : Option ℕ) → IsFirstByte (is_byte newline) xs r → MatchOption r (IsOneLine xs) (BeginsLine xs)
+newline_found xs None h = one_line_by_index xs (λ k lt e. h k (omega arith) lt (ap (λ y. y == newline) e))
+newline_found xs (Some n) h = record {
+  within = h.0.high;
+  line = one_line_by_index (take n xs) (λ k lt e.
+      let below : k < n = omega (arith, length-take-le n xs (omega (arith, h.0.high))) in
+      h.0.before k (omega arith) below (ap (λ y. y == newline) (sym (get_or-take n xs k 0 below) ∙ e)));
+  ends = drop-cons xs n 0 h.0.high ∙ ap (λ y. y ∷ drop (suc n) xs) (is_newline (get_or xs n 0) h.1);
+}
 
 pub lines_join : (x y : List ℕ) → IsOneLine x → IsOneLine y → IsOneLine (x ++ y)
-lines_join = one_line_append
+lines_join [] y p q = q
+lines_join (a ∷ x) y p q = (p.0, lines_join x y p.1 q)
+
+-- no newline in a front, and none in the rest
+pub none_later : (xs : List ℕ) (seen : ℕ) → IsOneLine (take seen xs) → IsOneLine (drop seen xs) → IsOneLine xs
+none_later xs seen p q = rw take-append-drop at (lines_join (take seen xs) (drop seen xs) p q)
+
+-- no newline in a front, and the first of the rest
+pub begins_later : (xs : List ℕ) (seen n : ℕ) → seen ≤ length xs → IsOneLine (take seen xs) → BeginsLine (drop seen xs) n → BeginsLine xs (seen + n)
+begins_later xs seen n h p q = record {
+  within = omega (arith, q.within, length-drop seen xs);
+  line = rw take-add (lines_join (take seen xs) (take n (drop seen xs)) p q.line);
+  ends = sym (drop-drop n seen xs) ∙ q.ends ∙ ap (λ t. newline ∷ t) (drop-drop (suc n) seen xs ∙ ap (λ k. drop k xs) (add-suc seen n));
+}
 
 -- what stays after some was taken
 pub drop_span : (s e n : ℕ) (xs : List ℕ) → s + n ≤ e → take (e - (s + n)) (drop (s + n) xs) ≡ drop n (take (e - s) (drop s xs))

@@ -9,7 +9,7 @@ use Rattle.std.proofs.lemmas.Fmt.{IsAscii-from_digits}
 use Rattle.std.proofs.lemmas.Str.{IsUtf8-from_ascii}
 use Rattle.std.specs.Str.Parse.{digits_value}
 use Rattle.std.proofs.Common.{rules}
-use Rattle.command_shell.specs.Words.{is_blank, words_of, begins_word, onto_first}
+use Rattle.command_shell.specs.Lines.{is_blank, words_of, begins_word, onto_first}
 
 abbrev pub in_word : ℕ → Bool
 in_word b = not (is_blank b)

@@ -75,7 +75,7 @@ fn write_count<W: Write>(writer: &mut W, count: usize) -> io::Result<()>
 
 fn write_each<W: Write>(writer: &mut W, rows: &[(u64, AnyBox)]) -> io::Result<()>
     ensures { Writes (W.contents writer.old) (W.contents writer.new) result
-        (flat_map row_text (map row_of rows.now)) }
+        (flat_map (λ row. row_text (row_of row)) rows.now) }
 {
     for row in rows {
         write_row(writer, row)?;

@@ -1,5 +1,5 @@
 use Rattle.std.proofs.Common.{◌≡◌, List, length, ◌++◌, option_map}
-use Rattle.command_shell.specs.Lines.{coordinates_of}
+use Rattle.command_shell.specs.Numbers.{coordinates_of}
 use Rattle.command_shell.proofs.parse.coordinates.Given as goal
 
 -- the coordinates so far, and then those of what is left

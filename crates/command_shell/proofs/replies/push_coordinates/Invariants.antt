@@ -1,6 +1,6 @@
 use Rattle.std.proofs.Common.{◌≡◌, ◌≤◌, ◌+◌, ◌*◌, ◌++◌, take}
 use Rattle.arrayvec.specs.ArrayVec.{array_vec_len}
-use Rattle.command_shell.specs.Replies.{coordinates_text}
+use Rattle.command_shell.specs.Texts.{coordinates_text}
 use Rattle.command_shell.proofs.replies.push_coordinates.Given as goal
 
 abbrev pub invariant-loop-coordinate : goal.invariant-loop-coordinate

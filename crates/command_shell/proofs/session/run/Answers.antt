@@ -1,8 +1,8 @@
-use Rattle.std.proofs.Common.{subst, sym, [], true, false}
-use Rattle.std.proofs.Common.{List, ℕ}
-use Rattle.command_shell.specs.Run.{Serves}
-use Rattle.command_shell.specs.Reading.{pending}
-use Rattle.command_shell.proofs.RunLemmas.{takes_none, takes_then, serves_none, reads_none, serves_more, ends_run}
+use Rattle.std.proofs.Common.{ℕ, List, [], true, false, sym, subst}
+use Rattle.command_shell.specs.Pending.{pending}
+use Rattle.command_shell.specs.Serving.{Serves}
+use Rattle.command_shell.proofs.ReadLemmas.{reads_none}
+use Rattle.command_shell.proofs.SessionLemmas.{takes_none, takes_then, serves_none, serves_more, ends_run}
 use Rattle.command_shell.proofs.session.run.Goals as goal
 
 pub loop-end-init : goal.loop-end-init

@@ -7,7 +7,7 @@ use Rattle.std.specs.Str.Parse.{digits_value, ParsesUnsigned}
 use Rattle.std.specs.Char.{is_ascii_digit}
 use Rattle.std.specs.List.{list_all}
 use Rattle.std.specs.Result.{OkIff, result_ok}
-use Rattle.command_shell.specs.Words.{is_numeral, number_of}
+use Rattle.command_shell.specs.Numbers.{is_numeral, number_of}
 use Rattle.command_shell.proofs.WordLemmas.{own}
 use Rattle.command_shell.proofs.words.number.Goals as goal
 

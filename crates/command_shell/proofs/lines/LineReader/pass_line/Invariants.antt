@@ -1,6 +1,7 @@
 use Rattle.std.proofs.Common.{◌≡◌, ◌≤◌, ◌<◌, ◌-◌, ◌^◌, ◌++◌, []}
-use Rattle.command_shell.specs.Reading.{pending, work_left}
-use Rattle.command_shell.specs.Found.{ReadsTo, IsOneLine}
+use Rattle.command_shell.specs.Pending.{pending, work_left}
+use Rattle.command_shell.specs.Lines.{IsOneLine}
+use Rattle.command_shell.specs.Reading.{ReadsTo}
 use Rattle.command_shell.proofs.lines.LineReader.pass_line.Given as goal
 
 abbrev pub invariant-loop-self : goal.invariant-loop-self
