@@ -1,4 +1,5 @@
 pub mod WordLemmas
+pub mod NumberLemmas
 pub mod LineLemmas
 pub mod CommandLemmas
 pub mod WriteLemmas

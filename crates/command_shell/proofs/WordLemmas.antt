@@ -1,14 +1,7 @@
 -- How the words of a line follow from its bytes, from the front.
 use Rattle.std.proofs.Common.{◌≡◌, ℕ, suc, ◌+◌, ◌<◌, Bool, true, false, not, cond, List, [], ◌∷◌, length, take, drop, refl, sym, ap, ◌∙◌, ◌⊎◌, inl, inr, ⊎_elim, one-add, arith}
-use Rattle.std.specs.List.{prefix_len, list_all}
-use Rattle.std.specs.Prelude.{IsUtf8}
-use Rattle.std.specs.Char.{is_ascii_digit}
+use Rattle.std.specs.List.{prefix_len}
 use Rattle.std.proofs.lemmas.Bool.{false≢true}
-use Rattle.std.proofs.lemmas.Str.Parse.{IsNumeralModel, numerals_by_value}
-use Rattle.std.proofs.lemmas.Fmt.{IsAscii-from_digits}
-use Rattle.std.proofs.lemmas.Str.{IsUtf8-from_ascii}
-use Rattle.std.specs.Str.Parse.{digits_value}
-use Rattle.std.proofs.Common.{rules}
 use Rattle.command_shell.specs.Lines.{is_blank, words_of, begins_word, onto_first}
 
 abbrev pub in_word : ℕ → Bool
@@ -69,9 +62,3 @@ no_word xs h = ⊎_elim (λ e. sym (words_of-from_word xs) ∙ ap words_of e) (�
 -- else its first word is that
 pub one_word : (xs : List ℕ) → 0 < prefix_len in_word (from_word xs) → words_of xs ≡ take (prefix_len in_word (from_word xs)) (from_word xs) ∷ words_of (drop (prefix_len in_word (from_word xs)) (from_word xs))
 one_word xs some = ⊎_elim (λ e. absurd (omega (arith, ap (prefix_len in_word) e))) (λ b. sym (words_of-from_word xs) ∙ words_of-word (from_word xs) b) (from_word-begins xs)
-
-pub own : IsNumeralModel (λ ds. list_all is_ascii_digit ds ≡ true) (digits_value 10)
-own = numerals_by_value _ (search rules)
-
-pub utf8_digits : (w : List ℕ) → list_all is_ascii_digit w ≡ true → IsUtf8 w
-utf8_digits w h = IsUtf8-from_ascii w (IsAscii-from_digits w (own.to w h))

@@ -1,10 +1,10 @@
 //! The words of a line, and the numbers that words are.
 
-ghost use Rattle.std.specs.Prelude.{◌≡◌, ◌≤◌, ◌↔◌, [], ◌∷◌, length, not, true, false, MatchOption, IsTrue};
-ghost use Rattle.std.specs.List.{list_all, prefix_len};
-ghost use Rattle.std.specs.Char.{is_ascii_digit};
+ghost use Rattle.std.specs.Prelude.{◌≡◌, ◌+◌, ◌*◌, ◌^◌, ◌<◌, ◌≤◌, ◌↔◌, [], ◌∷◌, length, not, true, false, MatchOption, IsTrue};
+ghost use Rattle.std.specs.List.{prefix_len};
+ghost use Rattle.std.specs.Char.{is_ascii_digit, digit_value};
 ghost use Rattle.command_shell.specs.Lines.{is_blank, words_of};
-ghost use Rattle.command_shell.specs.Numbers.{is_numeral, number_of, coordinate_of};
+ghost use Rattle.command_shell.specs.Numbers.{number_of, coordinate_of};
 
 use std::marker::Model;
 
@@ -81,24 +81,34 @@ fn is_blank(byte: u8) -> bool
 pub fn number(word: &[u8]) -> Option<u64>
     ensures { result ≡ number_of word.now }
 {
-    digits(word)?.parse::<u64>().ok()
-}
-
-// The word as text, where it is one digit or more.
-fn digits(word: &[u8]) -> Option<&str>
-    ensures { MatchOption result (is_numeral word.now ≡ false)
-        (λ text. (is_numeral word.now ≡ true) × (text.now ≡ word.now)) }
-{
-    if word.is_empty() || !is_all_digits(word) {
+    if word.is_empty() {
         return None;
     }
-    std::str::from_utf8(word).ok()
+    let mut value = 0;
+    for byte in word {
+        value = followed_by(value, digit(*byte)?)?;
+    }
+    Some(value)
 }
 
-fn is_all_digits(word: &[u8]) -> bool
-    ensures { result ≡ list_all is_ascii_digit word.now }
+// The value of a decimal digit.
+fn digit(byte: u8) -> Option<u64>
+    ensures { MatchOption result (is_ascii_digit byte ≡ false)
+        (λ d. (is_ascii_digit byte ≡ true) × (d ≡ digit_value byte)) }
 {
-    word.iter().all(|byte| byte.is_ascii_digit())
+    if byte.is_ascii_digit() {
+        Some(u64::from(byte - b'0'))
+    } else {
+        None
+    }
+}
+
+// The value of a numeral with a digit behind it.
+fn followed_by(value: u64, digit: u64) -> Option<u64>
+    ensures { MatchOption result (2 ^ 64 ≤ value * 10 + digit)
+        (λ next. (next ≡ value * 10 + digit) × (next < 2 ^ 64)) }
+{
+    value.checked_mul(10)?.checked_add(digit)
 }
 
 /// The coordinate that a word is: a number of 32 bits, which a minus may stand before.
