@@ -16,7 +16,7 @@ pub const MAX_LINE: usize = 4096;
 const MOST_BOUNDS: usize = 6;
 
 /// A line that was read (docs/COMMANDS.md). It borrows the names of layers from the line's bytes.
-#[derive(Clone, Copy, Debug)]
+#[derive(Clone, Copy, PartialEq, Eq, Debug)]
 pub enum Line<'a> {
     /// A line of blanks, or a comment. It has no reply.
     Blank,
