@@ -105,15 +105,20 @@ fn push_box(line: &mut Text, bounds: &AnyBox)
     ensures room { array_vec_len line.new ≤ array_vec_len line.old + 72 }
 {
     match bounds {
-        AnyBox::Two(bounds) => {
-            push_coordinates(line, &bounds.low());
-            push_coordinates(line, &bounds.high());
-        }
-        AnyBox::Three(bounds) => {
-            push_coordinates(line, &bounds.low());
-            push_coordinates(line, &bounds.high());
-        }
+        AnyBox::Two(bounds) => push_corners(line, &bounds.low(), &bounds.high()),
+        AnyBox::Three(bounds) => push_corners(line, &bounds.low(), &bounds.high()),
     }
+}
+
+fn push_corners(line: &mut Text, low: &[i32], high: &[i32])
+    requires few { (length low.now ≤ 3) × (length high.now ≤ 3) }
+    requires room { array_vec_len line.old ≤ 40 }
+    ensures items { line.new.items
+        ≡ line.old.items ++ coordinates_text low.now ++ coordinates_text high.now }
+    ensures room { array_vec_len line.new ≤ array_vec_len line.old + 72 }
+{
+    push_coordinates(line, low);
+    push_coordinates(line, high);
 }
 
 fn push_coordinates(line: &mut Text, coordinates: &[i32])
