@@ -7,6 +7,7 @@
 mod lines;
 mod parse;
 mod replies;
+mod reply_line;
 mod session;
 #[cfg(test)]
 mod tests;

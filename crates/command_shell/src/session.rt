@@ -66,22 +66,22 @@ fn step<A: Allocator + Copy, R: Read, W: Write>(
         Ok(Found::Line(len)) => {
             let written = answer(store, parse_line(lines.front(len)), output);
             lines.take(len + 1);
-            after(written, false)
+            end_after(written, false)
         }
         Ok(Found::Last(len)) => {
             let written = answer(store, parse_line(lines.front(len)), output);
             lines.take(len);
-            after(written, true)
+            end_after(written, true)
         }
-        Ok(Found::TooLong) => after(answer(store, Line::Bad, output), false),
-        Ok(Found::LastTooLong) => after(answer(store, Line::Bad, output), true),
+        Ok(Found::TooLong) => end_after(answer(store, Line::Bad, output), false),
+        Ok(Found::LastTooLong) => end_after(answer(store, Line::Bad, output), true),
         Ok(Found::End) => Some(RunEnd::Finished),
         Err(_) => Some(RunEnd::ReadFault),
     }
 }
 
-// What follows an answer, where the text may have ended.
-fn after(written: io::Result<()>, ended: bool) -> Option<RunEnd>
+// How the run ends after an answer, if it does. The text may have ended behind the line.
+fn end_after(written: io::Result<()>, ended: bool) -> Option<RunEnd>
     ensures { MatchResult written
         (λ _. result ≡ (if ended then Some RunEnd.Finished else None))
         (λ _. result ≡ Some RunEnd.WriteFault) }
@@ -124,14 +124,14 @@ fn reply_to<A: Allocator + Copy>(store: &mut Store<A>, line: Line<'_>) -> Option
             layer,
             dims,
             fanout,
-        } => Some(done(store.create(layer, dims, fanout))),
-        Line::Insert { layer, id, bounds } => Some(done(store.insert(layer, id, bounds))),
-        Line::Window { layer, bounds } => Some(boxes(store.window(layer, bounds))),
+        } => Some(change_reply(store.create(layer, dims, fanout))),
+        Line::Insert { layer, id, bounds } => Some(change_reply(store.insert(layer, id, bounds))),
+        Line::Window { layer, bounds } => Some(window_reply(store.window(layer, bounds))),
     }
 }
 
 // The reply that the outcome of a change is.
-fn done<A: Allocator>(outcome: Result<(), Refusal>) -> Reply<A>
+fn change_reply<A: Allocator>(outcome: Result<(), Refusal>) -> Reply<A>
     ensures { reply_answer result ≡ done_answer outcome }
 {
     match outcome {
@@ -141,7 +141,7 @@ fn done<A: Allocator>(outcome: Result<(), Refusal>) -> Reply<A>
 }
 
 // The reply that the outcome of a range query is.
-fn boxes<A: Allocator>(outcome: Result<Vec<(u64, AnyBox), A>, Refusal>) -> Reply<A>
+fn window_reply<A: Allocator>(outcome: Result<Vec<(u64, AnyBox), A>, Refusal>) -> Reply<A>
     ensures { reply_answer result ≡ boxes_answer outcome }
 {
     match outcome {

@@ -17,7 +17,7 @@ returns-in-Ok-Line-clause-steps g c =
     let n = c.in-Ok-Line.len in
     let at_end = IsAtEnd (g.R.Read.remaining c.find.new.reader) in
     let found = rw c.in-Ok-Line.field-0-is at c.in-Ok-Line.ensures.found in
-    steps_line c.args.input.now c.find.new.reader c.args.output.now c.answer-written.new.output bytes (pending c.take.new.self) (take n mid ++ newline ∷ []) (take n mid) _ false c.after.result c.answer-written.result c.after.ensures
+    steps_line c.args.input.now c.find.new.reader c.args.output.now c.answer-written.new.output bytes (pending c.take.new.self) (take n mid ++ newline ∷ []) (take n mid) _ false c.end_after.result c.answer-written.result c.end_after.ensures
     (line_read c.args.input.now c.find.new.reader bytes mid (pending c.take.new.self) n at_end found c.take.ensures.pending)
     (lines_of-line (take n mid) (one_line c.args.input.now c.find.new.reader bytes mid (pending c.take.new.self) n at_end found))
     (c.parse_line.ensures ∙ ap meaning_of c.front.ensures) c.answer-written.ensures
@@ -30,7 +30,7 @@ returns-in-Ok-Last-clause-steps g c =
     let n = c.in-Ok-Last.len in
     let at_end = IsAtEnd (g.R.Read.remaining c.find.new.reader) in
     let found = rw c.in-Ok-Last.field-0-is at c.in-Ok-Last.ensures.found in
-    steps_line c.args.input.now c.find.new.reader c.args.output.now c.answer-written-in-Ok-Last.new.output bytes left mid mid _ true c.after-in-Ok-Last.result c.answer-written-in-Ok-Last.result c.after-in-Ok-Last.ensures
+    steps_line c.args.input.now c.find.new.reader c.args.output.now c.answer-written-in-Ok-Last.new.output bytes left mid mid _ true c.end_after-in-Ok-Last.result c.answer-written-in-Ok-Last.result c.end_after-in-Ok-Last.ensures
     (last_read c.args.input.now c.find.new.reader bytes mid left n found (c.take-in-Ok-Last.ensures.pending ∙ last_left c.args.input.now c.find.new.reader bytes mid n at_end found))
     (last_line c.args.input.now c.find.new.reader bytes mid n at_end found)
     (c.parse_line-in-Ok-Last.ensures ∙ ap meaning_of (c.front-in-Ok-Last.ensures ∙ last_front c.args.input.now c.find.new.reader bytes mid n at_end found)) c.answer-written-in-Ok-Last.ensures
@@ -41,7 +41,7 @@ returns-in-Ok-TooLong-clause-steps g c =
     let bytes = pending c.args.lines.now in
     let at_end = IsAtEnd (g.R.Read.remaining c.find.new.reader) in
     let found = rw c.in-Ok-TooLong.field-0-is at c.in-Ok-TooLong.ensures.found in
-    steps_line c.args.input.now c.find.new.reader c.args.output.now c.answer.new.output bytes left (found.so.0 ++ newline ∷ []) found.so.0 _ false c.after-in-Ok-TooLong.result c.answer.result c.after-in-Ok-TooLong.ensures
+    steps_line c.args.input.now c.find.new.reader c.args.output.now c.answer.new.output bytes left (found.so.0 ++ newline ∷ []) found.so.0 _ false c.end_after-in-Ok-TooLong.result c.answer.result c.end_after-in-Ok-TooLong.ensures
     (long_read c.args.input.now c.find.new.reader bytes left at_end found)
     (lines_of-line found.so.0 found.so.2)
     (long_meaning found.so.0 found.so.1) c.answer.ensures
@@ -52,7 +52,7 @@ returns-in-Ok-LastTooLong-clause-steps g c =
     let bytes = pending c.args.lines.now in
     let found = rw c.in-Ok-LastTooLong.field-0-is at c.in-Ok-LastTooLong.ensures.found in
     let line = bytes ++ found.more in
-    steps_line c.args.input.now c.find.new.reader c.args.output.now c.answer-in-Ok-LastTooLong.new.output bytes left line line _ true c.after-in-Ok-LastTooLong.result c.answer-in-Ok-LastTooLong.result c.after-in-Ok-LastTooLong.ensures
+    steps_line c.args.input.now c.find.new.reader c.args.output.now c.answer-in-Ok-LastTooLong.new.output bytes left line line _ true c.end_after-in-Ok-LastTooLong.result c.answer-in-Ok-LastTooLong.result c.end_after-in-Ok-LastTooLong.ensures
     (long_last_read c.args.input.now c.find.new.reader bytes left found)
     (long_last_line line found.so.0 found.so.1)
     (long_meaning line found.so.0) c.answer-in-Ok-LastTooLong.ensures

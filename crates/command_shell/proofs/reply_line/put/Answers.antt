@@ -1,7 +1,7 @@
 use Rattle.std.proofs.Common.{◌+◌, arith}
 use Rattle.std.proofs.lemmas.List.{take_rest}
 use Rattle.command_shell.proofs.WriteLemmas.{appends_more, taken_more}
-use Rattle.command_shell.proofs.replies.put.Goals as goal
+use Rattle.command_shell.proofs.reply_line.put.Goals as goal
 
 pub loop-done-preserved : goal.loop-done-preserved
 loop-done-preserved g c = record {

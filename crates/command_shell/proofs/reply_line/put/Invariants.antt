@@ -1,6 +1,6 @@
 use Rattle.std.proofs.Common.{length, take, ◌≤◌, ◌-◌}
 use Rattle.std.specs.Io.KnownBytes.{Appends}
-use Rattle.command_shell.proofs.replies.put.Given as goal
+use Rattle.command_shell.proofs.reply_line.put.Given as goal
 
 abbrev pub invariant-loop-done : goal.invariant-loop-done
 invariant-loop-done g l = record {
