@@ -121,7 +121,7 @@ impl LineReader {
     pub fn find<R: Read>(&mut self, reader: &mut R) -> io::Result<Found>
         ensures found { MatchResult result
             (λ found. ReadsTo R.remaining reader.old reader.new (λ more.
-                Finds (IsAtEnd (R.remaining reader.new)) found (pending self.old ++ more) (pending self.new)))
+            Finds (IsAtEnd (R.remaining reader.new)) found (pending self.old ++ more) (pending self.new)))
             (λ _. ReadsTo R.remaining reader.old reader.new (λ more. ⊤)) }
         ensures fewer { IfOk result (λ found. work_left self.new + work_done found ≤ work_left self.old) }
     {
@@ -163,7 +163,7 @@ impl LineReader {
         requires line { IsOneLine (pending self.old) }
         ensures found { MatchResult result
             (λ found. ReadsTo R.remaining reader.old reader.new (λ more.
-                Finds (IsAtEnd (R.remaining reader.new)) found (pending self.old ++ more) (pending self.new)))
+            Finds (IsAtEnd (R.remaining reader.new)) found (pending self.old ++ more) (pending self.new)))
             (λ _. ReadsTo R.remaining reader.old reader.new (λ more. ⊤)) }
         ensures fewer { IfOk result (λ found. work_left self.new + work_done found ≤ work_left self.old) }
     {

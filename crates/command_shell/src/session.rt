@@ -59,7 +59,7 @@ fn step<A: Allocator + Copy, R: Read, W: Write>(
 ) -> Option<RunEnd>
     ensures steps { Takes Stands store.old store.new (λ s s'.
         StepsTo R.remaining W.contents result s s' input.old input.new output.old output.new
-            (pending lines.old) (pending lines.new)) }
+        (pending lines.old) (pending lines.new)) }
     ensures fewer { IfNone result (work_left lines.new < work_left lines.old) }
 {
     match lines.find(input) {
@@ -87,13 +87,7 @@ fn end_after(written: io::Result<()>, ended: bool) -> Option<RunEnd>
         (λ _. result ≡ Some RunEnd.WriteFault) }
 {
     match written {
-        Ok(()) => {
-            if ended {
-                Some(RunEnd::Finished)
-            } else {
-                None
-            }
-        }
+        Ok(()) => { if ended { Some(RunEnd::Finished) } else { None } }
         Err(_) => Some(RunEnd::WriteFault),
     }
 }

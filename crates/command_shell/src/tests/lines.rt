@@ -93,11 +93,13 @@ fn takes_lines_of_4096_bytes(rt: HostRuntime) -> Result<(), Fail> {
         (b"".as_slice(), Line::Blank),
     ];
     for (front, line) in fronts {
-        let mut text = [b' '; MAX_LINE + 1];
-        for (byte, copy) in front.iter().zip(text.iter_mut()) {
-            *copy = *byte;
+        let mut text = Vec::from_slice(rt.alloc(), front)?;
+        for _ in front.len()..MAX_LINE {
+            text.push(b' ')?;
         }
-        assert_eq!(rt; parse_line(&text[..MAX_LINE]), line);
+        assert_eq!(rt; text.len(), 4096);
+        assert_eq!(rt; parse_line(&text), line);
+        text.push(b' ')?;
         assert_eq!(rt; parse_line(&text), Line::Bad);
     }
     Ok(())

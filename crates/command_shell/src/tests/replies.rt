@@ -19,7 +19,10 @@ fn writes_each_refusal(rt: HostRuntime) -> Result<(), Fail> {
         (Refusal::WrongDims, b"fail 8 WrongDims\n".as_slice()),
         (Refusal::Duplicate, b"fail 9 Duplicate\n".as_slice()),
         (Refusal::NoObject, b"fail 10 NoObject\n".as_slice()),
-        (Refusal::TooManyObjects, b"fail 11 TooManyObjects\n".as_slice()),
+        (
+            Refusal::TooManyObjects,
+            b"fail 11 TooManyObjects\n".as_slice(),
+        ),
         (Refusal::NotEmpty, b"fail 12 NotEmpty\n".as_slice()),
         (
             Refusal::DuplicateInLoad(u64::MAX),
@@ -30,7 +33,10 @@ fn writes_each_refusal(rt: HostRuntime) -> Result<(), Fail> {
         (Refusal::Memory, b"fail 16 Memory\n".as_slice()),
         (Refusal::Device, b"fail 17 Device\n".as_slice()),
         (Refusal::Damaged(3), b"fail 18 Damaged 3\n".as_slice()),
-        (Refusal::StoreFailed(17), b"fail 19 StoreFailed 17\n".as_slice()),
+        (
+            Refusal::StoreFailed(17),
+            b"fail 19 StoreFailed 17\n".as_slice(),
+        ),
         (Refusal::NotClosed, b"fail 20 NotClosed\n".as_slice()),
         (Refusal::NotAStore, b"fail 21 NotAStore\n".as_slice()),
         (Refusal::WrongVersion, b"fail 22 WrongVersion\n".as_slice()),
@@ -61,8 +67,7 @@ fn writes_rows(rt: HostRuntime) -> Result<(), Fail> {
         (Reply::Boxes(Vec::new(rt.alloc())), b"ok 0\n".as_slice()),
         (
             Reply::Boxes(rows),
-            b"ok 2\n0 -1 2 3 4\n18446744073709551615 -2147483648 -2147483648 -2147483648 2147483647 0 -2147483648\n"
-                .as_slice(),
+            b"ok 2\n0 -1 2 3 4\n18446744073709551615 -2147483648 -2147483648 -2147483648 2147483647 0 -2147483648\n".as_slice(),
         ),
     ];
     for (reply, text) in replies {

@@ -12,10 +12,7 @@ const ROWS: [(&[u8], &[u8]); 36] = [
     (b"create a 2 4", b"ok\n"),
     (b"insert a 1 0 0 10 10", b"ok\n"),
     (b"insert a 2 20 20 30 30", b"ok\n"),
-    (
-        b"window a 5 5 25 25",
-        b"ok 2\n1 0 0 10 10\n2 20 20 30 30\n",
-    ),
+    (b"window a 5 5 25 25", b"ok 2\n1 0 0 10 10\n2 20 20 30 30\n"),
     (b"window a 11 11 19 19", b"ok 0\n"),
     (b"", b""),
     (b"# an empty layer", b""),
@@ -45,19 +42,13 @@ const ROWS: [(&[u8], &[u8]); 36] = [
     (b"# touching", b""),
     (b"insert b 2 1 1 2 2", b"ok\n"),
     (b"insert b 1 0 0 1 1", b"ok\n"),
-    (
-        b"window b 1 1 1 1",
-        b"ok 2\n1 0 0 1 1\n2 1 1 2 2\n",
-    ),
+    (b"window b 1 1 1 1", b"ok 2\n1 0 0 1 1\n2 1 1 2 2\n"),
     (b"window b 2 0 2 0", b"ok 0\n"),
     (b"# refusals", b""),
     (b"insert b 1 5 5 6 6", b"fail 9 Duplicate\n"),
     (b"insert b 3 1 0 0 0", b"fail 7 BadBox\n"),
     (b"create A 2 4", b"fail 1 BadName\n"),
-    (
-        b"create abcdefghijklmnopqrstuvwxy 2 4",
-        b"fail 1 BadName\n",
-    ),
+    (b"create abcdefghijklmnopqrstuvwxy 2 4", b"fail 1 BadName\n"),
     (b"create b 4 4", b"fail 4 BadDims\n"),
     (b"create d 2 3", b"fail 5 BadFanout\n"),
     (b"create d 2 101", b"fail 5 BadFanout\n"),
@@ -128,7 +119,9 @@ fn refuses_a_layer_too_many(rt: HostRuntime) -> Result<(), Fail> {
     for first in b'a'..=b'z' {
         for second in b'0'..=b'9' {
             let number = u32::from(first - b'a') * 10 + u32::from(second - b'0');
-            let line = [b'c', b'r', b'e', b'a', b't', b'e', b' ', first, second, b' ', b'2', b' ', b'4'];
+            let line = [
+                b'c', b'r', b'e', b'a', b't', b'e', b' ', first, second, b' ', b'2', b' ', b'4',
+            ];
             let mut input = line.as_slice();
             let mut output = Vec::new(rt.alloc());
             let end = run(&mut store, &mut input, &mut output);
@@ -151,7 +144,10 @@ fn gives_up_where_memory_is_refused(rt: HostRuntime) -> Result<(), Fail> {
     let lines = [
         (b"create a 2 4".as_slice(), b"fail 3 NoLayer\n".as_slice()),
         (b"insert a 1 0 0 9 9".as_slice(), b"ok 0\n".as_slice()),
-        (b"window a 0 0 9 9".as_slice(), b"ok 1\n1 0 0 9 9\n".as_slice()),
+        (
+            b"window a 0 0 9 9".as_slice(),
+            b"ok 1\n1 0 0 9 9\n".as_slice(),
+        ),
     ];
     for (line, before) in lines {
         for k in 0..100u32 {
