@@ -1,6 +1,5 @@
 -- One read after another, and the texts that were taken of what was read.
 use Rattle.std.proofs.Common.{◌≡◌, ℕ, suc, ◌+◌, ◌<◌, ◌≤◌, add-one, Bool, true, false, List, [], ◌∷◌, ◌++◌, length, take, drop, Option, Some, None, refl, sym, ap, ◌∙◌, subst, append_assoc, arith}
-use Rattle.std.specs.Prelude.{⊤}
 use Rattle.std.specs.Io.KnownBytes.{Consumes, IsAtEnd}
 use Rattle.std.proofs.lemmas.List.{take-append-drop, take_all, drop_all}
 use Rattle.command_shell.specs.Lines.{newline, IsOneLine, IsWhole, lines_of}
@@ -41,7 +40,7 @@ module _ {R : Type 0} {remaining : R → Option (List ℕ)} where
   }
 
   -- some bytes were read, and no text was taken of them
-  pub begun_read : (r r' : R) (pending : List ℕ) (read : ReadsTo remaining r r' (λ more. ⊤)) → Reads remaining false r r' pending (pending ++ read.more) []
+  pub begun_read : {P : List ℕ → Type 0} (r r' : R) (pending : List ℕ) (read : ReadsTo remaining r r' P) → Reads remaining false r r' pending (pending ++ read.more) []
   begun_read r r' pending read = record { stops = none; read = record { more = read.more; read = read.read; so = refl } }
 
   -- a line was found, and taken with its newline

@@ -81,7 +81,7 @@ module _ {R W : Type 0} {remaining : R → Option (List ℕ)} {contents : W → 
   -- whole commands, and then the rest of a run
   pub ends_run : (old mid new : Standing) (r0 r1 r2 : R) (w0 w1 w2 : W) (pending left : List ℕ) → Serves remaining contents false true old mid r0 r1 w0 w1 pending left → (end : RunEnd) → RunsFrom remaining contents end mid new r1 r2 w1 w2 left → RunsFrom remaining contents end old new r0 r2 w0 w2 pending
   ends_run old mid new r0 r1 r2 w0 w1 w2 pending left p Finished h = serves_more true true old mid new r0 r1 r2 w0 w1 w2 pending left [] p h
-  ends_run old mid new r0 r1 r2 w0 w1 w2 pending left p ReadFault h = (h.0, serves_more false true old mid new r0 r1 r2 w0 w1 w2 pending left h.0 p h.1)
+  ends_run old mid new r0 r1 r2 w0 w1 w2 pending left p ReadFault h = (h.0, h.1, serves_more false true old mid new r0 r1 r2 w0 w1 w2 pending left h.0 p h.2)
   ends_run old mid new r0 r1 r2 w0 w1 w2 pending left p WriteFault h = (h.0, h.1, serves_more h.0 false old mid new r0 r1 r2 w0 w1 w2 pending left h.1 p h.2)
 
 -- a text was taken, and its commands answered

@@ -2,7 +2,7 @@
 use Rattle.std.specs.Prelude.{ℕ, ◌≡◌, Bool, true, List, [], ◌∷◌, ◌++◌}
 use Rattle.layer_store.specs.Lawful.{Request}
 use Rattle.layer_store.specs.Lawful.Request.{BadCommand, Asks as Wants}
-use Rattle.command_shell.specs.Lines.{lines_of}
+use Rattle.command_shell.specs.Lines.{lines_of, IsOneLine}
 use Rattle.command_shell.specs.Meanings.{Meaning, meaning_of}
 use Rattle.command_shell.specs.Meanings.Meaning.{Blank, Bad, Asks}
 
@@ -17,6 +17,10 @@ AsksAlone (Asks c) rs = rs ≡ Wants c ∷ []
 pub data AreCommands (ended : Bool) : List (List ℕ) → List Request → Type 0 where
   none : AreCommands ended [] []
   one : {line : List ℕ} {lines : List (List ℕ)} {ss : List Request} (rs : List Request) → AsksAlone (meaning_of line) rs → AreCommands ended lines ss → AreCommands ended (line ∷ lines) (rs ++ ss)
+
+-- bytes that are the beginning of a command at most: a line without its newline
+abbrev pub IsUnfinished : List ℕ → Type 0
+IsUnfinished bytes = IsOneLine bytes
 
 -- the commands of a whole text
 abbrev pub CommandsOf : List ℕ → List Request → Type 0

@@ -1,6 +1,6 @@
 //! The lines of a reader, found in one buffer.
 
-ghost use Rattle.std.specs.Prelude.{◌≡◌, ◌+◌, ◌<◌, ◌≤◌, ◌^◌, ◌++◌, [], length, take, drop, MatchOption, MatchResult, OnOk, OnErr, IfOk, ⊤};
+ghost use Rattle.std.specs.Prelude.{◌≡◌, ◌+◌, ◌<◌, ◌≤◌, ◌^◌, ◌++◌, [], length, take, drop, MatchOption, MatchResult, OnOk, OnErr, IfOk};
 ghost use Rattle.command_shell.specs.Lines.{IsOneLine};
 ghost use Rattle.command_shell.specs.Reading.{BeginsLine, ReadsTo};
 ghost use Rattle.std.specs.Io.KnownBytes.{IsAtEnd, Keeps};
@@ -114,7 +114,7 @@ impl LineReader {
         self.start += count;
     }
 
-    /// Finds the next line. It stays pending, unless it was too long.
+    /// Finds the next line. It stays pending, unless it was too long. Where a read fails no newline was read.
     ///
     /// A line is known to be too long once more than `MAX_LINE` bytes of it are pending and no newline is. A line
     /// whose newline is pending is given whatever its length.
@@ -122,7 +122,7 @@ impl LineReader {
         ensures found { MatchResult result
             (λ found. ReadsTo R.remaining reader.old reader.new (λ more.
             Finds (IsAtEnd (R.remaining reader.new)) found (pending self.old ++ more) (pending self.new)))
-            (λ _. ReadsTo R.remaining reader.old reader.new (λ more. ⊤)) }
+            (λ _. ReadsTo R.remaining reader.old reader.new (λ more. IsOneLine (pending self.old ++ more))) }
         ensures fewer { IfOk result (λ found. work_left self.new + work_done found ≤ work_left self.old) }
     {
         let mut seen = 0;
@@ -164,7 +164,7 @@ impl LineReader {
         ensures found { MatchResult result
             (λ found. ReadsTo R.remaining reader.old reader.new (λ more.
             Finds (IsAtEnd (R.remaining reader.new)) found (pending self.old ++ more) (pending self.new)))
-            (λ _. ReadsTo R.remaining reader.old reader.new (λ more. ⊤)) }
+            (λ _. ReadsTo R.remaining reader.old reader.new (λ more. IsOneLine (pending self.old ++ more))) }
         ensures fewer { IfOk result (λ found. work_left self.new + work_done found ≤ work_left self.old) }
     {
         let len = self.pending().len();

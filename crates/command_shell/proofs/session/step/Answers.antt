@@ -66,4 +66,4 @@ returns-in-Ok-End-clause-steps g c =
 pub returns-in-Err-clause-steps : goal.returns-in-Err-clause-steps
 returns-in-Err-clause-steps g c =
     let bytes = pending c.args.lines.now in
-    takes_none _ (λ s. (_, serves_none false s c.args.input.now c.find.new.reader c.args.output.now bytes _ (begun_read c.args.input.now c.find.new.reader bytes c.in-Err.ensures.found)))
+    takes_none _ (λ s. (_, c.in-Err.ensures.found.so, serves_none false s c.args.input.now c.find.new.reader c.args.output.now bytes _ (begun_read c.args.input.now c.find.new.reader bytes c.in-Err.ensures.found)))
