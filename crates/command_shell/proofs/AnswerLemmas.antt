@@ -1,7 +1,7 @@
 -- What a line was answered.
-use Rattle.std.proofs.Common.{◌≡◌, ℕ, List, [], ◌∷◌, ◌++◌, Option, Result, Ok, Err, refl, sym, subst}
+use Rattle.std.proofs.Common.{◌≡◌, ℕ, List, [], ◌∷◌, Option, Result, Ok, Err, refl, sym, subst}
 use Rattle.layer_store.specs.Commands.{Command}
-use Rattle.layer_store.specs.Lawful.{Standing, Request, Session, LawfulStep, Takes}
+use Rattle.layer_store.specs.Lawful.{Standing, LawfulStep, Takes}
 use Rattle.layer_store.specs.Lawful.Request.{BadCommand, Asks}
 use Rattle.layer_store.specs.Step.{Answer}
 use Rattle.layer_store.specs.Step.Answer.{Refused}

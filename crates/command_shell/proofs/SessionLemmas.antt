@@ -1,6 +1,6 @@
 -- A run, one command further.
-use Rattle.std.proofs.Common.{◌≡◌, ℕ, ◌<◌, Bool, true, false, cond, List, [], ◌∷◌, ◌++◌, take, Option, Some, None, Result, Ok, Err, MatchResult, flat_map, refl, sym, ap, ◌∙◌, subst, append_assoc}
-use Rattle.std.specs.Io.KnownBytes.{Appends, IsAtEnd}
+use Rattle.std.proofs.Common.{◌≡◌, ℕ, Bool, true, false, cond, List, [], ◌∷◌, ◌++◌, take, Option, Some, None, Result, Ok, Err, MatchResult, refl, sym, ap, ◌∙◌, subst, append_assoc}
+use Rattle.std.specs.Io.KnownBytes.{Appends}
 use Rattle.std.specs.Prelude.{IfNone}
 use Rattle.std.proofs.lemmas.List.Concat.{flat_map-append}
 use Rattle.layer_store.specs.Lawful.{Standing, Request, Session, Takes}
@@ -12,7 +12,7 @@ use Rattle.command_shell.specs.Lines.{lines_of}
 use Rattle.command_shell.specs.Meanings.{Meaning, meaning_of}
 use Rattle.command_shell.specs.Reading.{Reads}
 use Rattle.command_shell.specs.Runs.{RunsFrom, StepsTo}
-use Rattle.command_shell.specs.Serving.{BreaksOff, Wrote, WroteAs, Serves}
+use Rattle.command_shell.specs.Serving.{Wrote, WroteAs, Serves}
 use Rattle.command_shell.specs.Texts.{answer_text, texts_of}
 use Rattle.command_shell.specs.declared.session.RunEnd.{RunEnd}
 use Rattle.command_shell.specs.declared.session.RunEnd.TheVariants.{Finished, ReadFault, WriteFault}

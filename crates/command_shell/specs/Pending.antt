@@ -1,5 +1,5 @@
 -- What a `LineReader` holds, what it finds, and how much it may still do.
-use Rattle.std.specs.Prelude.{ℕ, ◌≡◌, ◌≤◌, ◌<◌, ◌-◌, ◌+◌, ◌*◌, ◌^◌, List, [], ◌∷◌, ◌++◌, length, take, drop}
+use Rattle.std.specs.Prelude.{ℕ, ◌≡◌, ◌<◌, ◌-◌, ◌+◌, ◌*◌, ◌^◌, List, [], ◌∷◌, ◌++◌, length, take, drop}
 use Rattle.command_shell.specs.Lines.{newline, IsOneLine}
 use Rattle.command_shell.specs.Meanings.{longest_line}
 use Rattle.command_shell.specs.Reading.{BeginsLine}

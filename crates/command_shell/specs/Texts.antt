@@ -1,5 +1,5 @@
 -- The texts of replies. Our rule, docs/COMMANDS.md.
-use Rattle.std.specs.Prelude.{ℕ, List, [], ◌∷◌, ◌++◌, length, codes, decimal, flat_map, map, ℤ, vec_items}
+use Rattle.std.specs.Prelude.{ℕ, List, [], ◌∷◌, ◌++◌, length, codes, decimal, flat_map, map, ℤ}
 use Rattle.std.specs.Fmt.{signed_decimal}
 use Rattle.box_math.specs.Bounds.{Bounds}
 use Rattle.layer_store.specs.Answers.{row_of}

@@ -1,4 +1,4 @@
-use Rattle.std.proofs.Common.{◌≡◌, List, length, ◌++◌, option_map}
+use Rattle.std.proofs.Common.{◌≡◌, length, ◌++◌, option_map}
 use Rattle.command_shell.specs.Numbers.{coordinates_of}
 use Rattle.command_shell.proofs.parse.coordinates.Given as goal
 

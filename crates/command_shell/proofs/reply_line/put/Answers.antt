@@ -1,4 +1,4 @@
-use Rattle.std.proofs.Common.{◌+◌, arith}
+use Rattle.std.proofs.Common.{arith}
 use Rattle.std.proofs.lemmas.List.{take_rest}
 use Rattle.command_shell.proofs.WriteLemmas.{appends_more, taken_more}
 use Rattle.command_shell.proofs.reply_line.put.Goals as goal

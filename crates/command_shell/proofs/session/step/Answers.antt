@@ -1,5 +1,4 @@
-use Rattle.std.proofs.Common.{◌≡◌, ℕ, List, [], ◌∷◌, ◌++◌, take, true, false, subst, ap, ◌∙◌}
-use Rattle.std.proofs.Common.{arith}
+use Rattle.std.proofs.Common.{[], ◌∷◌, ◌++◌, take, true, false, subst, ap, ◌∙◌}
 use Rattle.std.specs.Io.KnownBytes.{IsAtEnd}
 use Rattle.command_shell.specs.Lines.{newline}
 use Rattle.command_shell.specs.Meanings.{meaning_of}
@@ -7,7 +6,7 @@ use Rattle.command_shell.specs.Pending.{pending}
 use Rattle.command_shell.specs.Reading.{Reads}
 use Rattle.command_shell.proofs.CommandLemmas.{lines_of-line, long_meaning}
 use Rattle.command_shell.proofs.ReadLemmas.{begun_read, line_read, one_line, last_read, last_front, last_left, last_line, long_read, long_last_read, long_last_line, end_read}
-use Rattle.command_shell.proofs.SessionLemmas.{takes_none, serves_none, steps_line, fewer_after}
+use Rattle.command_shell.proofs.SessionLemmas.{takes_none, serves_none, steps_line}
 use Rattle.command_shell.proofs.session.step.Goals as goal
 
 pub returns-in-Ok-Line-clause-steps : goal.returns-in-Ok-Line-clause-steps

@@ -1,6 +1,6 @@
 use Rattle.std.proofs.Common.{◌<◌, length, arith, refl, ◌∙◌}
 use Rattle.std.proofs.lemmas.Bool.Decides.{nat_tests}
-use Rattle.command_shell.proofs.NumberLemmas.{digit_read, no_digit, too_large, all_read}
+use Rattle.command_shell.proofs.NumberLemmas.{too_large, all_read}
 use Rattle.command_shell.proofs.words.number.Goals as goal
 
 pub returns-in_err-value : goal.returns-in_err-value

@@ -1,4 +1,4 @@
-use Rattle.std.proofs.Common.{◌≡◌, ◌+◌, ◌-◌, ◌≤◌, arith, drop, take, length, sym, ap, ◌∙◌, ◌++◌}
+use Rattle.std.proofs.Common.{arith, take, sym, ap, ◌∙◌, ◌++◌}
 use Rattle.command_shell.proofs.LineLemmas.{filled}
 use Rattle.command_shell.proofs.lines.LineReader.fill.Goals as goal
 

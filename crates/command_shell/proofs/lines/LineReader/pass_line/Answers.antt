@@ -1,9 +1,9 @@
-use Rattle.std.proofs.Common.{◌≡◌, ◌++◌, ◌∷◌, [], arith, List, ℕ, append_assoc, sym, ap, ◌∙◌, subst, length, take, drop, ◌<◌, ◌+◌, suc, inl, inr, refl, take, length-append, add-one}
-use Rattle.std.specs.Prelude.{⊤, Option}
+use Rattle.std.proofs.Common.{◌≡◌, ◌++◌, ◌∷◌, [], arith, List, ℕ, append_assoc, sym, ap, ◌∙◌, subst, length, take, drop, ◌<◌, ◌+◌, refl, take, length-append, add-one}
+use Rattle.std.specs.Prelude.{Option}
 use Rattle.std.specs.Io.KnownBytes.{IsAtEnd}
 use Rattle.command_shell.specs.Lines.{newline, IsOneLine}
 use Rattle.command_shell.specs.Reading.{ReadsTo, BeginsLine}
-use Rattle.command_shell.specs.Pending.{Finds, pending, work_left}
+use Rattle.command_shell.specs.Pending.{Finds, pending}
 use Rattle.command_shell.specs.declared.lines.Found.TheVariants as Found
 use Rattle.std.proofs.lemmas.List.{take-append-drop, drop_all}
 use Rattle.command_shell.proofs.LineLemmas.{lines_join}

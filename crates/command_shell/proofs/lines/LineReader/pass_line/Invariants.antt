@@ -1,4 +1,4 @@
-use Rattle.std.proofs.Common.{◌≡◌, ◌≤◌, ◌<◌, ◌-◌, ◌^◌, ◌++◌, []}
+use Rattle.std.proofs.Common.{◌≡◌, ◌<◌, []}
 use Rattle.command_shell.specs.Pending.{pending, work_left}
 use Rattle.command_shell.specs.Lines.{IsOneLine}
 use Rattle.command_shell.specs.Reading.{ReadsTo}

@@ -1,4 +1,4 @@
-use Rattle.std.proofs.Common.{◌≡◌, ◌+◌, ◌-◌, ◌≤◌, arith, drop, take, length}
+use Rattle.std.proofs.Common.{arith}
 use Rattle.std.proofs.lemmas.List.{length-take}
 use Rattle.command_shell.proofs.LineLemmas.{drop_span}
 use Rattle.command_shell.proofs.lines.LineReader.take.Goals as goal

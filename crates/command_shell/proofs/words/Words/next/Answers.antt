@@ -1,4 +1,4 @@
-use Rattle.std.proofs.Common.{◌≡◌, ℕ, [], ◌∷◌, List, ◌<◌, length, take, drop, not, sym, ap, ◌∙◌, rules, arith}
+use Rattle.std.proofs.Common.{◌≡◌, ℕ, [], ◌∷◌, List, ◌<◌, take, drop, sym, ap, ◌∙◌, arith}
 use Rattle.std.specs.List.{prefix_len}
 use Rattle.command_shell.specs.Lines.{is_blank, words_of}
 use Rattle.command_shell.proofs.WordLemmas.{in_word, from_word, no_word, one_word}
