@@ -6,45 +6,40 @@ use layer_store::{AnyBox, Refusal};
 use std::alloc::Global;
 use std::test::Fail;
 
+const REFUSALS: [(Refusal, &[u8]); 25] = [
+    (Refusal::BadName, b"fail 1 BadName\n"),
+    (Refusal::LayerExists, b"fail 2 LayerExists\n"),
+    (Refusal::NoLayer, b"fail 3 NoLayer\n"),
+    (Refusal::BadDims, b"fail 4 BadDims\n"),
+    (Refusal::BadFanout, b"fail 5 BadFanout\n"),
+    (Refusal::TooManyLayers, b"fail 6 TooManyLayers\n"),
+    (Refusal::BadBox, b"fail 7 BadBox\n"),
+    (Refusal::WrongDims, b"fail 8 WrongDims\n"),
+    (Refusal::Duplicate, b"fail 9 Duplicate\n"),
+    (Refusal::NoObject, b"fail 10 NoObject\n"),
+    (Refusal::TooManyObjects, b"fail 11 TooManyObjects\n"),
+    (Refusal::NotEmpty, b"fail 12 NotEmpty\n"),
+    (
+        Refusal::DuplicateInLoad(u64::MAX),
+        b"fail 13 DuplicateInLoad 18446744073709551615\n",
+    ),
+    (Refusal::BadCount, b"fail 14 BadCount\n"),
+    (Refusal::DimsDiffer, b"fail 15 DimsDiffer\n"),
+    (Refusal::Memory, b"fail 16 Memory\n"),
+    (Refusal::Device, b"fail 17 Device\n"),
+    (Refusal::Damaged(3), b"fail 18 Damaged 3\n"),
+    (Refusal::StoreFailed(17), b"fail 19 StoreFailed 17\n"),
+    (Refusal::NotClosed, b"fail 20 NotClosed\n"),
+    (Refusal::NotAStore, b"fail 21 NotAStore\n"),
+    (Refusal::WrongVersion, b"fail 22 WrongVersion\n"),
+    (Refusal::BadCache, b"fail 23 BadCache\n"),
+    (Refusal::BadLine, b"fail 24 BadLine\n"),
+    (Refusal::NoPages, b"fail 25 NoPages\n"),
+];
+
 #[test]
 fn writes_each_refusal(rt: HostRuntime) -> Result<(), Fail> {
-    let texts = [
-        (Refusal::BadName, b"fail 1 BadName\n".as_slice()),
-        (Refusal::LayerExists, b"fail 2 LayerExists\n".as_slice()),
-        (Refusal::NoLayer, b"fail 3 NoLayer\n".as_slice()),
-        (Refusal::BadDims, b"fail 4 BadDims\n".as_slice()),
-        (Refusal::BadFanout, b"fail 5 BadFanout\n".as_slice()),
-        (Refusal::TooManyLayers, b"fail 6 TooManyLayers\n".as_slice()),
-        (Refusal::BadBox, b"fail 7 BadBox\n".as_slice()),
-        (Refusal::WrongDims, b"fail 8 WrongDims\n".as_slice()),
-        (Refusal::Duplicate, b"fail 9 Duplicate\n".as_slice()),
-        (Refusal::NoObject, b"fail 10 NoObject\n".as_slice()),
-        (
-            Refusal::TooManyObjects,
-            b"fail 11 TooManyObjects\n".as_slice(),
-        ),
-        (Refusal::NotEmpty, b"fail 12 NotEmpty\n".as_slice()),
-        (
-            Refusal::DuplicateInLoad(u64::MAX),
-            b"fail 13 DuplicateInLoad 18446744073709551615\n".as_slice(),
-        ),
-        (Refusal::BadCount, b"fail 14 BadCount\n".as_slice()),
-        (Refusal::DimsDiffer, b"fail 15 DimsDiffer\n".as_slice()),
-        (Refusal::Memory, b"fail 16 Memory\n".as_slice()),
-        (Refusal::Device, b"fail 17 Device\n".as_slice()),
-        (Refusal::Damaged(3), b"fail 18 Damaged 3\n".as_slice()),
-        (
-            Refusal::StoreFailed(17),
-            b"fail 19 StoreFailed 17\n".as_slice(),
-        ),
-        (Refusal::NotClosed, b"fail 20 NotClosed\n".as_slice()),
-        (Refusal::NotAStore, b"fail 21 NotAStore\n".as_slice()),
-        (Refusal::WrongVersion, b"fail 22 WrongVersion\n".as_slice()),
-        (Refusal::BadCache, b"fail 23 BadCache\n".as_slice()),
-        (Refusal::BadLine, b"fail 24 BadLine\n".as_slice()),
-        (Refusal::NoPages, b"fail 25 NoPages\n".as_slice()),
-    ];
-    for (refusal, text) in texts {
+    for (refusal, text) in REFUSALS {
         let reply: Reply<Global> = Reply::Refused(refusal);
         let mut written = Vec::new(rt.alloc());
         assert!(rt; write_reply(&reply, &mut written).is_ok());
