@@ -2,6 +2,8 @@
 #![tactic(auto)]
 
 mod boxes;
+mod layer;
+mod objects;
 mod refusal;
 mod store;
 mod table;

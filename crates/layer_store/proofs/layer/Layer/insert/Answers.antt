@@ -1,0 +1,31 @@
+use Rattle.std.proofs.Common.{rules, ◌≡◌, ◌≤◌, [], IsTrue, MatchResult, None, length}
+use Rattle.std.proofs.Common.{map as each}
+use Rattle.std.proofs.Common.{ℕ, ◌+◌, ◌-◌, ◌*◌, ◌<◌, ◌/◌, ◌%◌, Bool, true, false, nat_eq, nat_lt, List, ◌∷◌, ◌++◌, slice_index_or, slice_set, bit_and, bit_or, Fits, w8, w32, w64, Bor, MutBor}
+use Rattle.std.specs.FinMap as map
+use Rattle.std.specs.FinMap.{is_sorted}
+use Rattle.std.specs.Ordering.{nat_cmp}
+use Rattle.layer_store.specs.Answers.{row_of}
+use Rattle.layer_store.specs.Boxes.{given_bounds}
+use Rattle.layer_store.specs.Objects.{entries_of}
+use Rattle.layer_store.specs.Step.{first_refusal, box_refusals, object_refusals, window_rows}
+use Rattle.layer_store.specs.Table.{is_dims, with_object}
+use Rattle.layer_store.specs.Kept.{layer_of, IsRefusal}
+use Rattle.layer_store.proofs.layer.Layer.insert.Goals as goal
+
+-- src/layer.rt:71:21
+pub invariant_of-self-in-Two-bounds : goal.invariant_of-self-in-Two-bounds
+invariant_of-self-in-Two-bounds g c = ?
+
+-- src/layer.rt:80:21
+pub invariant_of-self-in-Three-bounds-2 : goal.invariant_of-self-in-Three-bounds-2
+invariant_of-self-in-Three-bounds-2 g c = ?
+
+-- src/layer.rt:59:5
+pub returns-in_ok-insert-in-Two-bounds-clause-inserts :
+    goal.returns-in_ok-insert-in-Two-bounds-clause-inserts
+returns-in_ok-insert-in-Two-bounds-clause-inserts g c = ?
+
+-- src/layer.rt:59:5
+pub returns-in_ok-insert-in-Three-bounds-2-clause-inserts :
+    goal.returns-in_ok-insert-in-Three-bounds-2-clause-inserts
+returns-in_ok-insert-in-Three-bounds-2-clause-inserts g c = ?
