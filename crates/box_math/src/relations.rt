@@ -22,12 +22,8 @@ impl<const D: usize> BBox<D> {
         ensures test { result ≡ meets_test D self.now other.now }
     {
         for axis in 0..D {
-            if !both_ascend(
-                self.low[axis],
-                other.high[axis],
-                other.low[axis],
-                self.high[axis],
-            ) {
+            let (low, high) = (self.low[axis], self.high[axis]);
+            if !both_ascend(low, other.high[axis], other.low[axis], high) {
                 return false;
             }
         }
@@ -40,12 +36,8 @@ impl<const D: usize> BBox<D> {
         ensures test { result ≡ within_test D self.now other.now }
     {
         for axis in 0..D {
-            if !both_ascend(
-                other.low[axis],
-                self.low[axis],
-                self.high[axis],
-                other.high[axis],
-            ) {
+            let (low, high) = (self.low[axis], self.high[axis]);
+            if !both_ascend(other.low[axis], low, high, other.high[axis]) {
                 return false;
             }
         }
