@@ -1,33 +1,56 @@
 //! Values from outside: quoted from worked examples of the tree, or worked by hand.
 
-ghost use Rattle.std.specs.Prelude.{◌^◌, ◌<◌, IfOk};
+ghost use Rattle.std.specs.Prelude.{◌^◌, ◌<◌, ◌≤◌, IfOk};
 
 use crate::BBox;
 use std::test::Fail;
 
+/// What a test answers where it was given no box.
+#[derive(Debug, Drop)]
+struct NoBox;
+
 /// The least box that encloses the points.
-fn hull<const D: usize>(points: &[[i32; D]]) -> Result<BBox<D>, &'static str> {
-    let mut hull: Option<BBox<D>> = None;
+fn hull<const D: usize>(points: &[[i32; D]]) -> Result<BBox<D>, NoBox> {
+    let Some(first) = points.first() else {
+        return Err(NoBox);
+    };
+    let mut hull = BBox::try_new(*first, *first).ok_or(NoBox)?;
     for point in points {
-        let one = BBox::try_new(*point, *point).ok_or("a point is a box")?;
-        hull = match hull {
-            Some(before) => Some(before.join(&one)),
-            None => Some(one),
-        };
+        let one = BBox::try_new(*point, *point).ok_or(NoBox)?;
+        hull = hull.join(&one);
     }
-    hull.ok_or("no points")
+    Ok(hull)
 }
 
-/// The margins of the two groups of points, added up.
-fn margins(first: &[[i32; 2]], second: &[[i32; 2]]) -> Result<u64, &'static str>
+/// The least boxes of the first points and of the rest.
+fn cut(points: &[[i32; 2]; 5], at: usize) -> Result<(BBox<2>, BBox<2>), NoBox>
+    requires { at ≤ 5 }
+{
+    let all = points.as_slice();
+    let (first, rest) = all.split_at(at);
+    Ok((hull(first)?, hull(rest)?))
+}
+
+/// The margins of the two boxes, added up.
+fn margins(points: &[[i32; 2]; 5], at: usize) -> Result<u64, NoBox>
+    requires { at ≤ 5 }
     ensures { IfOk result (λ sum. sum < 2 ^ 35) }
 {
-    Ok(hull(first)?.margin() + hull(second)?.margin())
+    let (first, rest) = cut(points, at)?;
+    Ok(first.margin() + rest.margin())
+}
+
+/// The volumes of the two boxes, added up.
+fn volumes(points: &[[i32; 2]; 5], at: usize) -> Result<u128, NoBox>
+    requires { at ≤ 5 }
+{
+    let (first, rest) = cut(points, at)?;
+    Ok(first.volume() + rest.volume())
 }
 
 #[test]
 fn measures_reach_the_ends_of_i32(rt: HostRuntime) -> Result<(), Fail> {
-    let whole = BBox::try_new([i32::MIN; 3], [i32::MAX; 3]).ok_or("whole")?;
+    let whole = BBox::try_new([i32::MIN; 3], [i32::MAX; 3]).ok_or(NoBox)?;
     let lowest = hull(&[[i32::MIN; 3]])?;
     let highest = hull(&[[i32::MAX; 3]])?;
     assert_eq!(rt; whole.volume(), 79228162458924105385300197375);
@@ -37,22 +60,22 @@ fn measures_reach_the_ends_of_i32(rt: HostRuntime) -> Result<(), Fail> {
     assert_eq!(rt; lowest.point_dist2(&[i32::MAX; 3]), 55340232195358851075);
     assert_eq!(rt; lowest.centre_dist2(&highest), 221360928781435404300);
     assert_eq!(rt; lowest.join(&highest), whole);
-    let plane = BBox::try_new([i32::MIN; 2], [i32::MAX; 2]).ok_or("plane")?;
+    let plane = BBox::try_new([i32::MIN; 2], [i32::MAX; 2]).ok_or(NoBox)?;
     assert_eq!(rt; plane.volume(), 18446744065119617025);
     Ok(())
 }
 
 #[test]
 fn boxes_that_touch_in_a_corner_meet(rt: HostRuntime) -> Result<(), Fail> {
-    let a = BBox::try_new([0, 0], [1, 1]).ok_or("a")?;
-    let b = BBox::try_new([1, 1], [2, 2]).ok_or("b")?;
+    let a = BBox::try_new([0, 0], [1, 1]).ok_or(NoBox)?;
+    let b = BBox::try_new([1, 1], [2, 2]).ok_or(NoBox)?;
     assert!(rt; a.meets(&b) && b.meets(&a));
     assert_eq!(rt; a.overlap(&b), 0);
     assert_eq!(rt; a.meet(&b), Some(hull(&[[1, 1]])?));
     assert!(rt; a.holds_point(&[1, 1]) && b.holds_point(&[1, 1]));
     assert!(rt; !a.within(&b) && a.encloses(&a));
-    let c = BBox::try_new([0, 0, 0], [1, 1, 1]).ok_or("c")?;
-    let d = BBox::try_new([1, 1, 1], [2, 2, 2]).ok_or("d")?;
+    let c = BBox::try_new([0, 0, 0], [1, 1, 1]).ok_or(NoBox)?;
+    let d = BBox::try_new([1, 1, 1], [2, 2, 2]).ok_or(NoBox)?;
     assert!(rt; c.meets(&d) && c.within(&c.join(&d)) && c.join(&d).encloses(&d));
     assert_eq!(rt; c.overlap(&d), 0);
     assert_eq!(rt; c.meet(&d), Some(hull(&[[1, 1, 1]])?));
@@ -77,19 +100,13 @@ fn margins_and_volumes_of_splits(rt: HostRuntime) -> Result<(), Fail> {
         ([[0, -5], [-5, 0], [5, 0], [3, 4], [0, 5]], 78),
     ];
     for (points, sum) in rows {
-        let cuts = margins(&points[..2], &points[2..])? + margins(&points[..3], &points[3..])?;
-        assert_eq!(rt; 2 * cuts, sum, "at {points:?}");
+        let both = margins(&points, 2)? + margins(&points, 3)?;
+        assert_eq!(rt; 2 * both, sum, "at {points:?}");
     }
-    let cuts = [
-        ([[0, 0], [2, 2], [100, 100], [102, 102], [104, 100]], 2, 12),
-        ([[0, 0], [2, 2], [100, 100], [102, 102], [104, 100]], 3, 10004),
-        ([[0, -5], [-5, 0], [5, 0], [3, 4], [0, 5]], 2, 50),
-        ([[0, -5], [-5, 0], [5, 0], [3, 4], [0, 5]], 3, 53),
-    ];
-    for (points, cut, sum) in cuts {
-        let (first, second) = points.split_at(cut);
-        assert_eq!(rt; hull(first)?.volume() + hull(second)?.volume(), sum, "at {points:?}");
-    }
+    let apart = [[0, 0], [2, 2], [100, 100], [102, 102], [104, 100]];
+    assert_eq!(rt; (volumes(&apart, 2)?, volumes(&apart, 3)?), (12, 10004));
+    let round = [[0, -5], [-5, 0], [5, 0], [3, 4], [0, 5]];
+    assert_eq!(rt; (volumes(&round, 2)?, volumes(&round, 3)?), (50, 53));
     Ok(())
 }
 
