@@ -16,7 +16,7 @@ less_is Less h = refl
 less_is Equal h = absurd h
 less_is Greater h = absurd h
 
-yes : {b : Bool} → IsTrue b → T b
+pub yes : {b : Bool} → IsTrue b → T b
 yes h = subst T (sym h) tt
 
 is_true : (b : Bool) → T b → IsTrue b

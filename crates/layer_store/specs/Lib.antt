@@ -9,4 +9,5 @@ pub mod Lawful
 pub mod Answers
 pub mod Objects
 pub mod Kept
+pub mod Listed
 pub mod Standing

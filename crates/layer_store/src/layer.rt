@@ -11,9 +11,10 @@ ghost use Rattle.layer_store.specs.Step.{first_refusal, box_refusals, object_ref
 ghost use Rattle.layer_store.specs.Table.{is_dims, with_object};
 
 use crate::boxes::{AnyBox, RawBox};
-use crate::objects::{Objects, admit, checked, meeting_three, meeting_two};
+use crate::objects::{Objects, admit, meeting, three_axes, two_axes};
 use crate::refusal::Refusal;
 use arrayvec::ArrayVec;
+use box_math::BBox;
 use std::alloc::Allocator;
 
 /// How many bytes the name of a layer has at most.
@@ -93,12 +94,18 @@ impl<A: Allocator + Copy> Layer<A> {
     {
         match (&self.objects, bounds) {
             (Objects::Two(objects), RawBox::Two(low, high)) => {
-                let window = checked(low, high).ok_or(Refusal::BadBox)?;
-                Ok(meeting_two(alloc, objects, &window)?)
+                let Some(window) = BBox::try_new(low, high) else {
+                    return Err(Refusal::BadBox);
+                };
+                let rows = meeting(alloc, objects, &window)?;
+                Ok(two_axes(alloc, &rows)?)
             }
             (Objects::Three(objects), RawBox::Three(low, high)) => {
-                let window = checked(low, high).ok_or(Refusal::BadBox)?;
-                Ok(meeting_three(alloc, objects, &window)?)
+                let Some(window) = BBox::try_new(low, high) else {
+                    return Err(Refusal::BadBox);
+                };
+                let rows = meeting(alloc, objects, &window)?;
+                Ok(three_axes(alloc, &rows)?)
             }
             _ => Err(Refusal::WrongDims),
         }

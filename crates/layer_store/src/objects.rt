@@ -1,11 +1,9 @@
 //! The objects of one layer in a list, ascending by identifier. Plain and slow: each call looks at one object after the other.
 
-ghost use Rattle.std.specs.Prelude.{◌≡◌, true, false, IsTrue, IfOk, MatchOption, MatchResult, None, Some, filter, map as each};
+ghost use Rattle.std.specs.Prelude.{◌≡◌, IsTrue, IfOk, MatchResult, None, Some, filter, map as each};
 ghost use Rattle.std.specs.FinMap.{is_sorted};
 ghost use Rattle.std.specs.Ordering.{nat_cmp};
 ghost use Rattle.box_math.specs.Bounds.{IsDims, meets_test};
-ghost use Rattle.layer_store.specs.Answers.{row_of};
-ghost use Rattle.layer_store.specs.Boxes.{is_ordered};
 ghost use Rattle.layer_store.specs.Entries.{IsSearched, BelongsAt};
 ghost use Rattle.layer_store.specs.Objects.{object_refused};
 ghost use Rattle.layer_store.specs.Step.{first_refusal};
@@ -40,7 +38,7 @@ pub fn admit<const D: usize>(
             × BelongsAt nat_cmp objects.now id place.0 × (place.1 ≡ record { low = low.entry; high = high.entry }))
         (λ e. first_refusal (object_refused D objects.now id (record { low = low.entry; high = high.entry }) is_full) ≡ Some e) }
 {
-    let Some(bounds) = checked(low, high) else {
+    let Some(bounds) = BBox::try_new(low, high) else {
         return Err(Refusal::BadBox);
     };
     let Err(place) = search(objects, id) else {
@@ -50,16 +48,6 @@ pub fn admit<const D: usize>(
         return Err(Refusal::TooManyObjects);
     }
     Ok((place, bounds))
-}
-
-/// The box with these corners, if each low is at most its high.
-pub fn checked<const D: usize>(low: [i32; D], high: [i32; D]) -> Option<BBox<D>>
-    ensures { MatchOption result
-        (is_ordered D (record { low = low.entry; high = high.entry }) ≡ false)
-        (λ b. (is_ordered D (record { low = low.entry; high = high.entry }) ≡ true)
-            × (b ≡ record { low = low.entry; high = high.entry })) }
-{
-    BBox::try_new(low, high)
 }
 
 // Where the identifier stands, or else where it belongs.
@@ -78,32 +66,44 @@ fn search<const D: usize>(objects: &[(u64, BBox<D>)], id: u64) -> Result<usize, 
     Err(objects.len())
 }
 
-/// The objects with two axes whose boxes meet the window, in their order.
-pub fn meeting_two<A: Allocator + Copy>(
+/// The objects whose boxes meet the window, in their order.
+pub fn meeting<const D: usize, A: Allocator + Copy>(
     alloc: A,
-    objects: &[(u64, BBox<2>)],
-    window: &BBox<2>,
-) -> Result<Vec<(u64, AnyBox), A>, AllocError>
-    ensures { IfOk result (λ rows. each row_of rows.items ≡ filter (λ row. meets_test 2 row.1 window.now) objects.now) }
+    objects: &[(u64, BBox<D>)],
+    window: &BBox<D>,
+) -> Result<Vec<(u64, BBox<D>), A>, AllocError>
+    requires { IsDims D }
+    ensures { IfOk result (λ rows. rows.items ≡ filter (λ row. meets_test D row.1 window.now) objects.now) }
 {
-    objects
-        .iter()
-        .filter(|object| object.1.meets(window))
-        .map(|object| (object.0, AnyBox::Two(object.1)))
+    let mut rows = Vec::new(alloc);
+    for object in objects {
+        if object.1.meets(window) {
+            rows.push(*object)?;
+        }
+    }
+    Ok(rows)
+}
+
+/// Rows with two axes, as rows of either dimension.
+pub fn two_axes<A: Allocator + Copy>(
+    alloc: A,
+    rows: &[(u64, BBox<2>)],
+) -> Result<Vec<(u64, AnyBox), A>, AllocError>
+    ensures { IfOk result (λ all. all.items ≡ each (λ row. (row.0, AnyBox.Two row.1)) rows.now) }
+{
+    rows.iter()
+        .map(|row| (row.0, AnyBox::Two(row.1)))
         .collect(alloc)
 }
 
-/// The objects with three axes whose boxes meet the window, in their order.
-pub fn meeting_three<A: Allocator + Copy>(
+/// Rows with three axes, as rows of either dimension.
+pub fn three_axes<A: Allocator + Copy>(
     alloc: A,
-    objects: &[(u64, BBox<3>)],
-    window: &BBox<3>,
+    rows: &[(u64, BBox<3>)],
 ) -> Result<Vec<(u64, AnyBox), A>, AllocError>
-    ensures { IfOk result (λ rows. each row_of rows.items ≡ filter (λ row. meets_test 3 row.1 window.now) objects.now) }
+    ensures { IfOk result (λ all. all.items ≡ each (λ row. (row.0, AnyBox.Three row.1)) rows.now) }
 {
-    objects
-        .iter()
-        .filter(|object| object.1.meets(window))
-        .map(|object| (object.0, AnyBox::Three(object.1)))
+    rows.iter()
+        .map(|row| (row.0, AnyBox::Three(row.1)))
         .collect(alloc)
 }

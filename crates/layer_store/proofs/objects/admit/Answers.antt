@@ -1,24 +1,24 @@
-use Rattle.std.proofs.Common.{rules, ◌≡◌, true, false, IsTrue, IfOk, MatchOption, MatchResult, None, Some, filter}
-use Rattle.std.proofs.Common.{map as each}
-use Rattle.std.proofs.Common.{ℕ, ◌+◌, ◌-◌, ◌*◌, ◌<◌, ◌≤◌, length, ◌/◌, ◌%◌, Bool, nat_eq, nat_lt, List, [], ◌∷◌, ◌++◌, slice_index_or, slice_set, bit_and, bit_or, Fits, w8, w32, w64, Bor, MutBor}
-use Rattle.std.specs.FinMap.{is_sorted}
+use Rattle.std.proofs.Common.{◌≡◌, sym, ◌∙◌, refl, Ok, Err, true, false}
+use Rattle.std.specs.FinMap.{contains_key, from_sorted}
 use Rattle.std.specs.Ordering.{nat_cmp}
-use Rattle.box_math.specs.Bounds.{IsDims, meets_test}
-use Rattle.layer_store.specs.Answers.{row_of}
-use Rattle.layer_store.specs.Boxes.{is_ordered}
-use Rattle.layer_store.specs.Entries.{IsSearched, BelongsAt}
-use Rattle.layer_store.specs.Objects.{object_refused}
-use Rattle.layer_store.specs.Step.{first_refusal}
+use Rattle.box_math.specs.Bounds.{ordered_test}
+use Rattle.layer_store.proofs.EntryLemmas.{found_key}
 use Rattle.layer_store.proofs.objects.admit.Goals as goal
 
--- src/objects.rt:47:9
 pub returns-in_default-search : goal.returns-in_default-search
-returns-in_default-search g c = ?
+returns-in_default-search g c =
+    let ordered : ordered_test g.row.D c.args.low c.args.high ≡ true = sym c.in-Some.ensures.test in
+    let found : contains_key (from_sorted {R = nat_cmp} c.args.objects.now) c.args.id ≡ true = sym (found_key nat_cmp c.args.objects.now c.args.id (Ok c.in_default-search.field-0) c.requires.sorted c.in_default-search.ensures) in
+    rw (ordered, found) refl
 
--- src/objects.rt:50:9
 pub returns-then-is_full : goal.returns-then-is_full
-returns-then-is_full g c = ?
+returns-then-is_full g c =
+    let ordered : ordered_test g.row.D c.args.low c.args.high ≡ true = sym c.in-Some.ensures.test in
+    let absent : contains_key (from_sorted {R = nat_cmp} c.args.objects.now) c.args.id ≡ false = sym (found_key nat_cmp c.args.objects.now c.args.id (Err c.in-Err.place) c.requires.sorted c.in-Err.ensures) in
+    rw (ordered, absent, c.if-is_full.true) refl
 
--- src/objects.rt:29:1
 pub returns : goal.returns
-returns g c = ?
+returns g c =
+    let ordered : ordered_test g.row.D c.args.low c.args.high ≡ true = sym c.in-Some.ensures.test in
+    let absent : contains_key (from_sorted {R = nat_cmp} c.args.objects.now) c.args.id ≡ false = sym (found_key nat_cmp c.args.objects.now c.args.id (Err c.in-Err.place) c.requires.sorted c.in-Err.ensures) in
+    (rw (ordered, absent, c.if-is_full.false) refl, c.in-Err.ensures, c.in-Some.ensures.value)

@@ -1,31 +1,40 @@
-use Rattle.std.proofs.Common.{rules, ◌≡◌, ◌≤◌, [], IsTrue, MatchResult, None, length}
-use Rattle.std.proofs.Common.{map as each}
-use Rattle.std.proofs.Common.{ℕ, ◌+◌, ◌-◌, ◌*◌, ◌<◌, ◌/◌, ◌%◌, Bool, true, false, nat_eq, nat_lt, List, ◌∷◌, ◌++◌, slice_index_or, slice_set, bit_and, bit_or, Fits, w8, w32, w64, Bor, MutBor}
-use Rattle.std.specs.FinMap as map
+use Rattle.std.proofs.Common.{◌≡◌, ◌∙◌, sym, ap, subst, refl, List, ℕ}
+use Rattle.std.specs.Prelude.{IsTrue}
+use Rattle.std.specs.List.{insert}
 use Rattle.std.specs.FinMap.{is_sorted}
 use Rattle.std.specs.Ordering.{nat_cmp}
-use Rattle.layer_store.specs.Answers.{row_of}
-use Rattle.layer_store.specs.Boxes.{given_bounds}
-use Rattle.layer_store.specs.Objects.{entries_of}
-use Rattle.layer_store.specs.Step.{first_refusal, box_refusals, object_refusals, window_rows}
-use Rattle.layer_store.specs.Table.{is_dims, with_object}
-use Rattle.layer_store.specs.Kept.{layer_of, IsRefusal}
+use Rattle.box_math.specs.Bounds.{Bounds}
+use Rattle.layer_store.specs.Entries.{BelongsAt}
+use Rattle.layer_store.specs.Objects.{axes_of, entries_of}
+use Rattle.layer_store.specs.declared.boxes.RawBox.TheVariants as raw
+use Rattle.layer_store.specs.declared.objects.Objects.TheVariants as kept
+use Rattle.layer_store.proofs.LayerLemmas.{in_order_after, inserts}
 use Rattle.layer_store.proofs.layer.Layer.insert.Goals as goal
 
--- src/layer.rt:71:21
 pub invariant_of-self-in-Two-bounds : goal.invariant_of-self-in-Two-bounds
-invariant_of-self-in-Two-bounds g c = ?
+invariant_of-self-in-Two-bounds g c =
+    let es = c.in-Two.objects.items in
+    let belongs = subst (λ (xs : List (ℕ × Bounds)). BelongsAt nat_cmp xs c.args.id c.in_ok-place-in-Two-bounds.place) c.deref.ensures.value c.in_ok-place-in-Two-bounds.ensures.1 in
+    let old = subst (λ (xs : List (ℕ × Bounds)). IsTrue (is_sorted nat_cmp xs)) (ap entries_of c.in-Two.is) c.args.self.now.ascending in
+    record { ascending = in_order_after c.insert.result es c.insert.new.self.items c.in_ok-place-in-Two-bounds.place c.args.id c.in_ok-place-in-Two-bounds.bounds old belongs c.insert.ensures.items }
 
--- src/layer.rt:80:21
 pub invariant_of-self-in-Three-bounds-2 : goal.invariant_of-self-in-Three-bounds-2
-invariant_of-self-in-Three-bounds-2 g c = ?
+invariant_of-self-in-Three-bounds-2 g c =
+    let es = c.in-Three.objects.items in
+    let belongs = subst (λ (xs : List (ℕ × Bounds)). BelongsAt nat_cmp xs c.args.id c.in_ok-place-in-Three-bounds-2.place) c.deref-in-Three-bounds-2.ensures.value c.in_ok-place-in-Three-bounds-2.ensures.1 in
+    let old = subst (λ (xs : List (ℕ × Bounds)). IsTrue (is_sorted nat_cmp xs)) (ap entries_of c.in-Three.is) c.args.self.now.ascending in
+    record { ascending = in_order_after c.insert-in-Three-bounds-2.result es c.insert-in-Three-bounds-2.new.self.items c.in_ok-place-in-Three-bounds-2.place c.args.id c.in_ok-place-in-Three-bounds-2.bounds old belongs c.insert-in-Three-bounds-2.ensures.items }
 
--- src/layer.rt:59:5
-pub returns-in_ok-insert-in-Two-bounds-clause-inserts :
-    goal.returns-in_ok-insert-in-Two-bounds-clause-inserts
-returns-in_ok-insert-in-Two-bounds-clause-inserts g c = ?
+pub returns-in_ok-insert-in-Two-bounds-clause-inserts : goal.returns-in_ok-insert-in-Two-bounds-clause-inserts
+returns-in_ok-insert-in-Two-bounds-clause-inserts g c = rw c.in-Two-bounds.is
+    (inserts c.args.self.now (raw.Two c.in-Two-bounds.low c.in-Two-bounds.high) c.deref.result.now (ap axes_of c.in-Two.is) (ap entries_of c.in-Two.is ∙ sym c.deref.ensures.value)
+      (kept.Two c.insert.new.self) c.args.id c.in_ok-place-in-Two-bounds.place c.in_ok-place-in-Two-bounds.bounds c.args.is_full
+      c.in_ok-place-in-Two-bounds.ensures.0 c.in_ok-place-in-Two-bounds.ensures.1 c.in_ok-place-in-Two-bounds.ensures.2 refl
+      (c.in_ok-insert-in-Two-bounds.ensures.items ∙ ap (λ xs. insert xs c.in_ok-place-in-Two-bounds.place (c.args.id, c.in_ok-place-in-Two-bounds.bounds)) (sym c.deref.ensures.value)))
 
--- src/layer.rt:59:5
-pub returns-in_ok-insert-in-Three-bounds-2-clause-inserts :
-    goal.returns-in_ok-insert-in-Three-bounds-2-clause-inserts
-returns-in_ok-insert-in-Three-bounds-2-clause-inserts g c = ?
+pub returns-in_ok-insert-in-Three-bounds-2-clause-inserts : goal.returns-in_ok-insert-in-Three-bounds-2-clause-inserts
+returns-in_ok-insert-in-Three-bounds-2-clause-inserts g c = rw c.in-Three-bounds-2.is
+    (inserts c.args.self.now (raw.Three c.in-Three-bounds-2.low c.in-Three-bounds-2.high) c.deref-in-Three-bounds-2.result.now (ap axes_of c.in-Three.is) (ap entries_of c.in-Three.is ∙ sym c.deref-in-Three-bounds-2.ensures.value)
+      (kept.Three c.insert-in-Three-bounds-2.new.self) c.args.id c.in_ok-place-in-Three-bounds-2.place c.in_ok-place-in-Three-bounds-2.bounds c.args.is_full
+      c.in_ok-place-in-Three-bounds-2.ensures.0 c.in_ok-place-in-Three-bounds-2.ensures.1 c.in_ok-place-in-Three-bounds-2.ensures.2 refl
+      (c.in_ok-insert-in-Three-bounds-2.ensures.items ∙ ap (λ xs. insert xs c.in_ok-place-in-Three-bounds-2.place (c.args.id, c.in_ok-place-in-Three-bounds-2.bounds)) (sym c.deref-in-Three-bounds-2.ensures.value)))

@@ -1,17 +1,21 @@
-use Rattle.std.proofs.Common.{rules, ◌≡◌, ◌≤◌, [], IsTrue, MatchResult, None, length}
-use Rattle.std.proofs.Common.{map as each}
-use Rattle.std.proofs.Common.{ℕ, ◌+◌, ◌-◌, ◌*◌, ◌<◌, ◌/◌, ◌%◌, Bool, true, false, nat_eq, nat_lt, List, ◌∷◌, ◌++◌, slice_index_or, slice_set, bit_and, bit_or, Fits, w8, w32, w64, Bor, MutBor}
-use Rattle.std.specs.FinMap as map
-use Rattle.std.specs.FinMap.{is_sorted}
+use Rattle.std.proofs.Common.{◌≡◌, ◌∙◌, sym, ap, arith, ℕ}
+use Rattle.std.proofs.lemmas.Bool.Decides.{nat_tests}
+use Rattle.std.specs.FinMap.{from_sorted, empty}
 use Rattle.std.specs.Ordering.{nat_cmp}
-use Rattle.layer_store.specs.Answers.{row_of}
-use Rattle.layer_store.specs.Boxes.{given_bounds}
-use Rattle.layer_store.specs.Objects.{entries_of}
-use Rattle.layer_store.specs.Step.{first_refusal, box_refusals, object_refusals, window_rows}
-use Rattle.layer_store.specs.Table.{is_dims, with_object}
-use Rattle.layer_store.specs.Kept.{layer_of, IsRefusal}
+use Rattle.layer_store.specs.Objects.{axes_of, entries_of}
+use Rattle.layer_store.specs.Table.{Objects}
+use Rattle.layer_store.proofs.EntryLemmas.{empty_map}
 use Rattle.layer_store.proofs.layer.Layer.new.Goals as goal
+use Rattle.layer_store.proofs.layer.Layer.new.Goals.{then-dims-eq2, else-dims-eq2}
 
--- src/layer.rt:38:5
 pub returns-clause-layer : goal.returns-clause-layer
-returns-clause-layer g c = ?
+returns-clause-layer g c =
+    let axes : axes_of c.if-dims-eq2.objects ≡ c.args.dims = elim c.if-dims-eq2.branch [
+      | then-dims-eq2 w ↦ ap axes_of w.objects-is ∙ sym w.if-dims-eq2.true
+      | else-dims-eq2 w ↦ ap axes_of w.objects-is ∙ grind (arith, nat_tests, c.requires.dims_are, w.if-dims-eq2.false)
+    ] in
+    let none : from_sorted {R = nat_cmp} (entries_of c.if-dims-eq2.objects) ≡ empty = elim c.if-dims-eq2.branch [
+      | then-dims-eq2 w ↦ ap (λ o. from_sorted (entries_of o)) w.objects-is ∙ ap from_sorted w.new.ensures.items ∙ empty_map nat_cmp
+      | else-dims-eq2 w ↦ ap (λ o. from_sorted (entries_of o)) w.objects-is ∙ ap from_sorted w.new-else-dims-eq2.ensures.items ∙ empty_map nat_cmp
+    ] in
+    λ i. record { dims = axes i; fanout = c.args.fanout; objects = none i }
