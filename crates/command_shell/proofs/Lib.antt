@@ -1,0 +1,8 @@
+pub mod WordLemmas
+pub mod NumberLemmas
+pub mod LineLemmas
+pub mod CommandLemmas
+pub mod WriteLemmas
+pub mod ReadLemmas
+pub mod SessionLemmas
+pub mod AnswerLemmas

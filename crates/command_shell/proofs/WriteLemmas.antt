@@ -1,0 +1,36 @@
+-- One write after another.
+use Rattle.std.proofs.Common.{◌≡◌, ℕ, ◌+◌, ◌<◌, ◌≤◌, List, [], ◌∷◌, ◌++◌, length, take, drop, suc, get_or, flat_map, Option, Some, None, Result, Ok, Err, refl, sym, ap, ◌∙◌, append_assoc, length-append, arith}
+use Rattle.std.specs.Io.KnownBytes.{Appends}
+use Rattle.std.proofs.lemmas.List.{take-append-le, take-append-drop}
+use Rattle.std.proofs.lemmas.List.Concat.{flat_map-append}
+use Rattle.std.proofs.Math.Seq.{take-append-add, take-add, drop-cons}
+use Rattle.command_shell.specs.Writing.{AppendsFront, Writes}
+
+pub appends_more : (a b c : Option (List ℕ)) (x y : List ℕ) → Appends a b x → Appends b c y → Appends a c (x ++ y)
+appends_more None b c x y p q = tt
+appends_more (Some a) None c x y p q = elim p [ ]
+appends_more (Some a) (Some b) None x y p q = elim q [ ]
+appends_more (Some a) (Some b) (Some c) x y p q = q ∙ ap (λ t. t ++ y) p ∙ append_assoc a x y
+
+-- a front of a text is one of what goes on from it
+pub front_more : (a c : Option (List ℕ)) (x y : List ℕ) → AppendsFront a c x → AppendsFront a c (x ++ y)
+front_more a c x y f = (f.0, omega (arith, f.1, length-append x y), rw (take-append-le f.0 x y (omega (arith, f.1))) f.2)
+
+-- a text, and a front of what follows
+pub front_then : (a b c : Option (List ℕ)) (x y : List ℕ) → Appends a b x → AppendsFront b c y → AppendsFront a c (x ++ y)
+front_then a b c x y p f = (length x + f.0, omega (arith, f.1, length-append x y), rw take-append-add (appends_more a b c x (take f.0 y) p f.2))
+
+-- a text, and then a write
+pub writes_then : {E T : Type 0} (a b c : Option (List ℕ)) (r : Result T E) (x y : List ℕ) → Appends a b x → Writes b c r y → Writes a c r (x ++ y)
+writes_then a b c (Ok v) x y p q = appends_more a b c x y p q
+writes_then a b c (Err e) x y p q = front_then a b c x y p q
+
+-- a piece of what is left
+pub taken_more : (xs : List ℕ) (i n : ℕ) → take i xs ++ take n (drop i xs) ≡ take (i + n) xs
+taken_more xs i n = sym (take-add i n xs)
+
+-- a fault while element i is written leaves a front of the text of all
+pub front_of_all : {X : Type 0} (f : X → List ℕ) (a b c : Option (List ℕ)) (xs : List X) (i : ℕ) (d x : X) → i < length xs → x ≡ get_or xs i d → Appends a b (flat_map f (take i xs)) → AppendsFront b c (f x) → AppendsFront a c (flat_map f xs)
+front_of_all f a b c xs i d x h e p q =
+    let whole : flat_map f xs ≡ (flat_map f (take i xs) ++ f x) ++ flat_map f (drop (suc i) xs) = ap (flat_map f) (sym (take-append-drop i xs) ∙ ap (λ t. take i xs ++ t) (drop-cons xs i d h)) ∙ flat_map-append f (take i xs) (get_or xs i d ∷ drop (suc i) xs) ∙ ap (λ y. flat_map f (take i xs) ++ (f y ++ flat_map f (drop (suc i) xs))) (sym e) ∙ sym (append_assoc (flat_map f (take i xs)) (f x) _) in
+    rw whole (front_more a c (flat_map f (take i xs) ++ f x) _ (front_then a b c (flat_map f (take i xs)) (f x) p q))

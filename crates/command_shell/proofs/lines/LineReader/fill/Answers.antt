@@ -1,0 +1,14 @@
+use Rattle.std.proofs.Common.{◌≡◌, ◌+◌, ◌-◌, ◌≤◌, arith, drop, take, length, sym, ap, ◌∙◌, ◌++◌}
+use Rattle.command_shell.proofs.LineLemmas.{filled}
+use Rattle.command_shell.proofs.lines.LineReader.fill.Goals as goal
+
+pub returns-clause-ok : goal.returns-clause-ok
+returns-clause-ok g c =
+    let mid = c.make_room.new.self in
+    let new = c.read.new.buf in
+    let n = c.in_ok-count.count in
+    record {
+      more = take n new;
+      read = c.in_ok-count.ensures.bytes.0;
+      so = (sym c.in_ok-count.ensures.bound.1, filled mid.buffer new _ mid.start mid.«end» n c.make_room.ensures.front (omega arith) c.in_ok-count.ensures.bound.0 ∙ ap (λ p. p ++ take n new) c.make_room.ensures.pending);
+    }

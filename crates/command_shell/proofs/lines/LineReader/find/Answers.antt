@@ -1,0 +1,14 @@
+use Rattle.std.proofs.Common.{◌≡◌, ℕ, List, ◌++◌, Option, Result, Ok, Err, MatchResult, sym, ap, ◌∙◌, subst, append_assoc, arith}
+use Rattle.std.specs.Prelude.{⊤}
+use Rattle.std.specs.Io.KnownBytes.{IsAtEnd}
+use Rattle.command_shell.specs.Pending.{pending, Finds}
+use Rattle.command_shell.specs.Reading.{ReadsTo}
+use Rattle.command_shell.proofs.ReadLemmas.{reads_on}
+use Rattle.command_shell.proofs.lines.LineReader.find.Goals as goal
+
+passed : {R T E : Type 0} {remaining : R → Option (List ℕ)} (old mid new : R) (result : Result T E) (p0 p1 : List ℕ) (Q : T → List ℕ → Type 0) → ReadsTo remaining old mid (λ more. p1 ≡ p0 ++ more) → MatchResult result (λ found. ReadsTo remaining mid new (λ more. Q found (p1 ++ more))) (λ _. ReadsTo remaining mid new (λ _. ⊤)) → MatchResult result (λ found. ReadsTo remaining old new (λ more. Q found (p0 ++ more))) (λ _. ReadsTo remaining old new (λ _. ⊤))
+passed old mid new (Ok found) p0 p1 Q a b = reads_on a b (λ x y e q. subst (Q found) (ap (λ t. t ++ y) e ∙ append_assoc p0 x y) q)
+passed old mid new (Err e) p0 p1 Q a b = reads_on a b (λ x y e q. tt)
+
+pub returns-then-seen-gt-MAX_LINE-clause-found : goal.returns-then-seen-gt-MAX_LINE-clause-found
+returns-then-seen-gt-MAX_LINE-clause-found g c = passed c.args.reader.now c.loop-at.reader c.pass_line.new.reader c.pass_line.result (pending c.args.self.now) (pending c.loop-at.self) (λ found bytes. Finds (IsAtEnd (g.R.Read.remaining c.pass_line.new.reader)) found bytes (pending c.pass_line.new.self)) c.loop-at.invariant.text c.pass_line.ensures.found

@@ -1,0 +1,16 @@
+use Rattle.std.proofs.Common.{◌≡◌, ◌≤◌, ◌++◌, length, take}
+use Rattle.command_shell.specs.Lines.{IsOneLine}
+use Rattle.command_shell.specs.Pending.{pending, work_left}
+use Rattle.command_shell.specs.Reading.{ReadsTo}
+use Rattle.command_shell.proofs.lines.LineReader.find.Given as goal
+
+abbrev pub invariant-loop-at : goal.invariant-loop-at
+invariant-loop-at g l = record {
+  text : ReadsTo g.R.Read.remaining l.fn.reader l.reader (λ more. pending l.self ≡ pending l.fn.self ++ more);
+  within : l.seen ≤ length (pending l.self);
+  none_seen : IsOneLine (take l.seen (pending l.self));
+  fewer : work_left l.self ≤ work_left l.fn.self;
+}
+
+abbrev pub decreases-loop-at : goal.decreases-loop-at
+decreases-loop-at g l = work_left l.self

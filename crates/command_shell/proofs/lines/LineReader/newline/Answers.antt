@@ -1,0 +1,12 @@
+use Rattle.std.proofs.Common.{drop, ap, ◌∙◌, subst, Some}
+use Rattle.command_shell.specs.Pending.{pending}
+use Rattle.command_shell.specs.Reading.{BeginsLine}
+use Rattle.command_shell.proofs.LineLemmas.{newline_found, begins_later}
+use Rattle.command_shell.proofs.lines.LineReader.newline.Goals as goal
+
+pub returns-in-Some : goal.returns-in-Some
+returns-in-Some c =
+    let xs = pending c.args.self.now in
+    let rest = c.split_at.result.1.now in
+    begins_later xs c.args.seen c.in-Some.at c.requires.within c.requires.none_seen
+    (subst (λ r. BeginsLine r c.in-Some.at) (c.split_at.ensures.back ∙ ap (drop c.args.seen) c.pending.ensures) (newline_found rest (Some c.in-Some.at) c.in-Some.ensures))

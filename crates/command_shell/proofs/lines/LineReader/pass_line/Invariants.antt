@@ -1,0 +1,15 @@
+use Rattle.std.proofs.Common.{◌≡◌, ◌≤◌, ◌<◌, ◌-◌, ◌^◌, ◌++◌, []}
+use Rattle.command_shell.specs.Pending.{pending, work_left}
+use Rattle.command_shell.specs.Lines.{IsOneLine}
+use Rattle.command_shell.specs.Reading.{ReadsTo}
+use Rattle.command_shell.proofs.lines.LineReader.pass_line.Given as goal
+
+abbrev pub invariant-loop-self : goal.invariant-loop-self
+invariant-loop-self g l = record {
+  none : pending l.self ≡ [];
+  text : ReadsTo g.R.Read.remaining l.fn.reader l.reader (λ more. IsOneLine more);
+  fewer : work_left l.self < work_left l.fn.self;
+}
+
+abbrev pub decreases-loop-self : goal.decreases-loop-self
+decreases-loop-self g l = work_left l.self

@@ -1,0 +1,13 @@
+use Rattle.std.proofs.Common.{[], true, false}
+use Rattle.layer_store.specs.Lawful.{Takes}
+use Rattle.layer_store.specs.Standing.{Stands}
+use Rattle.command_shell.specs.Pending.{pending, work_left}
+use Rattle.command_shell.specs.Serving.{Serves}
+use Rattle.command_shell.proofs.session.run.Given as goal
+
+-- whole lines were taken so far, and each of them is answered
+abbrev pub invariant-loop-end : goal.invariant-loop-end
+invariant-loop-end g l = Takes Stands l.fn.store l.store (λ s s'. Serves g.R.Read.remaining g.W.Write.contents false true s s' l.fn.input l.input l.fn.output l.output [] (pending l.lines))
+
+abbrev pub decreases-loop-end : goal.decreases-loop-end
+decreases-loop-end g l = work_left l.lines

@@ -1,0 +1,5 @@
+use Rattle.command_shell.proofs.NumberLemmas.{IsReadTo}
+use Rattle.command_shell.proofs.words.number.Given as goal
+
+abbrev pub invariant-loop-byte : goal.invariant-loop-byte
+invariant-loop-byte l = IsReadTo l.word l.byte-index l.value

@@ -1,0 +1,12 @@
+pub mod Lines
+pub mod Numbers
+pub mod Meanings
+pub mod Said
+pub mod Texts
+pub mod Writing
+pub mod Reading
+pub mod Pending
+pub mod Answering
+pub mod Commands
+pub mod Serving
+pub mod Runs

@@ -1,0 +1,48 @@
+-- The numbers, coordinates and boxes that words are. Our rule, docs/COMMANDS.md.
+use Rattle.std.specs.Prelude.{ℕ, ◌^◌, Bool, ◌&&◌, ◌==◌, nat_lt, nat_le, List, [], ◌∷◌, length, drop, if◌then◌else◌, ℤ, pos, neg_ℤ, slice_index, Option, Some, None, option_map, option_and_then}
+use Rattle.std.specs.List.{list_all}
+use Rattle.std.specs.Char.{is_ascii_digit}
+use Rattle.std.specs.Str.Parse.{digits_value}
+use Rattle.layer_store.specs.declared.boxes.RawBox.{RawBox}
+use Rattle.layer_store.specs.declared.boxes.RawBox.TheVariants.{Two, Three}
+
+-- one decimal digit or more, and nothing else
+abbrev pub is_numeral : List ℕ → Bool
+is_numeral w = nat_lt 0 (length w) && list_all is_ascii_digit w
+
+-- a number: digits with a value below 2^64
+abbrev pub number_of : List ℕ → Option ℕ
+number_of w = if is_numeral w && nat_lt (digits_value 10 w) (2 ^ 64) then Some (digits_value 10 w) else None
+
+-- the byte that makes a coordinate negative
+abbrev pub minus : ℕ
+minus = 45
+
+-- a size behind a minus: it is at most 2^31
+abbrev pub negative_of : ℕ → Option ℤ
+negative_of n = if nat_le n (2 ^ 31) then Some (neg_ℤ (pos n)) else None
+
+-- a size with no sign: it is below 2^31
+abbrev pub positive_of : ℕ → Option ℤ
+positive_of n = if nat_lt n (2 ^ 31) then Some (pos n) else None
+
+-- a coordinate: a number of 32 bits, which a minus may stand before
+abbrev pub coordinate_of : List ℕ → Option ℤ
+coordinate_of w =
+    if slice_index w 0 == minus then option_and_then negative_of (number_of (drop 1 w))
+    else option_and_then positive_of (number_of w)
+
+-- coordinates, one for each word
+abbrev pub coordinates_of : List (List ℕ) → Option (List ℤ)
+coordinates_of [] = Some []
+coordinates_of (w ∷ ws) = option_and_then (λ c. option_map (λ cs. c ∷ cs) (coordinates_of ws)) (coordinate_of w)
+
+-- the box of four or six coordinates: all lows, and then all highs
+abbrev pub box_from : List ℤ → Option RawBox
+box_from (a ∷ b ∷ c ∷ d ∷ []) = Some (Two (a ∷ b ∷ []) (c ∷ d ∷ []))
+box_from (a ∷ b ∷ c ∷ d ∷ e ∷ f ∷ []) = Some (Three (a ∷ b ∷ c ∷ []) (d ∷ e ∷ f ∷ []))
+box_from cs = None
+
+-- the box that all these words are
+abbrev pub box_of : List (List ℕ) → Option RawBox
+box_of ws = option_and_then box_from (coordinates_of ws)

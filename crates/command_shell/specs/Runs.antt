@@ -1,0 +1,22 @@
+-- What each end of a run says.
+use Rattle.std.specs.Prelude.{ℕ, Bool, true, false, List, [], Option, Some, None}
+use Rattle.layer_store.specs.Lawful.{Standing}
+use Rattle.command_shell.specs.Serving.{Serves}
+use Rattle.command_shell.specs.declared.session.RunEnd.{RunEnd}
+use Rattle.command_shell.specs.declared.session.RunEnd.TheVariants.{Finished, ReadFault, WriteFault}
+
+-- A run that begins with pending bytes. Finished: all that there was is read, and all its commands are answered.
+-- ReadFault: whole lines were taken and answered, and some bytes of the next may have been read. WriteFault: the last answer may be written in part.
+abbrev pub RunsFrom : {R W : Type 0} → (R → Option (List ℕ)) → (W → Option (List ℕ)) → RunEnd → Standing → Standing → R → R → W → W → List ℕ → Type 0
+RunsFrom remaining contents Finished old new r r' w w' pending = Serves remaining contents true true old new r r' w w' pending []
+RunsFrom remaining contents ReadFault old new r r' w w' pending = (left : List ℕ) × Serves remaining contents false true old new r r' w w' pending left
+RunsFrom remaining contents WriteFault old new r r' w w' pending = (ended : Bool) × (left : List ℕ) × Serves remaining contents ended false old new r r' w w' pending left
+
+-- a run that begins with nothing pending
+abbrev pub Runs : {R W : Type 0} → (R → Option (List ℕ)) → (W → Option (List ℕ)) → RunEnd → Standing → Standing → R → R → W → W → Type 0
+Runs remaining contents end old new r r' w w' = RunsFrom remaining contents end old new r r' w w' []
+
+-- one step of a run: a command further, or the end
+abbrev pub StepsTo : {R W : Type 0} → (R → Option (List ℕ)) → (W → Option (List ℕ)) → Option RunEnd → Standing → Standing → R → R → W → W → List ℕ → List ℕ → Type 0
+StepsTo remaining contents None old new r r' w w' pending left = Serves remaining contents false true old new r r' w w' pending left
+StepsTo remaining contents (Some end) old new r r' w w' pending left = RunsFrom remaining contents end old new r r' w w' pending

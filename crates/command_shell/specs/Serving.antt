@@ -1,0 +1,38 @@
+-- What a part of a run reads, answers and writes.
+use Rattle.std.specs.Prelude.{ℕ, ◌≡◌, ◌<◌, Bool, true, false, List, [], ◌∷◌, ◌++◌, length, take, Option, Result, MatchResult}
+use Rattle.std.specs.Io.KnownBytes.{Appends}
+use Rattle.layer_store.specs.Lawful.{Standing, Request, Session}
+use Rattle.layer_store.specs.Step.{Answer}
+use Rattle.command_shell.specs.Commands.{AreCommands}
+use Rattle.command_shell.specs.Lines.{lines_of}
+use Rattle.command_shell.specs.Reading.{Reads}
+use Rattle.command_shell.specs.Texts.{answer_text, texts_of}
+
+-- the answers were written, but of the last one only a front
+pub record BreaksOff (old new : Option (List ℕ)) (answers : List Answer) : Type 0 where
+  pub before : List Answer
+  pub last : Answer
+  pub are : answers ≡ before ++ last ∷ []
+  pub shown : ℕ
+  pub is_part : shown < length (answer_text last)
+  pub written : Appends old new (texts_of before ++ take shown (answer_text last))
+
+-- the answers were written, the last one wholly or in part
+abbrev pub Wrote : Bool → Option (List ℕ) → Option (List ℕ) → List Answer → Type 0
+Wrote true old new answers = Appends old new (texts_of answers)
+Wrote false old new answers = BreaksOff old new answers
+
+-- the answers were written, or on a fault the last one in part
+abbrev pub WroteAs : {E T : Type 0} → Option (List ℕ) → Option (List ℕ) → Result T E → List Answer → Type 0
+WroteAs old new result answers = MatchResult result (λ _. Wrote true old new answers) (λ _. Wrote false old new answers)
+
+-- A text was taken, its commands were answered by a lawful session, and the answers were written.
+-- `ended` says whether the text is all that there was, `whole` whether the last answer was written wholly.
+pub record Serves {R W : Type 0} (remaining : R → Option (List ℕ)) (contents : W → Option (List ℕ)) (ended whole : Bool) (old new : Standing) (reader reader' : R) (writer writer' : W) (pending left : List ℕ) : Type 0 where
+  pub text : List ℕ
+  pub requests : List Request
+  pub answers : List Answer
+  pub reads : Reads remaining ended reader reader' pending left text
+  pub asked : AreCommands ended (lines_of text) requests
+  pub lawful : Session old requests answers new
+  pub written : Wrote whole (contents writer) (contents writer') answers

@@ -1,0 +1,64 @@
+-- The texts of replies. Our rule, docs/COMMANDS.md.
+use Rattle.std.specs.Prelude.{ℕ, List, [], ◌∷◌, ◌++◌, length, codes, decimal, flat_map, map, ℤ, vec_items}
+use Rattle.std.specs.Fmt.{signed_decimal}
+use Rattle.box_math.specs.Bounds.{Bounds}
+use Rattle.layer_store.specs.Answers.{row_of}
+use Rattle.layer_store.specs.Refusals.{number_of, name_of}
+use Rattle.layer_store.specs.Step.{Answer}
+use Rattle.layer_store.specs.Step.Answer.{Done, Refused, Boxes}
+use Rattle.layer_store.specs.declared.refusal.Refusal.{Refusal}
+use Rattle.layer_store.specs.declared.refusal.Refusal.TheVariants as refusal
+use Rattle.command_shell.specs.Lines.{newline}
+use Rattle.command_shell.specs.declared.replies.Reply.{Reply}
+use Rattle.command_shell.specs.declared.replies.Reply.TheVariants as reply
+
+-- the byte between two words of a reply
+abbrev pub space : ℕ
+space = 32
+
+-- a space, and the coordinate in decimal
+abbrev pub coordinate_text : ℤ → List ℕ
+coordinate_text c = space ∷ signed_decimal c
+
+-- coordinates, each behind its space
+abbrev pub coordinates_text : List ℤ → List ℕ
+coordinates_text cs = flat_map coordinate_text cs
+
+-- the lows of a box, and then its highs
+abbrev pub bounds_text : Bounds → List ℕ
+bounds_text b = coordinates_text b.low ++ coordinates_text b.high
+
+-- the row of an object: its identifier, and its box
+abbrev pub row_text : ℕ × Bounds → List ℕ
+row_text row = decimal row.0 ++ bounds_text row.1 ++ newline ∷ []
+
+-- the number that some refusals have behind their names: the identifier, the page or the cause
+abbrev pub detail_text : Refusal → List ℕ
+detail_text (refusal.DuplicateInLoad id) = space ∷ decimal id
+detail_text (refusal.Damaged page) = space ∷ decimal page
+detail_text (refusal.StoreFailed cause) = space ∷ decimal cause
+detail_text r = []
+
+-- `fail`, the refusal's number and its name
+abbrev pub refusal_text : Refusal → List ℕ
+refusal_text r = codes "fail " ++ decimal (number_of r) ++ space ∷ name_of r ++ detail_text r ++ newline ∷ []
+
+-- `ok` and how many rows follow
+abbrev pub count_text : ℕ → List ℕ
+count_text n = codes "ok " ++ decimal n ++ newline ∷ []
+
+-- the text of an answer
+abbrev pub answer_text : Answer → List ℕ
+answer_text Done = codes "ok\n"
+answer_text (Refused r) = refusal_text r
+answer_text (Boxes rows) = count_text (length rows) ++ flat_map row_text rows
+
+-- the texts of answers, one behind the other
+abbrev pub texts_of : List Answer → List ℕ
+texts_of answers = flat_map answer_text answers
+
+-- the answer that a reply is
+abbrev pub reply_answer : {A : Type 0} → Reply A → Answer
+reply_answer reply.Done = Done
+reply_answer (reply.Refused r) = Refused r
+reply_answer (reply.Boxes rows) = Boxes (map row_of rows.items)

@@ -1,0 +1,18 @@
+//! The command shell of the store: command lines in, replies out (docs/COMMANDS.md).
+//!
+//! `run` answers the lines of a reader, and its contract is the theorem of a whole run. `parse_line` and
+//! `write_reply` are its two ends, a line's meaning and a reply's text.
+#![tactic(auto)]
+
+mod lines;
+mod parse;
+mod replies;
+mod reply_line;
+mod session;
+#[cfg(test)]
+mod tests;
+mod words;
+
+pub use parse::{Line, MAX_LINE, parse_line};
+pub use replies::{Reply, write_reply};
+pub use session::{RunEnd, run};

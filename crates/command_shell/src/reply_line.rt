@@ -1,0 +1,134 @@
+//! One line of a reply, built before it is written.
+#![tactic(auto, using(crate::proofs::WriteLemmas::front_more, crate::proofs::WriteLemmas::front_then, crate::proofs::WriteLemmas::writes_then, crate::proofs::WriteLemmas::appends_more))]
+
+ghost use Rattle.std.specs.Prelude.{◌≡◌, ◌+◌, ◌*◌, ◌≤◌, ◌++◌, ◌∷◌, [], length, decimal};
+ghost use Rattle.layer_store.specs.Boxes.{bounds_of};
+ghost use Rattle.command_shell.specs.Lines.{newline};
+ghost use Rattle.command_shell.specs.Texts.{space, coordinate_text, coordinates_text, bounds_text};
+ghost use Rattle.command_shell.specs.Writing.{Writes};
+
+use arrayvec::ArrayVec;
+use layer_store::AnyBox;
+use std::io;
+use std::io::{ErrorKind, Write};
+use std::marker::Model;
+
+// Every line fits: a number has at most 20 digits, and a box is at most six coordinates of 12 bytes.
+const CAPACITY: usize = 128;
+
+/// The bytes of a line so far, without its newline. Contracts see the list of them.
+#[derive(Drop)]
+pub struct ReplyLine {
+    text: ArrayVec<u8, CAPACITY>,
+}
+
+impl Model for ReplyLine {
+    ghost use Rattle.std.specs.Prelude.{List, ℕ};
+
+    ghost Value = { List ℕ };
+
+    ghost view = { λ line. line.text.items };
+}
+
+impl ReplyLine {
+    /// An empty line.
+    pub fn new() -> Self
+        ensures { result ≡ [] }
+    {
+        ReplyLine {
+            text: ArrayVec::new(),
+        }
+    }
+
+    /// Appends bytes.
+    pub fn push(&mut self, bytes: &[u8])
+        requires { length self.old + length bytes.now ≤ CAPACITY }
+        ensures { self.new ≡ self.old ++ bytes.now }
+    {
+        self.text.try_extend_from_slice(bytes).unwrap();
+    }
+
+    /// Appends a number in decimal.
+    pub fn push_number(&mut self, number: u64)
+        requires { length self.old ≤ 100 }
+        ensures text { self.new ≡ self.old ++ decimal number }
+        ensures room { length self.new ≤ length self.old + 20 }
+    {
+        self.push(itoa::Buffer::new().format(number).as_bytes());
+    }
+
+    /// Appends the number that some refusals have behind their names.
+    pub fn push_detail(&mut self, detail: u64)
+        requires { length self.old ≤ 90 }
+        ensures text { self.new ≡ self.old ++ space ∷ decimal detail }
+        ensures room { length self.new ≤ length self.old + 21 }
+    {
+        self.push(b" ");
+        self.push_number(detail);
+    }
+
+    /// Appends the lows of a box, and then its highs.
+    pub fn push_box(&mut self, bounds: &AnyBox)
+        requires { length self.old ≤ 40 }
+        ensures text { self.new ≡ self.old ++ bounds_text (bounds_of bounds.now) }
+        ensures room { length self.new ≤ length self.old + 72 }
+    {
+        match bounds {
+            AnyBox::Two(bounds) => self.push_corners(&bounds.low(), &bounds.high()),
+            AnyBox::Three(bounds) => self.push_corners(&bounds.low(), &bounds.high()),
+        }
+    }
+
+    fn push_corners(&mut self, low: &[i32], high: &[i32])
+        requires few { (length low.now ≤ 3) × (length high.now ≤ 3) }
+        requires room { length self.old ≤ 40 }
+        ensures text { self.new ≡ self.old ++ coordinates_text low.now ++ coordinates_text high.now }
+        ensures room { length self.new ≤ length self.old + 72 }
+    {
+        self.push_coordinates(low);
+        self.push_coordinates(high);
+    }
+
+    fn push_coordinates(&mut self, coordinates: &[i32])
+        requires few { length coordinates.now ≤ 3 }
+        requires room { length self.old ≤ 76 }
+        ensures text { self.new ≡ self.old ++ coordinates_text coordinates.now }
+        ensures room { length self.new ≤ length self.old + 12 * length coordinates.now }
+    {
+        for coordinate in coordinates {
+            self.push_coordinate(*coordinate);
+        }
+    }
+
+    fn push_coordinate(&mut self, coordinate: i32)
+        requires { length self.old ≤ 100 }
+        ensures text { self.new ≡ self.old ++ coordinate_text coordinate }
+        ensures room { length self.new ≤ length self.old + 12 }
+    {
+        self.push(b" ");
+        self.push(itoa::Buffer::new().format(coordinate).as_bytes());
+    }
+
+    /// Writes the line and its newline.
+    pub fn write<W: Write>(mut self, writer: &mut W) -> io::Result<()>
+        requires { length self ≤ 127 }
+        ensures { Writes (W.contents writer.old) (W.contents writer.new) result (self ++ newline ∷ []) }
+    {
+        self.push(b"\n");
+        put(writer, &self.text)
+    }
+}
+
+/// Writes all bytes. As `write_all`, but what a fault leaves is known.
+pub fn put<W: Write>(writer: &mut W, text: &[u8]) -> io::Result<()>
+    ensures { Writes (W.contents writer.old) (W.contents writer.new) result text.now }
+{
+    let mut done = 0;
+    while done < text.len() {
+        match writer.write(&text[done..])? {
+            0 => return Err(io::Error::from(ErrorKind::WriteZero)),
+            count => done += count,
+        }
+    }
+    Ok(())
+}

@@ -1,0 +1,145 @@
+//! The session of a reader's lines with a store.
+
+ghost use Rattle.std.specs.Prelude.{◌≡◌, ◌<◌, Some, None, MatchResult, IfNone, if◌then◌else◌};
+ghost use Rattle.layer_store.specs.Answers.{done_answer, boxes_answer};
+ghost use Rattle.layer_store.specs.Lawful.{Takes};
+ghost use Rattle.layer_store.specs.Standing.{Stands};
+ghost use Rattle.command_shell.specs.Answering.{AnswersLine, Replies, reply_answers};
+ghost use Rattle.command_shell.specs.Pending.{pending, work_left};
+ghost use Rattle.command_shell.specs.Runs.{Runs, StepsTo};
+ghost use Rattle.command_shell.specs.Said.{said};
+ghost use Rattle.command_shell.specs.Texts.{reply_answer};
+
+use crate::lines::{Found, LineReader};
+use crate::parse::{Line, parse_line};
+use crate::replies::{Reply, write_reply};
+use layer_store::{AnyBox, Refusal, Store};
+use std::alloc::Allocator;
+use std::io;
+use std::io::{Read, Write};
+
+/// How a run ended. The commands that were answered stand, whichever it was.
+#[derive(Clone, Copy, Debug, PartialEq, Eq)]
+pub enum RunEnd {
+    /// All that the reader had was read, and each of its commands was answered.
+    Finished,
+    /// The reader failed, or was called 2^62 times. Each command that was read to its last newline was answered.
+    ReadFault,
+    /// The writer failed. The last reply may be written in part, and no line after it was answered.
+    WriteFault,
+}
+
+/// Answers the lines of a reader, each before the next one is looked for, until the text ends or a read or a write
+/// fails.
+///
+/// An interrupted read is a fault like any other. The writer is not flushed. Beside what the store takes, it takes no
+/// memory.
+pub fn run<A: Allocator + Copy, R: Read, W: Write>(
+    store: &mut Store<A>,
+    input: &mut R,
+    output: &mut W,
+) -> RunEnd
+    ensures { Takes Stands store.old store.new (λ s s'.
+        Runs R.remaining W.contents result s s' input.old input.new output.old output.new) }
+{
+    let mut lines = LineReader::new();
+    loop {
+        if let Some(end) = step(store, &mut lines, input, output) {
+            return end;
+        }
+    }
+}
+
+// Answers the next line, or says how the run ends.
+fn step<A: Allocator + Copy, R: Read, W: Write>(
+    store: &mut Store<A>,
+    lines: &mut LineReader,
+    input: &mut R,
+    output: &mut W,
+) -> Option<RunEnd>
+    ensures steps { Takes Stands store.old store.new (λ s s'.
+        StepsTo R.remaining W.contents result s s' input.old input.new output.old output.new
+        (pending lines.old) (pending lines.new)) }
+    ensures fewer { IfNone result (work_left lines.new < work_left lines.old) }
+{
+    match lines.find(input) {
+        Ok(Found::Line(len)) => {
+            let written = answer(store, parse_line(lines.front(len)), output);
+            lines.take(len + 1);
+            end_after(written, false)
+        }
+        Ok(Found::Last(len)) => {
+            let written = answer(store, parse_line(lines.front(len)), output);
+            lines.take(len);
+            end_after(written, true)
+        }
+        Ok(Found::TooLong) => end_after(answer(store, Line::Bad, output), false),
+        Ok(Found::LastTooLong) => end_after(answer(store, Line::Bad, output), true),
+        Ok(Found::End) => Some(RunEnd::Finished),
+        Err(_) => Some(RunEnd::ReadFault),
+    }
+}
+
+// How the run ends after an answer, if it does. The text may have ended behind the line.
+fn end_after(written: io::Result<()>, ended: bool) -> Option<RunEnd>
+    ensures { MatchResult written
+        (λ _. result ≡ (if ended then Some RunEnd.Finished else None))
+        (λ _. result ≡ Some RunEnd.WriteFault) }
+{
+    match written {
+        Ok(()) => { if ended { Some(RunEnd::Finished) } else { None } }
+        Err(_) => Some(RunEnd::WriteFault),
+    }
+}
+
+// Answers a line.
+fn answer<A: Allocator + Copy, W: Write>(
+    store: &mut Store<A>,
+    line: Line<'_>,
+    output: &mut W,
+) -> io::Result<()>
+    ensures { Takes Stands store.old store.new (λ s s'.
+        AnswersLine W.contents (said line.entry) s s' output.old output.new result) }
+{
+    match reply_to(store, line) {
+        None => Ok(()),
+        Some(reply) => write_reply(&reply, output),
+    }
+}
+
+// The reply to a line, if it has one.
+fn reply_to<A: Allocator + Copy>(store: &mut Store<A>, line: Line<'_>) -> Option<Reply<A>>
+    ensures { Takes Stands store.old store.new (λ s s'. Replies (said line.entry) s s' (reply_answers result)) }
+{
+    match line {
+        Line::Blank => None,
+        Line::Bad => Some(Reply::Refused(Refusal::BadLine)),
+        Line::Create {
+            layer,
+            dims,
+            fanout,
+        } => Some(change_reply(store.create(layer, dims, fanout))),
+        Line::Insert { layer, id, bounds } => Some(change_reply(store.insert(layer, id, bounds))),
+        Line::Window { layer, bounds } => Some(window_reply(store.window(layer, bounds))),
+    }
+}
+
+// The reply that the outcome of a change is.
+fn change_reply<A: Allocator>(outcome: Result<(), Refusal>) -> Reply<A>
+    ensures { reply_answer result ≡ done_answer outcome }
+{
+    match outcome {
+        Ok(()) => Reply::Done,
+        Err(refusal) => Reply::Refused(refusal),
+    }
+}
+
+// The reply that the outcome of a range query is.
+fn window_reply<A: Allocator>(outcome: Result<Vec<(u64, AnyBox), A>, Refusal>) -> Reply<A>
+    ensures { reply_answer result ≡ boxes_answer outcome }
+{
+    match outcome {
+        Ok(rows) => Reply::Boxes(rows),
+        Err(refusal) => Reply::Refused(refusal),
+    }
+}

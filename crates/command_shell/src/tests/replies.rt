@@ -1,0 +1,79 @@
+//! The texts of replies.
+
+use crate::{Reply, write_reply};
+use box_math::BBox;
+use layer_store::{AnyBox, Refusal};
+use std::alloc::Global;
+use std::test::Fail;
+
+#[test]
+fn writes_each_refusal(rt: HostRuntime) -> Result<(), Fail> {
+    let texts = [
+        (Refusal::BadName, b"fail 1 BadName\n".as_slice()),
+        (Refusal::LayerExists, b"fail 2 LayerExists\n".as_slice()),
+        (Refusal::NoLayer, b"fail 3 NoLayer\n".as_slice()),
+        (Refusal::BadDims, b"fail 4 BadDims\n".as_slice()),
+        (Refusal::BadFanout, b"fail 5 BadFanout\n".as_slice()),
+        (Refusal::TooManyLayers, b"fail 6 TooManyLayers\n".as_slice()),
+        (Refusal::BadBox, b"fail 7 BadBox\n".as_slice()),
+        (Refusal::WrongDims, b"fail 8 WrongDims\n".as_slice()),
+        (Refusal::Duplicate, b"fail 9 Duplicate\n".as_slice()),
+        (Refusal::NoObject, b"fail 10 NoObject\n".as_slice()),
+        (
+            Refusal::TooManyObjects,
+            b"fail 11 TooManyObjects\n".as_slice(),
+        ),
+        (Refusal::NotEmpty, b"fail 12 NotEmpty\n".as_slice()),
+        (
+            Refusal::DuplicateInLoad(u64::MAX),
+            b"fail 13 DuplicateInLoad 18446744073709551615\n".as_slice(),
+        ),
+        (Refusal::BadCount, b"fail 14 BadCount\n".as_slice()),
+        (Refusal::DimsDiffer, b"fail 15 DimsDiffer\n".as_slice()),
+        (Refusal::Memory, b"fail 16 Memory\n".as_slice()),
+        (Refusal::Device, b"fail 17 Device\n".as_slice()),
+        (Refusal::Damaged(3), b"fail 18 Damaged 3\n".as_slice()),
+        (
+            Refusal::StoreFailed(17),
+            b"fail 19 StoreFailed 17\n".as_slice(),
+        ),
+        (Refusal::NotClosed, b"fail 20 NotClosed\n".as_slice()),
+        (Refusal::NotAStore, b"fail 21 NotAStore\n".as_slice()),
+        (Refusal::WrongVersion, b"fail 22 WrongVersion\n".as_slice()),
+        (Refusal::BadCache, b"fail 23 BadCache\n".as_slice()),
+        (Refusal::BadLine, b"fail 24 BadLine\n".as_slice()),
+        (Refusal::NoPages, b"fail 25 NoPages\n".as_slice()),
+    ];
+    for (refusal, text) in texts {
+        let reply: Reply<Global> = Reply::Refused(refusal);
+        let mut written = Vec::new(rt.alloc());
+        assert!(rt; write_reply(&reply, &mut written).is_ok());
+        assert_eq!(rt; written.as_slice(), text);
+    }
+    Ok(())
+}
+
+#[test]
+fn writes_rows(rt: HostRuntime) -> Result<(), Fail> {
+    let mut rows = Vec::new(rt.alloc());
+    if let Some(bounds) = BBox::try_new([-1, 2], [3, 4]) {
+        rows.push((0, AnyBox::Two(bounds)))?;
+    }
+    if let Some(bounds) = BBox::try_new([i32::MIN; 3], [i32::MAX, 0, i32::MIN]) {
+        rows.push((u64::MAX, AnyBox::Three(bounds)))?;
+    }
+    let replies = [
+        (Reply::Done, b"ok\n".as_slice()),
+        (Reply::Boxes(Vec::new(rt.alloc())), b"ok 0\n".as_slice()),
+        (
+            Reply::Boxes(rows),
+            b"ok 2\n0 -1 2 3 4\n18446744073709551615 -2147483648 -2147483648 -2147483648 2147483647 0 -2147483648\n".as_slice(),
+        ),
+    ];
+    for (reply, text) in replies {
+        let mut written = Vec::new(rt.alloc());
+        assert!(rt; write_reply(&reply, &mut written).is_ok());
+        assert_eq!(rt; written.as_slice(), text);
+    }
+    Ok(())
+}

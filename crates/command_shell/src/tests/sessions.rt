@@ -1,0 +1,173 @@
+//! Sessions with a store: the worked rows, in their part on the commands that there are.
+
+use super::fakes::{Short, Slow};
+use crate::{RunEnd, run};
+use layer_store::Store;
+use refusing::Refusing;
+use std::test::Fail;
+
+// Each line and its reply. Layers `a` and `b` have two axes, `c` has three.
+const ROWS: [(&[u8], &[u8]); 36] = [
+    (b"# the first run", b""),
+    (b"create a 2 4", b"ok\n"),
+    (b"insert a 1 0 0 10 10", b"ok\n"),
+    (b"insert a 2 20 20 30 30", b"ok\n"),
+    (b"window a 5 5 25 25", b"ok 2\n1 0 0 10 10\n2 20 20 30 30\n"),
+    (b"window a 11 11 19 19", b"ok 0\n"),
+    (b"", b""),
+    (b"# an empty layer", b""),
+    (b"create b 2 100", b"ok\n"),
+    (
+        b"window b -2147483648 -2147483648 2147483647 2147483647",
+        b"ok 0\n",
+    ),
+    (b"# extremes", b""),
+    (b"create c 3 4", b"ok\n"),
+    (
+        b"insert c 2 2147483647 2147483647 2147483647 2147483647 2147483647 2147483647",
+        b"ok\n",
+    ),
+    (
+        b"insert c 1 -2147483648 -2147483648 -2147483648 2147483647 2147483647 2147483647",
+        b"ok\n",
+    ),
+    (
+        b"window c -2147483648 -2147483648 -2147483648 -2147483648 -2147483648 -2147483648",
+        b"ok 1\n1 -2147483648 -2147483648 -2147483648 2147483647 2147483647 2147483647\n",
+    ),
+    (
+        b"window c 2147483647 2147483647 2147483647 2147483647 2147483647 2147483647\r",
+        b"ok 2\n1 -2147483648 -2147483648 -2147483648 2147483647 2147483647 2147483647\n2 2147483647 2147483647 2147483647 2147483647 2147483647 2147483647\n",
+    ),
+    (b"# touching", b""),
+    (b"insert b 2 1 1 2 2", b"ok\n"),
+    (b"insert b 1 0 0 1 1", b"ok\n"),
+    (b"window b 1 1 1 1", b"ok 2\n1 0 0 1 1\n2 1 1 2 2\n"),
+    (b"window b 2 0 2 0", b"ok 0\n"),
+    (b"# refusals", b""),
+    (b"insert b 1 5 5 6 6", b"fail 9 Duplicate\n"),
+    (b"insert b 3 1 0 0 0", b"fail 7 BadBox\n"),
+    (b"create A 2 4", b"fail 1 BadName\n"),
+    (b"create abcdefghijklmnopqrstuvwxy 2 4", b"fail 1 BadName\n"),
+    (b"create b 4 4", b"fail 4 BadDims\n"),
+    (b"create d 2 3", b"fail 5 BadFanout\n"),
+    (b"create d 2 101", b"fail 5 BadFanout\n"),
+    (b"create b 2 4", b"fail 2 LayerExists\n"),
+    (b"window q 0 0 1 1", b"fail 3 NoLayer\n"),
+    (b"insert b 1 1 1 1 0 0 0", b"fail 8 WrongDims\n"),
+    (b"insert b 18446744073709551615 0 0 0 0", b"ok\n"),
+    (
+        b"insert b 18446744073709551616 0 0 0 0",
+        b"fail 24 BadLine\n",
+    ),
+    (b"insert b 5 0 0 0 2147483648", b"fail 24 BadLine\n"),
+    (
+        b"window b 0 0 1 1",
+        b"ok 3\n1 0 0 1 1\n2 1 1 2 2\n18446744073709551615 0 0 0 0\n",
+    ),
+];
+
+#[test]
+fn answers_the_worked_rows(rt: HostRuntime) -> Result<(), Fail> {
+    let mut store = Store::empty(rt.alloc())?;
+    for (line, reply) in ROWS {
+        let mut input = line;
+        let mut output = Vec::new(rt.alloc());
+        let end = run(&mut store, &mut input, &mut output);
+        assert_eq!(rt; end, RunEnd::Finished);
+        assert_eq!(rt; output.as_slice(), reply);
+    }
+    Ok(())
+}
+
+#[test]
+fn answers_the_worked_rows_as_one_text(rt: HostRuntime) -> Result<(), Fail> {
+    let mut text = Vec::new(rt.alloc());
+    let mut replies = Vec::new(rt.alloc());
+    for (line, reply) in ROWS {
+        text.extend_from_slice(line)?;
+        text.push(b'\n')?;
+        replies.extend_from_slice(reply)?;
+    }
+    let mut store = Store::empty(rt.alloc())?;
+    let mut input = Slow {
+        rest: &text,
+        fails: None,
+    };
+    let mut output = Vec::new(rt.alloc());
+    let end = run(&mut store, &mut input, &mut output);
+    assert_eq!(rt; end, RunEnd::Finished);
+    assert_eq!(rt; output.as_slice(), replies.as_slice());
+    for room in 0..replies.len() {
+        let mut store = Store::empty(rt.alloc())?;
+        let mut input = text.as_slice();
+        let mut output = Short {
+            written: Vec::new(rt.alloc()),
+            room,
+            fails: true,
+        };
+        let end = run(&mut store, &mut input, &mut output);
+        assert_eq!(rt; end, RunEnd::WriteFault);
+        assert_eq!(rt; output.written.as_slice(), &replies[..room]);
+    }
+    Ok(())
+}
+
+#[test]
+fn refuses_a_layer_too_many(rt: HostRuntime) -> Result<(), Fail> {
+    let mut store = Store::empty(rt.alloc())?;
+    for first in b'a'..=b'z' {
+        for second in b'0'..=b'9' {
+            let number = u32::from(first - b'a') * 10 + u32::from(second - b'0');
+            let line = [
+                b'c', b'r', b'e', b'a', b't', b'e', b' ', first, second, b' ', b'2', b' ', b'4',
+            ];
+            let mut input = line.as_slice();
+            let mut output = Vec::new(rt.alloc());
+            let end = run(&mut store, &mut input, &mut output);
+            assert_eq!(rt; end, RunEnd::Finished);
+            if number < 60 {
+                assert_eq!(rt; output.as_slice(), b"ok\n".as_slice());
+            } else {
+                assert_eq!(rt; output.as_slice(), b"fail 6 TooManyLayers\n".as_slice());
+            }
+        }
+    }
+    Ok(())
+}
+
+// After each growth that is refused the table is as it was, and with memory the line is answered.
+#[test]
+fn gives_up_where_memory_is_refused(rt: HostRuntime) -> Result<(), Fail> {
+    let heap = Refusing::new(rt.alloc());
+    let mut store = Store::empty(&heap)?;
+    let lines = [
+        (b"create a 2 4".as_slice(), b"fail 3 NoLayer\n".as_slice()),
+        (b"insert a 1 0 0 9 9".as_slice(), b"ok 0\n".as_slice()),
+        (
+            b"window a 0 0 9 9".as_slice(),
+            b"ok 1\n1 0 0 9 9\n".as_slice(),
+        ),
+    ];
+    for (line, before) in lines {
+        for k in 0..100u32 {
+            let mut input = line;
+            let mut output = Vec::new(rt.alloc());
+            heap.refuse_from(k);
+            let end = run(&mut store, &mut input, &mut output);
+            let refused = heap.relent();
+            assert_eq!(rt; end, RunEnd::Finished);
+            if !refused {
+                assert!(rt; k > 0);
+                assert!(rt; output.as_slice().starts_with(b"ok"));
+                break;
+            }
+            assert_eq!(rt; output.as_slice(), b"fail 16 Memory\n".as_slice());
+            let mut input = b"window a 0 0 9 9".as_slice();
+            let mut output = Vec::new(rt.alloc());
+            run(&mut store, &mut input, &mut output);
+            assert_eq!(rt; output.as_slice(), before);
+        }
+    }
+    Ok(())
+}
