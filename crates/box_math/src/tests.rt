@@ -122,7 +122,11 @@ fn enlargements_of_a_choice(rt: HostRuntime) -> Result<(), Fail> {
     for (corners, point, enlargement) in rows {
         let before = hull(&corners)?;
         let after = before.join(&hull(&[point])?);
-        assert_eq!(rt; after.volume().abs_diff(before.volume()), enlargement, "at {point:?}");
+        assert_eq!(rt;
+            after.volume().abs_diff(before.volume()),
+            enlargement,
+            "at {point:?}"
+        );
     }
     let near = hull(&[[0, 0], [42, 42]])?;
     let far = hull(&[[60, 60], [104, 102]])?;
@@ -137,11 +141,19 @@ fn enlargements_of_a_choice(rt: HostRuntime) -> Result<(), Fail> {
 fn distances_of_reinsertion_and_of_nearest(rt: HostRuntime) -> Result<(), Fail> {
     let leaf = [[100, 100], [102, 102], [104, 100], [60, 60], [103, 101]];
     for (i, distance) in [2740, 3364, 3380, 3700, 3364].iter().enumerate() {
-        assert_eq!(rt; hull(&leaf)?.centre_dist2(&hull(&[leaf[i]])?), *distance, "at {i}");
+        assert_eq!(rt;
+            hull(&leaf)?.centre_dist2(&hull(&[leaf[i]])?),
+            *distance,
+            "at {i}"
+        );
     }
     let line = [[0, 0], [1, 0], [11, 0], [4, 0], [5, 0]];
     for (i, distance) in [121, 81, 121, 9, 1].iter().enumerate() {
-        assert_eq!(rt; hull(&line)?.centre_dist2(&hull(&[line[i]])?), *distance, "at {i}");
+        assert_eq!(rt;
+            hull(&line)?.centre_dist2(&hull(&[line[i]])?),
+            *distance,
+            "at {i}"
+        );
     }
     for point in [[5, 0], [0, 5], [-5, 0], [0, -5], [3, 4]] {
         assert_eq!(rt; hull(&[point])?.point_dist2(&[0, 0]), 25, "at {point:?}");
