@@ -66,24 +66,31 @@ fn measures_reach_the_ends_of_i32(rt: HostRuntime) -> Result<(), Fail> {
 }
 
 #[test]
-fn boxes_that_touch_in_a_corner_meet(rt: HostRuntime) -> Result<(), Fail> {
+fn squares_that_touch_in_a_corner_meet(rt: HostRuntime) -> Result<(), Fail> {
     let a = BBox::try_new([0, 0], [1, 1]).ok_or(NoBox)?;
     let b = BBox::try_new([1, 1], [2, 2]).ok_or(NoBox)?;
-    assert!(rt; a.meets(&b) && b.meets(&a));
+    assert!(rt; a.meets(&b) && b.meets(&a) && !a.within(&b));
     assert_eq!(rt; a.overlap(&b), 0);
     assert_eq!(rt; a.meet(&b), Some(hull(&[[1, 1]])?));
-    assert!(rt; a.holds_point(&[1, 1]) && b.holds_point(&[1, 1]));
-    assert!(rt; !a.within(&b) && a.encloses(&a));
-    let c = BBox::try_new([0, 0, 0], [1, 1, 1]).ok_or(NoBox)?;
-    let d = BBox::try_new([1, 1, 1], [2, 2, 2]).ok_or(NoBox)?;
-    assert!(rt; c.meets(&d) && c.within(&c.join(&d)) && c.join(&d).encloses(&d));
-    assert_eq!(rt; c.overlap(&d), 0);
-    assert_eq!(rt; c.meet(&d), Some(hull(&[[1, 1, 1]])?));
-    assert!(rt; c.holds_point(&[1, 1, 1]) && !c.holds_point(&[1, 1, 2]));
-    assert_eq!(rt; (d.low(), d.high()), ([1, 1, 1], [2, 2, 2]));
+    assert_eq!(rt; a.meet(&hull(&[[2, 1]])?), None);
+    assert!(rt; a.holds_point(&[1, 1]) && b.holds_point(&[1, 1]) && !b.holds_point(&[1, 0]));
+    assert!(rt; a.join(&b).encloses(&b));
+    assert_eq!(rt; (b.low(), b.high(), b.centre2()), ([1, 1], [2, 2], [3, 3]));
+    assert_eq!(rt; BBox::try_new([0, 1], [0, 0]), None);
+    Ok(())
+}
+
+#[test]
+fn cubes_that_touch_in_a_corner_meet(rt: HostRuntime) -> Result<(), Fail> {
+    let a = BBox::try_new([0, 0, 0], [1, 1, 1]).ok_or(NoBox)?;
+    let b = BBox::try_new([1, 1, 1], [2, 2, 2]).ok_or(NoBox)?;
+    assert!(rt; a.meets(&b) && a.within(&a.join(&b)) && !a.encloses(&b));
+    assert_eq!(rt; a.overlap(&b), 0);
+    assert_eq!(rt; a.meet(&b), Some(hull(&[[1, 1, 1]])?));
+    assert!(rt; a.holds_point(&[1, 1, 1]) && !a.holds_point(&[1, 1, 2]));
+    assert_eq!(rt; (b.low(), b.high()), ([1, 1, 1], [2, 2, 2]));
     assert_eq!(rt; BBox::default(), hull(&[[0, 0, 0]])?);
     assert_eq!(rt; BBox::try_new([0, 0, 1], [0, 0, 0]), None);
-    assert_eq!(rt; a.meet(&hull(&[[2, 1]])?), None);
     Ok(())
 }
 
