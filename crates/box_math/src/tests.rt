@@ -66,24 +66,31 @@ fn measures_reach_the_ends_of_i32(rt: HostRuntime) -> Result<(), Fail> {
 }
 
 #[test]
-fn boxes_that_touch_in_a_corner_meet(rt: HostRuntime) -> Result<(), Fail> {
+fn squares_that_touch_in_a_corner_meet(rt: HostRuntime) -> Result<(), Fail> {
     let a = BBox::try_new([0, 0], [1, 1]).ok_or(NoBox)?;
     let b = BBox::try_new([1, 1], [2, 2]).ok_or(NoBox)?;
-    assert!(rt; a.meets(&b) && b.meets(&a));
+    assert!(rt; a.meets(&b) && b.meets(&a) && !a.within(&b));
     assert_eq!(rt; a.overlap(&b), 0);
     assert_eq!(rt; a.meet(&b), Some(hull(&[[1, 1]])?));
-    assert!(rt; a.holds_point(&[1, 1]) && b.holds_point(&[1, 1]));
-    assert!(rt; !a.within(&b) && a.encloses(&a));
-    let c = BBox::try_new([0, 0, 0], [1, 1, 1]).ok_or(NoBox)?;
-    let d = BBox::try_new([1, 1, 1], [2, 2, 2]).ok_or(NoBox)?;
-    assert!(rt; c.meets(&d) && c.within(&c.join(&d)) && c.join(&d).encloses(&d));
-    assert_eq!(rt; c.overlap(&d), 0);
-    assert_eq!(rt; c.meet(&d), Some(hull(&[[1, 1, 1]])?));
-    assert!(rt; c.holds_point(&[1, 1, 1]) && !c.holds_point(&[1, 1, 2]));
-    assert_eq!(rt; (d.low(), d.high()), ([1, 1, 1], [2, 2, 2]));
+    assert_eq!(rt; a.meet(&hull(&[[2, 1]])?), None);
+    assert!(rt; a.holds_point(&[1, 1]) && b.holds_point(&[1, 1]) && !b.holds_point(&[1, 0]));
+    assert!(rt; a.join(&b).encloses(&b));
+    assert_eq!(rt; (b.low(), b.high(), b.centre2()), ([1, 1], [2, 2], [3, 3]));
+    assert_eq!(rt; BBox::try_new([0, 1], [0, 0]), None);
+    Ok(())
+}
+
+#[test]
+fn cubes_that_touch_in_a_corner_meet(rt: HostRuntime) -> Result<(), Fail> {
+    let a = BBox::try_new([0, 0, 0], [1, 1, 1]).ok_or(NoBox)?;
+    let b = BBox::try_new([1, 1, 1], [2, 2, 2]).ok_or(NoBox)?;
+    assert!(rt; a.meets(&b) && a.within(&a.join(&b)) && !a.encloses(&b));
+    assert_eq!(rt; a.overlap(&b), 0);
+    assert_eq!(rt; a.meet(&b), Some(hull(&[[1, 1, 1]])?));
+    assert!(rt; a.holds_point(&[1, 1, 1]) && !a.holds_point(&[1, 1, 2]));
+    assert_eq!(rt; (b.low(), b.high()), ([1, 1, 1], [2, 2, 2]));
     assert_eq!(rt; BBox::default(), hull(&[[0, 0, 0]])?);
     assert_eq!(rt; BBox::try_new([0, 0, 1], [0, 0, 0]), None);
-    assert_eq!(rt; a.meet(&hull(&[[2, 1]])?), None);
     Ok(())
 }
 
@@ -122,7 +129,11 @@ fn enlargements_of_a_choice(rt: HostRuntime) -> Result<(), Fail> {
     for (corners, point, enlargement) in rows {
         let before = hull(&corners)?;
         let after = before.join(&hull(&[point])?);
-        assert_eq!(rt; after.volume().abs_diff(before.volume()), enlargement, "at {point:?}");
+        assert_eq!(rt;
+            after.volume().abs_diff(before.volume()),
+            enlargement,
+            "at {point:?}"
+        );
     }
     let near = hull(&[[0, 0], [42, 42]])?;
     let far = hull(&[[60, 60], [104, 102]])?;
@@ -137,11 +148,19 @@ fn enlargements_of_a_choice(rt: HostRuntime) -> Result<(), Fail> {
 fn distances_of_reinsertion_and_of_nearest(rt: HostRuntime) -> Result<(), Fail> {
     let leaf = [[100, 100], [102, 102], [104, 100], [60, 60], [103, 101]];
     for (i, distance) in [2740, 3364, 3380, 3700, 3364].iter().enumerate() {
-        assert_eq!(rt; hull(&leaf)?.centre_dist2(&hull(&[leaf[i]])?), *distance, "at {i}");
+        assert_eq!(rt;
+            hull(&leaf)?.centre_dist2(&hull(&[leaf[i]])?),
+            *distance,
+            "at {i}"
+        );
     }
     let line = [[0, 0], [1, 0], [11, 0], [4, 0], [5, 0]];
     for (i, distance) in [121, 81, 121, 9, 1].iter().enumerate() {
-        assert_eq!(rt; hull(&line)?.centre_dist2(&hull(&[line[i]])?), *distance, "at {i}");
+        assert_eq!(rt;
+            hull(&line)?.centre_dist2(&hull(&[line[i]])?),
+            *distance,
+            "at {i}"
+        );
     }
     for point in [[5, 0], [0, 5], [-5, 0], [0, -5], [3, 4]] {
         assert_eq!(rt; hull(&[point])?.point_dist2(&[0, 0]), 25, "at {point:?}");
