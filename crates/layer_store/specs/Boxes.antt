@@ -1,6 +1,6 @@
 -- The boxes that commands give and answers show, as lows and highs.
-use Rattle.std.specs.Prelude.{ℕ, Bool, int_le}
-use Rattle.box_math.specs.Bounds.{Bounds, on_axis, all_over}
+use Rattle.std.specs.Prelude.{ℕ, Bool}
+use Rattle.box_math.specs.Bounds.{Bounds, ordered_test}
 use Rattle.layer_store.specs.declared.boxes.RawBox.{RawBox}
 use Rattle.layer_store.specs.declared.boxes.RawBox.TheVariants as raw
 use Rattle.layer_store.specs.declared.boxes.AnyBox.{AnyBox}
@@ -18,7 +18,7 @@ given_bounds (raw.Three low high) = record { low = low; high = high }
 
 -- whether each low is at most its high
 abbrev pub is_ordered : ℕ → Bounds → Bool
-is_ordered dims b = all_over dims (λ axis. int_le (on_axis b.low axis) (on_axis b.high axis))
+is_ordered dims b = ordered_test dims b.low b.high
 
 -- a box is its lows and highs, whatever its dimension
 abbrev pub bounds_of : AnyBox → Bounds

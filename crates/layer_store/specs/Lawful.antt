@@ -51,6 +51,10 @@ Answered t c a new = (a ≡ reply_of t c) × (new ≡ Alive (after t c))
 abbrev pub GaveUp : Type 0 → Table → Answer → State → Type 0
 GaveUp rose t a new = RefusedBy (IsFault rose) a × (new ≡ Alive t)
 
+-- the plain table's answer and table, or want of memory and the same table: what a table in memory does
+abbrev pub AnsweredInMemory : Table → Command → Answer → Table → Type 0
+AnsweredInMemory t c a new = ((a ≡ reply_of t c) × (new ≡ after t c)) ⊎ ((a ≡ Refused refusal.Memory) × (new ≡ t))
+
 -- a fault half way through a change of the table
 abbrev pub Died : Type 0 → Table → Command → Answer → State → Type 0
 Died rose t c a new = RefusedBy (IsEnd rose) a × (after t c ≡ t → ⊥) × (new ≡ Dead)

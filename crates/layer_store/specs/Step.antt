@@ -4,6 +4,7 @@ use Rattle.std.specs.FinMap as map
 use Rattle.box_math.specs.Bounds.{Bounds, meets_test}
 use Rattle.layer_store.specs.Boxes.{dims_of, given_bounds, is_ordered}
 use Rattle.layer_store.specs.Commands.{Command}
+use Rattle.layer_store.specs.declared.boxes.RawBox.{RawBox}
 use Rattle.layer_store.specs.Commands.Command.{Create, Insert, Window}
 use Rattle.layer_store.specs.Table.{Table, Layer, is_layer_name, is_dims, is_fanout, most_layers, most_objects, object_count, layer_at, with_object}
 use Rattle.layer_store.specs.declared.refusal.Refusal.{Refusal}
@@ -24,16 +25,21 @@ first_refusal (c ∷ cs) = if c.0 then Some c.1 else first_refusal cs
 abbrev pub layer_refusals : Table → List ℕ → List (Bool × Refusal) → List (Bool × Refusal)
 layer_refusals t name more = (not (is_layer_name name), refusal.BadName) ∷ (not (map.contains_key t name), refusal.NoLayer) ∷ more
 
+-- a box of another dimension than the layer, or one with a low above its high
+abbrev pub box_refusals : Layer → RawBox → List (Bool × Refusal) → List (Bool × Refusal)
+box_refusals layer box more = (not (dims_of box == layer.dims), refusal.WrongDims) ∷ (not (is_ordered (dims_of box) (given_bounds box)), refusal.BadBox) ∷ more
+
+-- an object that is none of the layer's dimension, that is there, or for which there is no room
+abbrev pub object_refusals : Layer → ℕ → RawBox → Bool → List (Bool × Refusal)
+object_refusals layer id box is_full = box_refusals layer box ((map.contains_key layer.objects id, refusal.Duplicate) ∷ (is_full, refusal.TooManyObjects) ∷ [])
+
 -- the refusals of a command, in the order in which they are tried
 abbrev pub refusal_of : Table → Command → Option Refusal
 refusal_of t (Create name dims fanout) = first_refusal (
     (not (is_layer_name name), refusal.BadName) ∷ (not (is_dims dims), refusal.BadDims) ∷ (not (is_fanout fanout), refusal.BadFanout)
     ∷ (map.contains_key t name, refusal.LayerExists) ∷ (nat_le most_layers (map.len t), refusal.TooManyLayers) ∷ [])
-refusal_of t (Insert name id box) = first_refusal (layer_refusals t name (
-    (not (dims_of box == (layer_at t name).dims), refusal.WrongDims) ∷ (not (is_ordered (dims_of box) (given_bounds box)), refusal.BadBox)
-    ∷ (map.contains_key (layer_at t name).objects id, refusal.Duplicate) ∷ (nat_le most_objects (object_count t), refusal.TooManyObjects) ∷ []))
-refusal_of t (Window name box) = first_refusal (layer_refusals t name (
-    (not (dims_of box == (layer_at t name).dims), refusal.WrongDims) ∷ (not (is_ordered (dims_of box) (given_bounds box)), refusal.BadBox) ∷ []))
+refusal_of t (Insert name id box) = first_refusal (layer_refusals t name (object_refusals (layer_at t name) id box (nat_le most_objects (object_count t))))
+refusal_of t (Window name box) = first_refusal (layer_refusals t name (box_refusals (layer_at t name) box []))
 
 -- the table after a command that was not refused
 abbrev pub changed : Table → Command → Table

@@ -2,10 +2,14 @@
 #![tactic(auto)]
 
 mod boxes;
+mod layer;
+mod list_table;
+mod names;
+mod objects;
 mod refusal;
 mod store;
-mod table;
 
 pub use boxes::{AnyBox, RawBox, RawPoint};
+pub use list_table::ListTable;
 pub use refusal::Refusal;
 pub use store::Store;

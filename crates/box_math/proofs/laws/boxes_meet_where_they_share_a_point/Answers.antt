@@ -1,0 +1,5 @@
+use Rattle.box_math.proofs.BoxLaws.{Meets-point}
+use Rattle.box_math.proofs.laws.boxes_meet_where_they_share_a_point.Goals as goal
+
+pub returns : goal.returns
+returns c = Meets-point

@@ -1,0 +1,5 @@
+use Rattle.box_math.proofs.BoxLaws.{join_of-encloses}
+use Rattle.box_math.proofs.laws.join_encloses_both.Goals as goal
+
+pub returns : goal.returns
+returns c = join_of-encloses

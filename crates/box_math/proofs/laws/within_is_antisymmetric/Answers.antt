@@ -1,0 +1,5 @@
+use Rattle.box_math.proofs.BoxLaws.{Within-antisym}
+use Rattle.box_math.proofs.laws.within_is_antisymmetric.Goals as goal
+
+pub returns : goal.returns
+returns c = Within-antisym
