@@ -30,17 +30,6 @@ module _ (word : List ℕ) (i value byte : ℕ) (below : i < length word) (is : 
   value_here : digits_value_after 10 (value * 10 + digit_value byte) (drop (suc i) word) ≡ digits_value 10 word
   value_here = sym (ap (digits_value_after 10 value) here) ∙ so_far.value_is
 
-  digits_here : is_ascii_digit byte && list_all is_ascii_digit (drop (suc i) word) ≡ list_all is_ascii_digit word
-  digits_here = sym (ap (list_all is_ascii_digit) here) ∙ so_far.digits_are
-
-  -- a digit more
-  pub digit_read : is_ascii_digit byte ≡ true → value * 10 + digit_value byte < 2 ^ 64 → IsReadTo word (suc i) (value * 10 + digit_value byte)
-  digit_read d h = record { value_is = value_here; fits = h; digits_are = rw d at digits_here }
-
-  -- a byte that is no digit
-  pub no_digit : is_ascii_digit byte ≡ false → None ≡ number_of word
-  no_digit d = let e : false ≡ list_all is_ascii_digit word = rw d at digits_here in grind (arith, nat_tests)
-
   -- a value that is too large
   pub too_large : 2 ^ 64 ≤ value * 10 + digit_value byte → None ≡ number_of word
   too_large h =

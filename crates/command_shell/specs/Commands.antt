@@ -1,8 +1,8 @@
 -- The commands of a text. Our rule, docs/COMMANDS.md.
-use Rattle.std.specs.Prelude.{ℕ, ◌≡◌, Bool, true, List, [], ◌∷◌, ◌++◌}
+use Rattle.std.specs.Prelude.{ℕ, ◌≡◌, Bool, List, [], ◌∷◌, ◌++◌}
 use Rattle.layer_store.specs.Lawful.{Request}
 use Rattle.layer_store.specs.Lawful.Request.{BadCommand, Asks as Wants}
-use Rattle.command_shell.specs.Lines.{lines_of, IsOneLine}
+use Rattle.command_shell.specs.Lines.{IsOneLine}
 use Rattle.command_shell.specs.Meanings.{Meaning, meaning_of}
 use Rattle.command_shell.specs.Meanings.Meaning.{Blank, Bad, Asks}
 
@@ -21,7 +21,3 @@ pub data AreCommands (ended : Bool) : List (List ℕ) → List Request → Type 
 -- bytes that are the beginning of a command at most: a line without its newline
 abbrev pub IsUnfinished : List ℕ → Type 0
 IsUnfinished bytes = IsOneLine bytes
-
--- the commands of a whole text
-abbrev pub CommandsOf : List ℕ → List Request → Type 0
-CommandsOf text rs = AreCommands true (lines_of text) rs

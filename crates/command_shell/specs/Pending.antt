@@ -1,8 +1,8 @@
 -- What a `LineReader` holds, what it finds, and how much it may still do.
-use Rattle.std.specs.Prelude.{ℕ, ◌≡◌, ◌<◌, ◌-◌, ◌+◌, ◌*◌, ◌^◌, List, [], ◌∷◌, ◌++◌, length, take, drop}
+use Rattle.std.specs.Prelude.{ℕ, ◌≡◌, ◌<◌, ◌-◌, ◌+◌, ◌*◌, List, [], ◌∷◌, ◌++◌, length, take, drop}
 use Rattle.command_shell.specs.Lines.{newline, IsOneLine}
 use Rattle.command_shell.specs.Meanings.{longest_line}
-use Rattle.command_shell.specs.Reading.{BeginsLine}
+use Rattle.command_shell.specs.Reading.{buffer_size, most_calls, BeginsLine}
 use Rattle.command_shell.specs.declared.lines.LineReader.{LineReader}
 use Rattle.command_shell.specs.declared.lines.Found.{Found}
 use Rattle.command_shell.specs.declared.lines.Found.TheVariants.{Line, Last, TooLong, LastTooLong, End}
@@ -11,9 +11,9 @@ use Rattle.command_shell.specs.declared.lines.Found.TheVariants.{Line, Last, Too
 abbrev pub pending : LineReader → List ℕ
 pending r = take (r.«end» - r.start) (drop r.start r.buffer)
 
--- a bound on the bytes that may be taken and the read calls that may be made; a call gives at most a buffer of bytes
+-- a bound on the bytes that may be taken and the calls that may be made, each of which gives at most a buffer of bytes
 abbrev pub work_left : LineReader → ℕ
-work_left r = (r.«end» - r.start) + 65537 * (2 ^ 62 - r.calls)
+work_left r = (r.«end» - r.start) + (buffer_size + 1) * (most_calls - r.calls)
 
 -- how much of it finding a line takes
 abbrev pub work_done : Found → ℕ

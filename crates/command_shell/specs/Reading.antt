@@ -1,7 +1,15 @@
 -- What a reader gave, where its bytes are known, and the text that was taken of it.
-use Rattle.std.specs.Prelude.{ℕ, ◌≡◌, ◌<◌, Bool, true, false, List, [], ◌∷◌, ◌++◌, length, take, drop, suc, Option}
+use Rattle.std.specs.Prelude.{ℕ, ◌≡◌, ◌^◌, ◌<◌, Bool, true, false, List, [], ◌∷◌, ◌++◌, length, take, drop, suc, Option}
 use Rattle.std.specs.Io.KnownBytes.{Consumes, IsAtEnd}
 use Rattle.command_shell.specs.Lines.{newline, IsOneLine, IsWhole}
+
+-- how many bytes the buffer holds
+abbrev pub buffer_size : ℕ
+buffer_size = 65536
+
+-- how many read calls are made at most
+abbrev pub most_calls : ℕ
+most_calls = 2 ^ 62
 
 -- these bytes begin with n that have no newline, and then one
 pub record BeginsLine (bytes : List ℕ) (n : ℕ) : Type 0 where

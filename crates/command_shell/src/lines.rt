@@ -2,7 +2,7 @@
 
 ghost use Rattle.std.specs.Prelude.{◌≡◌, ◌+◌, ◌<◌, ◌≤◌, ◌^◌, ◌++◌, [], length, take, drop, MatchOption, MatchResult, OnOk, OnErr, IfOk};
 ghost use Rattle.command_shell.specs.Lines.{IsOneLine};
-ghost use Rattle.command_shell.specs.Reading.{BeginsLine, ReadsTo};
+ghost use Rattle.command_shell.specs.Reading.{buffer_size, most_calls, BeginsLine, ReadsTo};
 ghost use Rattle.std.specs.Io.KnownBytes.{IsAtEnd, Keeps};
 
 use crate::parse::MAX_LINE;
@@ -40,8 +40,8 @@ pub struct LineReader {
     end: usize,
     calls: u64,
     ghost ordered: { start ≤ end },
-    ghost in_range: { end ≤ 65536 },
-    ghost few: { calls ≤ 2 ^ 62 },
+    ghost in_range: { end ≤ buffer_size },
+    ghost few: { calls ≤ most_calls },
 }
 
 impl LineReader {
