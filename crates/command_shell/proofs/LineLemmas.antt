@@ -1,7 +1,7 @@
 -- Where the first newline stands, and how the bytes of a buffer move.
 use Rattle.std.proofs.Common.{◌≡◌, ℕ, suc, add-suc, true, ◌+◌, ◌-◌, ◌<◌, ◌≤◌, ◌==◌, List, [], ◌∷◌, ◌++◌, length, take, drop, get_or, Option, Some, None, MatchOption, refl, sym, ap, ◌∙◌, arith}
 use Rattle.std.proofs.lemmas.Bool.Decides.{nat_tests}
-use Rattle.std.proofs.lemmas.List.{drop-take, drop-drop, get_or-take, take-append-le, length-take-le, length-drop}
+use Rattle.std.proofs.lemmas.List.{take-append-drop, drop-take, drop-drop, get_or-take, take-append-le, length-take-le, length-drop}
 use Rattle.std.proofs.Math.Seq.{take-append-add, take-add, drop-cons}
 use Rattle.memchr.specs.Find.{IsFirstByte, is_byte}
 use Rattle.command_shell.specs.Lines.{newline, IsOneLine}
@@ -29,6 +29,10 @@ newline_found xs (Some n) h = record {
 pub lines_join : (x y : List ℕ) → IsOneLine x → IsOneLine y → IsOneLine (x ++ y)
 lines_join [] y p q = q
 lines_join (a ∷ x) y p q = (p.0, lines_join x y p.1 q)
+
+-- no newline in a front, and none in the rest
+pub none_later : (xs : List ℕ) (seen : ℕ) → IsOneLine (take seen xs) → IsOneLine (drop seen xs) → IsOneLine xs
+none_later xs seen p q = rw take-append-drop at (lines_join (take seen xs) (drop seen xs) p q)
 
 -- no newline in a front, and the first of the rest
 pub begins_later : (xs : List ℕ) (seen n : ℕ) → seen ≤ length xs → IsOneLine (take seen xs) → BeginsLine (drop seen xs) n → BeginsLine xs (seen + n)

@@ -1,8 +1,16 @@
-use Rattle.std.proofs.Common.{drop, ap, ◌∙◌, subst, Some}
+use Rattle.std.proofs.Common.{drop, ap, ◌∙◌, subst, Some, None}
+use Rattle.command_shell.specs.Lines.{IsOneLine}
 use Rattle.command_shell.specs.Pending.{pending}
 use Rattle.command_shell.specs.Reading.{BeginsLine}
-use Rattle.command_shell.proofs.LineLemmas.{newline_found, begins_later}
+use Rattle.command_shell.proofs.LineLemmas.{newline_found, none_later, begins_later}
 use Rattle.command_shell.proofs.lines.LineReader.newline.Goals as goal
+
+pub returns-in-None : goal.returns-in-None
+returns-in-None c =
+    let xs = pending c.args.self.now in
+    let rest = c.split_at.result.1.now in
+    none_later xs c.args.seen c.requires.none_seen
+    (subst IsOneLine (c.split_at.ensures.back ∙ ap (drop c.args.seen) c.pending.ensures) (newline_found rest None c.in-None.ensures))
 
 pub returns-in-Some : goal.returns-in-Some
 returns-in-Some c =
