@@ -1,7 +1,7 @@
 -- A search through a list of entries that is in order.
-use Rattle.std.proofs.Common.{◌≡◌, ◌≢◌, ℕ, zero, suc, ◌<◌, ◌≤◌, ◌+◌, List, [], ◌∷◌, length, get_or, Option, Some, None, Bool, true, false, cond, refl, sym, ap, ◌∙◌, subst, arith, T, ◌&&◌}
+use Rattle.std.proofs.Common.{◌≡◌, ℕ, zero, suc, ◌<◌, ◌≤◌, List, [], ◌∷◌, length, get_or, Some, None, Bool, true, false, cond, refl, sym, ap, ◌∙◌, subst, arith, T, ◌&&◌}
 use Rattle.std.specs.Prelude.{slice_index_or, slice_set, Result, Ok, Err, is_ok, is_some, IsTrue}
-use Rattle.std.specs.Ordering.{is_lt, is_eq, eq_by_cmp, ordering_reverse}
+use Rattle.std.specs.Ordering.{is_lt, is_eq}
 use Rattle.std.specs.Cmp.{IsTotalOrder}
 use Rattle.std.specs.declared.cmp.Ordering.{Ordering}
 use Rattle.std.specs.declared.cmp.Ordering.TheVariants.{Less, Equal, Greater}

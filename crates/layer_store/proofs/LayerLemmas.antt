@@ -1,18 +1,18 @@
 -- What a layer in memory answers and becomes, as the table's layer does.
-use Rattle.std.proofs.Common.{◌≡◌, ℕ, List, [], ◌∷◌, Bool, true, false, not, cond, filter, map, Option, None, Some, refl, sym, ap, subst, ◌∙◌, ◌==◌, eq-eqb, T}
-use Rattle.std.specs.Prelude.{Result, Ok, Err, is_ok, IsTrue, if◌then◌else◌}
+use Rattle.std.proofs.Common.{◌≡◌, ℕ, List, [], ◌∷◌, Bool, true, cond, filter, map, None, refl, sym, ap, subst, ◌∙◌, ◌==◌, eq-eqb}
+use Rattle.std.specs.Prelude.{Result, Ok, Err, is_ok, IsTrue}
 use Rattle.std.specs.List.{insert}
 use Rattle.std.specs.Cmp.{nat_cmp_total}
 use Rattle.std.specs.Ordering.{nat_cmp}
-use Rattle.std.specs.FinMap.{from_sorted, is_sorted, entries, insert as map_insert}
+use Rattle.std.specs.FinMap.{from_sorted, is_sorted, insert as map_insert}
 use Rattle.box_math.specs.Bounds.{Bounds, ordered_test, meets_test}
 use Rattle.layer_store.specs.Answers.{row_of}
-use Rattle.layer_store.specs.Boxes.{dims_of, given_bounds, is_ordered}
+use Rattle.layer_store.specs.Boxes.{dims_of, given_bounds}
 use Rattle.layer_store.specs.Entries.{BelongsAt}
 use Rattle.layer_store.specs.Kept.{layer_of}
 use Rattle.layer_store.specs.Objects.{axes_of, entries_of, object_refused}
 use Rattle.layer_store.specs.Step.{first_refusal, box_refusals, object_refusals, window_rows}
-use Rattle.layer_store.specs.Table.{Layer, with_object}
+use Rattle.layer_store.specs.Table.{with_object}
 use Rattle.layer_store.specs.declared.boxes.AnyBox.{AnyBox}
 use Rattle.layer_store.specs.declared.boxes.AnyBox.TheVariants as any
 use Rattle.layer_store.specs.declared.boxes.RawBox.{RawBox}

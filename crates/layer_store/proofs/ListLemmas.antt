@@ -1,11 +1,10 @@
 -- What the list of layers answers to each command, and that it stays a list of layers.
-use Rattle.std.proofs.Common.{◌≡◌, ℕ, ◌<◌, ◌≤◌, ◌+◌, List, [], length, get_or, map, Bool, true, false, Option, Some, None, refl, sym, ap, subst, ◌∙◌, arith, inl, inr, ◌⊎◌}
-use Rattle.std.specs.Prelude.{Result, Ok, Err, MatchResult, Vec, vec_items, nat_le, slice_set, unwrap_or}
+use Rattle.std.proofs.Common.{◌≡◌, ℕ, ◌<◌, ◌≤◌, ◌+◌, List, [], length, get_or, map, Bool, true, Option, Some, None, refl, sym, ap, subst, ◌∙◌, arith, inl, inr}
+use Rattle.std.specs.Prelude.{Result, Ok, Err, MatchResult, Vec, nat_le, slice_set, unwrap_or}
 use Rattle.std.specs.Cmp.Lexicographic.{slice_cmp}
 use Rattle.std.specs.List.{insert}
 use Rattle.std.specs.Ordering.{nat_cmp}
-use Rattle.std.specs.FinMap.{empty, contains_key, get, len, insert as map_insert}
-use Rattle.std.proofs.lemmas.List.{length-map}
+use Rattle.std.specs.FinMap.{empty, get, len, insert as map_insert}
 use Rattle.layer_store.specs.Answers.{boxes_answer, row_of}
 use Rattle.layer_store.specs.Boxes.{given_bounds}
 use Rattle.layer_store.specs.Commands.{Command}
@@ -16,7 +15,7 @@ use Rattle.layer_store.specs.Lawful.{AnsweredInMemory}
 use Rattle.layer_store.specs.Listed.{table_from, IsListed}
 use Rattle.layer_store.specs.Step.{first_refusal, box_refusals, object_refusals, window_rows, refusal_of}
 use Rattle.layer_store.specs.Step.Answer.{Done, Refused, Boxes}
-use Rattle.layer_store.specs.Table.{Table, Layer, is_layer_name, is_dims, is_fanout, most_layers, most_objects, object_count, layer_at, no_layer, with_object}
+use Rattle.layer_store.specs.Table.{Table, is_layer_name, is_dims, is_fanout, most_layers, most_objects, layer_at, no_layer, with_object}
 use Rattle.layer_store.specs.declared.boxes.AnyBox.{AnyBox}
 use Rattle.layer_store.specs.declared.boxes.RawBox.{RawBox}
 use Rattle.layer_store.specs.declared.layer.Layer.{Layer as KeptLayer}

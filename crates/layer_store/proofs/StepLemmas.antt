@@ -1,14 +1,14 @@
 -- Which refusal of a command comes first.
-use Rattle.std.proofs.Common.{◌≡◌, ℕ, ◌<◌, ◌≤◌, ◌+◌, List, [], ◌∷◌, length, Bool, true, false, not, cond, Option, Some, None, refl, sym, ap, subst, ◌∙◌, arith, inl, inr}
-use Rattle.std.specs.Prelude.{is_some, nat_le, ◌==◌}
+use Rattle.std.proofs.Common.{◌≡◌, ℕ, ◌<◌, ◌≤◌, ◌+◌, List, [], ◌∷◌, Bool, true, false, not, cond, Some, None, refl, sym, ap, ◌∙◌, arith}
+use Rattle.std.specs.Prelude.{nat_le, ◌==◌}
 use Rattle.std.proofs.lemmas.Bool.Decides.{nat_tests}
 use Rattle.std.specs.Cmp.{nat_cmp_total}
-use Rattle.std.specs.FinMap.{contains_key, get, len, empty, len-insert, insert as map_insert}
+use Rattle.std.specs.FinMap.{contains_key, get, len, len-insert}
 use Rattle.box_math.specs.Bounds.{Bounds}
 use Rattle.layer_store.specs.Boxes.{dims_of, given_bounds, is_ordered}
 use Rattle.layer_store.specs.Commands.Command.{Create, Insert, Window}
 use Rattle.layer_store.specs.Step.{first_refusal, box_refusals, object_refusals, refusal_of}
-use Rattle.layer_store.specs.Table.{Table, Layer, Objects, is_layer_name, is_dims, is_fanout, object_count, most_layers, most_objects, layer_at, with_object}
+use Rattle.layer_store.specs.Table.{Table, Layer, is_layer_name, is_dims, is_fanout, object_count, most_layers, most_objects, with_object}
 use Rattle.layer_store.specs.declared.boxes.RawBox.{RawBox}
 use Rattle.layer_store.specs.declared.refusal.Refusal.{Refusal}
 use Rattle.layer_store.specs.declared.refusal.Refusal.TheVariants as refusal

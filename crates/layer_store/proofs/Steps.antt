@@ -1,5 +1,5 @@
 -- Lawful steps of a table are lawful steps of the store that stands for it.
-use Rattle.std.proofs.Common.{◌≡◌, ℕ, inl, inr, refl, ap, sym, subst, ◌∙◌}
+use Rattle.std.proofs.Common.{◌≡◌, inl, inr, refl, ap, sym, subst}
 use Rattle.layer_store.specs.Commands.{Command}
 use Rattle.layer_store.specs.Lawful.{AnsweredInMemory, IsFault, LawfulFrom, LawfulStep, RefusedBy, Rose, Takes, Standing}
 use Rattle.layer_store.specs.Lawful.Request.{Asks}

@@ -1,11 +1,11 @@
 -- The table that a list of layers is: searching it, a layer more in it, and a layer that changed.
-use Rattle.std.proofs.Common.{◌≡◌, ℕ, zero, suc, ◌<◌, ◌≤◌, ◌+◌, List, [], ◌∷◌, length, get_or, map, take, drop, Bool, true, false, not, Option, Some, None, refl, sym, ap, subst, ◌∙◌, arith, inl, inr, ◌++◌, add-zero}
-use Rattle.std.specs.Prelude.{Result, Ok, Err, IsTrue, is_ok, is_some, slice_set, slice_index_or, sum_by, nat_le, unwrap_or}
+use Rattle.std.proofs.Common.{◌≡◌, ℕ, zero, suc, ◌<◌, ◌+◌, List, [], ◌∷◌, length, get_or, map, Some, None, refl, sym, ap, ◌∙◌, arith, inl, inr, add-zero}
+use Rattle.std.specs.Prelude.{Result, IsTrue, is_ok, slice_set, sum_by}
 use Rattle.std.specs.Cmp.Lexicographic.{slice_cmp, nat_list_cmp_total}
 use Rattle.std.specs.List.{insert}
 use Rattle.std.specs.Ordering.{nat_cmp}
 use Rattle.std.specs.declared.cmp.Ordering.{Ordering}
-use Rattle.std.specs.FinMap.{FinMap, from_sorted, is_sorted, entries, get, contains_key, len, values, find, empty, insert as map_insert, get-from_sorted, len-entries, len-empty}
+use Rattle.std.specs.FinMap.{from_sorted, is_sorted, get, contains_key, len, empty, insert as map_insert, get-from_sorted, len-entries, len-empty}
 use Rattle.std.proofs.lemmas.List.{get_or-map, length-map, map-set}
 use Rattle.std.proofs.Math.Seq.{map-set_same}
 use Rattle.std.proofs.lemmas.List.Sums.{sum_by-insert, sum_by-set}
@@ -15,9 +15,9 @@ use Rattle.layer_store.specs.Entries.{StandsAt, BelongsAt, IsSearched}
 use Rattle.layer_store.specs.Kept.{entry_of, layer_of}
 use Rattle.layer_store.specs.Lawful.{AnsweredInMemory}
 use Rattle.layer_store.specs.Listed.{table_from, IsListed}
-use Rattle.layer_store.specs.Step.{Answer, refusal_of, answer_of, changed, reply_of, after, refused_or, kept_or}
+use Rattle.layer_store.specs.Step.{Answer, refusal_of, answer_of, changed, refused_or, kept_or}
 use Rattle.layer_store.specs.Step.Answer.{Refused}
-use Rattle.layer_store.specs.Table.{Table, Layer, object_count, layer_at, most_objects}
+use Rattle.layer_store.specs.Table.{Table, Layer, object_count, most_objects}
 use Rattle.layer_store.specs.declared.layer.Layer.{Layer as KeptLayer}
 use Rattle.layer_store.specs.declared.refusal.Refusal.{Refusal}
 use Rattle.layer_store.specs.declared.refusal.Refusal.TheVariants as refusal

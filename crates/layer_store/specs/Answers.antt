@@ -1,5 +1,5 @@
 -- The answers that the results of a store's calls are.
-use Rattle.std.specs.Prelude.{ℕ, List, Result, Ok, Err, Vec, map}
+use Rattle.std.specs.Prelude.{ℕ, Result, Ok, Err, Vec, map}
 use Rattle.box_math.specs.Bounds.{Bounds}
 use Rattle.layer_store.specs.Boxes.{bounds_of}
 use Rattle.layer_store.specs.Step.{Answer}

@@ -60,9 +60,9 @@ impl<A: Allocator + Copy> Layer<A> {
     pub fn insert(&mut self, id: u64, bounds: RawBox, is_full: bool) -> Result<(), Refusal>
         ensures inserts { MatchResult result
             (λ _. (first_refusal (object_refusals (layer_of self.old) id bounds is_full) ≡ None)
-                × (layer_of self.new ≡ with_object (layer_of self.old) id (given_bounds bounds)))
+            × (layer_of self.new ≡ with_object (layer_of self.old) id (given_bounds bounds)))
             (λ e. IsRefusal (first_refusal (object_refusals (layer_of self.old) id bounds is_full)) e
-                × (layer_of self.new ≡ layer_of self.old)) }
+            × (layer_of self.new ≡ layer_of self.old)) }
         ensures name { self.new.name ≡ self.old.name }
     {
         match &mut self.objects {
@@ -89,7 +89,7 @@ impl<A: Allocator + Copy> Layer<A> {
     pub fn window(&self, alloc: A, bounds: RawBox) -> Result<Vec<(u64, AnyBox), A>, Refusal>
         ensures { MatchResult result
             (λ rows. (first_refusal (box_refusals (layer_of self.now) bounds []) ≡ None)
-                × (each row_of rows.items ≡ window_rows (layer_of self.now) (given_bounds bounds)))
+            × (each row_of rows.items ≡ window_rows (layer_of self.now) (given_bounds bounds)))
             (λ e. IsRefusal (first_refusal (box_refusals (layer_of self.now) bounds [])) e) }
     {
         match (&self.objects, bounds) {

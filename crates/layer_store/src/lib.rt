@@ -8,6 +8,8 @@ mod names;
 mod objects;
 mod refusal;
 mod store;
+#[cfg(test)]
+mod tests;
 
 pub use boxes::{AnyBox, RawBox, RawPoint};
 pub use list_table::ListTable;

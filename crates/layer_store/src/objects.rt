@@ -35,7 +35,7 @@ pub fn admit<const D: usize>(
     requires sorted { IsTrue (is_sorted nat_cmp objects.now) }
     ensures { MatchResult result
         (λ place. (first_refusal (object_refused D objects.now id (record { low = low.entry; high = high.entry }) is_full) ≡ None)
-            × BelongsAt nat_cmp objects.now id place.0 × (place.1 ≡ record { low = low.entry; high = high.entry }))
+        × BelongsAt nat_cmp objects.now id place.0 × (place.1 ≡ record { low = low.entry; high = high.entry }))
         (λ e. first_refusal (object_refused D objects.now id (record { low = low.entry; high = high.entry }) is_full) ≡ Some e) }
 {
     let Some(bounds) = BBox::try_new(low, high) else {

@@ -27,9 +27,8 @@ impl<A: Allocator + Copy> Store<A> {
     pub fn empty(alloc: A) -> Result<Self, Refusal>
         ensures { IsOkAnd result (λ s. Stands s (record { state = Alive empty; faults = 0 })) }
     {
-        Ok(Store {
-            layers: ListTable::new(alloc),
-        })
+        let layers = ListTable::new(alloc);
+        Ok(Store { layers })
     }
 
     /// Makes an empty layer of that name with 2 or 3 axes, whose nodes may have 4 to 100 entries.

@@ -1,4 +1,4 @@
-use Rattle.std.proofs.Common.{◌≡◌, sym, ◌∙◌, refl, Ok, Err, true, false}
+use Rattle.std.proofs.Common.{◌≡◌, sym, refl, Ok, Err, true, false}
 use Rattle.std.specs.FinMap.{contains_key, from_sorted}
 use Rattle.std.specs.Ordering.{nat_cmp}
 use Rattle.box_math.specs.Bounds.{ordered_test}

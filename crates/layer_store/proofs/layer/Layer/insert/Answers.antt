@@ -1,4 +1,4 @@
-use Rattle.std.proofs.Common.{◌≡◌, ◌∙◌, sym, ap, subst, refl, List, ℕ}
+use Rattle.std.proofs.Common.{◌∙◌, sym, ap, subst, refl, List, ℕ}
 use Rattle.std.specs.Prelude.{IsTrue}
 use Rattle.std.specs.List.{insert}
 use Rattle.std.specs.FinMap.{is_sorted}
@@ -28,13 +28,13 @@ invariant_of-self-in-Three-bounds-2 g c =
 pub returns-in_ok-insert-in-Two-bounds-clause-inserts : goal.returns-in_ok-insert-in-Two-bounds-clause-inserts
 returns-in_ok-insert-in-Two-bounds-clause-inserts g c = rw c.in-Two-bounds.is
     (inserts c.args.self.now (raw.Two c.in-Two-bounds.low c.in-Two-bounds.high) c.deref.result.now (ap axes_of c.in-Two.is) (ap entries_of c.in-Two.is ∙ sym c.deref.ensures.value)
-      (kept.Two c.insert.new.self) c.args.id c.in_ok-place-in-Two-bounds.place c.in_ok-place-in-Two-bounds.bounds c.args.is_full
-      c.in_ok-place-in-Two-bounds.ensures.0 c.in_ok-place-in-Two-bounds.ensures.1 c.in_ok-place-in-Two-bounds.ensures.2 refl
-      (c.in_ok-insert-in-Two-bounds.ensures.items ∙ ap (λ xs. insert xs c.in_ok-place-in-Two-bounds.place (c.args.id, c.in_ok-place-in-Two-bounds.bounds)) (sym c.deref.ensures.value)))
+    (kept.Two c.insert.new.self) c.args.id c.in_ok-place-in-Two-bounds.place c.in_ok-place-in-Two-bounds.bounds c.args.is_full
+    c.in_ok-place-in-Two-bounds.ensures.0 c.in_ok-place-in-Two-bounds.ensures.1 c.in_ok-place-in-Two-bounds.ensures.2 refl
+    (c.in_ok-insert-in-Two-bounds.ensures.items ∙ ap (λ xs. insert xs c.in_ok-place-in-Two-bounds.place (c.args.id, c.in_ok-place-in-Two-bounds.bounds)) (sym c.deref.ensures.value)))
 
 pub returns-in_ok-insert-in-Three-bounds-2-clause-inserts : goal.returns-in_ok-insert-in-Three-bounds-2-clause-inserts
 returns-in_ok-insert-in-Three-bounds-2-clause-inserts g c = rw c.in-Three-bounds-2.is
     (inserts c.args.self.now (raw.Three c.in-Three-bounds-2.low c.in-Three-bounds-2.high) c.deref-in-Three-bounds-2.result.now (ap axes_of c.in-Three.is) (ap entries_of c.in-Three.is ∙ sym c.deref-in-Three-bounds-2.ensures.value)
-      (kept.Three c.insert-in-Three-bounds-2.new.self) c.args.id c.in_ok-place-in-Three-bounds-2.place c.in_ok-place-in-Three-bounds-2.bounds c.args.is_full
-      c.in_ok-place-in-Three-bounds-2.ensures.0 c.in_ok-place-in-Three-bounds-2.ensures.1 c.in_ok-place-in-Three-bounds-2.ensures.2 refl
-      (c.in_ok-insert-in-Three-bounds-2.ensures.items ∙ ap (λ xs. insert xs c.in_ok-place-in-Three-bounds-2.place (c.args.id, c.in_ok-place-in-Three-bounds-2.bounds)) (sym c.deref-in-Three-bounds-2.ensures.value)))
+    (kept.Three c.insert-in-Three-bounds-2.new.self) c.args.id c.in_ok-place-in-Three-bounds-2.place c.in_ok-place-in-Three-bounds-2.bounds c.args.is_full
+    c.in_ok-place-in-Three-bounds-2.ensures.0 c.in_ok-place-in-Three-bounds-2.ensures.1 c.in_ok-place-in-Three-bounds-2.ensures.2 refl
+    (c.in_ok-insert-in-Three-bounds-2.ensures.items ∙ ap (λ xs. insert xs c.in_ok-place-in-Three-bounds-2.place (c.args.id, c.in_ok-place-in-Three-bounds-2.bounds)) (sym c.deref-in-Three-bounds-2.ensures.value)))

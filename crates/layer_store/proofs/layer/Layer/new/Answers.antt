@@ -1,9 +1,8 @@
-use Rattle.std.proofs.Common.{◌≡◌, ◌∙◌, sym, ap, arith, ℕ}
+use Rattle.std.proofs.Common.{◌≡◌, ◌∙◌, sym, ap, arith}
 use Rattle.std.proofs.lemmas.Bool.Decides.{nat_tests}
 use Rattle.std.specs.FinMap.{from_sorted, empty}
 use Rattle.std.specs.Ordering.{nat_cmp}
 use Rattle.layer_store.specs.Objects.{axes_of, entries_of}
-use Rattle.layer_store.specs.Table.{Objects}
 use Rattle.layer_store.proofs.EntryLemmas.{empty_map}
 use Rattle.layer_store.proofs.layer.Layer.new.Goals as goal
 use Rattle.layer_store.proofs.layer.Layer.new.Goals.{then-dims-eq2, else-dims-eq2}

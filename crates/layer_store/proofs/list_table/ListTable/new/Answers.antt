@@ -1,9 +1,7 @@
-use Rattle.std.proofs.Common.{ap, ◌∙◌, refl, map, subst}
+use Rattle.std.proofs.Common.{ap, ◌∙◌}
 use Rattle.std.specs.Cmp.Lexicographic.{slice_cmp}
-use Rattle.std.specs.FinMap.{from_sorted}
 use Rattle.std.specs.Ordering.{nat_cmp}
-use Rattle.layer_store.specs.Kept.{entry_of}
-use Rattle.layer_store.specs.Listed.{IsListed, table_from}
+use Rattle.layer_store.specs.Listed.{table_from}
 use Rattle.layer_store.proofs.EntryLemmas.{empty_map}
 use Rattle.layer_store.proofs.TableLemmas.{none_listed}
 use Rattle.layer_store.proofs.list_table.ListTable.new.Goals as goal

@@ -1,6 +1,5 @@
-use Rattle.layer_store.specs.Lawful.{Rose}
 use Rattle.layer_store.proofs.Steps.{begins}
 use Rattle.layer_store.proofs.store.Store.empty.Goals as goal
 
 pub returns : goal.returns
-returns g c = begins _ _ c.new.ensures
+returns g c = begins _ _ c.new-layers.ensures

@@ -1,0 +1,6 @@
+-- The files of lemmas.
+pub mod Done
+pub mod Filling
+pub mod Keeping
+pub mod Numbers
+pub mod Stops
