@@ -1,4 +1,4 @@
--- The boxes that commands give and answers show, as lows and highs.
+-- The boxes that commands give and answers show, as lows and highs. Our rule, docs/COMMANDS.md.
 use Rattle.std.specs.Prelude.{ℕ, Bool}
 use Rattle.box_math.specs.Bounds.{Bounds, ordered_test}
 use Rattle.layer_store.specs.declared.boxes.RawBox.{RawBox}

@@ -1,4 +1,4 @@
--- What a store is asked.
+-- What a store is asked. Our rule, docs/COMMANDS.md.
 use Rattle.std.specs.Prelude.{ℕ, List}
 use Rattle.layer_store.specs.declared.boxes.RawBox.{RawBox}
 
