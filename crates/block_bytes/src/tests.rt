@@ -1,7 +1,8 @@
 //! Tests of the order of bytes, which the words take from `byteorder`, at the first and the last place.
 
 use crate::{
-    read_i32, read_u8, read_u16, read_u32, read_u64, write_i32, write_u8, write_u16, write_u32, write_u64, zero_block,
+    read_i32, read_u8, read_u16, read_u32, read_u64, write_i32, write_u8, write_u16, write_u32,
+    write_u64, zero_block,
 };
 
 #[test]
