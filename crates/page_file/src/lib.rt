@@ -1,0 +1,14 @@
+//! Live pages of 4096 bytes on a device, behind a gate that tells a stopped file from a closed one.
+#![tactic(auto)]
+
+mod blocks;
+mod creation;
+mod fault;
+mod file;
+mod gate;
+mod header;
+mod layout;
+mod opening;
+
+pub use fault::Fault;
+pub use file::{PageFile, create_pages, open_pages};
