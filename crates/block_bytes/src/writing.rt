@@ -14,6 +14,7 @@ pub fn zero_block() -> [u8; 4096]
 }
 
 /// Writes the byte at the place.
+#[inline]
 pub fn write_u8(block: &mut [u8; 4096], at: usize, x: u8)
     requires { at < 4096 }
     ensures { block.new ≡ put_number 1 at x block.old }
@@ -22,6 +23,7 @@ pub fn write_u8(block: &mut [u8; 4096], at: usize, x: u8)
 }
 
 /// Writes the number into the two bytes from the place, the higher first.
+#[inline]
 pub fn write_u16(block: &mut [u8; 4096], at: usize, x: u16)
     requires { at + 2 ≤ 4096 }
     ensures { block.new ≡ put_number 2 at x block.old }
@@ -30,6 +32,7 @@ pub fn write_u16(block: &mut [u8; 4096], at: usize, x: u16)
 }
 
 /// Writes the number into the four bytes from the place, the highest first.
+#[inline]
 pub fn write_u32(block: &mut [u8; 4096], at: usize, x: u32)
     requires { at + 4 ≤ 4096 }
     ensures { block.new ≡ put_number 4 at x block.old }
@@ -38,6 +41,7 @@ pub fn write_u32(block: &mut [u8; 4096], at: usize, x: u32)
 }
 
 /// Writes the number into the eight bytes from the place, the highest first.
+#[inline]
 pub fn write_u64(block: &mut [u8; 4096], at: usize, x: u64)
     requires { at + 8 ≤ 4096 }
     ensures { block.new ≡ put_number 8 at x block.old }
@@ -47,6 +51,7 @@ pub fn write_u64(block: &mut [u8; 4096], at: usize, x: u64)
 
 /// Writes the signed number into the four bytes from the place, the highest first, in two's complement.
 #[tactic(auto, using(crate::specs::Laws::signed_values), unfolding(crate::specs::Numbers::put_signed))]
+#[inline]
 pub fn write_i32(block: &mut [u8; 4096], at: usize, x: i32)
     requires { at + 4 ≤ 4096 }
     ensures { block.new ≡ put_signed at x block.old }

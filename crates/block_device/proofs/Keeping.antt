@@ -1,21 +1,18 @@
 -- What a device in memory keeps, through a write, and what a stop makes of it.
 use Rattle.std.proofs.Common.{◌≡◌, ◌∙◌, ℕ, ◌+◌, ◌<◌, ◌≤◌, Bool, true, false, ◌||◌, nat_eq, if◌then◌else◌, List, [], ◌∷◌, ◌++◌, length, take, set, get_or, Option, Some, None, sym, ap, subst, arith, ⊎_elim, length-set}
 use Rattle.std.specs.List.{All}
-use Rattle.std.proofs.lemmas.List.{get_or-set_same, get_or-set_other}
-use Rattle.std.proofs.lemmas.Bool.{cases_lt, cases_eq}
+use Rattle.std.proofs.lemmas.List.{get_or-set_same, get_or-set_other, get_or_append_left, get_or_push, length_push, take_at, set-set, set-get_or}
+use Rattle.std.proofs.lemmas.List.Elements.{All-push}
+use Rattle.std.proofs.lemmas.Bool.{cases_lt, cases_eq, cases_Bool, eq-eqb, ne_eqb, or_left, both_ways}
 use Rattle.block_device.specs.declared.write.Write.{Write}
-use Rattle.block_device.specs.Device.{Blocks, block_at}
-use Rattle.block_device.specs.Kept.{IsKept, IsOld, Keeps, is_in, is_logged}
+use Rattle.block_device.specs.Device.{Blocks, Follows, Torn, Elapses, block_at, written}
 use Rattle.block_device.specs.History.{Event, Wrote, undone, IsThere, IsHistory, MayLeave, LeftSince, at_sync, unsynced}
+use Rattle.block_device.specs.Kept.{IsKept, IsOld, Keeps, is_in, is_logged}
 use Rattle.block_device.specs.Outcomes.{sync_le, sync_same}
-use Rattle.block_device.specs.Stop.{IsFilled}
-use Rattle.block_device.specs.Device.{Follows, Torn, Elapses, written}
+use Rattle.block_device.specs.Stop.{IsOutcome}
 use Rattle.block_device.specs.Written.{set_written, push_written}
 use Rattle.block_device.proofs.Numbers.{not_in, appended, logged_more, logged_last}
 use Rattle.block_device.proofs.Stops.{outcome_before, elapses_more}
-use Rattle.std.proofs.lemmas.List.{get_or_append_left, get_or_push, length_push, take_at, set-set, set-get_or}
-use Rattle.std.proofs.lemmas.List.Elements.{All-push}
-use Rattle.std.proofs.lemmas.Bool.{eq-eqb, ne_eqb, or_left, cases_Bool, both_ways}
 
 -- what follows from a write
 pub record Adds (blocks after : Blocks) (es es' : List Event) (i : ℕ) (bytes : List ℕ) : Type 0 where
@@ -37,9 +34,9 @@ module _ (blocks after : Blocks) (es es' : List Event) (i : ℕ) (old : Option (
     certain = certain_same;
     numbers = ap unsynced e;
     stops = λ c now. outcome_before blocks (at_sync blocks es) (unsynced es) i bytes at_most (sync_le blocks es h) c (
-        subst (λ (x : Blocks). Rattle.block_device.specs.Stop.IsOutcome x (at_sync blocks es) (i ∷ unsynced es) c) shown
-        (subst (λ (x : Blocks). Rattle.block_device.specs.Stop.IsOutcome after x (i ∷ unsynced es) c) certain_same
-        (subst (λ (ns : List ℕ). Rattle.block_device.specs.Stop.IsOutcome after (at_sync after es') ns c) (ap unsynced e) now))
+        subst (λ (x : Blocks). IsOutcome x (at_sync blocks es) (i ∷ unsynced es) c) shown
+        (subst (λ (x : Blocks). IsOutcome after x (i ∷ unsynced es) c) certain_same
+        (subst (λ (ns : List ℕ). IsOutcome after (at_sync after es') ns c) (ap unsynced e) now))
         );
     time = subst (λ (l : List Event). Elapses (length es) (length l) (LeftSince blocks es) (LeftSince after l) (MayLeave after l)) (sym e) (elapses_more blocks after es (Wrote i old) back);
   }

@@ -114,6 +114,9 @@ pub trait BlockDevice {
         ensures faults { Counts (faults self.old) (faults self.new) result }
         ensures gives { sync_gives self.old result self.new };
 
+    /// There are at most 2^31 blocks.
+    ghost few_blocks: { (d : Self) → length (shown d) ≤ 2 ^ 31 };
+
     /// What is read is one of the outcomes of a stop now.
     ghost shown_counts: { (d : Self) → honest d → may_leave d (shown d) };
 

@@ -81,23 +81,25 @@ impl<D: BlockDevice> FuseDevice<D> {
 }
 
 impl<D: BlockDevice> BlockDevice for FuseDevice<D> {
-    ghost shown = { λ f. D.shown f.inner };
+    ghost shown = { λ f. D.shown (inner_of f) };
 
-    ghost honest = { λ f. D.honest f.inner };
+    ghost honest = { λ f. D.honest (inner_of f) };
 
-    ghost may_leave = { λ f. D.may_leave f.inner };
+    ghost may_leave = { λ f. D.may_leave (inner_of f) };
 
-    ghost moment = { λ f. D.moment f.inner };
+    ghost moment = { λ f. D.moment (inner_of f) };
 
-    ghost left_since = { λ f. D.left_since f.inner };
+    ghost left_since = { λ f. D.left_since (inner_of f) };
 
-    ghost faults = { λ f. faults_with (D.faults f.inner) f.blown };
+    ghost faults = { λ f. faults_with (D.faults (inner_of f)) (blown_of f) };
 
-    ghost read_gives = { λ f i into result bytes g. CallsBelow f g result (D.read_gives f.inner i into result bytes g.inner) };
+    // A read that the fuse fails leaves the buffer, too.
+    ghost read_gives = { λ f i into result bytes g.
+        CallsBelow f g result (D.read_gives (inner_of f) i into result bytes (inner_of g)) × (fails_next f ≡ true → bytes ≡ into) };
 
-    ghost write_gives = { λ f i bytes result g. CallsBelow f g result (D.write_gives f.inner i bytes result g.inner) };
+    ghost write_gives = { λ f i bytes result g. CallsBelow f g result (D.write_gives (inner_of f) i bytes result (inner_of g)) };
 
-    ghost sync_gives = { λ f result g. CallsBelow f g result (D.sync_gives f.inner result g.inner) };
+    ghost sync_gives = { λ f result g. CallsBelow f g result (D.sync_gives (inner_of f) result (inner_of g)) };
 
     fn blocks(&self) -> u32 {
         self.inner.blocks()
@@ -124,15 +126,17 @@ impl<D: BlockDevice> BlockDevice for FuseDevice<D> {
         self.inner.sync()
     }
 
-    ghost shown_counts = { λ f. D.shown_counts f.inner };
+    ghost few_blocks = { λ f. D.few_blocks (inner_of f) };
 
-    ghost no_longer = { λ f. D.no_longer f.inner };
+    ghost shown_counts = { λ f. D.shown_counts (inner_of f) };
 
-    ghost counts_now = { λ f. D.counts_now f.inner };
+    ghost no_longer = { λ f. D.no_longer (inner_of f) };
 
-    ghost only_now = { λ f. D.only_now f.inner };
+    ghost counts_now = { λ f. D.counts_now (inner_of f) };
 
-    ghost since_earlier = { λ f. D.since_earlier f.inner };
+    ghost only_now = { λ f. D.only_now (inner_of f) };
 
-    ghost faults_fit = { λ f. faults_with-fits (D.faults f.inner) f.blown };
+    ghost since_earlier = { λ f. D.since_earlier (inner_of f) };
+
+    ghost faults_fit = { λ f. faults_with-fits (D.faults (inner_of f)) (blown_of f) };
 }

@@ -18,7 +18,7 @@ impl Model for Past {
 
 impl Past {
     /// No event yet.
-    pub fn new() -> Past
+    pub(crate) fn new() -> Past
         ensures { result.notes ≡ [] }
     {
         Past {
@@ -27,26 +27,26 @@ impl Past {
     }
 
     /// Adds an event, which costs nothing.
-    pub fn note(&mut self, _numbers: &[u64], _bytes: &[u8])
+    pub(crate) fn note(&mut self, _numbers: &[u64], _bytes: &[u8])
         ensures { self.new.notes ≡ note_of _numbers.now _bytes.now ∷ self.old.notes }
     {}
 
     /// Block i is written, which held these bytes.
-    pub fn changes(&mut self, i: u32, old: &[u8; 4096])
+    pub(crate) fn changes(&mut self, i: u32, old: &[u8; 4096])
         ensures { self.new.notes ≡ note_of (i ∷ 0 ∷ []) old.now ∷ self.old.notes }
     {
         self.note(&[i as u64, 0], old);
     }
 
     /// Block i is appended.
-    pub fn appends(&mut self, i: u32)
+    pub(crate) fn appends(&mut self, i: u32)
         ensures { self.new.notes ≡ note_of (i ∷ []) [] ∷ self.old.notes }
     {
         self.note(&[i as u64], &[]);
     }
 
     /// All is synced.
-    pub fn syncs(&mut self)
+    pub(crate) fn syncs(&mut self)
         ensures { self.new.notes ≡ note_of [] [] ∷ self.old.notes }
     {
         self.note(&[], &[]);

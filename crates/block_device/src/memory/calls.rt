@@ -88,6 +88,8 @@ impl<A: Allocator + Copy> BlockDevice for MemoryDevice<A> {
         Ok(())
     }
 
+    ghost few_blocks = { λ d. d.few };
+
     ghost shown_counts = { λ d _. shown_left (shown_of d) (history_of d) d.kept.leads };
 
     ghost no_longer = { λ d c _ now. no_longer_left (shown_of d) (history_of d) c now };
