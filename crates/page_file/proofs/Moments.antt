@@ -3,7 +3,7 @@ use Rattle.std.proofs.Common.{ℕ, List}
 use Rattle.block_device.specs.Device.{Blocks, Elapses, Follows, LeavesNoMore, LeavesOnly, Torn}
 use Rattle.block_device.specs.Moments.{started, goes_on}
 use Rattle.page_file.specs.Stops.{GateAside}
-use Rattle.page_file.proofs.Written.{aside_torn}
+use Rattle.page_file.specs.Written.{aside_torn}
 use Rattle.std.proofs.Common.{refl}
 
 module _ {D : Type 0} (moment : D → ℕ) (left_since : D → ℕ → Blocks → Type 0) (may_leave : D → Blocks → Type 0) where

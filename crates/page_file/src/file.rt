@@ -7,9 +7,10 @@ ghost use Rattle.page_file.specs.Opening.{is_sound};
 ghost use Rattle.page_file.specs.Stops.{StopNow, StopsNow-prop};
 
 mod change;
-mod ends;
 mod open;
 mod pages;
+mod settle;
+mod view;
 
 pub use open::{create_pages, open_pages};
 

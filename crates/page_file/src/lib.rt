@@ -7,8 +7,11 @@ mod fault;
 mod file;
 mod gate;
 mod header;
+pub mod laws;
 mod layout;
 mod opening;
+#[cfg(test)]
+mod tests;
 
 pub use fault::Fault;
 pub use file::{PageFile, create_pages, open_pages};

@@ -18,13 +18,6 @@ use block_device::BlockDevice;
 const MAX_PAGES: u32 = 1 << 31;
 
 impl<D: BlockDevice> PageFile<D> {
-    /// One more than the greatest page number given out.
-    pub fn next_number(&self) -> u32
-        ensures { result ≡ next_of self.now }
-    {
-        self.header.next
-    }
-
     /// Gives out a page of zeros that was not live. The gate has to be open.
     ///
     /// After a refusal one page that was not live may hold any bytes, and may be live; all others are as

@@ -3,7 +3,7 @@ use Rattle.block_device.specs.Device.{Blocks, LeavesOnly, block_at}
 use Rattle.block_device.specs.Written.{block_at-written, length-written_within}
 use Rattle.page_file.specs.Stops.{GateAside}
 use Rattle.page_file.proofs.Moments.{gate_aside_leaves}
-use Rattle.page_file.proofs.Written.{torn_size}
+use Rattle.page_file.specs.Written.{torn_size}
 use Rattle.page_file.proofs.blocks.write_gate.Goals as goal
 
 pub returns-in_err-write-clause-size : goal.returns-in_err-write-clause-size

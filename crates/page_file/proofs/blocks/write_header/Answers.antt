@@ -2,7 +2,7 @@ use Rattle.std.proofs.Common.{◌≡◌, ℕ, ap, ◌∙◌, length, subst, sym}
 use Rattle.block_device.specs.Device.{block_at}
 use Rattle.block_device.specs.Written.{block_at-written, block_at-written_other, length-written_within, torn_other}
 use Rattle.page_file.specs.Layout.{IsHeader}
-use Rattle.page_file.proofs.Written.{torn_size}
+use Rattle.page_file.specs.Written.{torn_size}
 use Rattle.page_file.proofs.blocks.write_header.Goals as goal
 
 pub returns-in_err-write-clause-size : goal.returns-in_err-write-clause-size

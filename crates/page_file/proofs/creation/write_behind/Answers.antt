@@ -1,6 +1,6 @@
 use Rattle.block_device.specs.Moments.{leaves_weaker}
 use Rattle.page_file.specs.Opening.{IsRefused}
-use Rattle.page_file.proofs.Gated.{fails, still_open}
+use Rattle.page_file.specs.Gated.{fails, still_open}
 use Rattle.page_file.proofs.creation.write_behind.Goals as goal
 
 pub returns-clause-open : goal.returns-clause-open

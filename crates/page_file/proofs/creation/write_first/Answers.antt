@@ -2,7 +2,7 @@ use Rattle.std.proofs.Common.{◌≡◌, length, ap, sym, subst, arith}
 use Rattle.block_device.specs.Device.{Blocks}
 use Rattle.block_device.specs.Moments.{leaves_weaker}
 use Rattle.page_file.specs.Opening.{IsRefused}
-use Rattle.page_file.proofs.Gated.{few_refused}
+use Rattle.page_file.specs.Gated.{few_refused}
 use Rattle.page_file.proofs.creation.write_first.Goals as goal
 
 pub returns-clause-stops : goal.returns-clause-stops

@@ -1,6 +1,6 @@
 use Rattle.std.proofs.Common.{sym, subst, arith, rules}
 use Rattle.page_file.specs.Layout.{header_block, IsHeader}
-use Rattle.page_file.proofs.Reading.{header_reads}
+use Rattle.page_file.specs.Reading.{header_reads}
 use Rattle.page_file.proofs.layout.header_page.Goals as goal
 
 pub returns-clause-is : goal.returns-clause-is

@@ -2,12 +2,12 @@ use Rattle.std.proofs.Common.{◌≡◌, ◌<◌, ◌≤◌, ◌+◌, ℕ, List,
 use Rattle.block_bytes.specs.Numbers.{zeros}
 use Rattle.block_device.specs.Device.{block_at}
 use Rattle.block_device.specs.Written.{block_at-written}
-use Rattle.page_file.proofs.Gated.{open_is_not_shut}
-use Rattle.page_file.proofs.Kept.{adds_behind, stop_behind}
-use Rattle.page_file.proofs.Live.{fresh_free, fresh_lives, fresh_none, fresh_others, one_page_more, page_live, refused_free, refused_others}
+use Rattle.page_file.specs.Gated.{open_is_not_shut}
+use Rattle.page_file.specs.Kept.{adds_behind, stop_behind}
+use Rattle.page_file.specs.Live.{fresh_free, fresh_lives, fresh_none, fresh_others, one_page_more, page_live, refused_free, refused_others}
 use Rattle.page_file.proofs.Results.{on_err_any}
-use Rattle.page_file.proofs.Settled.{more_given, sound_says}
-use Rattle.page_file.proofs.Written.{torn_longer, within_written}
+use Rattle.page_file.specs.Settled.{more_given, sound_says}
+use Rattle.page_file.specs.Written.{torn_longer, within_written}
 use Rattle.page_file.proofs.file.PageFile.allocate.Goals as goal
 
 pub invariant_of-self : goal.invariant_of-self

@@ -1,5 +1,5 @@
 use Rattle.std.proofs.Common.{refl}
-use Rattle.page_file.proofs.Kept.{map_kept_aside}
+use Rattle.page_file.specs.Kept.{map_kept_aside}
 use Rattle.page_file.proofs.file.PageFile.begin_change.Goals as goal
 
 pub returns-in_err-write_gate-clause-map : goal.returns-in_err-write_gate-clause-map

@@ -1,11 +1,11 @@
 use Rattle.std.proofs.Common.{◌≡◌, ◌<◌, ◌≤◌, ℕ, List, Some, ap, sym, ◌∙◌, arith, length, refl}
 use Rattle.block_device.specs.Device.{block_at, written}
 use Rattle.block_device.specs.Written.{block_at-written}
-use Rattle.page_file.proofs.Gated.{open_is_not_shut}
-use Rattle.page_file.proofs.Kept.{adds_behind, stop_behind}
-use Rattle.page_file.proofs.Live.{lives, lives_some, others_same, page_live, free_torn, torn_lives}
+use Rattle.page_file.specs.Gated.{open_is_not_shut}
+use Rattle.page_file.specs.Kept.{adds_behind, stop_behind}
+use Rattle.page_file.specs.Live.{lives, lives_some, others_same, page_live, free_torn, torn_lives}
 use Rattle.page_file.proofs.Results.{on_ok_map}
-use Rattle.page_file.proofs.Written.{torn_longer}
+use Rattle.page_file.specs.Written.{torn_longer}
 use Rattle.page_file.proofs.file.PageFile.write.Goals as goal
 
 pub invariant_of-self : goal.invariant_of-self

@@ -1,8 +1,8 @@
 use Rattle.std.proofs.Common.{sym, subst, refl, arith}
 use Rattle.page_file.specs.Layout.{IsShutGate}
-use Rattle.page_file.proofs.Kept.{shut_lies}
-use Rattle.page_file.proofs.Live.{new_free}
-use Rattle.page_file.proofs.Reading.{shut_gate}
+use Rattle.page_file.specs.Kept.{shut_lies}
+use Rattle.page_file.specs.Live.{new_free}
+use Rattle.page_file.specs.Reading.{shut_gate}
 use Rattle.page_file.proofs.file.open.create_pages.Goals as goal
 
 pub invariant_of-result : goal.invariant_of-result

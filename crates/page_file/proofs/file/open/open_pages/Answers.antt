@@ -2,7 +2,7 @@ use Rattle.std.proofs.Common.{◌≡◌, ◌≤◌, sym, subst, length}
 use Rattle.block_device.specs.Device.{Blocks, block_at}
 use Rattle.page_file.specs.declared.header.Header.{Header}
 use Rattle.page_file.specs.Layout.{IsHeader, IsShutGate}
-use Rattle.page_file.proofs.Settled.{passes_from}
+use Rattle.page_file.specs.Settled.{passes_from}
 use Rattle.page_file.proofs.file.open.open_pages.Goals as goal
 
 pub invariant_of-result : goal.invariant_of-result

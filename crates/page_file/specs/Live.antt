@@ -10,6 +10,7 @@ use Rattle.std.proofs.lemmas.Map.Steps.{length-le_from_distinct_below}
 use Rattle.block_device.specs.Device.{Blocks, Torn, block_at}
 use Rattle.block_device.specs.Written.{torn_other}
 use Rattle.page_file.specs.Layout.{kind_of, link_of, new_header}
+use Rattle.page_file.specs.Opening.{is_sound}
 use Rattle.page_file.specs.Pages.{chain, free_pages_of, is_live, page_of, IsChain, HasFreeChain, SameBut}
 use Rattle.page_file.specs.declared.header.Header.{Header}
 
@@ -311,3 +312,11 @@ none_distinct = tt
 -- of no free pages
 pub new_free : (blocks : Blocks) → HasFreeChain blocks new_header
 new_free blocks = record { whole = refl; distinct = none_distinct }
+
+-- the catalog is not free
+pub catalog_lives : (blocks : Blocks) (h : Header) → is_sound h ≡ true → HasFreeChain blocks h → IsSome (page_of blocks h 2)
+catalog_lives blocks h sound f = lives_some blocks h 2 (record { low = omega arith; below = grind (arith, nat_tests); not_free = not_in (is_member eqb (free_pages_of blocks h) 2) refl })
+  where
+    not_in : (t : Bool) → is_member eqb (free_pages_of blocks h) 2 ≡ t → t ≡ false
+    not_in false e = refl
+    not_in true e = absurd (omega (arith, (chain_within blocks h.next h.count h.first f.whole 2 e).0))

@@ -11,9 +11,9 @@ use Rattle.page_file.specs.declared.header.Header.{Header}
 use Rattle.page_file.specs.File.{IsHonest, IsPageMap, KeepsMap, LiesIn, gate_of}
 use Rattle.page_file.specs.Pages.{HasFreeChain, header_in, page_of}
 use Rattle.page_file.specs.Stops.{AddsOnly, SameButGate, StopNow, StopSince, TornFrom}
-use Rattle.page_file.proofs.Gated.{fails, open_is_not_shut, open_stop, still_open, stop_open}
-use Rattle.page_file.proofs.Live.{free_same, pages_same}
-use Rattle.page_file.proofs.Settled.{Passes, header_is, passes_to, settled_passes, sound_says}
+use Rattle.page_file.specs.Gated.{fails, open_is_not_shut, open_stop, still_open, stop_open}
+use Rattle.page_file.specs.Live.{free_same, pages_same}
+use Rattle.page_file.specs.Settled.{Passes, header_is, passes_to, settled_passes, sound_says}
 
 -- behind the gate the blocks are the same
 aside_next : (c d : Blocks) (k : ℕ) → SameButGate c d → block_at (suc k) c ≡ block_at (suc k) d

@@ -11,8 +11,8 @@ use Rattle.page_file.specs.declared.gate.Gate.{Gate}
 use Rattle.page_file.specs.declared.gate.Gate.TheVariants.{Shut, Open, Unsure}
 use Rattle.page_file.specs.Opening.{IsRefused, failed_check, Check, first_fault, gate_checks, header_checks}
 use Rattle.page_file.specs.Stops.{SameButGate, StopNow, StopSince}
-use Rattle.page_file.proofs.Reading.{length-gate, shut-gate, text-gate}
-use Rattle.page_file.proofs.Written.{first_torn}
+use Rattle.page_file.specs.Reading.{length-gate, shut-gate, text-gate}
+use Rattle.page_file.specs.Written.{first_torn}
 
 pub some_blocks : (d : Blocks) → block_at 0 d ≡ gate_block 0 → 0 < length d
 some_blocks [] e = absurd (omega (arith, ap length e, length-gate 0))
