@@ -1,0 +1,3 @@
+-- The files of lemmas.
+pub mod Results
+pub mod Moments

@@ -1,0 +1,22 @@
+use Rattle.std.proofs.Common.{sym, subst, refl, arith}
+use Rattle.page_file.specs.Layout.{IsShutGate}
+use Rattle.page_file.specs.Kept.{shut_lies}
+use Rattle.page_file.specs.Live.{new_free}
+use Rattle.page_file.specs.Reading.{shut_gate}
+use Rattle.page_file.proofs.file.open.create_pages.Goals as goal
+
+pub invariant_of-result : goal.invariant_of-result
+invariant_of-result g c = let was = c.create.ensures.honest.1 in record {
+  sound = refl;
+  few = omega arith;
+  room = λ h2. omega (arith, c.in-Ok.ensures.size (was h2));
+  stop_now = λ h2. c.in-Ok.ensures.durable (was h2);
+  settled = λ h2 _. c.in-Ok.ensures.header (was h2);
+  shut_reads = λ h2 _. subst IsShutGate (sym (c.in-Ok.ensures.gate (was h2))) shut_gate;
+}
+
+pub returns-in-Ok-clause-sound : goal.returns-in-Ok-clause-sound
+returns-in-Ok-clause-sound g c = λ h. record { honest = c.create.ensures.honest.0 h; free = new_free _ }
+
+pub returns-in-Ok-clause-lies : goal.returns-in-Ok-clause-lies
+returns-in-Ok-clause-lies g c = λ h. shut_lies _ (c.create.ensures.honest.0 h) refl

@@ -1,0 +1,11 @@
+use Rattle.std.proofs.Common.{sym, subst, arith, rules}
+use Rattle.page_file.specs.Layout.{header_block, IsHeader}
+use Rattle.page_file.specs.Reading.{header_reads}
+use Rattle.page_file.proofs.layout.header_page.Goals as goal
+
+pub returns-clause-is : goal.returns-clause-is
+unfolding header_block
+returns-clause-is c = search rules
+
+pub returns-clause-reads : goal.returns-clause-reads
+returns-clause-reads c = subst (IsHeader c.args.header.now) (sym (returns-clause-is c)) (header_reads c.args.header.now (omega arith) (omega arith) (omega arith))

@@ -1,0 +1,43 @@
+-- Blocks that differ from those of a settled file in the gate alone.
+use Rattle.std.proofs.Common.{◌≡◌, ◌⊎◌, ◌∙◌, ℕ, zero, suc, ◌<◌, ◌≤◌, List, [], ◌∷◌, Bool, true, false, Option, Some, None, length, drop, refl, sym, ap, arith, subst, inl, inr, length-drop}
+use Rattle.std.specs.Prelude.{is_some, ◌↔◌}
+use Rattle.block_device.specs.Device.{Blocks, block_at}
+use Rattle.page_file.specs.declared.fault.Fault.{Fault}
+use Rattle.page_file.specs.declared.header.Header.{Header}
+use Rattle.page_file.specs.Opening.{IsRefused, failed_check, header_of_block}
+use Rattle.page_file.specs.Pages.{HasFreeChain, IsSoundMap, header_in, next_in, page_of, pages_in}
+use Rattle.page_file.specs.Stops.{SameButGate}
+use Rattle.page_file.specs.Kept.{aside_at}
+use Rattle.page_file.specs.Live.{free_same, pages_same}
+
+-- blocks in which opening finds the same as in those
+pub record FindsSame (c blocks : Blocks) : Type 0 where
+  pub passes : failed_check c ≡ None
+  pub next : next_in c ≡ next_in blocks
+  pub pages_there : (k : ℕ) → pages_in c k ≡ pages_in blocks k
+  pub sound : IsSoundMap c ↔ IsSoundMap blocks
+
+refused_or : (o : Option Fault) → (is_some o ≡ true) ⊎ (o ≡ None)
+refused_or None = inr refl
+refused_or (Some f) = inl refl
+
+finds_same : (c blocks : Blocks) → SameButGate c blocks → failed_check c ≡ None → FindsSame c blocks
+finds_same c blocks same passes =
+    let behind : (k : ℕ) → 2 ≤ k → block_at k c ≡ block_at k blocks = λ k low. aside_at c blocks k same (omega (arith, low)) in
+    let header : header_in c ≡ header_in blocks = ap (λ (b : List ℕ). header_of_block b) (aside_at c blocks 1 same (omega arith)) in
+    record {
+      passes = passes;
+      next = ap (λ (h : Header). h.next) header;
+      pages_there = λ k. ap (λ (h : Header). page_of c h k) header ∙ pages_same blocks c (header_in blocks) behind k;
+      sound = (
+        λ s. free_same c blocks (header_in blocks) (λ k low. sym (behind k low)) (subst (λ (h : Header). HasFreeChain c h) header s),
+        λ s. subst (λ (h : Header). HasFreeChain c h) (sym header) (free_same blocks c (header_in blocks) behind s),
+      );
+    }
+
+pub aside_passes : (c blocks : Blocks) → SameButGate c blocks → IsRefused c ⊎ FindsSame c blocks
+aside_passes c blocks same = case (refused_or (failed_check c))
+  where
+    case : IsRefused c ⊎ (failed_check c ≡ None) → IsRefused c ⊎ FindsSame c blocks
+    case (inl refused) = inl refused
+    case (inr passes) = inr (finds_same c blocks same passes)

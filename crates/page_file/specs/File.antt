@@ -1,0 +1,63 @@
+-- What a file of pages stands for, and what calls keep of it.
+use Rattle.std.specs.Prelude.{◌≡◌, ◌↔◌, ℕ, List, Option, None, IsSome}
+use Rattle.block_device.specs.Device.{Blocks}
+use Rattle.page_file.specs.Opening.{failed_check}
+use Rattle.page_file.specs.Pages.{page_of, pages_in, next_in, HasFreeChain, IsSoundMap}
+use Rattle.page_file.specs.Stops.{AddsOnly, StopSince}
+use Rattle.page_file.specs.declared.gate.Gate.{Gate}
+use Rattle.page_file.specs.declared.gate.Gate.TheVariants.{Open}
+use Rattle.page_file.specs.declared.file.PageFile.{PageFile}
+
+-- its device, the blocks on it as they are read, and whether it is honest
+abbrev pub device_of : {D : Type 0} {m : _} → PageFile D m → D
+device_of file = file.device
+
+abbrev pub blocks_of : {D : Type 0} {m : _} → PageFile D m → Blocks
+blocks_of {m = m} file = m.shown file.device
+
+abbrev pub IsHonest : {D : Type 0} {m : _} → PageFile D m → Type 0
+IsHonest {m = m} file = m.honest file.device
+
+-- its gate: shut, open or unsure
+abbrev pub gate_of : {D : Type 0} {m : _} → PageFile D m → Gate
+gate_of file = file.gate
+
+-- one more than the greatest page number given out
+abbrev pub next_of : {D : Type 0} {m : _} → PageFile D m → ℕ
+next_of file = file.header.next
+
+-- the map from live page number to the page's bytes
+abbrev pub pages : {D : Type 0} {m : _} → PageFile D m → ℕ → Option (List ℕ)
+pages {m = m} file n = page_of (m.shown file.device) file.header n
+
+-- the page of this number is live
+abbrev pub IsLive : {D : Type 0} {m : _} → PageFile D m → ℕ → Type 0
+IsLive file n = IsSome (pages file n)
+
+-- A sound page map of an honest device: the free pages are a chain within the pages given out, and none
+-- is in it twice.
+pub record IsPageMap {D : Type 0} {m : _} (file : PageFile D m) : Type 0 where
+  pub honest : IsHonest file
+  pub free : HasFreeChain (m.shown file.device) file.header
+
+-- The gate and its moment stay: the same gate, the same blocks where it is not open, and no stop left
+-- anything but what such a gate allows since its moment.
+pub record KeepsGate {D : Type 0} {m : _} (old new : PageFile D m) : Type 0 where
+  pub gate : gate_of new ≡ gate_of old
+  pub honest : IsHonest old ↔ IsHonest new
+  pub blocks : IsHonest old → ¬ (gate_of old ≡ Open) → blocks_of new ≡ blocks_of old
+  pub stops : IsHonest old → AddsOnly m.moment m.left_since old.device new.device (StopSince (gate_of old) (blocks_of old))
+
+-- The map stays, and is as sound as it was.
+pub record KeepsMap {D : Type 0} {m : _} (old new : PageFile D m) : Type 0 where
+  pub next : next_of new ≡ next_of old
+  pub pages_stay : IsHonest old → (k : ℕ) → pages new k ≡ pages old k
+  pub sound : IsPageMap old ↔ IsPageMap new
+
+-- Blocks in which the file lies, settled: opening refuses them by no check, and finds the same map, which
+-- is as sound.
+pub record LiesIn {D : Type 0} {m : _} (file : PageFile D m) (blocks : Blocks) : Type 0 where
+  pub passes : failed_check blocks ≡ None
+  pub next : next_in blocks ≡ next_of file
+  pub pages_there : (k : ℕ) → pages_in blocks k ≡ pages file k
+  pub sound : IsPageMap file ↔ IsSoundMap blocks

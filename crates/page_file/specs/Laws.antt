@@ -1,0 +1,123 @@
+-- What follows from the facts that the calls on a file promise, for the crates that stand on them.
+use Rattle.std.specs.Prelude.{◌≡◌, ◌⊎◌, ◌↔◌, ◌≤◌, ◌<◌, ◌^◌, ℕ, zero, suc, List, [], ◌∷◌, length, drop, Option, None, refl}
+use Rattle.std.proofs.Common.{inl, inr, ⊎_elim, sym, ap, ◌∙◌, subst, arith}
+use Rattle.block_device.specs.Device.{Blocks, LeavesOnly}
+use Rattle.page_file.specs.declared.file.PageFile.{PageFile}
+use Rattle.page_file.specs.declared.gate.Gate.{Gate}
+use Rattle.page_file.specs.declared.gate.Gate.TheVariants.{Shut, Open, Unsure}
+use Rattle.page_file.specs.File.{IsHonest, IsLive, IsPageMap, KeepsGate, KeepsMap, LiesIn, blocks_of, gate_of, next_of, pages}
+use Rattle.page_file.specs.Opening.{IsRefused, failed_check}
+use Rattle.page_file.specs.Stops.{AddsOnly, SameButGate, StopSince}
+use Rattle.page_file.specs.Aside.{aside_passes}
+use Rattle.page_file.specs.Gated.{now_since}
+use Rattle.page_file.specs.Kept as kept
+use Rattle.page_file.specs.Live.{catalog_lives, lives}
+
+-- a stop now leaves what the gate allows
+pub a_stop_follows_the_gate : {D : Type 0} {m : _} (file : PageFile D m) (c : Blocks) → IsHonest file → m.may_leave file.device c → StopSince (gate_of file) (blocks_of file) c
+a_stop_follows_the_gate {m = m} file c h left = now_since file.gate (m.shown file.device) c (file.stop_now h c left)
+
+-- a file whose gate is shut lies in its blocks
+pub a_shut_file_lies_in_its_blocks : {D : Type 0} {m : _} (file : PageFile D m) → IsHonest file → gate_of file ≡ Shut → LiesIn file (blocks_of file)
+a_shut_file_lies_in_its_blocks file h shut = kept.shut_lies file h shut
+
+-- the page of a live number is one given out, from the catalog on
+pub a_live_page_was_given_out : {D : Type 0} {m : _} (file : PageFile D m) (n : ℕ) → IsLive file n → (2 ≤ n) × (n < next_of file) × (next_of file ≤ 2 ^ 31)
+a_live_page_was_given_out {m = m} file n live = let l = lives (m.shown file.device) file.header n live in (l.low, l.below, file.few)
+
+-- the catalog is live
+pub the_catalog_is_live : {D : Type 0} {m : _} (file : PageFile D m) → IsPageMap file → IsLive file 2
+the_catalog_is_live {m = m} file map = catalog_lives (m.shown file.device) file.header file.sound map.free
+
+-- of what differs from a file's blocks in the gate alone, opening refuses it or finds the same file
+pub a_gate_aside_is_refused_or_the_same : {D : Type 0} {m : _} (file : PageFile D m) (blocks c : Blocks) → LiesIn file blocks → SameButGate c blocks → IsRefused c ⊎ LiesIn file c
+a_gate_aside_is_refused_or_the_same file blocks c lies same = ⊎_elim
+    (λ (refused : IsRefused c). inl refused)
+    (λ found. inr (record {
+      passes = found.passes;
+      next = found.next ∙ lies.next;
+      pages_there = λ k. found.pages_there k ∙ lies.pages_there k;
+      sound = (λ p. found.sound.1 (lies.sound.0 p), λ s. lies.sound.1 (found.sound.0 s));
+    }))
+    (aside_passes c blocks same)
+
+-- two files that lie in the same blocks have the same map
+pub a_file_opened_again_is_the_same : {D E : Type 0} {m : _} {n : _} (old : PageFile D m) (new : PageFile E n) (blocks : Blocks) → LiesIn old blocks → LiesIn new blocks
+    → (next_of new ≡ next_of old) × ((k : ℕ) → pages new k ≡ pages old k) × (IsPageMap old ↔ IsPageMap new)
+a_file_opened_again_is_the_same old new blocks a b = (
+  sym b.next ∙ a.next,
+  λ k. sym (b.pages_there k) ∙ a.pages_there k,
+  (λ p. b.sound.1 (a.sound.0 p), λ p. a.sound.1 (b.sound.0 p)),
+)
+
+-- where the map is kept, the file lies in the same blocks
+pub a_kept_map_lies_there : {D : Type 0} {m : _} (old new : PageFile D m) (blocks : Blocks) → IsHonest old → KeepsMap old new → LiesIn old blocks ↔ LiesIn new blocks
+a_kept_map_lies_there old new blocks h keeps = (
+  λ l. record {
+    passes = l.passes;
+    next = l.next ∙ sym keeps.next;
+    pages_there = λ k. l.pages_there k ∙ sym (keeps.pages_stay h k);
+    sound = (λ p. l.sound.0 (keeps.sound.1 p), λ s. keeps.sound.0 (l.sound.1 s));
+  },
+  λ l. record {
+    passes = l.passes;
+    next = l.next ∙ keeps.next;
+    pages_there = λ k. l.pages_there k ∙ keeps.pages_stay h k;
+    sound = (λ p. l.sound.0 (keeps.sound.0 p), λ s. keeps.sound.1 (l.sound.1 s));
+  },
+)
+
+-- no call keeps gate and map, and two calls in turn do where each does
+pub no_call_keeps_the_gate : {D : Type 0} {m : _} (file : PageFile D m) → KeepsGate file file
+no_call_keeps_the_gate file = record { gate = refl; honest = (λ h. h, λ h. h); blocks = λ h shut. refl; stops = λ h. record { later = omega arith; before = λ t c le left. inl left } }
+
+-- by an open gate a stop is no matter of the blocks
+of_open_any : (gate : Gate) (a b c : Blocks) → (gate ≡ Open) ⊎ (a ≡ b) → StopSince gate a c → StopSince gate b c
+of_open_any gate a b c (inl e) left = subst (λ (x : Gate). StopSince x b c) (sym e) (subst (λ (x : Gate). StopSince x a c) e left)
+of_open_any gate a b c (inr e) left = subst (λ (x : Blocks). StopSince gate x c) e left
+
+is_open : (gate : Gate) → (gate ≡ Open) ⊎ ¬ (gate ≡ Open)
+is_open Shut = inr (λ e. cc)
+is_open Open = inl refl
+is_open Unsure = inr (λ e. cc)
+
+pub the_gate_is_kept_in_turn : {D : Type 0} {m : _} (old mid new : PageFile D m) → KeepsGate old mid → KeepsGate mid new → KeepsGate old new
+the_gate_is_kept_in_turn {m = m} old mid new a b = record {
+  gate = b.gate ∙ a.gate;
+  honest = (λ h. b.honest.0 (a.honest.0 h), λ h. a.honest.1 (b.honest.1 h));
+  blocks = λ h closed. b.blocks (a.honest.0 h) (λ e. closed (sym a.gate ∙ e)) ∙ a.blocks h closed;
+  stops = λ h.
+      let first = a.stops h in let second = b.stops (a.honest.0 h) in
+      let into : (c : Blocks) → StopSince mid.gate (m.shown mid.device) c → StopSince old.gate (m.shown old.device) c
+            = λ c left. of_open_any old.gate (m.shown mid.device) (m.shown old.device) c
+                (⊎_elim (λ (e : old.gate ≡ Open). inl e) (λ (closed : ¬ (old.gate ≡ Open)). inr (a.blocks h closed)) (is_open old.gate))
+                (subst (λ (x : Gate). StopSince x (m.shown mid.device) c) a.gate left) in
+      record {
+        later = omega (arith, first.later, second.later);
+        before = λ t c le left. ⊎_elim (first.before t c le) (λ p. inr (into c p)) (second.before t c (omega (arith, le, first.later)) left);
+      };
+}
+
+pub no_call_keeps_the_map : {D : Type 0} {m : _} (file : PageFile D m) → KeepsMap file file
+no_call_keeps_the_map file = record { next = refl; pages_stay = λ h k. refl; sound = (λ p. p, λ p. p) }
+
+pub the_map_is_kept_in_turn : {D : Type 0} {m : _} (old mid new : PageFile D m) → (IsHonest old → IsHonest mid) → KeepsMap old mid → KeepsMap mid new → KeepsMap old new
+the_map_is_kept_in_turn old mid new honest a b = record {
+  next = b.next ∙ a.next;
+  pages_stay = λ h k. b.pages_stay (honest h) k ∙ a.pages_stay h k;
+  sound = (λ p. b.sound.0 (a.sound.0 p), λ p. a.sound.1 (b.sound.1 p));
+}
+
+-- a run of calls, and then calls that keep the gate
+pub stops_of_a_run_go_on : {D : Type 0} {m : _} (old : D) (mid new : PageFile D m) (P : Blocks → Type 0) → IsHonest mid → LeavesOnly m.moment m.left_since old mid.device P → KeepsGate mid new
+    → LeavesOnly m.moment m.left_since old new.device (λ c. P c ⊎ StopSince (gate_of mid) (blocks_of mid) c)
+stops_of_a_run_go_on {m = m} old mid new P h a b =
+    let more = b.stops h in
+    record {
+      later = omega (arith, a.later, more.later);
+      each = λ c left. ⊎_elim (λ was. inl (a.each c was)) (λ p. inr p) (more.before (m.moment old) c a.later left);
+      before = λ t c le left. ⊎_elim
+          (λ was. ⊎_elim (λ earlier. inl earlier) (λ p. inr (inl p)) (a.before t c le was))
+          (λ p. inr (inr p))
+          (more.before t c (omega (arith, le, a.later)) left);
+    }

@@ -1,0 +1,58 @@
+-- The blocks of a file: gate, header, catalog and free page, as they are written and as they are read
+-- (our format, docs/FORMAT.md).
+use Rattle.std.specs.Prelude.{◌≡◌, ℕ, List}
+use Rattle.block_bytes.specs.Numbers.{zeros, number_at, put_number}
+use Rattle.page_file.specs.declared.header.Header.{Header}
+
+-- the ASCII text RSTARGAT
+abbrev pub gate_text : ℕ
+gate_text = 0x5253544152474154
+
+-- the ASCII text RSTARHDR
+abbrev pub header_text : ℕ
+header_text = 0x5253544152484452
+
+-- the version that is written, and the only one that is known
+abbrev pub version : ℕ
+version = 0
+
+-- block 0, the gate: open (0) or shut (1)
+unfoldable pub gate_block : ℕ → List ℕ
+gate_block shut = put_number 1 8 shut (put_number 8 0 gate_text zeros)
+
+-- block 1, the header
+unfoldable pub header_block : Header → List ℕ
+header_block h =
+    put_number 4 20 h.count (put_number 4 16 h.first (put_number 4 12 h.next (put_number 2 8 version (put_number 8 0 header_text zeros))))
+
+-- block 2 of a new file, a catalog of no layers
+unfoldable pub catalog_block : List ℕ
+catalog_block = put_number 1 0 1 zeros
+
+-- the header of a new file, in which the catalog alone was given out
+abbrev pub new_header : Header
+new_header = record { next = 3; first = 0; count = 0 }
+
+-- a free page that names the next one, 0 if none
+unfoldable pub free_block : ℕ → List ℕ
+free_block next = put_number 4 4 next (put_number 1 0 5 zeros)
+
+-- a block that reads as a shut gate
+pub record IsShutGate (block : List ℕ) : Type 0 where
+  pub text : number_at 8 0 block ≡ gate_text
+  pub shut : number_at 1 8 block ≡ 1
+
+-- a block that reads as a header of these numbers
+pub record IsHeader (h : Header) (block : List ℕ) : Type 0 where
+  pub text : number_at 8 0 block ≡ header_text
+  pub version_is : number_at 2 8 block ≡ version
+  pub next_is : number_at 4 12 block ≡ h.next
+  pub first_is : number_at 4 16 block ≡ h.first
+  pub count_is : number_at 4 20 block ≡ h.count
+
+-- the kind of a page, and the page that a free one names as the next
+abbrev pub kind_of : List ℕ → ℕ
+kind_of page = number_at 1 0 page
+
+abbrev pub link_of : List ℕ → ℕ
+link_of page = number_at 4 4 page

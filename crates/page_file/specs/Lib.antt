@@ -1,0 +1,15 @@
+-- The files of definitions, and of the lemmas that callers cite, with those that these stand on.
+pub mod Fault
+pub mod Layout
+pub mod Opening
+pub mod Pages
+pub mod Stops
+pub mod File
+pub mod Reading
+pub mod Written
+pub mod Gated
+pub mod Live
+pub mod Settled
+pub mod Kept
+pub mod Aside
+pub mod Laws

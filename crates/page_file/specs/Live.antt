@@ -1,0 +1,322 @@
+-- The map of live pages, where a block was written, a page given out or freed.
+use Rattle.std.proofs.Common.{◌≡◌, ◌⊎◌, ◌∙◌, ℕ, zero, suc, ◌<◌, ◌≤◌, ◌+◌, ◌-◌, Bool, true, false, ◌&&◌, ◌||◌, not, nat_le, nat_lt, eqb, List, [], ◌∷◌, length, Option, Some, None, refl, sym, ap, arith, ⊎_elim, subst, cond, inl, inr}
+use Rattle.std.specs.Prelude.{IsSome, is_some}
+use Rattle.std.specs.List.{IsDistinct, AllByRecursion, list_any}
+use Rattle.std.specs.Set.{is_member}
+use Rattle.std.proofs.lemmas.Bool.Decides.{nat_tests}
+use Rattle.std.proofs.lemmas.Bool.{cases_eq, cases_lt}
+use Rattle.std.proofs.lemmas.Map.Keys.{IsDistinct-cons}
+use Rattle.std.proofs.lemmas.Map.Steps.{length-le_from_distinct_below}
+use Rattle.block_device.specs.Device.{Blocks, Torn, block_at}
+use Rattle.block_device.specs.Written.{torn_other}
+use Rattle.page_file.specs.Layout.{kind_of, link_of, new_header}
+use Rattle.page_file.specs.Opening.{is_sound}
+use Rattle.page_file.specs.Pages.{chain, free_pages_of, is_live, page_of, IsChain, HasFreeChain, SameBut}
+use Rattle.page_file.specs.declared.header.Header.{Header}
+
+and_true : (a b : Bool) → (a && b) ≡ true → (a ≡ true) × (b ≡ true)
+and_true true b e = (refl, e)
+and_true false b e = absurd (cc)
+
+and_false_right : (a : Bool) → (a && false) ≡ false
+and_false_right true = refl
+and_false_right false = refl
+
+not_true : (a : Bool) → not a ≡ true → a ≡ false
+not_true true e = sym e
+not_true false e = refl
+
+or_left : (a b : Bool) → a ≡ true → (a || b) ≡ true
+or_left a b e = ap (λ (t : Bool). t || b) e
+
+or_right : (a b : Bool) → b ≡ true → (a || b) ≡ true
+or_right true b e = refl
+or_right false b e = e
+
+or_false : (a b : Bool) → (a || b) ≡ false → (a ≡ false) × (b ≡ false)
+or_false true b e = absurd (cc)
+or_false false b e = (refl, e)
+
+eq_self : (n : ℕ) → eqb n n ≡ true
+eq_self n = grind (arith, nat_tests)
+
+eq_other : (k n : ℕ) → ¬ (k ≡ n) → eqb k n ≡ false
+eq_other k n ne = grind (arith, nat_tests)
+
+low_not : (n : ℕ) → 3 ≤ n → nat_lt n 3 ≡ false
+low_not n low = grind (arith, nat_tests)
+
+not_low : (n : ℕ) → nat_lt n 3 ≡ false → 3 ≤ n
+not_low n e = grind (arith, nat_tests)
+
+-- the free pages are the same, where those blocks are
+pub chain_same : (old new : Blocks) (count first : ℕ) → ((k : ℕ) → 3 ≤ k → is_member eqb (chain old count first) k ≡ true → block_at k new ≡ block_at k old) → chain new count first ≡ chain old count first
+chain_same old new zero first same = refl
+chain_same old new (suc count) first same = case (nat_lt first 3) refl (λ within. chain_same old new count (link_of (block_at first old)) within)
+  where
+    case : (t : Bool) → nat_lt first 3 ≡ t
+        → (((k : ℕ) → 3 ≤ k → is_member eqb (chain old count (link_of (block_at first old))) k ≡ true → block_at k new ≡ block_at k old)
+            → chain new count (link_of (block_at first old)) ≡ chain old count (link_of (block_at first old)))
+        → chain new (suc count) first ≡ chain old (suc count) first
+    case true e again =
+        ap (λ (t : Bool). cond t [] (first ∷ chain new count (link_of (block_at first new)))) e
+        ∙ sym (ap (λ (t : Bool). cond t [] (first ∷ chain old count (link_of (block_at first old)))) e)
+    case false e again =
+        let rest_old = chain old count (link_of (block_at first old)) in
+        let opened : chain old (suc count) first ≡ first ∷ rest_old = ap (λ (t : Bool). cond t [] (first ∷ rest_old)) e in
+        let within : (k : ℕ) → 3 ≤ k → is_member eqb (first ∷ rest_old) k ≡ true → block_at k new ≡ block_at k old
+              = λ k low member. same k low (ap (λ (l : List ℕ). is_member eqb l k) opened ∙ member) in
+        let head : block_at first new ≡ block_at first old = within first (not_low first e) (or_left (eqb first first) _ (eq_self first)) in
+        ap (λ (t : Bool). cond t [] (first ∷ chain new count (link_of (block_at first new)))) e
+        ∙ ap (λ (b : List ℕ). first ∷ chain new count (link_of b)) head
+        ∙ ap (λ (l : List ℕ). first ∷ l) (again (λ k low member. within k low (or_right (eqb k first) _ member)))
+        ∙ sym opened
+
+pub whole_same : (old new : Blocks) (next count first : ℕ) → IsChain old next count first → ((k : ℕ) → 3 ≤ k → is_member eqb (chain old count first) k ≡ true → block_at k new ≡ block_at k old) → IsChain new next count first
+whole_same old new next zero first whole same = whole
+whole_same old new next (suc count) first whole same =
+    let rest_old = chain old count (link_of (block_at first old)) in
+    let opened : chain old (suc count) first ≡ first ∷ rest_old = ap (λ (t : Bool). cond t [] (first ∷ rest_old)) (low_not first whole.0) in
+    let within : (k : ℕ) → 3 ≤ k → is_member eqb (first ∷ rest_old) k ≡ true → block_at k new ≡ block_at k old
+          = λ k low member. same k low (ap (λ (l : List ℕ). is_member eqb l k) opened ∙ member) in
+    let head : block_at first new ≡ block_at first old = within first whole.0 (or_left (eqb first first) _ (eq_self first)) in
+    let rest : IsChain new next count (link_of (block_at first old)) = whole_same old new next count (link_of (block_at first old)) whole.3 (λ k low member. within k low (or_right (eqb k first) _ member)) in
+    (whole.0, whole.1, ap kind_of head ∙ whole.2, subst (λ (b : List ℕ). IsChain new next count (link_of b)) (sym head) rest)
+
+-- each free page is one given out behind the catalog
+pub chain_within : (blocks : Blocks) (next count first : ℕ) → IsChain blocks next count first → (k : ℕ) → is_member eqb (chain blocks count first) k ≡ true → (3 ≤ k) × (k < next)
+chain_within blocks next zero first whole k member = absurd (cc)
+chain_within blocks next (suc count) first whole k member =
+    let rest = chain blocks count (link_of (block_at first blocks)) in
+    let opened : chain blocks (suc count) first ≡ first ∷ rest = ap (λ (t : Bool). cond t [] (first ∷ rest)) (low_not first whole.0) in
+    ⊎_elim
+    (λ (e : k ≡ first). (omega (arith, e, whole.0), omega (arith, e, whole.1)))
+    (λ (ne : ¬ (k ≡ first)).
+        let later : is_member eqb rest k ≡ true = sym (ap (λ (t : Bool). t || is_member eqb rest k) (eq_other k first ne)) ∙ sym (ap (λ (l : List ℕ). is_member eqb l k) opened) ∙ member in
+        chain_within blocks next count (link_of (block_at first blocks)) whole.3 k later)
+    (cases_eq k first)
+
+pub chain_count : (blocks : Blocks) (next count first : ℕ) → IsChain blocks next count first → length (chain blocks count first) ≡ count
+chain_count blocks next zero first whole = refl
+chain_count blocks next (suc count) first whole =
+    ap (λ (t : Bool). length (cond t [] (first ∷ chain blocks count (link_of (block_at first blocks))))) (low_not first whole.0)
+    ∙ ap suc (chain_count blocks next count (link_of (block_at first blocks)) whole.3)
+
+-- a page outside the free ones may be torn
+outside : (n : ℕ) (old new : Blocks) (ns : List ℕ) → Torn n old new → n ≤ length old → is_member eqb ns n ≡ false → (k : ℕ) → is_member eqb ns k ≡ true → block_at k new ≡ block_at k old
+outside n old new ns torn le apart k member = torn_other n k old new torn le (λ (e : k ≡ n). let no : true ≡ false = sym member ∙ ap (is_member eqb ns) e ∙ apart in absurd (cc))
+
+pub record Lives (blocks : Blocks) (h : Header) (n : ℕ) : Type 0 where
+  pub low : 2 ≤ n
+  pub below : n < h.next
+  pub not_free : is_member eqb (free_pages_of blocks h) n ≡ false
+
+live_some : (t : Bool) (b : List ℕ) → IsSome (cond t (Some b) None) → t ≡ true
+live_some true b some = refl
+live_some false b some = some
+
+pub lives : (blocks : Blocks) (h : Header) (n : ℕ) → IsSome (page_of blocks h n) → Lives blocks h n
+lives blocks h n some =
+    let e = live_some (is_live blocks h n) (block_at n blocks) some in
+    let a = and_true (nat_le 2 n) (nat_lt n h.next && not (is_member eqb (free_pages_of blocks h) n)) e in
+    let b = and_true (nat_lt n h.next) (not (is_member eqb (free_pages_of blocks h) n)) a.1 in
+    let low : 2 ≤ n = let t = a.0 in grind (arith, nat_tests) in
+    let below : n < h.next = let t = b.0 in grind (arith, nat_tests) in
+    record { low = low; below = below; not_free = not_true _ b.1 }
+
+pub is_live_from : (blocks : Blocks) (h : Header) (n : ℕ) → Lives blocks h n → is_live blocks h n ≡ true
+is_live_from blocks h n l =
+    let a : nat_le 2 n ≡ true = let t = l.low in grind (arith, nat_tests) in
+    let b : nat_lt n h.next ≡ true = let t = l.below in grind (arith, nat_tests) in
+    ap (λ (t : Bool). t && (nat_lt n h.next && not (is_member eqb (free_pages_of blocks h) n))) a
+    ∙ ap (λ (t : Bool). t && not (is_member eqb (free_pages_of blocks h) n)) b
+    ∙ ap not l.not_free
+
+pub page_live : (blocks : Blocks) (h : Header) (n : ℕ) → Lives blocks h n → page_of blocks h n ≡ Some (block_at n blocks)
+page_live blocks h n l = ap (λ (t : Bool). cond t (Some (block_at n blocks)) None) (is_live_from blocks h n l)
+
+-- the page that a live number stands for is its block
+pub page_there : (blocks : Blocks) (h : Header) (n : ℕ) → IsSome (page_of blocks h n) → page_of blocks h n ≡ Some (block_at n blocks)
+page_there blocks h n some = page_live blocks h n (lives blocks h n some)
+
+none_high : (blocks : Blocks) (h : Header) (n : ℕ) → h.next ≤ n → page_of blocks h n ≡ None
+none_high blocks h n high =
+    let e : nat_lt n h.next ≡ false = grind (arith, nat_tests) in
+    ap (λ (t : Bool). cond (nat_le 2 n && (t && not (is_member eqb (free_pages_of blocks h) n))) (Some (block_at n blocks)) None) e
+    ∙ ap (λ (t : Bool). cond t (Some (block_at n blocks)) None) (and_false_right (nat_le 2 n))
+
+-- the map is the same, where the blocks from the catalog on are
+pub pages_same : (old new : Blocks) (h : Header) → ((k : ℕ) → 2 ≤ k → block_at k new ≡ block_at k old) → (n : ℕ) → page_of new h n ≡ page_of old h n
+pages_same old new h same n =
+    let free : chain new h.count h.first ≡ chain old h.count h.first = chain_same old new h.count h.first (λ k low member. same k (omega (arith, low))) in
+    ap (λ (l : List ℕ). cond (nat_le 2 n && (nat_lt n h.next && not (is_member eqb l n))) (Some (block_at n new)) None) free
+    ∙ case (nat_le 2 n) (nat_lt n h.next && not (is_member eqb (chain old h.count h.first) n)) refl
+  where
+    case : (t r : Bool) → nat_le 2 n ≡ t → cond (t && r) (Some (block_at n new)) None ≡ cond (t && r) (Some (block_at n old)) None
+    case false r e = refl
+    case true r e = ap (λ (b : List ℕ). cond r (Some b) None) (same n (let low : 2 ≤ n = grind (arith, nat_tests) in low))
+
+pub free_same : (old new : Blocks) (h : Header) → ((k : ℕ) → 2 ≤ k → block_at k new ≡ block_at k old) → HasFreeChain old h → HasFreeChain new h
+free_same old new h same f = record {
+  whole = whole_same old new h.next h.count h.first f.whole (λ k low member. same k (omega (arith, low)));
+  distinct = subst (λ (l : List ℕ). IsDistinct eqb l) (sym (chain_same old new h.count h.first (λ k low member. same k (omega (arith, low))))) f.distinct;
+}
+
+-- a page that is not free is torn
+module _ (n : ℕ) (old new : Blocks) (h : Header) (torn : Torn n old new) (le : n ≤ length old) (apart : is_member eqb (free_pages_of old h) n ≡ false) where
+  chain_torn : chain new h.count h.first ≡ chain old h.count h.first
+  chain_torn = chain_same old new h.count h.first (λ k low member. outside n old new (free_pages_of old h) torn le apart k member)
+
+  pub others_same : SameBut n (page_of old h) (page_of new h)
+  others_same k ne =
+      ap (λ (l : List ℕ). cond (nat_le 2 k && (nat_lt k h.next && not (is_member eqb l k))) (Some (block_at k new)) None) chain_torn
+      ∙ ap (λ (b : List ℕ). cond (is_live old h k) (Some b) None) (torn_other n k old new torn le ne)
+
+  pub free_torn : HasFreeChain old h → HasFreeChain new h
+  free_torn f = record {
+    whole = whole_same old new h.next h.count h.first f.whole (λ k low member. outside n old new (free_pages_of old h) torn le apart k member);
+    distinct = subst (λ (l : List ℕ). IsDistinct eqb l) (sym chain_torn) f.distinct;
+  }
+
+  pub torn_lives : 2 ≤ n → n < h.next → Lives new h n
+  torn_lives low below = record { low = low; below = below; not_free = ap (λ (l : List ℕ). is_member eqb l n) chain_torn ∙ apart }
+
+some_is : {T : Type 0} (o : Option T) (x : T) → o ≡ Some x → IsSome o
+some_is o x e = subst (λ (p : Option _). IsSome p) (sym e) refl
+
+pub lives_some : (blocks : Blocks) (h : Header) (n : ℕ) → Lives blocks h n → IsSome (page_of blocks h n)
+lives_some blocks h n l = some_is (page_of blocks h n) (block_at n blocks) (page_live blocks h n l)
+
+-- the page behind those given out is torn, and may be given out
+module _ (old new : Blocks) (h : Header) (start : 3 ≤ h.next) (room : h.next ≤ length old) (free : HasFreeChain old h) (torn : Torn h.next old new) where
+  abbrev pub one_page_more : Header
+  one_page_more = record { next = h.next + 1; first = h.first; count = h.count }
+
+  not_free : is_member eqb (free_pages_of old h) h.next ≡ false
+  not_free = case (is_member eqb (free_pages_of old h) h.next) refl
+    where
+      case : (t : Bool) → is_member eqb (free_pages_of old h) h.next ≡ t → t ≡ false
+      case false e = refl
+      case true e = absurd (omega (arith, (chain_within old h.next h.count h.first free.whole h.next e).1))
+
+  same_chain : chain new h.count h.first ≡ chain old h.count h.first
+  same_chain = chain_torn h.next old new h torn room not_free
+
+  pub fresh_none : page_of old h h.next ≡ None
+  fresh_none = none_high old h h.next (omega arith)
+
+  pub fresh_lives : Lives new one_page_more h.next
+  fresh_lives = record { low = omega (arith, start); below = omega arith; not_free = ap (λ (l : List ℕ). is_member eqb l h.next) same_chain ∙ not_free }
+
+  lt_next : (k : ℕ) → ¬ (k ≡ h.next) → nat_lt k (h.next + 1) ≡ nat_lt k h.next
+  lt_next k ne = grind (arith, nat_tests)
+
+  pub fresh_others : SameBut h.next (page_of old h) (page_of new one_page_more)
+  fresh_others k ne =
+      ap (λ (t : Bool). cond (nat_le 2 k && (t && not (is_member eqb (chain new h.count h.first) k))) (Some (block_at k new)) None) (lt_next k ne)
+      ∙ others_same h.next old new h torn room not_free k ne
+
+  pub refused_others : SameBut h.next (page_of old h) (page_of new h)
+  refused_others = others_same h.next old new h torn room not_free
+
+  pub refused_free : HasFreeChain new h
+  refused_free = free_torn h.next old new h torn room not_free free
+
+  wider : (count first : ℕ) → IsChain new h.next count first → IsChain new (h.next + 1) count first
+  wider zero first whole = whole
+  wider (suc count) first whole = (whole.0, omega (arith, whole.1), whole.2, wider count (link_of (block_at first new)) whole.3)
+
+  pub fresh_free : HasFreeChain new one_page_more
+  fresh_free = record { whole = wider h.count h.first refused_free.whole; distinct = refused_free.distinct }
+
+-- numbers in a list without n are not n
+apart_all : (n : ℕ) (ns : List ℕ) → is_member eqb ns n ≡ false → AllByRecursion (λ (y : ℕ). eqb n y ≡ false) ns
+apart_all n [] e = tt
+apart_all n (m ∷ ns) e = let p = or_false (eqb n m) (is_member eqb ns n) e in (p.0, apart_all n ns p.1)
+
+-- a page is freed: it is linked in front
+module _ (n : ℕ) (old new : Blocks) (h : Header) (torn : Torn n old new) (le : n ≤ length old) (apart : is_member eqb (free_pages_of old h) n ≡ false) (low : 3 ≤ n) (linked : link_of (block_at n new) ≡ h.first) where
+  abbrev pub one_more_free : Header
+  one_more_free = record { next = h.next; first = n; count = h.count + 1 }
+
+  freed_chain : chain new (h.count + 1) n ≡ n ∷ chain old h.count h.first
+  freed_chain = ap (λ (c : ℕ). chain new c n) (let e : h.count + 1 ≡ suc h.count = omega arith in e)
+      ∙ ap (λ (t : Bool). cond t [] (n ∷ chain new h.count (link_of (block_at n new)))) (low_not n low)
+      ∙ ap (λ (m : ℕ). n ∷ chain new h.count m) linked
+      ∙ ap (λ (l : List ℕ). n ∷ l) (chain_torn n old new h torn le apart)
+
+  pub freed_none : page_of new one_more_free n ≡ None
+  freed_none = ap (λ (l : List ℕ). cond (nat_le 2 n && (nat_lt n h.next && not (is_member eqb l n))) (Some (block_at n new)) None) freed_chain
+      ∙ ap (λ (t : Bool). cond (nat_le 2 n && (nat_lt n h.next && not (t || is_member eqb (chain old h.count h.first) n))) (Some (block_at n new)) None) (eq_self n)
+      ∙ ap (λ (t : Bool). cond (nat_le 2 n && t) (Some (block_at n new)) None) (and_false_right (nat_lt n h.next))
+      ∙ ap (λ (t : Bool). cond t (Some (block_at n new)) None) (and_false_right (nat_le 2 n))
+
+  pub freed_others : SameBut n (page_of old h) (page_of new one_more_free)
+  freed_others k ne =
+      ap (λ (l : List ℕ). cond (nat_le 2 k && (nat_lt k h.next && not (is_member eqb l k))) (Some (block_at k new)) None) freed_chain
+      ∙ ap (λ (t : Bool). cond (nat_le 2 k && (nat_lt k h.next && not (t || is_member eqb (chain old h.count h.first) k))) (Some (block_at k new)) None) (eq_other k n ne)
+      ∙ ap (λ (b : List ℕ). cond (is_live old h k) (Some b) None) (torn_other n k old new torn le ne)
+
+  pub freed_free : n < h.next → kind_of (block_at n new) ≡ 5 → HasFreeChain old h → HasFreeChain new one_more_free
+  freed_free below kind f =
+      let rest : IsChain new h.next h.count h.first = (free_torn n old new h torn le apart f).whole in
+      let all : IsChain new h.next (suc h.count) n = (low, below, kind, subst (λ (m : ℕ). IsChain new h.next h.count m) (sym linked) rest) in
+      record {
+        whole = subst (λ (c : ℕ). IsChain new h.next c n) (let e : suc h.count ≡ h.count + 1 = omega arith in e) all;
+        distinct = subst (λ (l : List ℕ). IsDistinct eqb l) (sym freed_chain) (IsDistinct-cons eqb n (chain old h.count h.first) (apart_all n (chain old h.count h.first) apart) f.distinct);
+      }
+
+-- there is room for one more free page, as long as a page behind the catalog is live
+pub room_for_one : (blocks : Blocks) (h : Header) (n : ℕ) → HasFreeChain blocks h → 3 ≤ n → Lives blocks h n → h.count < h.next - 3
+room_for_one blocks h n f low l =
+    let ns = free_pages_of blocks h in
+    let below3 : (m : ℕ) → m < 3 → is_member eqb (n ∷ ns) m ≡ false
+          = λ m small. no_member m small (is_member eqb (n ∷ ns) m) refl in
+    let all : List ℕ = 0 ∷ (1 ∷ (2 ∷ (n ∷ ns))) in
+    let one_more : IsDistinct eqb (n ∷ ns) = IsDistinct-cons eqb n ns (apart_all n ns l.not_free) f.distinct in
+    let with_2 : IsDistinct eqb (2 ∷ (n ∷ ns)) = IsDistinct-cons eqb 2 (n ∷ ns) (apart_all 2 (n ∷ ns) (below3 2 (omega arith))) one_more in
+    let with_1 : IsDistinct eqb (1 ∷ (2 ∷ (n ∷ ns))) = IsDistinct-cons eqb 1 (2 ∷ (n ∷ ns)) (refl, apart_all 1 (n ∷ ns) (below3 1 (omega arith))) with_2 in
+    let d : IsDistinct eqb all = IsDistinct-cons eqb 0 (1 ∷ (2 ∷ (n ∷ ns))) (refl, (refl, apart_all 0 (n ∷ ns) (below3 0 (omega arith)))) with_1 in
+    let fits : length all ≤ h.next = length-le_from_distinct_below all h.next d (λ q member. within q member) in
+    omega (arith, fits, chain_count blocks h.next h.count h.first f.whole, l.below, low)
+  where
+    member_case : (q : ℕ) → is_member eqb (n ∷ free_pages_of blocks h) q ≡ true → (3 ≤ q) × (q < h.next)
+    member_case q member = ⊎_elim
+        (λ (e : q ≡ n). (omega (arith, e, low), omega (arith, e, l.below)))
+        (λ (ne : ¬ (q ≡ n)). chain_within blocks h.next h.count h.first f.whole q (sym (ap (λ (t : Bool). t || is_member eqb (free_pages_of blocks h) q) (eq_other q n ne)) ∙ member))
+        (cases_eq q n)
+
+    no_member : (m : ℕ) → m < 3 → (t : Bool) → is_member eqb (n ∷ free_pages_of blocks h) m ≡ t → t ≡ false
+    no_member m small false e = refl
+    no_member m small true e = absurd (omega (arith, small, (member_case m e).0))
+
+    within : (q : ℕ) → list_any (eqb q) (0 ∷ (1 ∷ (2 ∷ (n ∷ free_pages_of blocks h)))) ≡ true → q < h.next
+    within q member = ⊎_elim
+        (λ (small : q < 3). omega (arith, small, low, l.below))
+        (λ (high : 3 ≤ q).
+            let e0 = eq_other q 0 (λ e. absurd (omega (arith, e, high))) in
+            let e1 = eq_other q 1 (λ e. absurd (omega (arith, e, high))) in
+            let e2 = eq_other q 2 (λ e. absurd (omega (arith, e, high))) in
+            let rest : is_member eqb (n ∷ free_pages_of blocks h) q ≡ true
+                  = sym (ap (λ (t : Bool). t || is_member eqb (n ∷ free_pages_of blocks h) q) e2)
+                  ∙ sym (ap (λ (t : Bool). t || is_member eqb (2 ∷ (n ∷ free_pages_of blocks h)) q) e1)
+                  ∙ sym (ap (λ (t : Bool). t || is_member eqb (1 ∷ (2 ∷ (n ∷ free_pages_of blocks h))) q) e0)
+                  ∙ member in
+            (member_case q rest).1)
+        (cases_lt q 3)
+
+none_distinct : IsDistinct eqb []
+unfolding IsDistinct
+none_distinct = tt
+
+-- of no free pages
+pub new_free : (blocks : Blocks) → HasFreeChain blocks new_header
+new_free blocks = record { whole = refl; distinct = none_distinct }
+
+-- the catalog is not free
+pub catalog_lives : (blocks : Blocks) (h : Header) → is_sound h ≡ true → HasFreeChain blocks h → IsSome (page_of blocks h 2)
+catalog_lives blocks h sound f = lives_some blocks h 2 (record { low = omega arith; below = grind (arith, nat_tests); not_free = not_in (is_member eqb (free_pages_of blocks h) 2) refl })
+  where
+    not_in : (t : Bool) → is_member eqb (free_pages_of blocks h) 2 ≡ t → t ≡ false
+    not_in false e = refl
+    not_in true e = absurd (omega (arith, (chain_within blocks h.next h.count h.first f.whole 2 e).0))

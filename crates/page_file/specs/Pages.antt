@@ -1,0 +1,54 @@
+-- The map of live pages that blocks and a header stand for (our rule, docs/FORMAT.md, "Pages").
+use Rattle.std.specs.Prelude.{◌≡◌, ◌≤◌, ◌<◌, ℕ, zero, suc, List, [], ◌∷◌, Option, Some, None, Bool, ◌&&◌, not, nat_le, nat_lt, nat_eq, eqb, if◌then◌else◌}
+use Rattle.std.specs.List.{IsDistinct}
+use Rattle.std.specs.Set.{is_member}
+use Rattle.block_device.specs.Device.{Blocks, block_at}
+use Rattle.page_file.specs.Layout.{kind_of, link_of}
+use Rattle.page_file.specs.Opening.{header_of_block}
+use Rattle.page_file.specs.declared.header.Header.{Header}
+
+-- so many free pages from the first on, each of which names the next; a number below 3 names none
+abbrev pub chain : Blocks → ℕ → ℕ → List ℕ
+chain blocks zero n = []
+chain blocks (suc count) n = if nat_lt n 3 then [] else n ∷ chain blocks count (link_of (block_at n blocks))
+
+-- the free pages
+abbrev pub free_pages_of : Blocks → Header → List ℕ
+free_pages_of blocks h = chain blocks h.count h.first
+
+-- a page is live if it was given out and is not free
+abbrev pub is_live : Blocks → Header → ℕ → Bool
+is_live blocks h n = nat_le 2 n && (nat_lt n h.next && not (is_member eqb (free_pages_of blocks h) n))
+
+-- the map from live page number to the page's bytes
+abbrev pub page_of : Blocks → Header → ℕ → Option (List ℕ)
+page_of blocks h n = if is_live blocks h n then Some (block_at n blocks) else None
+
+-- so many free pages in a row: each is one given out behind the catalog and of kind 5, and the last one
+-- names 0
+abbrev pub IsChain : Blocks → ℕ → ℕ → ℕ → Type 0
+IsChain blocks next zero n = n ≡ 0
+IsChain blocks next (suc count) n =
+    (3 ≤ n) × (n < next) × (kind_of (block_at n blocks) ≡ 5) × IsChain blocks next count (link_of (block_at n blocks))
+
+-- the free pages are such a chain, and none is in it twice
+pub record HasFreeChain (blocks : Blocks) (h : Header) : Type 0 where
+  pub whole : IsChain blocks h.next h.count h.first
+  pub distinct : IsDistinct eqb (free_pages_of blocks h)
+
+-- what the blocks of a settled file stand for
+abbrev pub header_in : Blocks → Header
+header_in blocks = header_of_block (block_at 1 blocks)
+
+abbrev pub pages_in : Blocks → ℕ → Option (List ℕ)
+pages_in blocks n = page_of blocks (header_in blocks) n
+
+abbrev pub next_in : Blocks → ℕ
+next_in blocks = (header_in blocks).next
+
+abbrev pub IsSoundMap : Blocks → Type 0
+IsSoundMap blocks = HasFreeChain blocks (header_in blocks)
+
+-- the same map but for page n
+abbrev pub SameBut : ℕ → (ℕ → Option (List ℕ)) → (ℕ → Option (List ℕ)) → Type 0
+SameBut n old new = (k : ℕ) → ¬ (k ≡ n) → new k ≡ old k

@@ -1,0 +1,84 @@
+//! The beginning of a file of pages: opened, or made anew.
+ghost use Rattle.std.specs.Prelude.{◌≡◌, ◌⊎◌, ◌↔◌, ◌≤◌, ◌<◌, ℕ, Some, None, length, IfOk, IfErr};
+ghost use Rattle.block_device.specs.Device.{HasRisen, LeavesOnly};
+ghost use Rattle.page_file.specs.Fault.{IsOfDevice, IsDamage};
+ghost use Rattle.page_file.specs.File.{device_of, blocks_of, gate_of, next_of, pages, IsPageMap, LiesIn};
+ghost use Rattle.page_file.specs.Layout.{catalog_block};
+ghost use Rattle.page_file.specs.Opening.{IsRefused, failed_check};
+ghost use Rattle.page_file.specs.Stops.{SameButGate};
+ghost use Rattle.page_file.specs.declared.fault.Fault.TheVariants as fault;
+ghost use Rattle.page_file.specs.declared.gate.Gate.TheVariants.{Shut};
+
+use crate::Fault;
+use crate::creation::{NEW_HEADER, create};
+use crate::file::PageFile;
+use crate::gate::Gate;
+use crate::opening::check_opening;
+use block_device::BlockDevice;
+
+/// Opens the file that lies on a device. The device is synced, and then gate and header are read and
+/// checked (docs/FORMAT.md, "Opening"); nothing is written, and no other block is read.
+///
+/// On an honest device a refusal is `Memory`, `Device`, or the fault of the first check that fails; where
+/// none fails, the blocks are a file whose gate is shut. The device comes back with a refusal.
+pub fn open_pages<D: BlockDevice>(device: D) -> Result<PageFile<D>, (Fault, D)>
+    ensures shut { IfOk result (λ file. gate_of file ≡ Shut) }
+    ensures lies { IfOk result (λ file. D.honest device → LiesIn file (D.shown device)) }
+    ensures refused { IfErr result (λ e. D.honest device → IsOfDevice e.0 ⊎ (failed_check (D.shown device) ≡ Some e.0)) }
+
+    // A stop leaves nothing but what one before the call might have left.
+    ensures blocks { IfOk result (λ file. D.honest device → blocks_of file ≡ D.shown device) }
+    ensures stops { IfOk result (λ file. D.honest device → LeavesOnly D.moment D.left_since device (device_of file) (D.may_leave device)) }
+    ensures refused_blocks { IfErr result (λ e. D.honest device → D.shown e.1 ≡ D.shown device) }
+    ensures refused_stops { IfErr result (λ e. D.honest device → LeavesOnly D.moment D.left_since device e.1 (D.may_leave device)) }
+
+    ensures honest { IfOk result (λ file. D.honest device ↔ D.honest (device_of file)) }
+    ensures refused_honest { IfErr result (λ e. D.honest device ↔ D.honest e.1) }
+    ensures later { IfOk result (λ file. D.faults device ≤ D.faults (device_of file)) }
+    ensures cause { IfErr result (λ e. (D.faults device ≤ D.faults e.1) × (e.0 ≡ fault.Device → HasRisen (D.faults device) (D.faults e.1))) }
+{
+    let mut device = device;
+    match check_opening(&mut device) {
+        Ok(header) => Ok(PageFile {
+            device,
+            header,
+            gate: Gate::Shut,
+        }),
+        Err(fault) => Err((fault, device)),
+    }
+}
+
+/// Makes a file of pages on a device without blocks: its gate is shut, and page 2, a catalog of no layers,
+/// is its one page.
+///
+/// On an honest device a refusal is `Memory` or `Device`. The device comes back with it.
+pub fn create_pages<D: BlockDevice>(device: D) -> Result<PageFile<D>, (Fault, D)>
+    requires { length (D.shown device) ≡ 0 }
+    ensures shut { IfOk result (λ file. gate_of file ≡ Shut) }
+    ensures next { IfOk result (λ file. next_of file ≡ 3) }
+    ensures catalog { IfOk result (λ file. D.honest device → pages file 2 ≡ Some catalog_block) }
+    ensures others { IfOk result (λ file. D.honest device → (k : ℕ) → ¬ (k ≡ 2) → pages file k ≡ None) }
+    ensures sound { IfOk result (λ file. D.honest device → IsPageMap file) }
+    ensures lies { IfOk result (λ file. D.honest device → LiesIn file (blocks_of file)) }
+
+    // A stop leaves blocks that opening refuses, or those that are read afterwards, the gate aside.
+    ensures stops { IfOk result (λ file. D.honest device → LeavesOnly D.moment D.left_since device (device_of file) (λ c. IsRefused c ⊎ SameButGate c (blocks_of file))) }
+    ensures refused_stops { IfErr result (λ e. D.honest device → LeavesOnly D.moment D.left_since device e.1 (λ c. IsRefused c ⊎ SameButGate c (D.shown e.1))) }
+
+    ensures honest { IfOk result (λ file. D.honest device ↔ D.honest (device_of file)) }
+    ensures refused_honest { IfErr result (λ e. D.honest device ↔ D.honest e.1) }
+    ensures faults { IfErr result (λ e. D.honest device → IsOfDevice e.0) }
+    ensures other_faults { IfErr result (λ e. IsOfDevice e.0 ⊎ IsDamage e.0) }
+    ensures later { IfOk result (λ file. D.faults device ≤ D.faults (device_of file)) }
+    ensures cause { IfErr result (λ e. (D.faults device ≤ D.faults e.1) × (e.0 ≡ fault.Device → HasRisen (D.faults device) (D.faults e.1))) }
+{
+    let mut device = device;
+    match create(&mut device) {
+        Ok(()) => Ok(PageFile {
+            device,
+            header: NEW_HEADER,
+            gate: Gate::Shut,
+        }),
+        Err(fault) => Err((fault, device)),
+    }
+}

@@ -1,0 +1,124 @@
+//! The pages: given out, written, freed and read.
+ghost use Rattle.std.specs.Prelude.{◌≡◌, ◌⊎◌, ◌≤◌, ◌<◌, ◌+◌, ◌^◌, ℕ, Some, None, Err, IsErrOf, IfOk, IfErr, OnOk, OnErr};
+ghost use Rattle.block_bytes.specs.Numbers.{zeros};
+ghost use Rattle.block_device.specs.Device.{Only};
+ghost use Rattle.page_file.specs.Fault.{HasCause, IsOfDevice, IsDamage};
+ghost use Rattle.page_file.specs.File.{device_of, blocks_of, IsHonest, gate_of, next_of, pages, IsLive, IsPageMap, KeepsGate, KeepsMap};
+ghost use Rattle.page_file.specs.Pages.{SameBut};
+ghost use Rattle.page_file.specs.declared.fault.Fault.TheVariants as fault;
+ghost use Rattle.page_file.specs.declared.gate.Gate.TheVariants.{Open};
+
+use crate::Fault;
+use crate::blocks::{read_block, write_block};
+use crate::file::PageFile;
+use crate::layout::free_page;
+use block_bytes::zero_block;
+use block_device::BlockDevice;
+
+const MAX_PAGES: u32 = 1 << 31;
+
+impl<D: BlockDevice> PageFile<D> {
+    /// Gives out a page of zeros that was not live. The gate has to be open.
+    ///
+    /// After a refusal one page that was not live may hold any bytes, and may be live; all others are as
+    /// before. `NoPages` comes only where all numbers up to 2^31 - 1 were given out.
+    pub fn allocate(&mut self) -> Result<u32, Fault>
+        requires { gate_of self.old ≡ Open }
+        ensures gate { KeepsGate self.old self.new }
+        ensures fresh { IsPageMap self.old → IfOk result (λ n. (pages self.old n ≡ None) × (pages self.new n ≡ Some zeros) × SameBut n (pages self.old) (pages self.new)) }
+        ensures refused { IsPageMap self.old → OnErr result ((n : ℕ) × (pages self.old n ≡ None) × SameBut n (pages self.old) (pages self.new)) }
+        ensures sound { IsPageMap self.old → IsPageMap self.new }
+        ensures number { IfOk result (λ n. (3 ≤ n) × (n < next_of self.new)) }
+        ensures next { (next_of self.old ≤ next_of self.new) × (next_of self.new ≤ next_of self.old + 1) }
+        ensures no_pages { IsErrOf result fault.NoPages → next_of self.old ≡ 2 ^ 31 }
+        ensures faults { IsPageMap self.old → IfErr result (λ f. IsOfDevice f ⊎ (f ≡ fault.NoPages)) }
+        ensures other_faults { IfErr result (λ f. IsOfDevice f ⊎ ((f ≡ fault.NoPages) ⊎ IsDamage f)) }
+        ensures cause { HasCause (D.faults (device_of self.old)) (D.faults (device_of self.new)) result }
+    {
+        let n = self.header.next;
+        if n >= MAX_PAGES {
+            return Err(Fault::NoPages);
+        }
+        write_block(&mut self.device, n, &zero_block())?;
+        self.header.next = n + 1;
+        Ok(n)
+    }
+
+    /// Writes a live page. The gate has to be open.
+    ///
+    /// After a refusal the page is still live and may hold any bytes; all others are as before. On an
+    /// honest device that is `Memory` or `Device`.
+    pub fn write(&mut self, n: u32, bytes: &[u8; 4096]) -> Result<(), Fault>
+        requires { gate_of self.old ≡ Open }
+        ensures gate { KeepsGate self.old self.new }
+        ensures written { IsHonest self.old → IsLive self.old n → OnOk result (pages self.new n ≡ Some bytes.now) }
+        ensures live { IsHonest self.old → IsLive self.old n → IsLive self.new n }
+        ensures others { IsHonest self.old → IsLive self.old n → SameBut n (pages self.old) (pages self.new) }
+        ensures sound { IsPageMap self.old → IsLive self.old n → IsPageMap self.new }
+        ensures next { next_of self.new ≡ next_of self.old }
+        ensures faults { IsHonest self.old → IsLive self.old n → IfErr result IsOfDevice }
+        ensures other_faults { IfErr result (λ f. IsOfDevice f ⊎ (f ≡ fault.Damaged n)) }
+        ensures cause { HasCause (D.faults (device_of self.old)) (D.faults (device_of self.new)) result }
+    {
+        if n < 2 || n >= self.header.next {
+            return Err(Fault::Damaged(n));
+        }
+        write_block(&mut self.device, n, bytes)
+    }
+
+    /// Frees a live page other than the catalog: it is no longer live, and is the first of the free
+    /// pages. The gate has to be open.
+    ///
+    /// After a refusal the page may hold any bytes, and may be live or not; all others are as before.
+    /// With a sound map that is `Memory` or `Device`.
+    pub fn free(&mut self, n: u32) -> Result<(), Fault>
+        requires { gate_of self.old ≡ Open }
+        ensures gate { KeepsGate self.old self.new }
+        ensures freed { IsHonest self.old → IsLive self.old n → OnOk result (pages self.new n ≡ None) }
+        ensures others { IsHonest self.old → IsLive self.old n → SameBut n (pages self.old) (pages self.new) }
+        ensures sound { IsPageMap self.old → IsLive self.old n → IsPageMap self.new }
+        ensures next { next_of self.new ≡ next_of self.old }
+        ensures faults { IsPageMap self.old → IsLive self.old n → ¬ (n ≡ 2) → IfErr result IsOfDevice }
+        ensures other_faults { IfErr result (λ f. IsOfDevice f ⊎ (f ≡ fault.Damaged n)) }
+        ensures cause { HasCause (D.faults (device_of self.old)) (D.faults (device_of self.new)) result }
+    {
+        if n < 3 || n >= self.header.next || self.header.count >= self.header.next - 3 {
+            return Err(Fault::Damaged(n));
+        }
+        write_block(&mut self.device, n, &free_page(self.header.first))?;
+        self.header.first = n;
+        self.header.count += 1;
+        Ok(())
+    }
+
+    /// Reads a page that was given out. A number outside 2 to the last one given out is `Damaged` with
+    /// that number, without a call of the device. After a refusal the buffer holds anything.
+    pub fn read(&mut self, n: u32, into: &mut [u8; 4096]) -> Result<(), Fault>
+        ensures gate { KeepsGate self.old self.new }
+        ensures map { KeepsMap self.old self.new }
+        ensures bytes { IsHonest self.old → IsLive self.old n → OnOk result (pages self.old n ≡ Some into.new) }
+        ensures outside { (n < 2) ⊎ (next_of self.old ≤ n) → (result ≡ Err (fault.Damaged n)) × (self.new ≡ self.old) }
+        ensures faults { IsHonest self.old → 2 ≤ n → n < next_of self.old → IfErr result IsOfDevice }
+        ensures other_faults { IfErr result (λ f. IsOfDevice f ⊎ (f ≡ fault.Damaged n)) }
+        ensures cause { HasCause (D.faults (device_of self.old)) (D.faults (device_of self.new)) result }
+    {
+        if n < 2 || n >= self.header.next {
+            return Err(Fault::Damaged(n));
+        }
+        read_block(&mut self.device, n, into)
+    }
+
+    /// Syncs what was written, and writes nothing: after an `Ok` a stop leaves the blocks as they are.
+    /// The gate and the map stay.
+    pub fn flush(&mut self) -> Result<(), Fault>
+        ensures gate { KeepsGate self.old self.new }
+        ensures map { KeepsMap self.old self.new }
+        ensures blocks { IsHonest self.old → blocks_of self.new ≡ blocks_of self.old }
+        ensures durable { IsHonest self.old → OnOk result (Only (blocks_of self.new) (D.may_leave (device_of self.new))) }
+        ensures faults { IfErr result IsOfDevice }
+        ensures cause { HasCause (D.faults (device_of self.old)) (D.faults (device_of self.new)) result }
+    {
+        self.device.sync()?;
+        Ok(())
+    }
+}

@@ -1,0 +1,22 @@
+//! What a file says of its numbers, and its device given back as it is.
+ghost use Rattle.std.specs.Prelude.{◌≡◌};
+ghost use Rattle.page_file.specs.File.{device_of, next_of};
+
+use crate::file::PageFile;
+use block_device::BlockDevice;
+
+impl<D: BlockDevice> PageFile<D> {
+    /// One more than the greatest page number given out.
+    pub fn next_number(&self) -> u32
+        ensures { result ≡ next_of self.now }
+    {
+        self.header.next
+    }
+
+    /// The device as it is, without a call of it.
+    pub fn abandon(self) -> D
+        ensures { result ≡ device_of self }
+    {
+        self.device
+    }
+}

@@ -1,0 +1,53 @@
+//! What follows from the promises of the calls, each law the contract of a function that does nothing.
+ghost use Rattle.std.specs.Prelude.{◌≡◌, ◌⊎◌, ◌↔◌, ◌≤◌, ◌<◌, ◌^◌, ℕ};
+ghost use Rattle.block_device.specs.Device.{Blocks};
+ghost use Rattle.page_file.specs.declared.file.PageFile.{PageFile};
+ghost use Rattle.page_file.specs.declared.gate.Gate.TheVariants.{Shut};
+ghost use Rattle.page_file.specs.File.{IsHonest, IsLive, IsPageMap, KeepsGate, KeepsMap, LiesIn, blocks_of, device_of, gate_of, next_of, pages};
+ghost use Rattle.page_file.specs.Opening.{IsRefused};
+ghost use Rattle.page_file.specs.Stops.{SameButGate, StopSince};
+
+use block_device::BlockDevice;
+
+/// A stop now leaves what the gate allows: the blocks as read where it is shut, blocks that opening
+/// refuses where it is open, and the blocks as read but for the gate where it is unsure.
+#[tactic(auto, using(crate::specs::Laws::a_stop_follows_the_gate))]
+pub fn a_stop_follows_the_gate<D: BlockDevice>()
+    ensures { (file : PageFile D ⟦<D as BlockDevice>⟧) (c : Blocks) → IsHonest file → D.may_leave (device_of file) c → StopSince (gate_of file) (blocks_of file) c }
+{}
+
+/// A file whose gate is shut lies in its blocks, and opening finds it there.
+#[tactic(auto, using(crate::specs::Laws::a_shut_file_lies_in_its_blocks))]
+pub fn a_shut_file_lies_in_its_blocks<D: BlockDevice>()
+    ensures { (file : PageFile D ⟦<D as BlockDevice>⟧) → IsHonest file → gate_of file ≡ Shut → LiesIn file (blocks_of file) }
+{}
+
+/// Of blocks that differ from those of a file in the gate alone, opening refuses them or finds the same
+/// file.
+#[tactic(auto, using(crate::specs::Laws::a_gate_aside_is_refused_or_the_same))]
+pub fn a_gate_aside_is_refused_or_the_same<D: BlockDevice>()
+    ensures { (file : PageFile D ⟦<D as BlockDevice>⟧) (blocks c : Blocks) → LiesIn file blocks → SameButGate c blocks → IsRefused c ⊎ LiesIn file c }
+{}
+
+/// Two files that lie in the same blocks have the same map: a closed file opened again is the same.
+#[tactic(auto, using(crate::specs::Laws::a_file_opened_again_is_the_same))]
+pub fn a_file_opened_again_is_the_same<D: BlockDevice>()
+    ensures { (old new : PageFile D ⟦<D as BlockDevice>⟧) (blocks : Blocks) → LiesIn old blocks → LiesIn new blocks →
+        (next_of new ≡ next_of old) × ((k : ℕ) → pages new k ≡ pages old k) × (IsPageMap old ↔ IsPageMap new) }
+{}
+
+/// A live page is one given out, from the catalog on, and the catalog is always live.
+#[tactic(auto, using(crate::specs::Laws::a_live_page_was_given_out, crate::specs::Laws::the_catalog_is_live))]
+pub fn a_live_page_was_given_out<D: BlockDevice>()
+    ensures given { (file : PageFile D ⟦<D as BlockDevice>⟧) (n : ℕ) → IsLive file n → (2 ≤ n) × (n < next_of file) × (next_of file ≤ 2 ^ 31) }
+    ensures catalog { (file : PageFile D ⟦<D as BlockDevice>⟧) → IsPageMap file → IsLive file 2 }
+{}
+
+/// No call keeps gate and map, and calls in turn do where each does.
+#[tactic(auto, using(crate::specs::Laws::no_call_keeps_the_gate, crate::specs::Laws::the_gate_is_kept_in_turn, crate::specs::Laws::no_call_keeps_the_map, crate::specs::Laws::the_map_is_kept_in_turn))]
+pub fn gate_and_map_are_kept_in_turn<D: BlockDevice>()
+    ensures no_gate { (file : PageFile D ⟦<D as BlockDevice>⟧) → KeepsGate file file }
+    ensures gate { (old mid new : PageFile D ⟦<D as BlockDevice>⟧) → KeepsGate old mid → KeepsGate mid new → KeepsGate old new }
+    ensures no_map { (file : PageFile D ⟦<D as BlockDevice>⟧) → KeepsMap file file }
+    ensures map { (old mid new : PageFile D ⟦<D as BlockDevice>⟧) → (IsHonest old → IsHonest mid) → KeepsMap old mid → KeepsMap mid new → KeepsMap old new }
+{}

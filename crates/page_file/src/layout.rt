@@ -1,0 +1,74 @@
+//! The blocks of a file as bytes: gate, header, empty catalog and free page.
+ghost use Rattle.std.specs.Prelude.{◌≡◌};
+ghost use Rattle.page_file.specs.Layout.{gate_block, header_block, catalog_block, free_block, IsHeader};
+ghost use Rattle.page_file.specs.Opening.{header_of_block};
+
+use crate::header::Header;
+use block_bytes::{read_u32, write_u8, write_u16, write_u32, write_u64, zero_block};
+
+/// The ASCII text RSTARGAT.
+pub const GATE_TEXT: u64 = 0x5253_5441_5247_4154;
+
+/// The ASCII text RSTARHDR.
+pub const HEADER_TEXT: u64 = 0x5253_5441_5248_4452;
+
+/// The version that is written, and the only one that is read.
+pub const VERSION: u16 = 0;
+
+/// The gate's block, open (0) or shut (1).
+#[tactic(auto, unfolding(crate::specs::Layout::gate_block))]
+pub fn gate_page(shut: u8) -> [u8; 4096]
+    ensures { result ≡ gate_block shut }
+{
+    let mut page = zero_block();
+    write_u64(&mut page, 0, GATE_TEXT);
+    write_u8(&mut page, 8, shut);
+    page
+}
+
+/// The header's block.
+#[tactic(auto, unfolding(crate::specs::Layout::header_block))]
+pub fn header_page(header: &Header) -> [u8; 4096]
+    ensures is { result ≡ header_block header.now }
+    ensures reads { IsHeader header.now result }
+{
+    let mut page = zero_block();
+    write_u64(&mut page, 0, HEADER_TEXT);
+    write_u16(&mut page, 8, VERSION);
+    write_u32(&mut page, 12, header.next);
+    write_u32(&mut page, 16, header.first);
+    write_u32(&mut page, 20, header.count);
+    page
+}
+
+/// The numbers of a header's block.
+pub fn read_header(page: &[u8; 4096]) -> Header
+    ensures { result ≡ header_of_block page.now }
+{
+    Header {
+        next: read_u32(page, 12),
+        first: read_u32(page, 16),
+        count: read_u32(page, 20),
+    }
+}
+
+/// The block of a catalog of no layers.
+#[tactic(auto, unfolding(crate::specs::Layout::catalog_block))]
+pub fn catalog_page() -> [u8; 4096]
+    ensures { result ≡ catalog_block }
+{
+    let mut page = zero_block();
+    write_u8(&mut page, 0, 1);
+    page
+}
+
+/// The block of a free page that names the next one.
+#[tactic(auto, unfolding(crate::specs::Layout::free_block))]
+pub fn free_page(next: u32) -> [u8; 4096]
+    ensures { result ≡ free_block next }
+{
+    let mut page = zero_block();
+    write_u8(&mut page, 0, 5);
+    write_u32(&mut page, 4, next);
+    page
+}

@@ -1,0 +1,79 @@
+//! The checks of opening, in their order.
+ghost use Rattle.std.specs.Prelude.{◌≡◌, ◌≤◌, ◌<◌, ◌^◌, ◌↔◌, ◌⊎◌, ◌++◌, Some, None, true, length, List, ℕ, IfOk, IfErr, OnOk};
+ghost use Rattle.block_device.specs.Device.{Blocks, Only, LeavesOnly, block_at};
+ghost use Rattle.page_file.specs.Fault.{HasCause, IsOfDevice, IsDamage};
+ghost use Rattle.page_file.specs.Opening.{Check, first_fault, gate_checks, header_checks, failed_check, header_of_block};
+ghost use Rattle.page_file.specs.Opening as opening;
+ghost use Rattle.page_file.specs.Pages.{header_in};
+ghost use Rattle.page_file.specs.declared.fault.Fault.TheVariants as fault;
+
+use crate::Fault;
+use crate::blocks::read_block;
+use crate::header::{Header, is_sound};
+use crate::layout::{GATE_TEXT, HEADER_TEXT, VERSION, read_header};
+use block_bytes::{read_u8, read_u16, read_u64, zero_block};
+use block_device::BlockDevice;
+
+// The checks of the gate's block.
+#[tactic(auto, unfolding(crate::specs::Opening::gate_checks))]
+fn check_gate(page: &[u8; 4096]) -> Result<(), Fault>
+    ensures ok { OnOk result ((rest : List Check) → first_fault (gate_checks page.now ++ rest) ≡ first_fault rest) }
+    ensures err { IfErr result (λ e. (rest : List Check) → first_fault (gate_checks page.now ++ rest) ≡ Some e) }
+    ensures only { IfErr result (λ e. (e ≡ fault.NotAStore) ⊎ (e ≡ fault.NotClosed)) }
+{
+    if read_u64(page, 0) != GATE_TEXT {
+        return Err(Fault::NotAStore);
+    }
+    if read_u8(page, 8) != 1 {
+        return Err(Fault::NotClosed);
+    }
+    Ok(())
+}
+
+// The checks of the header's block, in a file of so many blocks.
+#[tactic(auto, unfolding(crate::specs::Opening::header_checks))]
+fn check_header(page: &[u8; 4096], blocks: u32) -> Result<Header, Fault>
+    ensures ok { OnOk result (first_fault (header_checks blocks page.now) ≡ None) }
+    ensures header { IfOk result (λ h. h ≡ header_of_block page.now) }
+    ensures sound { IfOk result (λ h. (opening.is_sound h ≡ true) × (h.next ≤ blocks)) }
+    ensures err { IfErr result (λ e. first_fault (header_checks blocks page.now) ≡ Some e) }
+    ensures only { IfErr result (λ e. (e ≡ fault.NotAStore) ⊎ ((e ≡ fault.WrongVersion) ⊎ (e ≡ fault.Damaged 1))) }
+{
+    if read_u64(page, 0) != HEADER_TEXT {
+        return Err(Fault::NotAStore);
+    }
+    if read_u16(page, 8) != VERSION {
+        return Err(Fault::WrongVersion);
+    }
+    let header = read_header(page);
+    if header.next <= blocks && is_sound(&header) {
+        Ok(header)
+    } else {
+        Err(Fault::Damaged(1))
+    }
+}
+
+/// Syncs the device, and then reads and checks gate and header.
+#[tactic(auto, unfolding(crate::specs::Opening::failed_check))]
+pub fn check_opening<D: BlockDevice>(device: &mut D) -> Result<Header, Fault>
+    ensures ok { D.honest device.old → OnOk result (failed_check (D.shown device.old) ≡ None) }
+    ensures header { D.honest device.old → IfOk result (λ h. h ≡ header_in (D.shown device.old)) }
+    ensures err { D.honest device.old → IfErr result (λ f. IsOfDevice f ⊎ (failed_check (D.shown device.old) ≡ Some f)) }
+    ensures sound { IfOk result (λ h. (opening.is_sound h ≡ true) × (h.next ≤ 2 ^ 31)) }
+    ensures shown { D.honest device.old → D.shown device.new ≡ D.shown device.old }
+    ensures durable { D.honest device.old → OnOk result (Only (D.shown device.new) (D.may_leave device.new)) }
+    ensures stops { D.honest device.old → LeavesOnly D.moment D.left_since device.old device.new (D.may_leave device.old) }
+    ensures honest { D.honest device.old ↔ D.honest device.new }
+    ensures cause { HasCause (D.faults device.old) (D.faults device.new) result }
+{
+    device.sync()?;
+    let blocks = device.blocks();
+    if blocks < 3 {
+        return Err(Fault::NotAStore);
+    }
+    let mut page = zero_block();
+    read_block(device, 0, &mut page)?;
+    check_gate(&page)?;
+    read_block(device, 1, &mut page)?;
+    check_header(&page, blocks)
+}
