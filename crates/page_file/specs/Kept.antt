@@ -37,7 +37,7 @@ pub adds_behind : {D : Type 0} (moment : D → ℕ) (left_since : D → ℕ → 
     → AddsOnly moment left_since old new (StopSince gate was)
 adds_behind moment left_since old new gate was outcomes n opened gt before leaves =
     let l = leaves_weaker moment left_since old new (TornFrom n outcomes) (StopSince gate was)
-          (λ c from. subst (λ (x : Gate). StopSince x was c) (sym opened) (fails c (still_open n from.0 c gt (stop_open gate was from.0 opened (before from.0 from.1)) from.2))) leaves in
+    (λ c from. subst (λ (x : Gate). StopSince x was c) (sym opened) (fails c (still_open n from.0 c gt (stop_open gate was from.0 opened (before from.0 from.1)) from.2))) leaves in
     record { later = l.later; before = l.before }
 
 -- the map stays, where the header and the blocks of pages do

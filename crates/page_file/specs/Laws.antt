@@ -89,9 +89,9 @@ the_gate_is_kept_in_turn {m = m} old mid new a b = record {
   stops = λ h.
       let first = a.stops h in let second = b.stops (a.honest.0 h) in
       let into : (c : Blocks) → StopSince mid.gate (m.shown mid.device) c → StopSince old.gate (m.shown old.device) c
-            = λ c left. of_open_any old.gate (m.shown mid.device) (m.shown old.device) c
-                (⊎_elim (λ (e : old.gate ≡ Open). inl e) (λ (closed : ¬ (old.gate ≡ Open)). inr (a.blocks h closed)) (is_open old.gate))
-                (subst (λ (x : Gate). StopSince x (m.shown mid.device) c) a.gate left) in
+      = λ c left. of_open_any old.gate (m.shown mid.device) (m.shown old.device) c
+      (⊎_elim (λ (e : old.gate ≡ Open). inl e) (λ (closed : ¬ (old.gate ≡ Open)). inr (a.blocks h closed)) (is_open old.gate))
+      (subst (λ (x : Gate). StopSince x (m.shown mid.device) c) a.gate left) in
       record {
         later = omega (arith, first.later, second.later);
         before = λ t c le left. ⊎_elim (first.before t c le) (λ p. inr (into c p)) (second.before t c (omega (arith, le, first.later)) left);

@@ -56,7 +56,7 @@ chain_same old new (suc count) first same = case (nat_lt first 3) refl (λ withi
   where
     case : (t : Bool) → nat_lt first 3 ≡ t
         → (((k : ℕ) → 3 ≤ k → is_member eqb (chain old count (link_of (block_at first old))) k ≡ true → block_at k new ≡ block_at k old)
-            → chain new count (link_of (block_at first old)) ≡ chain old count (link_of (block_at first old)))
+        → chain new count (link_of (block_at first old)) ≡ chain old count (link_of (block_at first old)))
         → chain new (suc count) first ≡ chain old (suc count) first
     case true e again =
         ap (λ (t : Bool). cond t [] (first ∷ chain new count (link_of (block_at first new)))) e
@@ -65,7 +65,7 @@ chain_same old new (suc count) first same = case (nat_lt first 3) refl (λ withi
         let rest_old = chain old count (link_of (block_at first old)) in
         let opened : chain old (suc count) first ≡ first ∷ rest_old = ap (λ (t : Bool). cond t [] (first ∷ rest_old)) e in
         let within : (k : ℕ) → 3 ≤ k → is_member eqb (first ∷ rest_old) k ≡ true → block_at k new ≡ block_at k old
-              = λ k low member. same k low (ap (λ (l : List ℕ). is_member eqb l k) opened ∙ member) in
+        = λ k low member. same k low (ap (λ (l : List ℕ). is_member eqb l k) opened ∙ member) in
         let head : block_at first new ≡ block_at first old = within first (not_low first e) (or_left (eqb first first) _ (eq_self first)) in
         ap (λ (t : Bool). cond t [] (first ∷ chain new count (link_of (block_at first new)))) e
         ∙ ap (λ (b : List ℕ). first ∷ chain new count (link_of b)) head
@@ -78,7 +78,7 @@ whole_same old new next (suc count) first whole same =
     let rest_old = chain old count (link_of (block_at first old)) in
     let opened : chain old (suc count) first ≡ first ∷ rest_old = ap (λ (t : Bool). cond t [] (first ∷ rest_old)) (low_not first whole.0) in
     let within : (k : ℕ) → 3 ≤ k → is_member eqb (first ∷ rest_old) k ≡ true → block_at k new ≡ block_at k old
-          = λ k low member. same k low (ap (λ (l : List ℕ). is_member eqb l k) opened ∙ member) in
+    = λ k low member. same k low (ap (λ (l : List ℕ). is_member eqb l k) opened ∙ member) in
     let head : block_at first new ≡ block_at first old = within first whole.0 (or_left (eqb first first) _ (eq_self first)) in
     let rest : IsChain new next count (link_of (block_at first old)) = whole_same old new next count (link_of (block_at first old)) whole.3 (λ k low member. within k low (or_right (eqb k first) _ member)) in
     (whole.0, whole.1, ap kind_of head ∙ whole.2, subst (λ (b : List ℕ). IsChain new next count (link_of b)) (sym head) rest)
@@ -92,8 +92,8 @@ chain_within blocks next (suc count) first whole k member =
     ⊎_elim
     (λ (e : k ≡ first). (omega (arith, e, whole.0), omega (arith, e, whole.1)))
     (λ (ne : ¬ (k ≡ first)).
-        let later : is_member eqb rest k ≡ true = sym (ap (λ (t : Bool). t || is_member eqb rest k) (eq_other k first ne)) ∙ sym (ap (λ (l : List ℕ). is_member eqb l k) opened) ∙ member in
-        chain_within blocks next count (link_of (block_at first blocks)) whole.3 k later)
+    let later : is_member eqb rest k ≡ true = sym (ap (λ (t : Bool). t || is_member eqb rest k) (eq_other k first ne)) ∙ sym (ap (λ (l : List ℕ). is_member eqb l k) opened) ∙ member in
+    chain_within blocks next count (link_of (block_at first blocks)) whole.3 k later)
     (cases_eq k first)
 
 pub chain_count : (blocks : Blocks) (next count first : ℕ) → IsChain blocks next count first → length (chain blocks count first) ≡ count
@@ -271,7 +271,7 @@ pub room_for_one : (blocks : Blocks) (h : Header) (n : ℕ) → HasFreeChain blo
 room_for_one blocks h n f low l =
     let ns = free_pages_of blocks h in
     let below3 : (m : ℕ) → m < 3 → is_member eqb (n ∷ ns) m ≡ false
-          = λ m small. no_member m small (is_member eqb (n ∷ ns) m) refl in
+    = λ m small. no_member m small (is_member eqb (n ∷ ns) m) refl in
     let all : List ℕ = 0 ∷ (1 ∷ (2 ∷ (n ∷ ns))) in
     let one_more : IsDistinct eqb (n ∷ ns) = IsDistinct-cons eqb n ns (apart_all n ns l.not_free) f.distinct in
     let with_2 : IsDistinct eqb (2 ∷ (n ∷ ns)) = IsDistinct-cons eqb 2 (n ∷ ns) (apart_all 2 (n ∷ ns) (below3 2 (omega arith))) one_more in
@@ -294,15 +294,15 @@ room_for_one blocks h n f low l =
     within q member = ⊎_elim
         (λ (small : q < 3). omega (arith, small, low, l.below))
         (λ (high : 3 ≤ q).
-            let e0 = eq_other q 0 (λ e. absurd (omega (arith, e, high))) in
-            let e1 = eq_other q 1 (λ e. absurd (omega (arith, e, high))) in
-            let e2 = eq_other q 2 (λ e. absurd (omega (arith, e, high))) in
-            let rest : is_member eqb (n ∷ free_pages_of blocks h) q ≡ true
-                  = sym (ap (λ (t : Bool). t || is_member eqb (n ∷ free_pages_of blocks h) q) e2)
-                  ∙ sym (ap (λ (t : Bool). t || is_member eqb (2 ∷ (n ∷ free_pages_of blocks h)) q) e1)
-                  ∙ sym (ap (λ (t : Bool). t || is_member eqb (1 ∷ (2 ∷ (n ∷ free_pages_of blocks h))) q) e0)
-                  ∙ member in
-            (member_case q rest).1)
+        let e0 = eq_other q 0 (λ e. absurd (omega (arith, e, high))) in
+        let e1 = eq_other q 1 (λ e. absurd (omega (arith, e, high))) in
+        let e2 = eq_other q 2 (λ e. absurd (omega (arith, e, high))) in
+        let rest : is_member eqb (n ∷ free_pages_of blocks h) q ≡ true
+        = sym (ap (λ (t : Bool). t || is_member eqb (n ∷ free_pages_of blocks h) q) e2)
+        ∙ sym (ap (λ (t : Bool). t || is_member eqb (2 ∷ (n ∷ free_pages_of blocks h)) q) e1)
+        ∙ sym (ap (λ (t : Bool). t || is_member eqb (1 ∷ (2 ∷ (n ∷ free_pages_of blocks h))) q) e0)
+        ∙ member in
+        (member_case q rest).1)
         (cases_lt q 3)
 
 none_distinct : IsDistinct eqb []

@@ -70,7 +70,11 @@ pub fn write_block<D: BlockDevice>(device: &mut D, n: u32, bytes: &[u8; 4096]) -
 }
 
 /// Reads a block, where there is one.
-pub fn read_block<D: BlockDevice>(device: &mut D, n: u32, into: &mut [u8; 4096]) -> Result<(), Fault>
+pub fn read_block<D: BlockDevice>(
+    device: &mut D,
+    n: u32,
+    into: &mut [u8; 4096],
+) -> Result<(), Fault>
     ensures bytes { D.honest device.old → OnOk result (into.new ≡ block_at n (D.shown device.old)) }
     ensures shown { D.honest device.old → D.shown device.new ≡ D.shown device.old }
     ensures now { D.honest device.old → LeavesNoMore (D.may_leave device.old) (D.may_leave device.new) }

@@ -3,23 +3,31 @@ ghost use Rattle.std.specs.Prelude.{◌≡◌};
 ghost use Rattle.page_file.specs.Fault.{fault_of, number_of};
 
 use block_device::DeviceError;
+use thiserror::Error;
 
 /// Why a call on a file of pages did not do what it was asked.
-#[derive(Clone, Copy, Debug, PartialEq, Eq, Drop)]
+#[derive(Clone, Copy, Debug, PartialEq, Eq, Drop, Error)]
 pub enum Fault {
     /// Memory was refused.
+    #[error("no memory")]
     Memory,
     /// The device failed in this call.
+    #[error("the device failed")]
     Device,
     /// The page of this number is not what it must be, or there is no such page.
+    #[error("page {0} is damaged")]
     Damaged(u32),
     /// The gate is not shut: the file was not closed after a change.
+    #[error("the file was not closed")]
     NotClosed,
     /// Gate or header are not those of a store.
+    #[error("not a store's file")]
     NotAStore,
     /// The header's version is not known.
+    #[error("the version is not known")]
     WrongVersion,
     /// No page number is left.
+    #[error("no page number is left")]
     NoPages,
 }
 

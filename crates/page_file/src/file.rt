@@ -12,11 +12,10 @@ mod pages;
 mod settle;
 mod view;
 
-pub use open::{create_pages, open_pages};
-
 use crate::gate::Gate;
 use crate::header::Header;
 use block_device::BlockDevice;
+pub use open::{create_pages, open_pages};
 
 /// A file of pages on a device: a map from live page number to 4096 bytes, in which page 2, the catalog,
 /// is always live, and a gate that is shut, open or unsure.
@@ -32,8 +31,7 @@ pub struct PageFile<D: BlockDevice> {
     ghost sound: { is_sound header ≡ true },
     ghost few: { header.next ≤ 2 ^ 31 },
     ghost room: { D.honest device → header.next ≤ length (D.shown device) },
-    ghost stop_now: { D.honest device → (c : Blocks) → D.may_leave device c → StopNow gate (D.shown device) c }
-        by { λ p q i h. StopsNow-prop (D.may_leave device) gate (D.shown device) (p h) (q h) i },
+    ghost stop_now: { D.honest device → (c : Blocks) → D.may_leave device c → StopNow gate (D.shown device) c } by { λ p q i h. StopsNow-prop (D.may_leave device) gate (D.shown device) (p h) (q h) i },
     ghost settled: { D.honest device → (gate ≡ Open → ⊥) → IsHeader header (block_at 1 (D.shown device)) },
     ghost shut_reads: { D.honest device → gate ≡ Shut → IsShutGate (block_at 0 (D.shown device)) },
 }

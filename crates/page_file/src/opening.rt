@@ -60,6 +60,7 @@ pub fn check_opening<D: BlockDevice>(device: &mut D) -> Result<Header, Fault>
     ensures header { D.honest device.old → IfOk result (λ h. h ≡ header_in (D.shown device.old)) }
     ensures err { D.honest device.old → IfErr result (λ f. IsOfDevice f ⊎ (failed_check (D.shown device.old) ≡ Some f)) }
     ensures sound { IfOk result (λ h. (opening.is_sound h ≡ true) × (h.next ≤ 2 ^ 31)) }
+    ensures never { IfErr result (λ e. ¬ (e ≡ fault.NoPages)) }
     ensures shown { D.honest device.old → D.shown device.new ≡ D.shown device.old }
     ensures durable { D.honest device.old → OnOk result (Only (D.shown device.new) (D.may_leave device.new)) }
     ensures stops { D.honest device.old → LeavesOnly D.moment D.left_since device.old device.new (D.may_leave device.old) }

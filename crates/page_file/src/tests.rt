@@ -100,7 +100,12 @@ fn blocks_are_those_of_the_format(rt: HostRuntime) -> Result<(), Fail> {
     let gate = block_of(&mut device, 0)?;
     assert!(rt; begins(&gate, b"RSTARGAT\x01\x00\x00"));
     let header = block_of(&mut device, 1)?;
-    assert!(rt; begins(&header, b"RSTARHDR\x00\x00\x00\x00\x00\x00\x00\x05\x00\x00\x00\x04\x00\x00\x00\x01\x00\x00"));
+    assert!(rt;
+        begins(
+            &header,
+            b"RSTARHDR\x00\x00\x00\x00\x00\x00\x00\x05\x00\x00\x00\x04\x00\x00\x00\x01\x00\x00"
+        )
+    );
     let free = block_of(&mut device, 4)?;
     assert!(rt; begins(&free, b"\x05\x00\x00\x00\x00\x00\x00\x00\x00\x00"));
     let Ok(mut file) = open_pages(device) else {
@@ -118,7 +123,10 @@ fn blocks_are_those_of_the_format(rt: HostRuntime) -> Result<(), Fail> {
 
 #[test]
 fn opening_answers_the_first_check_that_fails(rt: HostRuntime) -> Result<(), Fail> {
-    assert_eq!(rt; refusal(MemoryDevice::new(rt.alloc())), Some(Fault::NotAStore));
+    assert_eq!(rt;
+        refusal(MemoryDevice::new(rt.alloc())),
+        Some(Fault::NotAStore)
+    );
     assert_eq!(rt; refusal(scene(rt.alloc(), false)?), None);
     let table: [(u32, usize, &[u8], Option<Fault>); 13] = [
         (0, 0, b"r", Some(Fault::NotAStore)),
@@ -128,11 +136,36 @@ fn opening_answers_the_first_check_that_fails(rt: HostRuntime) -> Result<(), Fai
         (1, 8, b"\x00\x09", Some(Fault::WrongVersion)),
         (1, 15, b"\x02", Some(Fault::Damaged(1))),
         (1, 15, b"\x06", Some(Fault::Damaged(1))),
-        (1, 16, b"\x00\x00\x00\x02\x00\x00\x00\x01", Some(Fault::Damaged(1))),
-        (1, 16, b"\x00\x00\x00\x05\x00\x00\x00\x01", Some(Fault::Damaged(1))),
-        (1, 16, b"\x00\x00\x00\x04\x00\x00\x00\x00", Some(Fault::Damaged(1))),
-        (1, 16, b"\x00\x00\x00\x00\x00\x00\x00\x01", Some(Fault::Damaged(1))),
-        (1, 16, b"\x00\x00\x00\x04\x00\x00\x00\x03", Some(Fault::Damaged(1))),
+        (
+            1,
+            16,
+            b"\x00\x00\x00\x02\x00\x00\x00\x01",
+            Some(Fault::Damaged(1)),
+        ),
+        (
+            1,
+            16,
+            b"\x00\x00\x00\x05\x00\x00\x00\x01",
+            Some(Fault::Damaged(1)),
+        ),
+        (
+            1,
+            16,
+            b"\x00\x00\x00\x04\x00\x00\x00\x00",
+            Some(Fault::Damaged(1)),
+        ),
+        (
+            1,
+            16,
+            b"\x00\x00\x00\x00\x00\x00\x00\x01",
+            Some(Fault::Damaged(1)),
+        ),
+        (
+            1,
+            16,
+            b"\x00\x00\x00\x04\x00\x00\x00\x03",
+            Some(Fault::Damaged(1)),
+        ),
         (1, 16, b"\x00\x00\x00\x04\x00\x00\x00\x02", None),
     ];
     for (i, at, bytes, want) in table {
@@ -179,7 +212,10 @@ fn a_stopped_file_is_refused_or_whole(rt: HostRuntime) -> Result<(), Fail> {
             let device = change(fuse).into_inner().after_stop(left);
             match open_pages(device) {
                 Ok(file) => assert!(rt; file.next_number() == 5 || file.next_number() == 6),
-                Err((fault, _device)) => assert!(rt; fault == Fault::NotClosed || fault == Fault::NotAStore, "{fault:?}"),
+                Err((fault, _device)) => assert!(rt;
+                    fault == Fault::NotClosed || fault == Fault::NotAStore,
+                    "{fault:?}"
+                ),
             }
         }
     }

@@ -34,6 +34,7 @@ pub fn open_pages<D: BlockDevice>(device: D) -> Result<PageFile<D>, (Fault, D)>
 
     ensures honest { IfOk result (λ file. D.honest device ↔ D.honest (device_of file)) }
     ensures refused_honest { IfErr result (λ e. D.honest device ↔ D.honest e.1) }
+    ensures never { IfErr result (λ e. ¬ (e.0 ≡ fault.NoPages)) }
     ensures later { IfOk result (λ file. D.faults device ≤ D.faults (device_of file)) }
     ensures cause { IfErr result (λ e. (D.faults device ≤ D.faults e.1) × (e.0 ≡ fault.Device → HasRisen (D.faults device) (D.faults e.1))) }
 {

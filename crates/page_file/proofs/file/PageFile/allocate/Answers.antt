@@ -67,10 +67,11 @@ pub returns-clause-fresh : goal.returns-clause-fresh
 returns-clause-fresh g c = λ map. let file = c.args.self.now in let d = g.D.BlockDevice in
     let start = (sound_says file.header file.sound).start in let room = file.room map.honest in let torn = c.write_block.ensures.torn map.honest in
     let is : block_at file.header.next (d.shown c.write_block.new.device) ≡ zeros
-          = ap (block_at file.header.next) (c.in_ok-write_block.ensures.written map.honest) ∙ block_at-written file.header.next _ (d.shown file.device) room ∙ c.zero_block.ensures in
-    (fresh_none _ _ file.header start room map.free torn,
-     page_live _ (one_page_more _ _ file.header start room map.free torn) file.header.next (fresh_lives _ _ file.header start room map.free torn) ∙ ap (λ (b : List ℕ). Some b) is,
-     fresh_others _ _ file.header start room map.free torn)
+    = ap (block_at file.header.next) (c.in_ok-write_block.ensures.written map.honest) ∙ block_at-written file.header.next _ (d.shown file.device) room ∙ c.zero_block.ensures in (
+      fresh_none _ _ file.header start room map.free torn,
+      page_live _ (one_page_more _ _ file.header start room map.free torn) file.header.next (fresh_lives _ _ file.header start room map.free torn) ∙ ap (λ (b : List ℕ). Some b) is,
+      fresh_others _ _ file.header start room map.free torn,
+    )
 
 pub returns-clause-sound : goal.returns-clause-sound
 returns-clause-sound g c = λ map. let file = c.args.self.now in record {

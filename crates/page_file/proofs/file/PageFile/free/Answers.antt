@@ -22,7 +22,7 @@ returns-then-n-lt3-clause-faults g c = λ map live other.
     let low : 3 ≤ c.args.n = behind_catalog c.args.n l.low other in
     let room = room_for_one (g.D.BlockDevice.shown file.device) file.header c.args.n map.free low l in
     elim c.then-n-lt3.branch [
-      then-n-lt3-via-then-n-lt3 w ↦ absurd (omega (arith, w.if-n-lt3.true, low))
+      | then-n-lt3-via-then-n-lt3 w ↦ absurd (omega (arith, w.if-n-lt3.true, low))
       | then-n-lt3-via-else-n-lt3+then-n-self w ↦ absurd (omega (arith, w.if-n-self.true, l.below))
       | then-n-lt3-via-else-n-lt3+else-n-self+then-self w ↦ absurd (omega (arith, w.if-self.true, room))
     ]
@@ -87,7 +87,7 @@ returns-clause-others g c = λ h live. let file = c.args.self.now in let d = g.D
     let l = lives (d.shown file.device) file.header c.args.n live in
     let le : c.args.n ≤ length (d.shown file.device) = omega (arith, l.below, file.room h) in
     let is : block_at c.args.n (d.shown c.write_block.new.device) ≡ free_block file.header.first
-          = ap (block_at c.args.n) (c.in_ok-write_block.ensures.written h) ∙ block_at-written c.args.n _ (d.shown file.device) le ∙ c.free_page.ensures in
+    = ap (block_at c.args.n) (c.in_ok-write_block.ensures.written h) ∙ block_at-written c.args.n _ (d.shown file.device) le ∙ c.free_page.ensures in
     let small : file.header.first < 2 ^ 32 = omega (arith, (sound_says file.header file.sound).first_below, file.few) in
     freed_others c.args.n _ _ file.header (c.write_block.ensures.torn h) le l.not_free (omega (arith, c.if-n-lt3.false)) (ap link_of is ∙ free_link file.header.first small)
 
@@ -97,7 +97,7 @@ returns-clause-sound g c = λ map live. let file = c.args.self.now in let d = g.
     let l = lives (d.shown file.device) file.header c.args.n live in
     let le : c.args.n ≤ length (d.shown file.device) = omega (arith, l.below, file.room h) in
     let is : block_at c.args.n (d.shown c.write_block.new.device) ≡ free_block file.header.first
-          = ap (block_at c.args.n) (c.in_ok-write_block.ensures.written h) ∙ block_at-written c.args.n _ (d.shown file.device) le ∙ c.free_page.ensures in
+    = ap (block_at c.args.n) (c.in_ok-write_block.ensures.written h) ∙ block_at-written c.args.n _ (d.shown file.device) le ∙ c.free_page.ensures in
     let small : file.header.first < 2 ^ 32 = omega (arith, (sound_says file.header file.sound).first_below, file.few) in
     record {
       honest = c.write_block.ensures.honest.0 h;

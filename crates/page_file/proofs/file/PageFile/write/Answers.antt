@@ -44,8 +44,8 @@ returns-clause-written g c = λ h live. let file = c.args.self.now in let d = g.
     let l = lives (d.shown file.device) file.header c.args.n live in
     let le : c.args.n ≤ length (d.shown file.device) = omega (arith, l.below, file.room h) in
     on_ok_map c.write_block.result (λ (w : d.shown c.write_block.new.device ≡ written c.args.n c.args.bytes.now (d.shown file.device)).
-        page_live _ file.header c.args.n (torn_lives c.args.n _ _ file.header (c.write_block.ensures.torn h) le l.not_free l.low l.below)
-        ∙ ap (λ (b : List ℕ). Some b) (ap (block_at c.args.n) w ∙ block_at-written c.args.n _ (d.shown file.device) le)) (c.write_block.ensures.written h)
+    page_live _ file.header c.args.n (torn_lives c.args.n _ _ file.header (c.write_block.ensures.torn h) le l.not_free l.low l.below)
+    ∙ ap (λ (b : List ℕ). Some b) (ap (block_at c.args.n) w ∙ block_at-written c.args.n _ (d.shown file.device) le)) (c.write_block.ensures.written h)
 
 pub returns-clause-sound : goal.returns-clause-sound
 returns-clause-sound g c = λ map live. let file = c.args.self.now in let d = g.D.BlockDevice in
