@@ -21,7 +21,9 @@ fn main(rt: HostRuntime) -> io::Result<ExitCode> {
     };
     let mut input = rt.reader();
     let end = run(&mut store, &mut input, &mut output);
-    if end == RunEnd::Finished && output.flush().is_ok() {
+    // The replies so far are written however the run ended.
+    let flushed = output.flush();
+    if end == RunEnd::Finished && flushed.is_ok() {
         return Ok(ExitCode::SUCCESS);
     }
     eprintln!(rt; "rstore: input or output failed")?;
