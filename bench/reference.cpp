@@ -3,6 +3,7 @@
 #include <charconv>
 #include <cstdint>
 #include <cstdio>
+#include <cstring>
 #include <map>
 #include <string>
 #include <string_view>
@@ -127,11 +128,11 @@ int main() {
     std::vector<char> buffer(65536);
     size_t start = 0, end = 0;
     for (;;) {
-        for (size_t at = start; at < end; at++)
-            if (buffer[at] == '\n') {
-                answer({&buffer[start], at - start});
-                start = at + 1;
-            }
+        while (auto newline = static_cast<char *>(memchr(&buffer[0] + start, '\n', end - start))) {
+            size_t at = newline - &buffer[0];
+            answer({&buffer[start], at - start});
+            start = at + 1;
+        }
         if (out.size() > 8192) flush();
         std::copy(buffer.begin() + start, buffer.begin() + end, buffer.begin());
         end -= start;

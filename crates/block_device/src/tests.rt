@@ -2,6 +2,7 @@
 ghost use Rattle.std.specs.Prelude.{◌≡◌, ◌≤◌, ◌<◌, length};
 
 use crate::{BlockDevice, DeviceError, FuseDevice, FuseMode, Left, MemoryDevice};
+use refusing::Refusing;
 use std::alloc::Global;
 
 // The byte of which block i is full, and None where a call fails or there is no such block.
@@ -57,6 +58,32 @@ fn a_device_gives_what_was_written(rt: HostRuntime) {
     let mut into = [0; 4096];
     assert_eq!(rt; device.read(1, &mut into), Ok(()));
     assert!(rt; into == last);
+}
+
+#[test]
+fn a_refused_growth_leaves_the_blocks_as_they_were(rt: HostRuntime) {
+    let heap = Refusing::new(rt.alloc());
+    let mut device = MemoryDevice::new(&heap);
+    assert_eq!(rt; put(&mut device, 0, 1), Ok(()));
+    assert_eq!(rt; device.sync(), Ok(()));
+    // What grows is an append, and the first write of a block since the sync.
+    for (block, byte) in [(1, 2), (0, 3)] {
+        let blocks = device.blocks();
+        let writes = device.writes();
+        for k in 0..100 {
+            heap.refuse_from(k);
+            let answer = put(&mut device, block, byte);
+            if !heap.relent() {
+                assert_eq!(rt; answer, Ok(()));
+                break;
+            }
+            assert_eq!(rt; answer, Err(DeviceError::Memory));
+            assert_eq!(rt; device.blocks(), blocks);
+            assert_eq!(rt; device.writes(), writes);
+            assert_eq!(rt; byte_of(&mut device, 0), Some(1));
+        }
+        assert_eq!(rt; byte_of(&mut device, block), Some(byte));
+    }
 }
 
 #[test]
