@@ -1,5 +1,5 @@
 -- What a write and then a sync leave at each moment.
-use Rattle.std.proofs.Common.{ℕ, List}
+use Rattle.std.proofs.Common.{ℕ}
 use Rattle.block_device.specs.Device.{Blocks, Elapses, Follows, LeavesNoMore, LeavesOnly, Torn}
 use Rattle.block_device.specs.Moments.{started, goes_on}
 use Rattle.page_file.specs.Stops.{GateAside}

@@ -1,5 +1,5 @@
 -- Blocks that differ from those of a settled file in the gate alone.
-use Rattle.std.proofs.Common.{◌≡◌, ◌⊎◌, ◌∙◌, ℕ, zero, suc, ◌<◌, ◌≤◌, List, [], ◌∷◌, Bool, true, false, Option, Some, None, length, drop, refl, sym, ap, arith, subst, inl, inr, length-drop}
+use Rattle.std.proofs.Common.{◌≡◌, ◌⊎◌, ◌∙◌, ℕ, ◌≤◌, List, true, Option, Some, None, refl, sym, ap, arith, subst, inl, inr}
 use Rattle.std.specs.Prelude.{is_some, ◌↔◌}
 use Rattle.block_device.specs.Device.{Blocks, block_at}
 use Rattle.page_file.specs.declared.fault.Fault.{Fault}

@@ -1,17 +1,17 @@
 -- What an open gate, and one that is shut, say of a stop.
-use Rattle.std.proofs.Common.{◌≡◌, ◌⊎◌, ◌∙◌, ℕ, zero, suc, ◌<◌, ◌≤◌, List, [], ◌∷◌, ◌++◌, Bool, true, false, not, nat_lt, ◌==◌, length, drop, get_or, Some, None, refl, sym, ap, arith, subst, lit<, inl, inr, cond, length-drop}
+use Rattle.std.proofs.Common.{◌≡◌, ◌∙◌, ℕ, ◌<◌, ◌≤◌, List, [], ◌∷◌, ◌++◌, Bool, true, false, not, nat_lt, ◌==◌, length, Some, refl, sym, ap, arith, subst, lit<, inr, cond, length-drop}
 use Rattle.std.proofs.lemmas.Bool.Decides.{nat_tests}
-use Rattle.std.specs.Prelude.{IsSome, Option}
+use Rattle.std.specs.Prelude.{IsSome}
 use Rattle.block_device.specs.Device.{Blocks, Torn, block_at}
 use Rattle.block_bytes.specs.Numbers.{number_at}
-use Rattle.page_file.specs.Layout.{gate_block, gate_text, IsShutGate}
+use Rattle.page_file.specs.Layout.{gate_block, gate_text}
 use Rattle.page_file.specs.declared.fault.Fault.{Fault}
 use Rattle.page_file.specs.declared.fault.Fault.TheVariants.{NotAStore, NotClosed}
 use Rattle.page_file.specs.declared.gate.Gate.{Gate}
 use Rattle.page_file.specs.declared.gate.Gate.TheVariants.{Shut, Open, Unsure}
 use Rattle.page_file.specs.Opening.{IsRefused, failed_check, Check, first_fault, gate_checks, header_checks}
 use Rattle.page_file.specs.Stops.{SameButGate, StopNow, StopSince}
-use Rattle.page_file.specs.Reading.{length-gate, shut-gate, text-gate}
+use Rattle.page_file.specs.Reading.{length-gate, shut-gate}
 use Rattle.page_file.specs.Written.{first_torn}
 
 pub some_blocks : (d : Blocks) → block_at 0 d ≡ gate_block 0 → 0 < length d

@@ -1,6 +1,6 @@
 -- What a call on a file keeps: the gate, where a block is written behind an open one, the map, where the
 -- blocks of pages stay, and what lies in the blocks of a shut file.
-use Rattle.std.proofs.Common.{◌≡◌, ◌∙◌, ℕ, zero, suc, ◌<◌, ◌≤◌, List, [], ◌∷◌, get_or, refl, sym, ap, arith, subst}
+use Rattle.std.proofs.Common.{◌≡◌, ◌∙◌, ℕ, zero, suc, ◌<◌, ◌≤◌, [], ◌∷◌, get_or, refl, sym, ap, arith, subst}
 use Rattle.std.specs.Prelude.{◌↔◌}
 use Rattle.block_device.specs.Device.{Blocks, Follows, LeavesOnly, Torn, block_at}
 use Rattle.block_device.specs.Moments.{leaves_weaker}
@@ -8,12 +8,12 @@ use Rattle.page_file.specs.declared.file.PageFile.{PageFile}
 use Rattle.page_file.specs.declared.gate.Gate.{Gate}
 use Rattle.page_file.specs.declared.gate.Gate.TheVariants.{Shut, Open}
 use Rattle.page_file.specs.declared.header.Header.{Header}
-use Rattle.page_file.specs.File.{IsHonest, IsPageMap, KeepsMap, LiesIn, gate_of}
+use Rattle.page_file.specs.File.{IsHonest, KeepsMap, LiesIn, gate_of}
 use Rattle.page_file.specs.Pages.{HasFreeChain, header_in, page_of}
 use Rattle.page_file.specs.Stops.{AddsOnly, SameButGate, StopNow, StopSince, TornFrom}
 use Rattle.page_file.specs.Gated.{fails, open_is_not_shut, open_stop, still_open, stop_open}
 use Rattle.page_file.specs.Live.{free_same, pages_same}
-use Rattle.page_file.specs.Settled.{Passes, header_is, passes_to, settled_passes, sound_says}
+use Rattle.page_file.specs.Settled.{header_is, passes_to, settled_passes, sound_says}
 
 -- behind the gate the blocks are the same
 aside_next : (c d : Blocks) (k : ℕ) → SameButGate c d → block_at (suc k) c ≡ block_at (suc k) d

@@ -1,13 +1,13 @@
 -- What follows from the facts that the calls on a file promise, for the crates that stand on them.
-use Rattle.std.specs.Prelude.{◌≡◌, ◌⊎◌, ◌↔◌, ◌≤◌, ◌<◌, ◌^◌, ℕ, zero, suc, List, [], ◌∷◌, length, drop, Option, None, refl}
-use Rattle.std.proofs.Common.{inl, inr, ⊎_elim, sym, ap, ◌∙◌, subst, arith}
+use Rattle.std.specs.Prelude.{◌≡◌, ◌⊎◌, ◌↔◌, ◌≤◌, ◌<◌, ◌^◌, ℕ, refl}
+use Rattle.std.proofs.Common.{inl, inr, ⊎_elim, sym, ◌∙◌, subst, arith}
 use Rattle.block_device.specs.Device.{Blocks, LeavesOnly}
 use Rattle.page_file.specs.declared.file.PageFile.{PageFile}
 use Rattle.page_file.specs.declared.gate.Gate.{Gate}
 use Rattle.page_file.specs.declared.gate.Gate.TheVariants.{Shut, Open, Unsure}
 use Rattle.page_file.specs.File.{IsHonest, IsLive, IsPageMap, KeepsGate, KeepsMap, LiesIn, blocks_of, gate_of, next_of, pages}
-use Rattle.page_file.specs.Opening.{IsRefused, failed_check}
-use Rattle.page_file.specs.Stops.{AddsOnly, SameButGate, StopSince}
+use Rattle.page_file.specs.Opening.{IsRefused}
+use Rattle.page_file.specs.Stops.{SameButGate, StopSince}
 use Rattle.page_file.specs.Aside.{aside_passes}
 use Rattle.page_file.specs.Gated.{now_since}
 use Rattle.page_file.specs.Kept as kept

@@ -1,5 +1,5 @@
 -- The map of live pages that blocks and a header stand for (our rule, docs/FORMAT.md, "Pages").
-use Rattle.std.specs.Prelude.{◌≡◌, ◌≤◌, ◌<◌, ℕ, zero, suc, List, [], ◌∷◌, Option, Some, None, Bool, ◌&&◌, not, nat_le, nat_lt, nat_eq, eqb, if◌then◌else◌}
+use Rattle.std.specs.Prelude.{◌≡◌, ◌≤◌, ◌<◌, ℕ, zero, suc, List, [], ◌∷◌, Option, Some, None, Bool, ◌&&◌, not, nat_le, nat_lt, eqb, if◌then◌else◌}
 use Rattle.std.specs.List.{IsDistinct}
 use Rattle.std.specs.Set.{is_member}
 use Rattle.block_device.specs.Device.{Blocks, block_at}

@@ -1,5 +1,5 @@
 -- What is read from a gate, a header and a free page as they are written.
-use Rattle.std.proofs.Common.{◌≡◌, ◌∙◌, ℕ, ◌+◌, ◌^◌, ◌<◌, ◌≤◌, List, length, ap, arith, inl, inr, lit<}
+use Rattle.std.proofs.Common.{◌≡◌, ◌∙◌, ℕ, ◌+◌, ◌^◌, ◌<◌, ◌≤◌, List, length, arith, inl, lit<}
 use Rattle.block_bytes.specs.Numbers.{zeros, number_at, put_number, IsApart}
 use Rattle.block_bytes.specs.Laws.{length-zeros, length-put, number_at-put, number_at-put_other}
 use Rattle.page_file.specs.declared.header.Header.{Header}

@@ -1,14 +1,12 @@
 -- Blocks that pass the checks of opening, and what lies in them.
-use Rattle.std.proofs.Common.{◌≡◌, ◌∙◌, ℕ, ◌<◌, ◌≤◌, ◌+◌, ◌-◌, List, [], ◌∷◌, ◌++◌, Bool, true, false, ◌&&◌, not, nat_le, nat_lt, ◌==◌, Some, None, length, drop, refl, sym, ap, arith, subst, cond, inl, inr, ⊎_elim}
-use Rattle.std.specs.Prelude.{Option, IsSome, ◌⊎◌, ◌↔◌}
+use Rattle.std.proofs.Common.{◌≡◌, ◌∙◌, ℕ, ◌<◌, ◌≤◌, ◌+◌, ◌-◌, List, [], ◌∷◌, Bool, true, false, ◌&&◌, not, nat_le, nat_lt, ◌==◌, Some, None, length, refl, sym, ap, arith, subst, cond}
 use Rattle.std.proofs.lemmas.Bool.Decides.{nat_tests}
 use Rattle.block_device.specs.Device.{Blocks, block_at}
 use Rattle.block_bytes.specs.Numbers.{number_at}
-use Rattle.page_file.specs.declared.fault.Fault.{Fault}
 use Rattle.page_file.specs.declared.fault.Fault.TheVariants.{NotAStore, NotClosed, WrongVersion, Damaged}
 use Rattle.page_file.specs.declared.header.Header.{Header}
 use Rattle.page_file.specs.Layout.{gate_text, header_text, version, IsShutGate, IsHeader}
-use Rattle.page_file.specs.Opening.{Check, IsRefused, checks, failed_check, first_fault, gate_checks, header_checks, header_of_block, is_sound}
+use Rattle.page_file.specs.Opening.{Check, failed_check, first_fault, gate_checks, header_checks, header_of_block, is_sound}
 use Rattle.page_file.specs.Pages.{header_in}
 
 -- a check that was passed, and those behind it

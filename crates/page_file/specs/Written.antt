@@ -1,7 +1,7 @@
 -- How many blocks there are and what the first one is, where a block was written or torn.
-use Rattle.std.proofs.Common.{◌≡◌, ◌∙◌, ◌⊎◌, ℕ, zero, suc, ◌<◌, ◌≤◌, List, [], ◌∷◌, length, drop, refl, ap, arith, ⊎_elim}
+use Rattle.std.proofs.Common.{◌≡◌, ◌∙◌, ℕ, zero, suc, ◌<◌, ◌≤◌, List, [], ◌∷◌, length, drop, refl, ap, arith, ⊎_elim}
 use Rattle.block_device.specs.Device.{Blocks, Torn, block_at, written}
-use Rattle.block_device.specs.Written.{length-written_within, torn_other}
+use Rattle.block_device.specs.Written.{length-written_within}
 use Rattle.page_file.specs.Stops.{SameButGate}
 
 pub torn_size : (i : ℕ) (old new : Blocks) → Torn i old new → i < length old → length new ≡ length old

@@ -1,7 +1,6 @@
-use Rattle.std.proofs.Common.{◌≡◌, ℕ, ap, ◌∙◌, arith, length}
-use Rattle.block_device.specs.Device.{Blocks, LeavesOnly, block_at}
+use Rattle.std.proofs.Common.{ap, ◌∙◌, arith, length}
+use Rattle.block_device.specs.Device.{block_at}
 use Rattle.block_device.specs.Written.{block_at-written, length-written_within}
-use Rattle.page_file.specs.Stops.{GateAside}
 use Rattle.page_file.proofs.Moments.{gate_aside_leaves}
 use Rattle.page_file.specs.Written.{torn_size}
 use Rattle.page_file.proofs.blocks.write_gate.Goals as goal

@@ -1,4 +1,4 @@
-use Rattle.std.proofs.Common.{◌≡◌, ℕ, ap, ◌∙◌, length, subst, sym}
+use Rattle.std.proofs.Common.{ap, ◌∙◌, length, subst, sym}
 use Rattle.block_device.specs.Device.{block_at}
 use Rattle.block_device.specs.Written.{block_at-written, block_at-written_other, length-written_within, torn_other}
 use Rattle.page_file.specs.Layout.{IsHeader}

@@ -1,5 +1,4 @@
-use Rattle.std.proofs.Common.{◌≡◌, length, ap, sym, subst, arith}
-use Rattle.block_device.specs.Device.{Blocks}
+use Rattle.std.proofs.Common.{arith}
 use Rattle.block_device.specs.Moments.{leaves_weaker}
 use Rattle.page_file.specs.Opening.{IsRefused}
 use Rattle.page_file.specs.Gated.{few_refused}

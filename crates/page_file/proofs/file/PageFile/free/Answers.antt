@@ -1,4 +1,4 @@
-use Rattle.std.proofs.Common.{◌≡◌, ◌<◌, ◌≤◌, ◌+◌, ◌^◌, ℕ, List, Some, ap, sym, ◌∙◌, arith, length, refl}
+use Rattle.std.proofs.Common.{◌≡◌, ◌<◌, ◌≤◌, ◌^◌, ℕ, ap, ◌∙◌, arith, length, refl}
 use Rattle.block_device.specs.Device.{block_at}
 use Rattle.block_device.specs.Written.{block_at-written}
 use Rattle.page_file.specs.Layout.{free_block, kind_of, link_of}
@@ -6,7 +6,6 @@ use Rattle.page_file.specs.Gated.{open_is_not_shut}
 use Rattle.page_file.specs.Kept.{adds_behind, stop_behind}
 use Rattle.page_file.specs.Live.{lives, others_same, free_torn, freed_free, freed_others, room_for_one}
 use Rattle.page_file.specs.Reading.{free_kind, free_link}
-use Rattle.page_file.proofs.Results.{on_err_any}
 use Rattle.page_file.specs.Settled.{more_free, sound_says}
 use Rattle.page_file.specs.Written.{torn_longer}
 use Rattle.page_file.proofs.file.PageFile.free.Goals as goal

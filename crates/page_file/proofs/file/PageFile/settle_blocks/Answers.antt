@@ -1,5 +1,4 @@
-use Rattle.std.proofs.Common.{◌≡◌, ◌<◌, ℕ, refl, arith}
-use Rattle.block_device.specs.Device.{Blocks, Torn}
+use Rattle.std.proofs.Common.{refl, arith}
 use Rattle.block_device.specs.Moments.{leaves_weaker}
 use Rattle.page_file.specs.Opening.{IsRefused}
 use Rattle.page_file.specs.Gated.{fails, still_open, stop_open, open_is_not_shut}

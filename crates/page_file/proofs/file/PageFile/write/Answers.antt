@@ -1,4 +1,4 @@
-use Rattle.std.proofs.Common.{◌≡◌, ◌<◌, ◌≤◌, ℕ, List, Some, ap, sym, ◌∙◌, arith, length, refl}
+use Rattle.std.proofs.Common.{◌≡◌, ◌≤◌, ℕ, List, Some, ap, ◌∙◌, arith, length, refl}
 use Rattle.block_device.specs.Device.{block_at, written}
 use Rattle.block_device.specs.Written.{block_at-written}
 use Rattle.page_file.specs.Gated.{open_is_not_shut}

@@ -1,4 +1,4 @@
-use Rattle.std.proofs.Common.{◌≡◌, ◌≤◌, sym, subst, length}
+use Rattle.std.proofs.Common.{◌≤◌, sym, subst, length}
 use Rattle.block_device.specs.Device.{Blocks, block_at}
 use Rattle.page_file.specs.declared.header.Header.{Header}
 use Rattle.page_file.specs.Layout.{IsHeader, IsShutGate}
