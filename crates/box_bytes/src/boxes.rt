@@ -10,7 +10,12 @@ use box_math::BBox;
 /// The box whose lows stand from the byte `low` and whose highs from the byte `high`, each `stride` bytes
 /// apart, or `None` where the low is above the high on some axis.
 #[inline]
-pub fn read_box<const D: usize>(block: &[u8; 4096], low: usize, high: usize, stride: usize) -> Option<BBox<D>>
+pub fn read_box<const D: usize>(
+    block: &[u8; 4096],
+    low: usize,
+    high: usize,
+    stride: usize,
+) -> Option<BBox<D>>
     requires dims { IsDims D }
     requires stride { 4 ≤ stride }
     requires lows_within { low + stride * (D - 1) + 4 ≤ 4096 }
@@ -20,18 +25,27 @@ pub fn read_box<const D: usize>(block: &[u8; 4096], low: usize, high: usize, str
     ensures some { IsSome result ↔ IsOrdered D (corner_at D block.now low stride) (corner_at D block.now high stride) }
     ensures test { is_some result ≡ ordered_test D (corner_at D block.now low stride) (corner_at D block.now high stride) }
 {
-    BBox::try_new(read_corner(block, low, stride), read_corner(block, high, stride))
+    let lows = read_corner(block, low, stride);
+    let highs = read_corner(block, high, stride);
+    BBox::try_new(lows, highs)
 }
 
 /// Writes the box, its lows from the byte `low` and its highs from the byte `high`, each `stride` bytes apart.
 /// All other bytes stay. No low may share a byte with a high.
 #[inline]
-pub fn write_box<const D: usize>(block: &mut [u8; 4096], low: usize, high: usize, stride: usize, bounds: &BBox<D>)
+pub fn write_box<const D: usize>(
+    block: &mut [u8; 4096],
+    low: usize,
+    high: usize,
+    stride: usize,
+    bounds: &BBox<D>,
+)
     requires dims { IsDims D }
     requires stride { 4 ≤ stride }
     requires lows_within { low + stride * (D - 1) + 4 ≤ 4096 }
     requires highs_within { high + stride * (D - 1) + 4 ≤ 4096 }
     requires apart { AreApart D low high stride }
+    ensures is_box { IsBox D bounds.now }
     ensures written { box_at D block.new low high stride ≡ bounds.now }
     ensures others { Keeps (IsClearOfBox D low high stride) block.old block.new }
 {

@@ -28,7 +28,12 @@ pub fn read_corner<const D: usize>(block: &[u8; 4096], at: usize, stride: usize)
 /// Writes the corner, its first coordinate at the byte `at` and each further one `stride` bytes on. All other
 /// bytes stay.
 #[inline]
-pub fn write_corner<const D: usize>(block: &mut [u8; 4096], at: usize, stride: usize, corner: &[i32; D])
+pub fn write_corner<const D: usize>(
+    block: &mut [u8; 4096],
+    at: usize,
+    stride: usize,
+    corner: &[i32; D],
+)
     requires dims { IsDims D }
     requires stride { 4 ≤ stride }
     requires within { at + stride * (D - 1) + 4 ≤ 4096 }

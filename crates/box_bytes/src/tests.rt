@@ -17,7 +17,10 @@ fn a_box_kept_together(rt: HostRuntime) {
     let mut block = [9; 4096];
     let bounds = BBox::try_new([i32::MIN, 2, 5], [3, 4, i32::MAX]).expect(&rt, "a box");
     write_box(&mut block, 4072, 4084, 4, &bounds);
-    assert_eq!(rt; &block[4071..4081], [9, 0x80, 0, 0, 0, 0, 0, 0, 2, 0].as_slice());
+    assert_eq!(rt;
+        &block[4071..4081],
+        [9, 0x80, 0, 0, 0, 0, 0, 0, 2, 0].as_slice()
+    );
     assert_eq!(rt; &block[4092..], [0x7f, 0xff, 0xff, 0xff].as_slice());
     assert_eq!(rt; read_box::<3>(&block, 4072, 4084, 4), Some(bounds));
     assert_eq!(rt; read_box::<3>(&block, 4084, 4072, 4), None);

@@ -1,13 +1,15 @@
-// A library with one function.
+//! Bucket pages: objects of the identifier table as the bytes of a page (docs/FORMAT.md).
 #![tactic(auto)]
 
-ghost use Rattle.std.specs.Prelude.{◌≡◌};
-ghost use Rattle.bucket_page.specs.Echo.{echo_of};
+mod bucket;
+mod entries;
+mod head;
+pub mod laws;
+mod page;
+// #[cfg(test)]
+// mod tests;
 
-// The `ensures` clause is the contract: what `echo` returns is `echo_of` of its argument, a definition
-// in `specs/Echo.antt`, which a caller's clause can cite too.
-pub fn echo(x: usize) -> usize
-    ensures { result ≡ echo_of x }
-{
-    x
-}
+pub use bucket::Bucket;
+pub use entries::{entry_at, id_at};
+pub use head::{count_at, has_bucket_head, next_at};
+pub use page::{decode, encode};
