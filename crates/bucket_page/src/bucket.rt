@@ -4,7 +4,7 @@ use arrayvec::ArrayVec;
 use box_math::BBox;
 
 /// Objects of one class of identifiers, and where further ones of it are.
-#[derive(Clone, PartialEq, Eq, Debug, Drop)]
+#[derive(PartialEq, Eq, Debug, Drop)]
 pub struct Bucket<const D: usize> {
     /// The page of the next bucket of the class, or 0 if there is none.
     pub next: u32,

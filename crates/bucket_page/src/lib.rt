@@ -6,8 +6,8 @@ mod entries;
 mod head;
 pub mod laws;
 mod page;
-// #[cfg(test)]
-// mod tests;
+#[cfg(test)]
+mod tests;
 
 pub use bucket::Bucket;
 pub use entries::{entry_at, id_at};

@@ -1,6 +1,6 @@
 -- Both corners are there, since the second is written apart from the first.
 use Rattle.std.proofs.Common.{◌∙◌}
-use Rattle.box_bytes.proofs.BothCorners.{box_written, box_keeps}
+use Rattle.box_bytes.proofs.BothCorners.{box_written}
 use Rattle.box_bytes.proofs.boxes.write_box.Goals as goal
 
 pub returns-clause-written : goal.returns-clause-written

@@ -1,6 +1,6 @@
 -- Each coordinate lies within the block, and all of them are the corner.
 use Rattle.std.proofs.Common.{arith}
-use Rattle.box_bytes.specs.Laws.{coordinate-le-last, corner_is}
+use Rattle.box_bytes.specs.Laws.{corner_is}
 use Rattle.box_bytes.proofs.corners.read_corner.Goals as goal
 
 pub returns : goal.returns
