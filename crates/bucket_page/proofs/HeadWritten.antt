@@ -1,5 +1,5 @@
 -- The head of a bucket page, in a page of zeros.
-use Rattle.std.proofs.Common.{◌≡◌, ℕ, ◌+◌, ◌^◌, ◌<◌, ◌≤◌, List, length, ◌∙◌, arith, inl, inr}
+use Rattle.std.proofs.Common.{◌≡◌, ℕ, ◌^◌, ◌<◌, ◌≤◌, List, length, ◌∙◌, arith, inl, inr}
 use Rattle.block_bytes.specs.Numbers.{number_at, IsApart, zeros, put_number}
 use Rattle.block_bytes.specs.Laws.{number_at-put, number_at-put_other, number_at-zeros, length-put, length-zeros}
 use Rattle.bucket_page.specs.Layout.{IsHead}

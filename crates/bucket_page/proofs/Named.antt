@@ -1,5 +1,5 @@
 -- The laws of what pages spell: which bytes are read, and what objects are.
-use Rattle.std.proofs.Common.{◌≡◌, ℕ, ◌+◌, ◌*◌, ◌<◌, ◌≤◌, List, [], length, get_or, Option, Some, None, refl, sym, ◌∙◌, ap, subst, arith, inl, inr}
+use Rattle.std.proofs.Common.{◌≡◌, ℕ, ◌+◌, ◌*◌, ◌<◌, ◌≤◌, List, [], get_or, Option, Some, None, refl, sym, ◌∙◌, ap, subst, arith, inl, inr}
 use Rattle.std.proofs.lemmas.List.FromFn.{fill_by_all}
 use Rattle.block_bytes.specs.Numbers.{number_at}
 use Rattle.block_bytes.specs.Laws.{number_at-same}

@@ -5,7 +5,7 @@ use Rattle.block_bytes.specs.Numbers.{number_at, IsApart, put_number}
 use Rattle.block_bytes.specs.Laws.{number_at-put, number_at-put_other, number_at-same}
 use Rattle.box_math.specs.Bounds.{Bounds, IsOrdered}
 use Rattle.box_bytes.specs.Corners.{corner_at, box_at, IsClearOfBox, Keeps}
-use Rattle.box_bytes.specs.Laws.{corner_at-numbers, corner_at-same, corner_at-stays}
+use Rattle.box_bytes.specs.Laws.{corner_at-same, corner_at-stays}
 use Rattle.bucket_page.specs.Layout.{entry_place, object_at, HasOrderedBox, IsClearOfEntry}
 
 pub entry_place-first : (dims : ℕ) → entry_place dims 0 ≡ 16

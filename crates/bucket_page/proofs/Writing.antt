@@ -1,11 +1,11 @@
 -- The objects of a bucket, written one after the other.
-use Rattle.std.proofs.Common.{◌≡◌, ◌⊎◌, ℕ, ◌+◌, ◌*◌, ◌<◌, ◌≤◌, List, [], length, get_or, refl, sym, ◌∙◌, subst, arith, below_more, inl, inr, ⊎_elim}
+use Rattle.std.proofs.Common.{◌≡◌, ◌⊎◌, ℕ, ◌+◌, ◌<◌, ◌≤◌, List, [], length, get_or, sym, ◌∙◌, subst, arith, below_more, inl, inr, ⊎_elim}
 use Rattle.std.proofs.lemmas.List.FromFn.{fill_by_all}
-use Rattle.block_bytes.specs.Numbers.{number_at, IsApart}
+use Rattle.block_bytes.specs.Numbers.{number_at}
 use Rattle.box_math.specs.Bounds.{Bounds, IsBox}
 use Rattle.box_bytes.specs.Corners.{Keeps}
 use Rattle.bucket_page.specs.Layout.{object_at, objects_at, entry_place, HasOrderedBox, IsClearOfEntry, IsHead, Spells, IsNamed}
-use Rattle.bucket_page.proofs.Places.{entry_place-first, entry_place-more, entry_place-above, object_stays}
+use Rattle.bucket_page.proofs.Places.{entry_place-more, entry_place-above, object_stays}
 
 le_or_lt : (a b : ℕ) → (a ≤ b) ⊎ (b < a)
 le_or_lt a b = grind arith

@@ -52,7 +52,11 @@ pub fn entry_at<const D: usize>(page: &[u8; 4096], place: usize) -> Option<(u64,
 }
 
 /// Writes the object into the place.
-pub(crate) fn write_entry<const D: usize>(page: &mut [u8; 4096], place: usize, entry: &(u64, BBox<D>))
+pub(crate) fn write_entry<const D: usize>(
+    page: &mut [u8; 4096],
+    place: usize,
+    entry: &(u64, BBox<D>),
+)
     requires dims { IsDims D }
     requires within { place < 100 }
     ensures is_box { IsBox D entry.now.1 }

@@ -5,7 +5,7 @@ ghost use Rattle.block_bytes.specs.Numbers.{number_at};
 ghost use Rattle.box_math.specs.Bounds.{IsDims};
 ghost use Rattle.bucket_page.specs.Layout.{Content, HasBucketHead, IsHead, bucket_at};
 
-use block_bytes::{read_u16, read_u32, read_u8, write_u16, write_u32, write_u8, zero_block};
+use block_bytes::{read_u8, read_u16, read_u32, write_u8, write_u16, write_u32, zero_block};
 
 /// Whether the page begins as a bucket page of that dimension does: its kind, its dimension, and a count of
 /// 1 to 100. Its boxes are not looked at.

@@ -30,7 +30,10 @@ pub fn objects_have_boxes()
 {}
 
 /// A bucket that is encoded is decoded again.
-pub fn a_bucket_comes_back<const D: usize>(bucket: &Bucket<D>, page: &mut [u8; 4096]) -> Option<Bucket<D>>
+pub fn a_bucket_comes_back<const D: usize>(
+    bucket: &Bucket<D>,
+    page: &mut [u8; 4096],
+) -> Option<Bucket<D>>
     requires dims { IsDims D }
     requires some { 0 < length bucket.now.entries.items }
     ensures { option_map content_of result ≡ Some (content_of bucket.now) }

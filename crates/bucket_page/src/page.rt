@@ -27,7 +27,10 @@ pub fn decode<const D: usize>(page: &[u8; 4096]) -> Option<Bucket<D>>
             None => return None,
         }
     }
-    Some(Bucket { next: next_at(page), entries })
+    Some(Bucket {
+        next: next_at(page),
+        entries,
+    })
 }
 
 /// Makes the page the one that spells the bucket, with zeros in all bytes that it does not name.

@@ -1,5 +1,7 @@
 //! Tests against bytes from outside, of each reason to refuse a page, and of full buckets.
 
+ghost use Rattle.box_math.specs.Bounds.{IsDims};
+
 use crate::{Bucket, count_at, decode, encode, entry_at, has_bucket_head, id_at, next_at};
 use arrayvec::ArrayVec;
 use box_math::BBox;
@@ -21,18 +23,41 @@ fn page_of_one() -> [u8; 4096] {
 }
 
 // A bucket of so many objects, with identifiers and coordinates at the ends of their ranges.
-fn bucket_of<const D: usize>(count: u32) -> Bucket<D> {
+fn bucket_of<const D: usize>(count: u8) -> Bucket<D> {
     let mut entries = ArrayVec::new();
-    for k in 0..count.min(100) {
-        let high = -1 - k.cast_signed();
-        if let Some(bounds) = BBox::try_new([i32::MIN; D], [high; D]) {
-            entries.push((u64::MAX - u64::from(k), bounds));
+    for k in 0..count {
+        let high = -1 - i32::from(k);
+        match BBox::try_new([i32::MIN; D], [high; D]) {
+            Some(bounds) if !entries.is_full() => entries.push((u64::MAX - u64::from(k), bounds)),
+            _ => break,
         }
     }
     Bucket {
         next: u32::MAX - 1,
         entries,
     }
+}
+
+// The page of a bucket that has an object, over bytes that are not zero.
+fn page_of<const D: usize>(bucket: &Bucket<D>) -> [u8; 4096]
+    requires { IsDims D }
+{
+    let mut page = [9; 4096];
+    if !bucket.entries.is_empty() {
+        encode(bucket, &mut page);
+    }
+    page
+}
+
+// The page with one object less.
+fn shortened<const D: usize>(page: &[u8; 4096]) -> [u8; 4096]
+    requires { IsDims D }
+{
+    let Some(mut bucket) = decode::<D>(page) else {
+        return *page;
+    };
+    bucket.entries.pop();
+    page_of(&bucket)
 }
 
 #[test]
@@ -62,24 +87,23 @@ fn the_next_page_stands_at_4(rt: HostRuntime) {
 
 #[test]
 fn full_buckets_come_back(rt: HostRuntime) {
-    let mut page = [9; 4096];
     let flat = bucket_of::<2>(100);
-    encode(&flat, &mut page);
+    let page = page_of(&flat);
     assert!(rt; decode::<2>(&page) == Some(flat));
     assert!(rt; decode::<3>(&page).is_none());
     assert_eq!(rt; id_at::<2>(&page, 99), u64::MAX - 99);
     let solid = bucket_of::<3>(100);
-    encode(&solid, &mut page);
+    let page = page_of(&solid);
     assert_eq!(rt; (page[3215], page[3216]), (0x9c, 0));
     assert!(rt; decode::<3>(&page) == Some(solid));
     assert!(rt; decode::<2>(&page).is_none());
+    assert!(rt; shortened::<3>(&page) == page_of(&bucket_of::<3>(99)));
 }
 
 #[test]
 fn each_reason_by_itself_makes_no_bucket(rt: HostRuntime) {
     let of = bucket_of::<2>(100);
-    let mut full = [0; 4096];
-    encode(&of, &mut full);
+    let full = page_of(&of);
     for (reason, at, byte) in [
         ("another kind", 0, 2),
         ("another dimension", 1, 3),
