@@ -1,5 +1,5 @@
--- Corners of boxes, and boxes, at places of a block: what stands where, which places they leave alone, and
--- what it is that a place stays (our format, docs/FORMAT.md).
+-- Corners of boxes, and boxes, at places of a block: what stands where, and which other places a write leaves
+-- as they are (our format, docs/FORMAT.md).
 use Rattle.std.specs.Prelude.{◌≡◌, ℕ, ◌+◌, ◌*◌, ◌<◌, ◌≤◌, ℤ, List}
 use Rattle.block_bytes.specs.Numbers.{number_at, signed_at, IsApart}
 use Rattle.box_math.specs.Bounds.{Bounds, each_axis}

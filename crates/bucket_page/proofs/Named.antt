@@ -6,7 +6,7 @@ use Rattle.block_bytes.specs.Laws.{number_at-same}
 use Rattle.box_math.specs.Bounds.{Bounds, IsBox}
 use Rattle.box_bytes.specs.Laws.{box_at-is_box}
 use Rattle.bucket_page.specs.Layout.{Content, entry_place, object_at, objects_at, HasOrderedBox, Spells, bucket_at, IsNamed}
-use Rattle.bucket_page.specs.PageLaws.{ReadsWhatIsSpelled, ReadsNamedBytes, HasOneToHundred, HasBoxes}
+use Rattle.bucket_page.specs.PageLaws.{ReadsWhatIsSpelled, ReadsNamedBytes, SpellsBuckets}
 use Rattle.bucket_page.proofs.Places.{entry_place-lt, entry_place-above, object_same}
 use Rattle.bucket_page.proofs.Reading.{spells, spelled, size_of, length-objects_at, get_or-objects_at}
 
@@ -56,15 +56,17 @@ reads_named dims a b same =
 pub reads_spelled : ReadsWhatIsSpelled
 reads_spelled dims page c = (spells dims page c, spelled dims page c)
 
-pub one_to_hundred : HasOneToHundred
-one_to_hundred dims page c s = let size = size_of dims page c s in let some = s.head.some in let few = s.head.few in (omega arith, omega arith)
-
-pub have_boxes : HasBoxes
+pub spells_buckets : SpellsBuckets
 unfolding object_at
-have_boxes dims page c bytes s = λ k other lt.
+spells_buckets dims page c bytes s =
     let size = size_of dims page c s in
-    let at : get_or c.entries k other ≡ object_at dims page k = ap (λ (es : List (ℕ × Bounds)). get_or es k other) s.entries ∙ get_or-objects_at dims page (number_at 2 2 page) k other (omega arith) in
-    subst (λ (object : ℕ × Bounds). IsBox dims object.1) (sym at)
-    (box_at-is_box dims page (entry_place dims k + 8) (entry_place dims k + 8 + 4 * dims) 4 bytes (s.ordered k (omega arith)))
-
-pub ruleset page_laws = (reads_named, reads_spelled, one_to_hundred, have_boxes)
+    let some = s.head.some in
+    let few = s.head.few in
+    record {
+      some = omega arith;
+      few = omega arith;
+      boxes = λ k other lt.
+          let at : get_or c.entries k other ≡ object_at dims page k = ap (λ (es : List (ℕ × Bounds)). get_or es k other) s.entries ∙ get_or-objects_at dims page (number_at 2 2 page) k other (omega arith) in
+          subst (λ (object : ℕ × Bounds). IsBox dims object.1) (sym at)
+          (box_at-is_box dims page (entry_place dims k + 8) (entry_place dims k + 8 + 4 * dims) 4 bytes (s.ordered k (omega arith)));
+    }

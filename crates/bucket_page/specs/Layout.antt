@@ -1,9 +1,9 @@
 -- How a page spells a bucket of the identifier table (our format, docs/FORMAT.md): byte 0 is 4, byte 1 the
 -- dimension, at 2 the count, at 4 the next page, and from 16 on the entries, one behind the other.
-use Rattle.std.specs.Prelude.{◌≡◌, ℕ, ◌+◌, ◌*◌, ◌<◌, ◌≤◌, ◌&&◌, ◌==◌, ◌⊎◌, Bool, nat_le, List, map, Option, Some, None, if◌then◌else◌}
+use Rattle.std.specs.Prelude.{◌≡◌, ℕ, ◌+◌, ◌*◌, ◌<◌, ◌≤◌, ◌&&◌, ◌==◌, ◌⊎◌, Bool, nat_le, List, length, All, map, Option, Some, None, if◌then◌else◌}
 use Rattle.std.specs.List.{range_with_len}
 use Rattle.block_bytes.specs.Numbers.{number_at, IsApart}
-use Rattle.box_math.specs.Bounds.{Bounds, IsOrdered, ordered_test, all_over}
+use Rattle.box_math.specs.Bounds.{Bounds, IsBox, IsOrdered, ordered_test, all_over}
 use Rattle.box_bytes.specs.Corners.{box_at}
 use Rattle.bucket_page.specs.declared.bucket.Bucket.{Bucket}
 
@@ -14,6 +14,12 @@ pub record Content : Type 0 where
 
 abbrev pub content_of : {D : ℕ} → Bucket D → Content
 content_of bucket = record { next = bucket.next; entries = bucket.entries.items }
+
+-- a bucket that a page can spell: 1 to 100 objects, each with a box
+pub record IsBucket (dims : ℕ) (c : Content) : Type 0 where
+  pub some : 1 ≤ length c.entries
+  pub few : length c.entries ≤ 100
+  pub boxes : All (λ object. IsBox dims object.1) c.entries
 
 -- ---- one entry
 

@@ -4,7 +4,7 @@
 ghost use Rattle.std.specs.Prelude.{◌≡◌, ◌<◌, Some, length, option_map};
 ghost use Rattle.box_math.specs.Bounds.{IsDims};
 ghost use Rattle.bucket_page.specs.Layout.{content_of};
-ghost use Rattle.bucket_page.specs.PageLaws.{ReadsWhatIsSpelled, ReadsNamedBytes, HasOneToHundred, HasBoxes};
+ghost use Rattle.bucket_page.specs.PageLaws.{ReadsWhatIsSpelled, ReadsNamedBytes, SpellsBuckets};
 
 use crate::bucket::Bucket;
 use crate::page::{decode, encode};
@@ -19,14 +19,9 @@ pub fn named_bytes_are_read()
     ensures { ReadsNamedBytes }
 {}
 
-/// A page that spells a bucket has 1 to 100 objects.
-pub fn a_bucket_has_one_to_hundred_objects()
-    ensures { HasOneToHundred }
-{}
-
-/// Each object of a bucket has a box of 32-bit coordinates, each low at most its high.
-pub fn objects_have_boxes()
-    ensures { HasBoxes }
+/// What a page spells has 1 to 100 objects, each with a box of 32-bit coordinates, its lows at most its highs.
+pub fn what_is_spelled_is_a_bucket()
+    ensures { SpellsBuckets }
 {}
 
 /// A bucket that is encoded is decoded again.

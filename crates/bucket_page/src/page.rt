@@ -1,9 +1,9 @@
 //! A bucket as the bytes of a page.
 
-ghost use Rattle.std.specs.Prelude.{◌≡◌, ℕ, ◌<◌, length, option_map};
+ghost use Rattle.std.specs.Prelude.{◌≡◌, ℕ, ◌<◌, length, option_map, IfSome};
 ghost use Rattle.block_bytes.specs.Numbers.{number_at};
 ghost use Rattle.box_math.specs.Bounds.{IsDims};
-ghost use Rattle.bucket_page.specs.Layout.{content_of, bucket_at, Spells, IsNamed};
+ghost use Rattle.bucket_page.specs.Layout.{content_of, bucket_at, IsBucket, Spells, IsNamed};
 
 use crate::bucket::Bucket;
 use crate::entries::{entry_at, write_entry};
@@ -14,7 +14,8 @@ use arrayvec::ArrayVec;
 /// its dimension is another, its count is 0 or above 100, or some object has a low above its high.
 pub fn decode<const D: usize>(page: &[u8; 4096]) -> Option<Bucket<D>>
     requires { IsDims D }
-    ensures { option_map content_of result ≡ bucket_at D page.now }
+    ensures spelled { option_map content_of result ≡ bucket_at D page.now }
+    ensures is_bucket { IfSome result (λ bucket. IsBucket D (content_of bucket)) }
 {
     if !has_bucket_head::<D>(page) {
         return None;
