@@ -1,0 +1,6 @@
+-- The files of lemmas.
+pub mod Places
+pub mod Reading
+pub mod HeadWritten
+pub mod Writing
+pub mod Named

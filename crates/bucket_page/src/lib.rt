@@ -1,0 +1,15 @@
+//! Bucket pages: objects of the identifier table as the bytes of a page (docs/FORMAT.md).
+#![tactic(auto)]
+
+mod bucket;
+mod entries;
+mod head;
+pub mod laws;
+mod page;
+#[cfg(test)]
+mod tests;
+
+pub use bucket::Bucket;
+pub use entries::{entry_at, id_at};
+pub use head::{count_at, has_bucket_head, next_at};
+pub use page::{decode, encode};
