@@ -2,7 +2,7 @@
 use Rattle.std.specs.Prelude.{◌≡◌, ◌↔◌, ℕ, List, Option, None, IsSome}
 use Rattle.block_device.specs.Device.{Blocks}
 use Rattle.page_file.specs.Opening.{failed_check}
-use Rattle.page_file.specs.Pages.{page_of, pages_in, next_in, HasFreeChain, IsSoundMap}
+use Rattle.page_file.specs.Pages.{page_of, given_pages, pages_in, next_in, HasFreeChain, IsSoundMap}
 use Rattle.page_file.specs.Stops.{AddsOnly, StopSince}
 use Rattle.page_file.specs.declared.gate.Gate.{Gate}
 use Rattle.page_file.specs.declared.gate.Gate.TheVariants.{Open}
@@ -29,6 +29,10 @@ next_of file = file.header.next
 -- the map from live page number to the page's bytes
 abbrev pub pages : {D : Type 0} {m : _} → PageFile D m → ℕ → Option (List ℕ)
 pages {m = m} file n = page_of (m.shown file.device) file.header n
+
+-- the pages given out, live or free
+abbrev pub given : {D : Type 0} {m : _} → PageFile D m → ℕ → Option (List ℕ)
+given file n = given_pages (blocks_of file) (next_of file) n
 
 -- the page of this number is live
 abbrev pub IsLive : {D : Type 0} {m : _} → PageFile D m → ℕ → Type 0

@@ -1,16 +1,18 @@
 -- What follows from the facts that the calls on a file promise, for the crates that stand on them.
-use Rattle.std.specs.Prelude.{◌≡◌, ◌⊎◌, ◌↔◌, ◌≤◌, ◌<◌, ◌^◌, ℕ, refl}
+use Rattle.std.specs.Prelude.{◌≡◌, ◌⊎◌, ◌↔◌, ◌≤◌, ◌<◌, ◌^◌, ℕ, List, Some, None, refl}
 use Rattle.std.proofs.Common.{inl, inr, ⊎_elim, sym, ◌∙◌, subst, arith}
 use Rattle.block_device.specs.Device.{Blocks, LeavesOnly}
 use Rattle.page_file.specs.declared.file.PageFile.{PageFile}
 use Rattle.page_file.specs.declared.gate.Gate.{Gate}
 use Rattle.page_file.specs.declared.gate.Gate.TheVariants.{Shut, Open, Unsure}
-use Rattle.page_file.specs.File.{IsHonest, IsLive, IsPageMap, KeepsGate, KeepsMap, LiesIn, blocks_of, gate_of, next_of, pages}
-use Rattle.page_file.specs.Opening.{IsRefused}
+use Rattle.page_file.specs.File.{IsHonest, IsLive, IsPageMap, KeepsGate, KeepsMap, LiesIn, blocks_of, gate_of, given, next_of, pages}
+use Rattle.page_file.specs.Opening.{IsRefused, failed_check}
 use Rattle.page_file.specs.Stops.{SameButGate, StopSince}
 use Rattle.page_file.specs.Aside.{aside_passes}
 use Rattle.page_file.specs.Gated.{now_since}
 use Rattle.page_file.specs.Kept as kept
+use Rattle.page_file.specs.Given.{given_is_live, live_is_given}
+use Rattle.page_file.specs.Layout.{kind_of}
 use Rattle.page_file.specs.Live.{catalog_lives, lives}
 
 -- a stop now leaves what the gate allows
@@ -121,3 +123,15 @@ stops_of_a_run_go_on {m = m} old mid new P h a b =
           (λ p. inr (inr p))
           (more.before t c (omega (arith, le, a.later)) left);
     }
+
+-- opening refuses a file whose gate is shut by no check
+pub a_shut_file_passes : {D : Type 0} {m : _} (file : PageFile D m) → IsHonest file → gate_of file ≡ Shut → failed_check (blocks_of file) ≡ None
+a_shut_file_passes file h shut = (kept.shut_lies file h shut).passes
+
+-- a live page was given out with its bytes
+pub a_live_page_is_given : {D : Type 0} {m : _} (file : PageFile D m) (n : ℕ) (page : List ℕ) → pages file n ≡ Some page → given file n ≡ Some page
+a_live_page_is_given {m = m} file n page e = live_is_given (m.shown file.device) file.header n page e
+
+-- one given out that is not of the free pages' kind is live
+pub a_page_in_use_is_live : {D : Type 0} {m : _} (file : PageFile D m) (n : ℕ) (page : List ℕ) → IsPageMap file → given file n ≡ Some page → ¬ (kind_of page ≡ 5) → pages file n ≡ Some page
+a_page_in_use_is_live {m = m} file n page map e other = given_is_live (m.shown file.device) file.header n page map.free e other

@@ -9,6 +9,7 @@ pub mod Reading
 pub mod Written
 pub mod Gated
 pub mod Live
+pub mod Given
 pub mod Settled
 pub mod Kept
 pub mod Aside

@@ -20,6 +20,10 @@ free_pages_of blocks h = chain blocks h.count h.first
 abbrev pub is_live : Blocks → Header → ℕ → Bool
 is_live blocks h n = nat_le 2 n && (nat_lt n h.next && not (is_member eqb (free_pages_of blocks h) n))
 
+-- the pages given out, live or free, in a file of which `next` is one more than the greatest number given out
+abbrev pub given_pages : Blocks → ℕ → ℕ → Option (List ℕ)
+given_pages blocks next n = if nat_le 2 n && nat_lt n next then Some (block_at n blocks) else None
+
 -- the map from live page number to the page's bytes
 abbrev pub page_of : Blocks → Header → ℕ → Option (List ℕ)
 page_of blocks h n = if is_live blocks h n then Some (block_at n blocks) else None

@@ -1,9 +1,10 @@
 //! What follows from the promises of the calls, each law the contract of a function that does nothing.
-ghost use Rattle.std.specs.Prelude.{◌≡◌, ◌⊎◌, ◌↔◌, ◌≤◌, ◌<◌, ◌^◌, ℕ};
+ghost use Rattle.std.specs.Prelude.{◌≡◌, ◌⊎◌, ◌↔◌, ◌≤◌, ◌<◌, ◌^◌, ℕ, List, Some};
 ghost use Rattle.block_device.specs.Device.{Blocks};
 ghost use Rattle.page_file.specs.declared.file.PageFile.{PageFile};
 ghost use Rattle.page_file.specs.declared.gate.Gate.TheVariants.{Shut};
-ghost use Rattle.page_file.specs.File.{IsHonest, IsLive, IsPageMap, KeepsGate, KeepsMap, LiesIn, blocks_of, device_of, gate_of, next_of, pages};
+ghost use Rattle.page_file.specs.File.{IsHonest, IsLive, IsPageMap, KeepsGate, KeepsMap, LiesIn, blocks_of, device_of, gate_of, given, next_of, pages};
+ghost use Rattle.page_file.specs.Layout.{kind_of};
 ghost use Rattle.page_file.specs.Opening.{IsRefused};
 ghost use Rattle.page_file.specs.Stops.{SameButGate, StopSince};
 
@@ -41,6 +42,14 @@ pub fn a_file_opened_again_is_the_same<D: BlockDevice>()
 pub fn a_live_page_was_given_out<D: BlockDevice>()
     ensures given { (file : PageFile D ⟦<D as BlockDevice>⟧) (n : ℕ) → IsLive file n → (2 ≤ n) × (n < next_of file) × (next_of file ≤ 2 ^ 31) }
     ensures catalog { (file : PageFile D ⟦<D as BlockDevice>⟧) → IsPageMap file → IsLive file 2 }
+{}
+
+/// The live pages are pages given out, and of those given out all are live that are not of the free pages'
+/// kind.
+#[tactic(auto, using(crate::specs::Laws::a_live_page_is_given, crate::specs::Laws::a_page_in_use_is_live))]
+pub fn a_live_page_is_given<D: BlockDevice>()
+    ensures given { (file : PageFile D ⟦<D as BlockDevice>⟧) (n : ℕ) (page : List ℕ) → pages file n ≡ Some page → given file n ≡ Some page }
+    ensures live { (file : PageFile D ⟦<D as BlockDevice>⟧) (n : ℕ) (page : List ℕ) → IsPageMap file → given file n ≡ Some page → ¬ (kind_of page ≡ 5) → pages file n ≡ Some page }
 {}
 
 /// No call keeps gate and map, and calls in turn do where each does.

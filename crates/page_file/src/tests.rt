@@ -77,6 +77,7 @@ fn a_page_lives_and_is_freed(rt: HostRuntime) -> Result<(), Fail> {
     file.flush()?;
     file.settle()?;
     file.settle()?;
+    file.check_again()?;
     file.begin_change()?;
     assert_eq!(rt; file.allocate(), Ok(4));
     assert_eq!(rt; file.free(3), Ok(()));

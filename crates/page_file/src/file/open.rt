@@ -1,8 +1,8 @@
 //! The beginning of a file of pages: opened, or made anew.
 ghost use Rattle.std.specs.Prelude.{◌≡◌, ◌⊎◌, ◌↔◌, ◌≤◌, ◌<◌, ℕ, Some, None, length, IfOk, IfErr};
 ghost use Rattle.block_device.specs.Device.{HasRisen, LeavesOnly};
-ghost use Rattle.page_file.specs.Fault.{IsOfDevice, IsDamage};
-ghost use Rattle.page_file.specs.File.{device_of, blocks_of, gate_of, next_of, pages, IsPageMap, LiesIn};
+ghost use Rattle.page_file.specs.Fault.{HasCause, IsOfDevice, IsDamage};
+ghost use Rattle.page_file.specs.File.{device_of, blocks_of, gate_of, next_of, pages, IsHonest, IsPageMap, KeepsGate, KeepsMap, LiesIn};
 ghost use Rattle.page_file.specs.Layout.{catalog_block};
 ghost use Rattle.page_file.specs.Opening.{IsRefused, failed_check};
 ghost use Rattle.page_file.specs.Stops.{SameButGate};
@@ -46,6 +46,27 @@ pub fn open_pages<D: BlockDevice>(device: D) -> Result<PageFile<D>, (Fault, D)>
             gate: Gate::Shut,
         }),
         Err(fault) => Err((fault, device)),
+    }
+}
+
+impl<D: BlockDevice> PageFile<D> {
+    /// Syncs the device, and reads and checks gate and header again, as opening does. The gate has to be
+    /// shut.
+    ///
+    /// On an honest device the file is then what it was, and a refusal is `Memory` or `Device`; on another
+    /// one a check may fail.
+    #[tactic(auto, using(crate::specs::Laws::a_shut_file_passes))]
+    pub fn check_again(&mut self) -> Result<(), Fault>
+        requires { gate_of self.old ≡ Shut }
+        ensures gate { KeepsGate self.old self.new }
+        ensures map { IsHonest self.old → KeepsMap self.old self.new }
+        ensures blocks { IsHonest self.old → blocks_of self.new ≡ blocks_of self.old }
+        ensures faults { IsHonest self.old → IfErr result IsOfDevice }
+        ensures never { IfErr result (λ e. ¬ (e ≡ fault.NoPages)) }
+        ensures cause { HasCause (D.faults (device_of self.old)) (D.faults (device_of self.new)) result }
+    {
+        self.header = check_opening(&mut self.device)?;
+        Ok(())
     }
 }
 

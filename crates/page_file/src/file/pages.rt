@@ -3,7 +3,7 @@ ghost use Rattle.std.specs.Prelude.{◌≡◌, ◌⊎◌, ◌≤◌, ◌<◌, �
 ghost use Rattle.block_bytes.specs.Numbers.{zeros};
 ghost use Rattle.block_device.specs.Device.{Only};
 ghost use Rattle.page_file.specs.Fault.{HasCause, IsOfDevice, IsDamage};
-ghost use Rattle.page_file.specs.File.{device_of, blocks_of, IsHonest, gate_of, next_of, pages, IsLive, IsPageMap, KeepsGate, KeepsMap};
+ghost use Rattle.page_file.specs.File.{device_of, blocks_of, IsHonest, gate_of, next_of, pages, given, IsLive, IsPageMap, KeepsGate, KeepsMap};
 ghost use Rattle.page_file.specs.Pages.{SameBut};
 ghost use Rattle.page_file.specs.declared.fault.Fault.TheVariants as fault;
 ghost use Rattle.page_file.specs.declared.gate.Gate.TheVariants.{Open};
@@ -97,6 +97,8 @@ impl<D: BlockDevice> PageFile<D> {
         ensures gate { KeepsGate self.old self.new }
         ensures map { KeepsMap self.old self.new }
         ensures bytes { IsHonest self.old → IsLive self.old n → OnOk result (pages self.old n ≡ Some into.new) }
+        ensures given_bytes { IsHonest self.old → OnOk result (given self.old n ≡ Some into.new) }
+        ensures blocks { IsHonest self.old → blocks_of self.new ≡ blocks_of self.old }
         ensures outside { (n < 2) ⊎ (next_of self.old ≤ n) → (result ≡ Err (fault.Damaged n)) × (self.new ≡ self.old) }
         ensures faults { IsHonest self.old → 2 ≤ n → n < next_of self.old → IfErr result IsOfDevice }
         ensures other_faults { IfErr result (λ f. IsOfDevice f ⊎ (f ≡ fault.Damaged n)) }
