@@ -1,11 +1,11 @@
 -- What a line was answered.
 use Rattle.std.proofs.Common.{◌≡◌, ℕ, List, [], ◌∷◌, Option, Result, Ok, Err, refl, sym, subst}
-use Rattle.layer_store.specs.Commands.{Command}
-use Rattle.layer_store.specs.Lawful.{Standing, LawfulStep, Takes}
-use Rattle.layer_store.specs.Lawful.Request.{BadCommand, Asks}
-use Rattle.layer_store.specs.Step.{Answer}
-use Rattle.layer_store.specs.Step.Answer.{Refused}
-use Rattle.layer_store.specs.declared.refusal.Refusal.TheVariants as refusal
+use Rattle.plain_table.specs.Commands.{Command}
+use Rattle.plain_table.specs.Lawful.{Standing, LawfulStep, Takes}
+use Rattle.plain_table.specs.Lawful.Request.{BadCommand, Asks}
+use Rattle.plain_table.specs.Step.{Answer}
+use Rattle.plain_table.specs.Step.Answer.{Refused}
+use Rattle.plain_table.specs.declared.refusal.Refusal.TheVariants as refusal
 use Rattle.command_shell.specs.Answering.{AnswersLine, Replies}
 use Rattle.command_shell.specs.Commands.{AsksAlone}
 use Rattle.command_shell.specs.Meanings.{Meaning}

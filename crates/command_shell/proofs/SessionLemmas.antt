@@ -3,8 +3,8 @@ use Rattle.std.proofs.Common.{◌≡◌, ℕ, Bool, true, false, cond, List, [],
 use Rattle.std.specs.Io.KnownBytes.{Appends}
 use Rattle.std.specs.Prelude.{IfNone}
 use Rattle.std.proofs.lemmas.List.Concat.{flat_map-append}
-use Rattle.layer_store.specs.Lawful.{Standing, Request, Session, Takes}
-use Rattle.layer_store.specs.Step.{Answer}
+use Rattle.plain_table.specs.Lawful.{Standing, Request, Session, Takes}
+use Rattle.plain_table.specs.Step.{Answer}
 use Rattle.command_shell.specs.Answering.{AnswersLine}
 use Rattle.command_shell.specs.Commands.{AreCommands, AsksAlone}
 use Rattle.command_shell.specs.Commands.AreCommands.{none}

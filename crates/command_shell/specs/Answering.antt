@@ -1,7 +1,7 @@
 -- What one line makes a store and a writer do.
 use Rattle.std.specs.Prelude.{ℕ, List, [], ◌∷◌, Option, Some, None, Result}
-use Rattle.layer_store.specs.Lawful.{Standing, Request, Session}
-use Rattle.layer_store.specs.Step.{Answer}
+use Rattle.plain_table.specs.Lawful.{Standing, Request, Session}
+use Rattle.plain_table.specs.Step.{Answer}
 use Rattle.command_shell.specs.Commands.{AsksAlone}
 use Rattle.command_shell.specs.Meanings.{Meaning}
 use Rattle.command_shell.specs.Serving.{WroteAs}

@@ -1,7 +1,7 @@
 -- The commands of a text. Our rule, docs/COMMANDS.md.
 use Rattle.std.specs.Prelude.{ℕ, ◌≡◌, Bool, List, [], ◌∷◌, ◌++◌}
-use Rattle.layer_store.specs.Lawful.{Request}
-use Rattle.layer_store.specs.Lawful.Request.{BadCommand, Asks as Wants}
+use Rattle.plain_table.specs.Lawful.{Request}
+use Rattle.plain_table.specs.Lawful.Request.{BadCommand, Asks as Wants}
 use Rattle.command_shell.specs.Lines.{IsOneLine}
 use Rattle.command_shell.specs.Meanings.{Meaning, meaning_of}
 use Rattle.command_shell.specs.Meanings.Meaning.{Blank, Bad, Asks}

@@ -1,7 +1,7 @@
 -- What a command line means. Our rule, docs/COMMANDS.md.
 use Rattle.std.specs.Prelude.{ℕ, ◌==◌, nat_lt, List, [], ◌∷◌, length, if◌then◌else◌, slice_index, Option, Some, None, option_map, option_and_then, codes, bytes_eq}
-use Rattle.layer_store.specs.Commands.{Command}
-use Rattle.layer_store.specs.Commands.Command.{Create, Insert, Window}
+use Rattle.plain_table.specs.Commands.{Command}
+use Rattle.plain_table.specs.Commands.Command.{Create, Insert, Window}
 use Rattle.command_shell.specs.Lines.{words_of}
 use Rattle.command_shell.specs.Numbers.{number_of, box_of}
 

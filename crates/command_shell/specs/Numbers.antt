@@ -3,8 +3,8 @@ use Rattle.std.specs.Prelude.{ℕ, ◌^◌, Bool, ◌&&◌, ◌==◌, nat_lt, na
 use Rattle.std.specs.List.{list_all}
 use Rattle.std.specs.Char.{is_ascii_digit}
 use Rattle.std.specs.Str.Parse.{digits_value}
-use Rattle.layer_store.specs.declared.boxes.RawBox.{RawBox}
-use Rattle.layer_store.specs.declared.boxes.RawBox.TheVariants.{Two, Three}
+use Rattle.plain_table.specs.declared.boxes.RawBox.{RawBox}
+use Rattle.plain_table.specs.declared.boxes.RawBox.TheVariants.{Two, Three}
 
 -- one decimal digit or more, and nothing else
 abbrev pub is_numeral : List ℕ → Bool

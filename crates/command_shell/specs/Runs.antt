@@ -1,6 +1,6 @@
 -- What each end of a run says.
 use Rattle.std.specs.Prelude.{ℕ, Bool, true, false, List, [], Option, Some, None}
-use Rattle.layer_store.specs.Lawful.{Standing}
+use Rattle.plain_table.specs.Lawful.{Standing}
 use Rattle.command_shell.specs.Commands.{IsUnfinished}
 use Rattle.command_shell.specs.Serving.{Serves}
 use Rattle.command_shell.specs.declared.session.RunEnd.{RunEnd}

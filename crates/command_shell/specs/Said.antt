@@ -1,6 +1,6 @@
 -- What a `Line` says.
 use Rattle.std.specs.Prelude.{Option, Some, None}
-use Rattle.layer_store.specs.Commands.Command.{Create, Insert, Window}
+use Rattle.plain_table.specs.Commands.Command.{Create, Insert, Window}
 use Rattle.command_shell.specs.Meanings.{Meaning}
 use Rattle.command_shell.specs.Meanings.Meaning.{Blank, Bad, Asks}
 use Rattle.command_shell.specs.declared.parse.Line.{Line}

@@ -1,8 +1,8 @@
 -- What a part of a run reads, answers and writes.
 use Rattle.std.specs.Prelude.{ℕ, ◌≡◌, ◌<◌, Bool, true, false, List, [], ◌∷◌, ◌++◌, length, take, Option, Result, MatchResult}
 use Rattle.std.specs.Io.KnownBytes.{Appends}
-use Rattle.layer_store.specs.Lawful.{Standing, Request, Session}
-use Rattle.layer_store.specs.Step.{Answer}
+use Rattle.plain_table.specs.Lawful.{Standing, Request, Session}
+use Rattle.plain_table.specs.Step.{Answer}
 use Rattle.command_shell.specs.Commands.{AreCommands}
 use Rattle.command_shell.specs.Lines.{lines_of}
 use Rattle.command_shell.specs.Reading.{Reads}

@@ -2,12 +2,12 @@
 use Rattle.std.specs.Prelude.{ℕ, List, [], ◌∷◌, ◌++◌, length, codes, decimal, flat_map, map, ℤ}
 use Rattle.std.specs.Fmt.{signed_decimal}
 use Rattle.box_math.specs.Bounds.{Bounds}
-use Rattle.layer_store.specs.Answers.{row_of}
-use Rattle.layer_store.specs.Refusals.{number_of, name_of}
-use Rattle.layer_store.specs.Step.{Answer}
-use Rattle.layer_store.specs.Step.Answer.{Done, Refused, Boxes}
-use Rattle.layer_store.specs.declared.refusal.Refusal.{Refusal}
-use Rattle.layer_store.specs.declared.refusal.Refusal.TheVariants as refusal
+use Rattle.plain_table.specs.Answers.{row_of}
+use Rattle.plain_table.specs.Refusals.{number_of, name_of}
+use Rattle.plain_table.specs.Step.{Answer}
+use Rattle.plain_table.specs.Step.Answer.{Done, Refused, Boxes}
+use Rattle.plain_table.specs.declared.refusal.Refusal.{Refusal}
+use Rattle.plain_table.specs.declared.refusal.Refusal.TheVariants as refusal
 use Rattle.command_shell.specs.Lines.{newline}
 use Rattle.command_shell.specs.declared.replies.Reply.{Reply}
 use Rattle.command_shell.specs.declared.replies.Reply.TheVariants as reply

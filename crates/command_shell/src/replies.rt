@@ -2,7 +2,7 @@
 #![tactic(auto, using(crate::proofs::WriteLemmas::front_more, crate::proofs::WriteLemmas::front_then, crate::proofs::WriteLemmas::writes_then, crate::proofs::WriteLemmas::appends_more))]
 
 ghost use Rattle.std.specs.Prelude.{◌++◌, length, map, flat_map};
-ghost use Rattle.layer_store.specs.Answers.{row_of};
+ghost use Rattle.plain_table.specs.Answers.{row_of};
 ghost use Rattle.command_shell.specs.Texts.{row_text, refusal_text, count_text, answer_text, reply_answer};
 ghost use Rattle.command_shell.specs.Writing.{Writes};
 

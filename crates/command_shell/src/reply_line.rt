@@ -2,7 +2,7 @@
 #![tactic(auto, using(crate::proofs::WriteLemmas::front_more, crate::proofs::WriteLemmas::front_then, crate::proofs::WriteLemmas::writes_then, crate::proofs::WriteLemmas::appends_more))]
 
 ghost use Rattle.std.specs.Prelude.{◌≡◌, ◌+◌, ◌*◌, ◌≤◌, ◌++◌, ◌∷◌, [], length, decimal};
-ghost use Rattle.layer_store.specs.Boxes.{bounds_of};
+ghost use Rattle.plain_table.specs.Boxes.{bounds_of};
 ghost use Rattle.command_shell.specs.Lines.{newline};
 ghost use Rattle.command_shell.specs.Texts.{space, coordinate_text, coordinates_text, bounds_text};
 ghost use Rattle.command_shell.specs.Writing.{Writes};

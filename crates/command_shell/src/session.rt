@@ -1,8 +1,8 @@
 //! The session of a reader's lines with a store.
 
 ghost use Rattle.std.specs.Prelude.{◌≡◌, ◌<◌, Some, None, MatchResult, IfNone, if◌then◌else◌};
-ghost use Rattle.layer_store.specs.Answers.{done_answer, boxes_answer};
-ghost use Rattle.layer_store.specs.Lawful.{Takes};
+ghost use Rattle.plain_table.specs.Answers.{done_answer, boxes_answer};
+ghost use Rattle.plain_table.specs.Lawful.{Takes};
 ghost use Rattle.layer_store.specs.Standing.{Stands};
 ghost use Rattle.command_shell.specs.Answering.{AnswersLine, Replies, reply_answers};
 ghost use Rattle.command_shell.specs.Pending.{pending, work_left};

@@ -1,14 +1,12 @@
 //! The store, and its commands.
 
 ghost use Rattle.std.specs.Prelude.{◌≡◌, IsOkAnd};
-ghost use Rattle.layer_store.specs.Answers.{done_answer, boxes_answer};
-ghost use Rattle.layer_store.specs.Commands.Command.{Create, Insert, Window};
-ghost use Rattle.layer_store.specs.Lawful.{Takes, LawfulStep};
-ghost use Rattle.layer_store.specs.Lawful.Request.{Asks};
+ghost use Rattle.plain_table.specs.Answers.{done_answer, boxes_answer};
+ghost use Rattle.plain_table.specs.Commands.Command.{Create, Insert, Window};
+ghost use Rattle.plain_table.specs.Lawful.{Takes, LawfulStep};
+ghost use Rattle.plain_table.specs.Lawful.Request.{Asks};
 
-use crate::boxes::{AnyBox, RawBox};
-use crate::list_table::ListTable;
-use crate::refusal::Refusal;
+use plain_table::{AnyBox, ListTable, RawBox, Refusal};
 use std::alloc::{Allocator, Global};
 
 /// A spatial store in memory. Each of its calls is one lawful step of the plain table: it answers as the table does
@@ -20,12 +18,12 @@ pub struct Store<A: Allocator = Global> {
 
 impl<A: Allocator + Copy> Store<A> {
     ghost use Rattle.layer_store.specs.Standing.{Stands};
-    ghost use Rattle.layer_store.specs.Lawful.State.{Alive};
+    ghost use Rattle.plain_table.specs.Lawful.State.{Alive};
     ghost use Rattle.std.specs.FinMap.{empty};
 
     /// A store with no layer, which takes its memory from this allocator. It is never refused.
     pub fn empty(alloc: A) -> Result<Self, Refusal>
-        ensures { IsOkAnd result (λ s. Stands s (record { state = Alive empty; faults = 0 })) }
+        ensures { IsOkAnd result (λ s. Stands s (record { state = Alive empty; faults = 0; next = 0 })) }
     {
         let layers = ListTable::new(alloc);
         Ok(Store { layers })

@@ -1,6 +1,6 @@
 //! The store's calls on their happy path, and limits that take many commands.
 
-use crate::{AnyBox, ListTable, RawBox, Refusal, Store};
+use crate::{AnyBox, RawBox, Refusal, Store};
 use std::alloc::{AllocError, Allocator};
 use std::test::Fail;
 
@@ -28,18 +28,6 @@ fn boxes_that_touch_meet(rt: HostRuntime) -> Result<(), Fail> {
     let rows = store.window(b"a", RawBox::Two([2, 2], [3, 3]))?;
     assert_eq!(rt; ids(rt.alloc(), &rows)?.as_slice(), [2].as_slice());
     assert_eq!(rt; store.insert(b"a", 1, TWO), Err(Refusal::Duplicate));
-    Ok(())
-}
-
-#[test]
-fn a_table_in_a_list_answers_by_itself(rt: HostRuntime) -> Result<(), Fail> {
-    let mut table = ListTable::new(rt.alloc());
-    let all = RawBox::Three([i32::MIN; 3], [i32::MAX; 3]);
-    table.create(b"c", 3, 100)?;
-    table.insert(b"c", u64::MAX, all)?;
-    let rows = table.window(b"c", RawBox::Three([i32::MIN; 3], [i32::MIN; 3]))?;
-    assert_eq!(rt; ids(rt.alloc(), &rows)?.as_slice(), [u64::MAX].as_slice());
-    assert_eq!(rt; table.window(b"c", ONE).is_err(), true);
     Ok(())
 }
 

@@ -1,7 +1,7 @@
 use Rattle.std.proofs.Common.{ℕ, arith}
 use Rattle.std.proofs.lemmas.Result.{err_from_is_err_and}
-use Rattle.layer_store.specs.Answers.{row_of}
-use Rattle.layer_store.specs.declared.boxes.AnyBox.{AnyBox}
+use Rattle.plain_table.specs.Answers.{row_of}
+use Rattle.plain_table.specs.declared.boxes.AnyBox.{AnyBox}
 use Rattle.command_shell.specs.Texts.{row_text}
 use Rattle.command_shell.proofs.WriteLemmas.{front_of_all}
 use Rattle.command_shell.proofs.replies.write_each.Goals as goal

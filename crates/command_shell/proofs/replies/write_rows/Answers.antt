@@ -1,8 +1,8 @@
 use Rattle.std.proofs.Common.{ℕ, length, map, flat_map}
 use Rattle.std.proofs.lemmas.List.Folds.{flat_map-map}
 use Rattle.std.proofs.lemmas.Result.{err_from_is_err_and}
-use Rattle.layer_store.specs.Answers.{row_of}
-use Rattle.layer_store.specs.declared.boxes.AnyBox.{AnyBox}
+use Rattle.plain_table.specs.Answers.{row_of}
+use Rattle.plain_table.specs.declared.boxes.AnyBox.{AnyBox}
 use Rattle.command_shell.specs.Texts.{row_text, count_text}
 use Rattle.command_shell.proofs.WriteLemmas.{front_more, writes_then}
 use Rattle.command_shell.proofs.replies.write_rows.Goals as goal

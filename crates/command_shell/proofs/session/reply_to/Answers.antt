@@ -1,6 +1,6 @@
 use Rattle.std.proofs.Common.{ap}
-use Rattle.layer_store.specs.Answers.{done_answer, boxes_answer}
-use Rattle.layer_store.specs.Commands.Command.{Create, Insert, Window}
+use Rattle.plain_table.specs.Answers.{done_answer, boxes_answer}
+use Rattle.plain_table.specs.Commands.Command.{Create, Insert, Window}
 use Rattle.command_shell.specs.Said.{said}
 use Rattle.command_shell.proofs.AnswerLemmas.{replied, replied_bad, replied_blank}
 use Rattle.command_shell.proofs.session.reply_to.Goals as goal

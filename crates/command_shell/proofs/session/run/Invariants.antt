@@ -1,5 +1,5 @@
 use Rattle.std.proofs.Common.{[], true, false}
-use Rattle.layer_store.specs.Lawful.{Takes}
+use Rattle.plain_table.specs.Lawful.{Takes}
 use Rattle.layer_store.specs.Standing.{Stands}
 use Rattle.command_shell.specs.Pending.{pending, work_left}
 use Rattle.command_shell.specs.Serving.{Serves}

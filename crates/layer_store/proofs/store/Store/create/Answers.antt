@@ -1,5 +1,5 @@
-use Rattle.layer_store.specs.Answers.{done_answer}
-use Rattle.layer_store.specs.Commands.Command.{Create}
+use Rattle.plain_table.specs.Answers.{done_answer}
+use Rattle.plain_table.specs.Commands.Command.{Create}
 use Rattle.layer_store.proofs.Steps.{steps}
 use Rattle.layer_store.proofs.store.Store.create.Goals as goal
 

@@ -1,5 +1,5 @@
-use Rattle.layer_store.specs.Answers.{boxes_answer}
-use Rattle.layer_store.specs.Commands.Command.{Window}
+use Rattle.plain_table.specs.Answers.{boxes_answer}
+use Rattle.plain_table.specs.Commands.Command.{Window}
 use Rattle.layer_store.proofs.Steps.{steps}
 use Rattle.layer_store.proofs.store.Store.window.Goals as goal
 

@@ -1,0 +1,5 @@
+pub mod EntryLemmas
+pub mod LayerLemmas
+pub mod ListLemmas
+pub mod StepLemmas
+pub mod TableLemmas

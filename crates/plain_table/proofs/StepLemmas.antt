@@ -1,0 +1,60 @@
+-- Which refusal of a command comes first.
+use Rattle.std.proofs.Common.{◌≡◌, ℕ, ◌<◌, ◌≤◌, ◌+◌, List, [], ◌∷◌, Bool, true, false, not, cond, Some, None, refl, sym, ap, ◌∙◌, arith}
+use Rattle.std.specs.Prelude.{nat_le, ◌==◌}
+use Rattle.std.proofs.lemmas.Bool.Decides.{nat_tests}
+use Rattle.std.specs.Cmp.{nat_cmp_total}
+use Rattle.std.specs.FinMap.{contains_key, get, len, len-insert}
+use Rattle.box_math.specs.Bounds.{Bounds}
+use Rattle.plain_table.specs.Boxes.{dims_of, given_bounds, is_ordered}
+use Rattle.plain_table.specs.Commands.Command.{Create, Insert, Window}
+use Rattle.plain_table.specs.Step.{first_refusal, box_refusals, object_refusals, refusal_of}
+use Rattle.plain_table.specs.Table.{Table, Layer, is_layer_name, is_dims, is_fanout, object_count, most_layers, most_objects, with_object}
+use Rattle.plain_table.specs.declared.boxes.RawBox.{RawBox}
+use Rattle.plain_table.specs.declared.refusal.Refusal.{Refusal}
+use Rattle.plain_table.specs.declared.refusal.Refusal.TheVariants as refusal
+
+-- where nothing is refused, the first condition does not hold
+passes : (b : Bool) (r : Refusal) (more : List (Bool × Refusal)) → first_refusal ((b, r) ∷ more) ≡ None → (b ≡ false) × (first_refusal more ≡ None)
+passes true r more h = absurd (cc)
+passes false r more h = (refl, h)
+
+module _ (t : Table) (name : List ℕ) (named : is_layer_name name ≡ true) where
+  module _ (dims fanout : ℕ) (d : is_dims dims ≡ true) (f : is_fanout fanout ≡ true) where
+    pub create_exists : contains_key t name ≡ true → refusal_of t (Create name dims fanout) ≡ Some refusal.LayerExists
+    create_exists h = rw (named, d, f, h) refl
+
+    pub create_full : contains_key t name ≡ false → most_layers ≤ len t → refusal_of t (Create name dims fanout) ≡ Some refusal.TooManyLayers
+    create_full h l = let many : nat_le 60 (len t) ≡ true = grind (arith, nat_tests) in rw (named, d, f, h, many) refl
+
+    pub create_passes : contains_key t name ≡ false → len t < most_layers → refusal_of t (Create name dims fanout) ≡ None
+    create_passes h l = let few : nat_le 60 (len t) ≡ false = grind (arith, nat_tests) in rw (named, d, f, h, few) refl
+
+  pub insert_missing : (id : ℕ) (box : RawBox) → contains_key t name ≡ false → refusal_of t (Insert name id box) ≡ Some refusal.NoLayer
+  insert_missing id box h = rw (named, h) refl
+
+  pub insert_refusal : (id : ℕ) (box : RawBox) (l : Layer) (full : Bool) → get t name ≡ Some l → full ≡ nat_le most_objects (object_count t) → refusal_of t (Insert name id box) ≡ first_refusal (object_refusals l id box full)
+  insert_refusal id box l full g e = rw (named, g, ← e) refl
+
+  pub window_missing : (box : RawBox) → contains_key t name ≡ false → refusal_of t (Window name box) ≡ Some refusal.NoLayer
+  window_missing box h = rw (named, h) refl
+
+  pub window_refusal : (box : RawBox) (l : Layer) → get t name ≡ Some l → refusal_of t (Window name box) ≡ first_refusal (box_refusals l box [])
+  window_refusal box l g = rw (named, g) refl
+
+-- an object that is not refused is new, and there is room for it
+pub object_passes : (l : Layer) (id : ℕ) (box : RawBox) (full : Bool) → first_refusal (object_refusals l id box full) ≡ None → (contains_key l.objects id ≡ false) × (full ≡ false)
+object_passes l id box full h =
+    let room = (full, refusal.TooManyObjects) ∷ [] in
+    let new = (contains_key l.objects id, refusal.Duplicate) ∷ room in
+    let good = not (is_ordered (dims_of box) (given_bounds box)) in
+    let first = passes (not (dims_of box == l.dims)) refusal.WrongDims ((good, refusal.BadBox) ∷ new) h in
+    let second = passes good refusal.BadBox new first.1 in
+    let third = passes (contains_key l.objects id) refusal.Duplicate room second.1 in
+    (third.0, (passes full refusal.TooManyObjects [] third.1).0)
+
+pub has_room : (full : Bool) (count : ℕ) → full ≡ nat_le most_objects count → full ≡ false → count < most_objects
+has_room full count e h = let less : nat_le most_objects count ≡ false = sym e ∙ h in grind (arith, nat_tests)
+
+-- a new object makes one more
+pub len-with_object : (l : Layer) (id : ℕ) (b : Bounds) → contains_key l.objects id ≡ false → len (with_object l id b).objects ≡ len l.objects + 1
+len-with_object l id b h = len-insert nat_cmp_total l.objects id b ∙ ap (λ x. cond x (len l.objects) (len l.objects + 1)) h

@@ -1,0 +1,10 @@
+use Rattle.std.proofs.Common.{◌≡◌, map}
+use Rattle.std.specs.Cmp.Lexicographic.{slice_cmp}
+use Rattle.std.specs.List.{AllWithin}
+use Rattle.std.specs.Ordering.{nat_cmp}
+use Rattle.std.specs.declared.cmp.Ordering.TheVariants.{Greater}
+use Rattle.plain_table.specs.Kept.{entry_of}
+use Rattle.plain_table.proofs.list_table.search.Given as goal
+
+abbrev pub invariant-loop-place : goal.invariant-loop-place
+invariant-loop-place g l = AllWithin (λ e. slice_cmp nat_cmp l.name e.0 ≡ Greater) (map entry_of l.layers) 0 l.place

@@ -1,0 +1,22 @@
+-- The answers that the results of a store's calls are.
+use Rattle.std.specs.Prelude.{ℕ, Result, Ok, Err, Vec, map}
+use Rattle.box_math.specs.Bounds.{Bounds}
+use Rattle.plain_table.specs.Boxes.{bounds_of}
+use Rattle.plain_table.specs.Step.{Answer}
+use Rattle.plain_table.specs.Step.Answer.{Done, Refused, Boxes}
+use Rattle.plain_table.specs.declared.boxes.AnyBox.{AnyBox}
+use Rattle.plain_table.specs.declared.refusal.Refusal.{Refusal}
+
+-- of a change
+abbrev pub done_answer : Result (Unit {0}) Refusal → Answer
+done_answer (Ok u) = Done
+done_answer (Err r) = Refused r
+
+-- an identifier with its box
+abbrev pub row_of : ℕ × AnyBox → ℕ × Bounds
+row_of row = (row.0, bounds_of row.1)
+
+-- of a range query
+abbrev pub boxes_answer : {A : Type 0} → Result (Vec (ℕ × AnyBox) A) Refusal → Answer
+boxes_answer (Ok rows) = Boxes (map row_of rows.items)
+boxes_answer (Err r) = Refused r

@@ -1,0 +1,26 @@
+-- The boxes that commands give and answers show, as lows and highs. Our rule, docs/COMMANDS.md.
+use Rattle.std.specs.Prelude.{ℕ, Bool}
+use Rattle.box_math.specs.Bounds.{Bounds, ordered_test}
+use Rattle.plain_table.specs.declared.boxes.RawBox.{RawBox}
+use Rattle.plain_table.specs.declared.boxes.RawBox.TheVariants as raw
+use Rattle.plain_table.specs.declared.boxes.AnyBox.{AnyBox}
+use Rattle.plain_table.specs.declared.boxes.AnyBox.TheVariants as any
+
+-- how many axes a box has
+abbrev pub dims_of : RawBox → ℕ
+dims_of (raw.Two low high) = 2
+dims_of (raw.Three low high) = 3
+
+-- the lows and highs as they were given
+abbrev pub given_bounds : RawBox → Bounds
+given_bounds (raw.Two low high) = record { low = low; high = high }
+given_bounds (raw.Three low high) = record { low = low; high = high }
+
+-- whether each low is at most its high
+abbrev pub is_ordered : ℕ → Bounds → Bool
+is_ordered dims b = ordered_test dims b.low b.high
+
+-- a box is its lows and highs, whatever its dimension
+abbrev pub bounds_of : AnyBox → Bounds
+bounds_of (any.Two b) = b
+bounds_of (any.Three b) = b

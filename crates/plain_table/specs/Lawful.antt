@@ -1,0 +1,98 @@
+-- One command as a lawful step of a store, and sessions of such steps.
+-- A store answers as the plain table does; only want of memory, a fault of the device or want of page numbers may refuse a command instead. Our rule, docs/COMMANDS.md.
+use Rattle.std.specs.Prelude.{ℕ, ◌≡◌, ◌<◌, ◌-◌, ◌^◌, ◌⊎◌, min, List, [], ◌∷◌}
+use Rattle.plain_table.specs.Commands.{Command}
+use Rattle.plain_table.specs.Commands.Command.{Reopen}
+use Rattle.plain_table.specs.Table.{Table}
+use Rattle.plain_table.specs.Step.{Answer, reply_of, after}
+use Rattle.plain_table.specs.Step.Answer.{Refused}
+use Rattle.plain_table.specs.declared.refusal.Refusal.{Refusal}
+use Rattle.plain_table.specs.declared.refusal.Refusal.TheVariants as refusal
+
+-- a store answers from a table, or says that it failed
+pub data State : Type 0 where
+  Alive : Table → State
+  Dead : State
+
+-- a state, how often the device has failed so far, and one more than the greatest page number given out
+pub record Standing : Type 0 where
+  pub state : State
+  pub faults : ℕ
+  pub next : ℕ
+
+-- a line that is none of the language, or a command
+pub data Request : Type 0 where
+  BadCommand : Request
+  Asks : Command → Request
+
+-- The count of faults rose. It is held at the greatest u64, where it counts as risen.
+abbrev pub Rose : ℕ → ℕ → Type 0
+Rose old new = min old (2 ^ 64 - 2) < new
+
+-- All page numbers were given out: page numbers are below 2^31.
+abbrev pub IsSpent : ℕ → Type 0
+IsSpent next = next ≡ 2 ^ 31
+
+-- want of memory, a device that failed in this command, or want of page numbers
+abbrev pub IsFault : Type 0 → Type 0 → Refusal → Type 0
+IsFault rose spent refusal.Memory = Unit {0}
+IsFault rose spent refusal.Device = rose
+IsFault rose spent refusal.NoPages = spent
+IsFault rose spent r = ⊥
+
+-- want of memory or a fault of the device half way through: the end of the store, with the number of the fault
+abbrev pub IsEnd : Type 0 → Refusal → Type 0
+IsEnd rose (refusal.StoreFailed n) = (n ≡ 16) ⊎ ((n ≡ 17) × rose)
+IsEnd rose r = ⊥
+
+-- a refusal for which P holds
+abbrev pub RefusedBy : (Refusal → Type 0) → Answer → Type 0
+RefusedBy P (Refused r) = P r
+RefusedBy P a = ⊥
+
+-- the plain table's answer, and the table after it
+abbrev pub Answered : Table → Command → Answer → State → Type 0
+Answered t c a new = (a ≡ reply_of t c) × (new ≡ Alive (after t c))
+
+-- a fault, and the table is as it was
+abbrev pub GaveUp : Type 0 → Type 0 → Table → Answer → State → Type 0
+GaveUp rose spent t a new = RefusedBy (IsFault rose spent) a × (new ≡ Alive t)
+
+-- the plain table's answer and table, or want of memory and the same table: what a table in memory does
+abbrev pub AnsweredInMemory : Table → Command → Answer → Table → Type 0
+AnsweredInMemory t c a new = ((a ≡ reply_of t c) × (new ≡ after t c)) ⊎ ((a ≡ Refused refusal.Memory) × (new ≡ t))
+
+-- a fault half way through a reopening or a change of the table
+abbrev pub Died : Type 0 → Table → Command → Answer → State → Type 0
+Died rose t c a new = RefusedBy (IsEnd rose) a × ((c ≡ Reopen) ⊎ ¬ (after t c ≡ t)) × (new ≡ Dead)
+
+-- what a command may do to a live store
+abbrev pub LawfulFrom : Type 0 → Type 0 → Table → Command → Answer → State → Type 0
+LawfulFrom rose spent t c a new = Answered t c a new ⊎ (GaveUp rose spent t a new ⊎ Died rose t c a new)
+
+-- What a request may do. A bad line changes nothing, and a dead store refuses all else.
+abbrev pub Lawful : Type 0 → Type 0 → State → Request → Answer → State → Type 0
+Lawful rose spent old BadCommand a new = (a ≡ Refused refusal.BadLine) × (new ≡ old)
+Lawful rose spent (Alive t) (Asks c) a new = LawfulFrom rose spent t c a new
+Lawful rose spent Dead (Asks c) a new = (a ≡ Refused (refusal.StoreFailed 19)) × (new ≡ Dead)
+
+-- one request answered lawfully
+abbrev pub LawfulStep : Standing → Request → Answer → Standing → Type 0
+LawfulStep old r a new = Lawful (Rose old.faults new.faults) (IsSpent new.next) old.state r a new.state
+
+-- lawful steps, each from what the one before left
+abbrev pub Session : Standing → List Request → List Answer → Standing → Type 0
+Session old [] [] new = new ≡ old
+Session old (r ∷ rs) (a ∷ as') new = (mid : Standing) × LawfulStep old r a mid × Session mid rs as' new
+Session old [] (a ∷ as') new = ⊥
+Session old (r ∷ rs) [] new = ⊥
+
+-- what is left stands for a standing of which P holds
+pub record Reaches {S : Type 0} (Stands : S → Standing → Type 0) (left : S) (P : Standing → Type 0) : Type 0 where
+  pub next : Standing
+  pub stands : Stands left next
+  pub so : P next
+
+-- P holds of each standing before and some standing after
+abbrev pub Takes : {S : Type 0} → (S → Standing → Type 0) → S → S → (Standing → Standing → Type 0) → Type 0
+Takes Stands old new P = (s : Standing) → Stands old s → Reaches Stands new (P s)

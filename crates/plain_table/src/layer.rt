@@ -1,0 +1,117 @@
+//! One layer in memory.
+
+ghost use Rattle.std.specs.Prelude.{◌≡◌, ◌≤◌, [], IsTrue, MatchResult, None, length, map as each};
+ghost use Rattle.std.specs.FinMap as map;
+ghost use Rattle.std.specs.FinMap.{is_sorted};
+ghost use Rattle.std.specs.Ordering.{nat_cmp};
+ghost use Rattle.plain_table.specs.Answers.{row_of};
+ghost use Rattle.plain_table.specs.Boxes.{given_bounds};
+ghost use Rattle.plain_table.specs.Objects.{entries_of};
+ghost use Rattle.plain_table.specs.Step.{first_refusal, box_refusals, object_refusals, window_rows};
+ghost use Rattle.plain_table.specs.Table.{is_dims, is_fanout, is_layer_name, with_object};
+
+use crate::boxes::{AnyBox, RawBox};
+use crate::objects::{Objects, admit, meeting, three_axes, two_axes};
+use crate::refusal::Refusal;
+use arrayvec::ArrayVec;
+use box_math::BBox;
+use std::alloc::Allocator;
+
+/// How many bytes the name of a layer has at most.
+pub const MOST_NAME_BYTES: usize = 24;
+
+/// A layer.
+#[derive(Drop)]
+pub struct Layer<A: Allocator> {
+    /// Its name.
+    pub name: ArrayVec<u8, MOST_NAME_BYTES>,
+    /// How many entries its nodes may have.
+    pub fanout: u64,
+    /// Its objects, which also say how many axes it has.
+    pub objects: Objects<A>,
+    ghost named: { IsTrue (is_layer_name name.items) },
+    ghost sized: { IsTrue (is_fanout fanout) },
+    ghost ascending: { IsTrue (is_sorted nat_cmp (entries_of objects)) },
+}
+
+impl<A: Allocator + Copy> Layer<A> {
+    ghost use Rattle.plain_table.specs.Kept.{layer_of, IsRefusal};
+
+    /// A layer with no object.
+    pub fn new(alloc: A, name: &[u8], dims: u64, fanout: u64) -> Self
+        requires short { length name.now ≤ MOST_NAME_BYTES }
+        requires named { IsTrue (is_layer_name name.now) }
+        requires dims_are { IsTrue (is_dims dims) }
+        requires sized { IsTrue (is_fanout fanout) }
+        ensures name { result.name.items ≡ name.now }
+        ensures layer { layer_of result ≡ record { dims = dims; fanout = fanout; objects = map.empty } }
+    {
+        let mut bytes = ArrayVec::new();
+        bytes.try_extend_from_slice(name).unwrap();
+        let objects = if dims == 2 {
+            Objects::Two(Vec::new(alloc))
+        } else {
+            Objects::Three(Vec::new(alloc))
+        };
+        Layer {
+            name: bytes,
+            fanout,
+            objects,
+        }
+    }
+
+    /// Adds an object, or refuses as the table does. `is_full` says that the table has no room for another.
+    pub fn insert(&mut self, id: u64, bounds: RawBox, is_full: bool) -> Result<(), Refusal>
+        ensures inserts { MatchResult result
+            (λ _. (first_refusal (object_refusals (layer_of self.old) id bounds is_full) ≡ None)
+            × (layer_of self.new ≡ with_object (layer_of self.old) id (given_bounds bounds)))
+            (λ e. IsRefusal (first_refusal (object_refusals (layer_of self.old) id bounds is_full)) e
+            × (layer_of self.new ≡ layer_of self.old)) }
+        ensures name { self.new.name ≡ self.old.name }
+    {
+        match &mut self.objects {
+            Objects::Two(objects) => match bounds {
+                RawBox::Two(low, high) => {
+                    let (place, bounds) = admit(objects, id, low, high, is_full)?;
+                    objects.insert(place, (id, bounds))?;
+                    Ok(())
+                }
+                RawBox::Three(..) => Err(Refusal::WrongDims),
+            },
+            Objects::Three(objects) => match bounds {
+                RawBox::Two(..) => Err(Refusal::WrongDims),
+                RawBox::Three(low, high) => {
+                    let (place, bounds) = admit(objects, id, low, high, is_full)?;
+                    objects.insert(place, (id, bounds))?;
+                    Ok(())
+                }
+            },
+        }
+    }
+
+    /// The objects whose boxes meet the window, ascending by identifier, or a refusal as the table's.
+    pub fn window(&self, alloc: A, bounds: RawBox) -> Result<Vec<(u64, AnyBox), A>, Refusal>
+        ensures { MatchResult result
+            (λ rows. (first_refusal (box_refusals (layer_of self.now) bounds []) ≡ None)
+            × (each row_of rows.items ≡ window_rows (layer_of self.now) (given_bounds bounds)))
+            (λ e. IsRefusal (first_refusal (box_refusals (layer_of self.now) bounds [])) e) }
+    {
+        match (&self.objects, bounds) {
+            (Objects::Two(objects), RawBox::Two(low, high)) => {
+                let Some(window) = BBox::try_new(low, high) else {
+                    return Err(Refusal::BadBox);
+                };
+                let rows = meeting(alloc, objects, &window)?;
+                Ok(two_axes(alloc, &rows)?)
+            }
+            (Objects::Three(objects), RawBox::Three(low, high)) => {
+                let Some(window) = BBox::try_new(low, high) else {
+                    return Err(Refusal::BadBox);
+                };
+                let rows = meeting(alloc, objects, &window)?;
+                Ok(three_axes(alloc, &rows)?)
+            }
+            _ => Err(Refusal::WrongDims),
+        }
+    }
+}

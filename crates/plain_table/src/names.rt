@@ -1,0 +1,49 @@
+//! What a layer may be called, and what it may be made of.
+
+ghost use Rattle.std.specs.Prelude.{◌≡◌};
+ghost use Rattle.std.specs.List.{list_all};
+ghost use Rattle.plain_table.specs.Table.{is_layer_name, is_name_byte, is_letter, is_dims, is_fanout};
+
+use crate::layer::MOST_NAME_BYTES;
+
+/// Whether this is 1 to 24 letters `a-z`, digits and underscores, the first a letter.
+pub fn is_layer_name(name: &[u8]) -> bool
+    ensures { result ≡ is_layer_name name.now }
+{
+    if name.is_empty() || name.len() > MOST_NAME_BYTES {
+        return false;
+    }
+    is_letter(name[0]) && has_name_bytes(name)
+}
+
+fn has_name_bytes(name: &[u8]) -> bool
+    ensures { result ≡ list_all is_name_byte name.now }
+{
+    name.iter().all(|byte| is_name_byte(*byte))
+}
+
+fn is_letter(byte: u8) -> bool
+    ensures { result ≡ is_letter byte }
+{
+    matches!(byte, b'a'..=b'z')
+}
+
+fn is_name_byte(byte: u8) -> bool
+    ensures { result ≡ is_name_byte byte }
+{
+    matches!(byte, b'a'..=b'z' | b'0'..=b'9' | b'_')
+}
+
+/// Whether a layer may have so many axes.
+pub fn is_dims(dims: u64) -> bool
+    ensures { result ≡ is_dims dims }
+{
+    dims == 2 || dims == 3
+}
+
+/// Whether a node may have so many entries.
+pub fn is_fanout(fanout: u64) -> bool
+    ensures { result ≡ is_fanout fanout }
+{
+    fanout >= 4 && fanout <= 100
+}
