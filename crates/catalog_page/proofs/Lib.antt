@@ -1,0 +1,6 @@
+-- The files of lemmas.
+pub mod Places
+pub mod NumbersWritten
+pub mod Reading
+pub mod Writing
+pub mod Named

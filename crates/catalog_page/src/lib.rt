@@ -1,0 +1,13 @@
+//! The catalog's page: the list of a file's layers as the bytes of a page (docs/FORMAT.md).
+#![tactic(auto)]
+
+mod layer_record;
+pub mod laws;
+mod names;
+mod page;
+mod records;
+#[cfg(test)]
+mod tests;
+
+pub use layer_record::LayerRecord;
+pub use page::{decode, encode};

@@ -1,0 +1,1 @@
+//! Tests against bytes from outside, of each reason to refuse a page, and of full catalogs.
