@@ -1,0 +1,3 @@
+-- The files of lemmas.
+pub mod Frames
+pub mod Linking
