@@ -44,13 +44,13 @@ page_0_holds_nothing pages dims = record {
 -- ---- where a chain breaks
 
 -- the bucket of the page that a front of a chain leads to
-pub record GoesOn (pages : PageMap) (dims : ℕ) (all before : List Content) (bad : ℕ) : Type 0 where
+pub record HasNext (pages : PageMap) (dims : ℕ) (all before : List Content) (bad : ℕ) : Type 0 where
   pub bucket : Content
   pub behind : List Content
   pub there : bucket_in pages dims bad ≡ Some bucket
   pub whole : all ≡ before ++ bucket ∷ behind
 
-goes_on : (pages : PageMap) (dims n bad : ℕ) (all before : List Content) → 0 < bad → Leads pages dims n all 0 → Leads pages dims n before bad → GoesOn pages dims all before bad
+goes_on : (pages : PageMap) (dims n bad : ℕ) (all before : List Content) → 0 < bad → Leads pages dims n all 0 → Leads pages dims n before bad → HasNext pages dims all before bad
 goes_on pages dims n bad [] [] page a b = absurd (omega (arith, a, b, page))
 goes_on pages dims n bad [] (y ∷ ys) page a b = absurd (omega (arith, a, b.0))
 goes_on pages dims n bad (x ∷ xs) [] page a b = record {

@@ -2,10 +2,13 @@
 #![tactic(auto)]
 
 pub mod laws;
-//mod reading;
+mod reading;
 //#[cfg(test)]
 //mod tests;
 mod writing;
 
-//pub use reading::read_chain;
+pub use reading::read_chain;
 pub use writing::write_chain;
+
+// How many objects a full page has.
+const FULL: usize = 100;

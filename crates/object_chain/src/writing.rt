@@ -11,14 +11,12 @@ ghost use Rattle.page_file.specs.declared.fault.Fault.TheVariants as fault;
 ghost use Rattle.page_file.specs.declared.gate.Gate.TheVariants.{Open};
 ghost use Rattle.object_chain.specs.Chain.{HoldsObjects, KeepsPages, bucket_in};
 
+use crate::FULL;
 use arrayvec::ArrayVec;
 use block_device::BlockDevice;
 use box_math::BBox;
 use bucket_page::{Bucket, encode};
 use page_file::{Fault, PageFile};
-
-// How many objects a full page has.
-const FULL: usize = 100;
 
 // The page of a bucket that names this next page.
 fn page_of<const D: usize>(next: u32, objects: &[(u64, BBox<D>)]) -> [u8; 4096]
