@@ -1,0 +1,153 @@
+-- What follows from a chain, for the crates that stand on chains.
+use Rattle.std.proofs.Common.{◌≡◌, ℕ, zero, suc, ◌<◌, ◌≤◌, ◌+◌, List, [], ◌∷◌, ◌++◌, length, drop, get_or, Option, Some, None, refl, sym, ◌∙◌, ap, arith, subst}
+use Rattle.std.specs.Prelude.{All, option_and_then, IsTrue, slice_index}
+use Rattle.std.specs.List.{flat_map}
+use Rattle.std.specs.FinMap.{is_sorted}
+use Rattle.std.specs.Ordering.{nat_cmp}
+use Rattle.std.proofs.lemmas.List.Concat.{flat_map-append}
+use Rattle.std.proofs.lemmas.List.{append_assoc, get_or_append_left, length-append}
+use Rattle.std.proofs.lemmas.List.Elements.{All-append, All-nil}
+use Rattle.box_math.specs.Bounds.{Bounds, IsBox}
+use Rattle.block_bytes.specs.Numbers.{number_at}
+use Rattle.bucket_page.specs.Layout.{Content, Spells, bucket_at}
+use Rattle.bucket_page.proofs.Named.{spells_buckets}
+use Rattle.bucket_page.proofs.Reading.{spells}
+use Rattle.object_chain.specs.Ascending.{IsAscending, ascending_front}
+use Rattle.object_chain.specs.Chain.{BreaksAt, HoldsObjects, IsFilled, KeepsPages, Leads, PageMap, bucket_in, objects_of}
+
+-- ---- the pages that lead from one to another
+
+same_leads : (pages : PageMap) (dims n : ℕ) (xs ys : List Content) → Leads pages dims n xs 0 → Leads pages dims n ys 0 → xs ≡ ys
+same_leads pages dims n [] [] a b = refl
+same_leads pages dims n [] (y ∷ ys) a b = absurd (omega (arith, a, b.0))
+same_leads pages dims n (x ∷ xs) [] a b = absurd (omega (arith, b, a.0))
+same_leads pages dims n (x ∷ xs) (y ∷ ys) a b =
+    let same : Some x ≡ Some y = sym a.1 ∙ b.1 in
+    let is : x ≡ y = cc in
+    let rest : Leads pages dims x.next ys 0 = subst (λ (c : Content). Leads pages dims c.next ys 0) (sym is) b.2 in
+    let more : xs ≡ ys = same_leads pages dims x.next xs ys a.2 rest in cc
+
+-- a chain holds one list of objects
+pub a_chain_holds_one_list : (pages : PageMap) (dims n : ℕ) (a b : List (ℕ × Bounds)) → HoldsObjects pages dims n a → HoldsObjects pages dims n b → a ≡ b
+a_chain_holds_one_list pages dims n a b h k =
+    h.objects_are ∙ ap objects_of (same_leads pages dims n h.buckets k.buckets h.linked k.linked) ∙ sym k.objects_are
+
+-- page 0 is the chain of no objects
+pub page_0_holds_nothing : (pages : PageMap) (dims : ℕ) → HoldsObjects pages dims 0 []
+page_0_holds_nothing pages dims = record {
+  buckets = [];
+  linked = refl;
+  filled = record { full = λ k d lt. absurd (omega (arith, lt)); ascending = refl };
+  objects_are = refl;
+}
+
+-- ---- where a chain breaks
+
+-- the bucket of the page that a front of a chain leads to
+pub record HasNext (pages : PageMap) (dims : ℕ) (all before : List Content) (bad : ℕ) : Type 0 where
+  pub bucket : Content
+  pub behind : List Content
+  pub there : bucket_in pages dims bad ≡ Some bucket
+  pub whole : all ≡ before ++ bucket ∷ behind
+
+goes_on : (pages : PageMap) (dims n bad : ℕ) (all before : List Content) → 0 < bad → Leads pages dims n all 0 → Leads pages dims n before bad → HasNext pages dims all before bad
+goes_on pages dims n bad [] [] page a b = absurd (omega (arith, a, b, page))
+goes_on pages dims n bad [] (y ∷ ys) page a b = absurd (omega (arith, a, b.0))
+goes_on pages dims n bad (x ∷ xs) [] page a b = record {
+  bucket = x;
+  behind = xs;
+  there = ap (bucket_in pages dims) (sym b) ∙ a.1;
+  whole = refl;
+}
+goes_on pages dims n bad (x ∷ xs) (y ∷ ys) page a b =
+    let same : Some x ≡ Some y = sym a.1 ∙ b.1 in
+    let is : x ≡ y = cc in
+    let rest : Leads pages dims x.next ys bad = subst (λ (c : Content). Leads pages dims c.next ys bad) (sym is) b.2 in
+    let more = goes_on pages dims x.next bad xs ys page a.2 rest in
+    let e : xs ≡ ys ++ more.bucket ∷ more.behind = more.whole in
+    record { bucket = more.bucket; behind = more.behind; there = more.there; whole = cc }
+
+-- a front of a filled chain is filled
+full_front : (xs ys : List Content) → All (λ b. length b.entries ≡ 100) (drop 1 (xs ++ ys)) → All (λ b. length b.entries ≡ 100) (drop 1 xs)
+full_front [] ys h = λ k d lt. absurd (omega (arith, lt))
+full_front (x ∷ xs) ys h = all_front xs ys h
+  where
+    all_front : (xs ys : List Content) → All (λ b. length b.entries ≡ 100) (xs ++ ys) → All (λ b. length b.entries ≡ 100) xs
+    all_front xs ys h = λ k d lt. rw (← get_or_append_left xs ys d k lt) (h k d (omega (arith, length-append xs ys)))
+
+pub filled_front : (xs ys : List Content) → IsFilled (xs ++ ys) → IsFilled xs
+filled_front xs ys filled = record {
+  full = full_front xs ys filled.full;
+  ascending = ascending_front (objects_of xs) (objects_of ys) (subst IsAscending (flat_map-append (λ (b : Content). b.entries) xs ys) filled.ascending);
+}
+
+-- a whole chain breaks nowhere
+pub a_whole_chain_breaks_nowhere : (pages : PageMap) (dims n bad : ℕ) (objects : List (ℕ × Bounds)) → HoldsObjects pages dims n objects → BreaksAt pages dims n bad → ⊥
+a_whole_chain_breaks_nowhere pages dims n bad objects h broken =
+    let more = goes_on pages dims n bad h.buckets broken.before broken.is_page h.linked broken.linked in
+    let split : h.buckets ≡ (broken.before ++ more.bucket ∷ []) ++ more.behind = more.whole ∙ sym (append_assoc broken.before (more.bucket ∷ []) more.behind) in
+    broken.breaks more.bucket more.there (filled_front (broken.before ++ more.bucket ∷ []) more.behind (subst IsFilled split h.filled))
+
+-- ---- chains in other maps
+
+-- what a page says of a bucket there
+pub record IsBucketPage (pages : PageMap) (dims n : ℕ) (b : Content) : Type 0 where
+  pub page : List ℕ
+  pub there : pages n ≡ Some page
+  pub spelled : bucket_at dims page ≡ Some b
+
+pub bucket_page : (pages : PageMap) (dims n : ℕ) (b : Content) → bucket_in pages dims n ≡ Some b → IsBucketPage pages dims n b
+bucket_page pages dims n b e = case (pages n) refl e
+  where
+    case : (o : Option (List ℕ)) → pages n ≡ o → option_and_then (bucket_at dims) o ≡ Some b → IsBucketPage pages dims n b
+    case None is e = absurd (cc)
+    case (Some page) is e = record { page = page; there = is; spelled = e }
+
+pub kept_leads : (old new : PageMap) (dims n last : ℕ) (bs : List Content) → ((k : ℕ) (b : Content) → bucket_in old dims k ≡ Some b → bucket_in new dims k ≡ Some b) → Leads old dims n bs last → Leads new dims n bs last
+kept_leads old new dims n last [] keeps l = l
+kept_leads old new dims n last (b ∷ bs) keeps l = (l.0, keeps n b l.1, kept_leads old new dims b.next last bs keeps l.2)
+
+kept_objects : (old new : PageMap) (dims n : ℕ) (objects : List (ℕ × Bounds)) → ((k : ℕ) (b : Content) → bucket_in old dims k ≡ Some b → bucket_in new dims k ≡ Some b) → HoldsObjects old dims n objects → HoldsObjects new dims n objects
+kept_objects old new dims n objects keeps h = record {
+  buckets = h.buckets;
+  linked = kept_leads old new dims n 0 h.buckets keeps h.linked;
+  filled = h.filled;
+  objects_are = h.objects_are;
+}
+
+pub kept_bucket : (old new : PageMap) (dims k : ℕ) (b : Content) → KeepsPages old new → bucket_in old dims k ≡ Some b → bucket_in new dims k ≡ Some b
+kept_bucket old new dims k b keeps e =
+    let at = bucket_page old dims k b e in
+    ap (option_and_then (bucket_at dims)) (keeps k at.page at.there) ∙ at.spelled
+
+-- a chain stays where its pages stay
+pub a_chain_stays : (old new : PageMap) (dims n : ℕ) (objects : List (ℕ × Bounds)) → KeepsPages old new → HoldsObjects old dims n objects → HoldsObjects new dims n objects
+a_chain_stays old new dims n objects keeps h = kept_objects old new dims n objects (λ k b e. kept_bucket old new dims k b keeps e) h
+
+-- each page of a chain is of the buckets' kind
+pub a_chain_has_bucket_pages : (large small : PageMap) (dims n : ℕ) (objects : List (ℕ × Bounds)) → ((k : ℕ) (page : List ℕ) → large k ≡ Some page → number_at 1 0 page ≡ 4 → small k ≡ Some page)
+    → HoldsObjects large dims n objects → HoldsObjects small dims n objects
+a_chain_has_bucket_pages large small dims n objects has h = kept_objects large small dims n objects
+    (λ k b e. let at = bucket_page large dims k b e in
+    ap (option_and_then (bucket_at dims)) (has k at.page at.there (spells dims at.page b at.spelled).head.kind) ∙ at.spelled) h
+
+-- ---- the objects of a chain
+
+-- they ascend by identifier
+pub objects_ascend : (pages : PageMap) (dims n : ℕ) (objects : List (ℕ × Bounds)) → HoldsObjects pages dims n objects → IsTrue (is_sorted nat_cmp objects)
+objects_ascend pages dims n objects h = subst IsAscending (sym h.objects_are) h.filled.ascending
+
+boxes_of : (pages : PageMap) (dims n last : ℕ) (bs : List Content) → ((k : ℕ) (page : List ℕ) → pages k ≡ Some page → (i : ℕ) → slice_index page i < 256) → Leads pages dims n bs last
+    → All (λ object. IsBox dims object.1) (objects_of bs)
+boxes_of pages dims n last [] bytes l = All-nil (λ (object : ℕ × Bounds). IsBox dims object.1)
+boxes_of pages dims n last (b ∷ bs) bytes l =
+    let at = bucket_page pages dims n b l.1 in
+    All-append (λ (object : ℕ × Bounds). IsBox dims object.1) b.entries (objects_of bs)
+    (spells_buckets dims at.page b (bytes n at.page at.there) (spells dims at.page b at.spelled)).boxes
+    (boxes_of pages dims b.next last bs bytes l.2)
+
+-- and, where pages are of bytes, each has a box
+pub objects_have_boxes : (pages : PageMap) (dims n : ℕ) (objects : List (ℕ × Bounds)) → ((k : ℕ) (page : List ℕ) → pages k ≡ Some page → (i : ℕ) → slice_index page i < 256)
+    → HoldsObjects pages dims n objects → All (λ object. IsBox dims object.1) objects
+objects_have_boxes pages dims n objects bytes h = let P : List (ℕ × Bounds) → Type 0 = λ os. All (λ object. IsBox dims object.1) os in
+    subst P (sym h.objects_are) (boxes_of pages dims n 0 h.buckets bytes h.linked)
