@@ -1,1 +1,3 @@
-pub mod Standing
+pub mod Catalog
+pub mod Image
+pub mod Laws

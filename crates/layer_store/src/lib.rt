@@ -1,9 +1,7 @@
-//! The spatial store: layers of boxes, their commands, and the theorem that each answers as a plain table does.
+//! X.
 #![tactic(auto)]
 
-mod store;
-#[cfg(test)]
-mod tests;
+mod catalog;
+mod image;
 
-pub use plain_table::{AnyBox, RawBox, RawPoint, Refusal};
-pub use store::Store;
+pub use image::{read_table, write_table};

@@ -3,6 +3,7 @@ ghost use Rattle.std.specs.Prelude.{◌≡◌};
 ghost use Rattle.page_file.specs.Fault.{fault_of, number_of};
 
 use block_device::DeviceError;
+use std::alloc::{AllocError, AllocFailed};
 use thiserror::Error;
 
 /// Why a call on a file of pages did not do what it was asked.
@@ -56,5 +57,25 @@ impl From<DeviceError> for Fault {
             DeviceError::Failed => Fault::Device,
             DeviceError::Memory => Fault::Memory,
         }
+    }
+}
+
+impl From<AllocError> for Fault {
+    ghost use Rattle.page_file.specs.declared.fault.Fault.TheVariants.{Memory};
+
+    ghost from_gives = { λ _ f. f ≡ Memory };
+
+    fn from(_: AllocError) -> Self {
+        Fault::Memory
+    }
+}
+
+impl<T: Drop> From<AllocFailed<T>> for Fault {
+    ghost use Rattle.page_file.specs.declared.fault.Fault.TheVariants.{Memory};
+
+    ghost from_gives = { λ _ f. f ≡ Memory };
+
+    fn from(_: AllocFailed<T>) -> Self {
+        Fault::Memory
     }
 }

@@ -13,5 +13,6 @@ mod tests;
 pub use boxes::{AnyBox, RawBox, RawPoint};
 pub use layer::Layer;
 pub use list_table::ListTable;
+pub use names::{is_dims, is_fanout, is_layer_name};
 pub use objects::Objects;
 pub use refusal::Refusal;

@@ -23,6 +23,31 @@ pub enum Objects<A: Allocator> {
     Three(Vec<(u64, BBox<3>), A>),
 }
 
+impl<A: Allocator> Objects<A> {
+    ghost use Rattle.std.specs.Prelude.{length};
+    ghost use Rattle.plain_table.specs.Objects.{axes_of, entries_of};
+
+    /// How many axes they have.
+    pub fn dims(&self) -> u8
+        ensures { result ≡ axes_of self.now }
+    {
+        match self {
+            Objects::Two(_) => 2,
+            Objects::Three(_) => 3,
+        }
+    }
+
+    /// How many there are.
+    pub fn count(&self) -> usize
+        ensures { result ≡ length (entries_of self.now) }
+    {
+        match self {
+            Objects::Two(objects) => objects.len(),
+            Objects::Three(objects) => objects.len(),
+        }
+    }
+}
+
 /// The box with these corners, and where an object with it is added. Else the table's refusal.
 pub fn admit<const D: usize>(
     objects: &[(u64, BBox<D>)],

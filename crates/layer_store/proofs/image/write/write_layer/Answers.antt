@@ -1,0 +1,19 @@
+use Rattle.std.proofs.Common.{rules, sym, subst}
+use Rattle.object_chain.specs.Chain.{HoldsObjects}
+use Rattle.page_file.specs.File.{pages}
+use Rattle.plain_table.specs.Objects.{entries_of}
+use Rattle.layer_store.proofs.ImageLemmas.{kept_chain, kept_count}
+use Rattle.layer_store.proofs.image.write.write_layer.Goals as goal
+
+pub returns-clause-holds : goal.returns-clause-holds
+returns-clause-holds g c = λ h.
+    let objects = entries_of c.args.layer.now.objects in
+    let ascend = c.args.layer.now.ascending in
+    record {
+      name = search rules;
+      dims = sym c.dims.ensures;
+      fanout = search rules;
+      count = kept_count objects _ ascend (search rules);
+      objects = kept_chain (pages c.write_objects.new.file) c.dims.result c.in_ok-directory.directory objects ascend
+          (subst (λ dims. HoldsObjects (pages c.write_objects.new.file) dims c.in_ok-directory.directory objects) (sym c.dims.ensures) (c.in_ok-directory.ensures.chain h));
+    }

@@ -1,0 +1,91 @@
+//! The checks of the catalog.
+
+ghost use Rattle.std.specs.Prelude.{◌≡◌, ◌≤◌, map as each, nat_le, length};
+ghost use Rattle.std.specs.Cmp.Lexicographic.{slice_cmp};
+ghost use Rattle.std.specs.List.{list_all};
+ghost use Rattle.std.specs.Ordering.{is_lt, nat_cmp};
+ghost use Rattle.catalog_page.specs.Layout.{record_of};
+ghost use Rattle.catalog_page.specs.declared.layer_record.LayerRecord.{LayerRecord as Layer};
+ghost use Rattle.layer_store.specs.Catalog as catalog;
+ghost use Rattle.plain_table.specs.Table.{most_objects};
+
+use catalog_page::LayerRecord;
+use plain_table::{is_dims, is_fanout, is_layer_name};
+
+// How many objects the layers of a store have at most together.
+const MOST_OBJECTS: u64 = 1 << 30;
+
+/// Whether the catalog is good in a file of which `next` is one more than the greatest page number given out.
+pub fn is_catalog(records: &[LayerRecord], next: u32) -> bool
+    ensures { result ≡ catalog.is_catalog next (each record_of records.now) }
+{
+    if !are_layer_records(records, next) {
+        return false;
+    }
+    names_ascend(records) && have_room(records)
+}
+
+fn are_layer_records(records: &[LayerRecord], next: u32) -> bool
+    ensures { result ≡ list_all (λ (layer : Layer). catalog.is_layer_record next (record_of layer)) records.now }
+{
+    records.iter().all(|record| is_layer_record(record, next))
+}
+
+fn is_layer_record(record: &LayerRecord, next: u32) -> bool
+    ensures { result ≡ catalog.is_layer_record next (record_of record.now) }
+{
+    is_layer_name(&record.name)
+        && is_dims(u64::from(record.dims))
+        && is_fanout(u64::from(record.fanout))
+        && has_no_tree(record)
+        && is_page_or_none(next, record.directory)
+}
+
+fn has_no_tree(record: &LayerRecord) -> bool
+    ensures { result ≡ catalog.has_no_tree (record_of record.now) }
+{
+    record.level == 0 && record.root == 0
+}
+
+fn is_page_or_none(next: u32, n: u32) -> bool
+    ensures { result ≡ catalog.is_page_or_none next n }
+{
+    n == 0 || n >= 3 && n < next
+}
+
+// Whether each name is below all those behind it.
+fn names_ascend(records: &[LayerRecord]) -> bool
+    ensures { result ≡ catalog.names_ascend (each record_of records.now) }
+{
+    let Some((first, rest)) = records.split_first() else {
+        return true;
+    };
+    let is_first = is_below_all(first, rest);
+    is_first && names_ascend(rest)
+}
+
+fn is_below_all(first: &LayerRecord, records: &[LayerRecord]) -> bool
+    ensures { result ≡ list_all (λ (layer : Layer). is_lt (slice_cmp nat_cmp first.now.name.items layer.name.items)) records.now }
+{
+    records.iter().all(|record| is_below(first, record))
+}
+
+fn is_below(first: &LayerRecord, second: &LayerRecord) -> bool
+    ensures { result ≡ is_lt (slice_cmp nat_cmp first.now.name.items second.now.name.items) }
+{
+    first.name.as_slice().cmp(second.name.as_slice()).is_lt()
+}
+
+// Whether the layers have at most as many objects together as a store may have.
+fn have_room(records: &[LayerRecord]) -> bool
+    ensures { result ≡ nat_le (catalog.objects_named (each record_of records.now)) most_objects }
+{
+    let mut total = 0;
+    for record in records {
+        if record.count > MOST_OBJECTS - total {
+            return false;
+        }
+        total += record.count;
+    }
+    true
+}
