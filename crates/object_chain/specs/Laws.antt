@@ -1,7 +1,6 @@
 -- What follows from a chain, for the crates that stand on chains.
-use Rattle.std.proofs.Common.{◌≡◌, ℕ, zero, suc, ◌<◌, ◌≤◌, ◌+◌, List, [], ◌∷◌, ◌++◌, length, drop, get_or, Option, Some, None, refl, sym, ◌∙◌, ap, arith, subst, inl, inr, ⊎_elim, ◌⊎◌}
+use Rattle.std.proofs.Common.{◌≡◌, ℕ, ◌<◌, List, [], ◌∷◌, ◌++◌, length, drop, Option, Some, None, refl, sym, ◌∙◌, ap, arith, subst, inl, inr, ⊎_elim, ◌⊎◌}
 use Rattle.std.specs.Prelude.{All, option_and_then, IsTrue, is_some, cond, slice_index}
-use Rattle.std.specs.List.{flat_map}
 use Rattle.std.specs.FinMap.{is_sorted}
 use Rattle.std.specs.Ordering.{nat_cmp}
 use Rattle.std.proofs.lemmas.List.Concat.{flat_map-append}
@@ -9,7 +8,7 @@ use Rattle.std.proofs.lemmas.List.{append_assoc, get_or_append_left, length-appe
 use Rattle.std.proofs.lemmas.List.Elements.{All-append, All-nil}
 use Rattle.box_math.specs.Bounds.{Bounds, IsBox}
 use Rattle.block_bytes.specs.Numbers.{number_at}
-use Rattle.bucket_page.specs.Layout.{Content, Spells, bucket_at}
+use Rattle.bucket_page.specs.Layout.{Content, bucket_at}
 use Rattle.bucket_page.proofs.Named.{spells_buckets}
 use Rattle.bucket_page.proofs.Reading.{spells}
 use Rattle.page_file.specs.declared.file.PageFile.{PageFile}

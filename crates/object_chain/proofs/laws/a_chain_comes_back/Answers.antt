@@ -1,10 +1,8 @@
 -- What was written is a chain of pages given out, so no other objects are read, and it breaks nowhere.
 use Rattle.std.proofs.Common.{◌≡◌, ◌⊎◌, ℕ, inl, ⊎_elim}
-use Rattle.std.specs.Prelude.{IfOk}
 use Rattle.std.proofs.lemmas.Result.{IfErr-weaker, IfOk-weaker}
 use Rattle.page_file.specs.Fault.{IsOfDevice}
 use Rattle.page_file.specs.File.{given}
-use Rattle.page_file.specs.declared.fault.Fault.{Fault}
 use Rattle.page_file.specs.declared.fault.Fault.TheVariants as fault
 use Rattle.object_chain.specs.Chain.{BreaksAt, HoldsObjects}
 use Rattle.object_chain.specs.Laws.{a_chain_holds_one_list, a_live_chain_is_given, a_whole_chain_breaks_nowhere}

@@ -1,5 +1,5 @@
 -- What is written so far, from the back, and what stays.
-use Rattle.std.proofs.Common.{◌≡◌, ℕ, ◌<◌, ◌≤◌, ◌⊎◌, length}
+use Rattle.std.proofs.Common.{◌≡◌, ◌<◌, ◌≤◌, ◌⊎◌, length}
 use Rattle.page_file.specs.File.{device_of, next_of, pages, IsPageMap, KeepsGate}
 use Rattle.object_chain.specs.Chain.{KeepsPages, new_pages}
 use Rattle.object_chain.proofs.Linking.{HasFewPages, IsLinked}
