@@ -1,5 +1,5 @@
 -- A chain that is written from its last page to its first.
-use Rattle.std.proofs.Common.{◌≡◌, ℕ, ◌<◌, ◌≤◌, ◌+◌, ◌-◌, List, [], ◌∷◌, ◌++◌, length, take, drop, Some, refl, sym, ◌∙◌, ap, arith, subst}
+use Rattle.std.proofs.Common.{◌≡◌, ℕ, ◌<◌, ◌≤◌, ◌+◌, ◌-◌, ◌*◌, List, [], ◌∷◌, ◌++◌, length, take, drop, Some, refl, sym, ◌∙◌, ap, arith, subst}
 use Rattle.std.specs.Prelude.{All, IsTrue}
 use Rattle.std.specs.FinMap.{is_sorted}
 use Rattle.std.specs.Ordering.{nat_cmp}
@@ -8,7 +8,7 @@ use Rattle.std.proofs.lemmas.List.Elements.{All-cons}
 use Rattle.box_math.specs.Bounds.{Bounds}
 use Rattle.bucket_page.specs.Layout.{Content}
 use Rattle.object_chain.specs.Ascending.{IsAscending}
-use Rattle.object_chain.specs.Chain.{HoldsObjects, KeepsPages, Leads, PageMap, bucket_in, objects_of}
+use Rattle.object_chain.specs.Chain.{HoldsObjects, KeepsPages, Leads, PageMap, bucket_in, objects_of, pages_for}
 use Rattle.object_chain.specs.Laws.{kept_bucket, kept_leads}
 
 abbrev pub AllFull : List Content → Type 0
@@ -59,3 +59,19 @@ all_linked pages dims n left objects linked none ascending =
       filled = record { full = linked.full; ascending = subst IsAscending (sym all) ascending };
       objects_are = sym all;
     }
+
+-- ---- how many pages
+
+-- with so many objects left there is a page for each hundred of the others, and one for the last few
+pub record HasFewPages (was now count left : ℕ) : Type 0 where
+  pub each : 100 * now + left ≤ 100 * was + count + 99
+  pub full : 0 < left → 100 * now + left ≤ 100 * was + count
+
+pub no_pages_yet : (was count : ℕ) → HasFewPages was was count count
+no_pages_yet was count = record { each = omega arith; full = λ some. omega arith }
+
+pub one_page_more : (was now after count left from : ℕ) → HasFewPages was now count left → after ≤ now + 1 → 0 < left → from ≡ left - 100 → HasFewPages was after count from
+one_page_more was now after count left from few more some is = record { each = omega (arith, few.full some); full = λ rest. omega (arith, few.full some) }
+
+pub all_pages : (was now count left : ℕ) → HasFewPages was now count left → left ≡ 0 → now ≤ was + pages_for count
+all_pages was now count left few none = omega (arith, few.each)

@@ -1,5 +1,5 @@
 -- Objects in the order of their identifiers, appended and cut.
-use Rattle.std.proofs.Common.{◌≡◌, ◌↔◌, ℕ, zero, suc, ◌+◌, ◌<◌, ◌&&◌, Bool, true, false, nat_lt, List, [], ◌∷◌, ◌++◌, length, get_or, refl, sym, ◌∙◌, ap, arith}
+use Rattle.std.proofs.Common.{◌≡◌, ◌↔◌, ℕ, zero, suc, ◌+◌, ◌&&◌, Bool, true, false, nat_lt, List, [], ◌∷◌, ◌++◌, length, get_or, refl, sym, ◌∙◌, ap, arith}
 use Rattle.std.proofs.lemmas.Bool.Decides.{nat_tests}
 use Rattle.std.specs.Prelude.{IsTrue}
 use Rattle.std.specs.FinMap.{is_sorted}
@@ -71,8 +71,7 @@ below_last n (x ∷ xs) e h = below_last n xs e (and_right (is_lt (nat_cmp n x.0
 pub above_last : (xs : List (ℕ × Bounds)) (i : ℕ) (x e : ℕ × Bounds) → i + 1 ≡ length xs → x ≡ get_or xs i x → IsAscending xs → IsTrue (nat_lt x.0 e.0) ↔ IsAscending (xs ++ e ∷ [])
 above_last [] i x e size is h = absurd (omega (arith, size))
 above_last (y ∷ []) zero x e size is h =
-    let last : is_lt (nat_cmp y.0 e.0) ≡ nat_lt x.0 e.0 = lt_test y.0 e.0 ∙ ap (λ (o : ℕ × Bounds). nat_lt o.0 e.0) (sym is) in
-    (
+    let last : is_lt (nat_cmp y.0 e.0) ≡ nat_lt x.0 e.0 = lt_test y.0 e.0 ∙ ap (λ (o : ℕ × Bounds). nat_lt o.0 e.0) (sym is) in (
       λ lt. and_both (is_lt (nat_cmp y.0 e.0) && true) (true && true) (and_both (is_lt (nat_cmp y.0 e.0)) true (last ∙ lt) refl) refl,
       λ all. sym last ∙ and_left (is_lt (nat_cmp y.0 e.0)) true (and_left (is_lt (nat_cmp y.0 e.0) && true) (true && true) all),
     )
@@ -81,12 +80,11 @@ above_last (y ∷ z ∷ zs) zero x e size is h = absurd (omega (arith, size))
 above_last (y ∷ z ∷ zs) (suc i) x e size is h =
     let below : below_all nat_cmp y.0 (z ∷ zs) ≡ true = and_left (below_all nat_cmp y.0 (z ∷ zs)) (is_sorted nat_cmp (z ∷ zs)) h in
     let rest : IsAscending (z ∷ zs) = and_right (below_all nat_cmp y.0 (z ∷ zs)) (is_sorted nat_cmp (z ∷ zs)) h in
-    let same = above_last (z ∷ zs) i x e (omega (arith, size)) is rest in
-    (
+    let same = above_last (z ∷ zs) i x e (omega (arith, size)) is rest in (
       λ lt.
-      let more = same.0 lt in
-      let above : is_lt (nat_cmp z.0 e.0) ≡ true = below_last z.0 zs e (and_left (below_all nat_cmp z.0 (zs ++ e ∷ [])) (is_sorted nat_cmp (zs ++ e ∷ [])) more) in
-      let first : is_lt (nat_cmp y.0 e.0) ≡ true = lt_chain y.0 z.0 e.0 (and_left (is_lt (nat_cmp y.0 z.0)) (below_all nat_cmp y.0 zs) below) above in
-      and_both (below_all nat_cmp y.0 (z ∷ zs ++ e ∷ [])) (is_sorted nat_cmp (z ∷ zs ++ e ∷ [])) (below_push y.0 (z ∷ zs) e below first) more,
+          let more = same.0 lt in
+          let above : is_lt (nat_cmp z.0 e.0) ≡ true = below_last z.0 zs e (and_left (below_all nat_cmp z.0 (zs ++ e ∷ [])) (is_sorted nat_cmp (zs ++ e ∷ [])) more) in
+          let first : is_lt (nat_cmp y.0 e.0) ≡ true = lt_chain y.0 z.0 e.0 (and_left (is_lt (nat_cmp y.0 z.0)) (below_all nat_cmp y.0 zs) below) above in
+          and_both (below_all nat_cmp y.0 (z ∷ zs ++ e ∷ [])) (is_sorted nat_cmp (z ∷ zs ++ e ∷ [])) (below_push y.0 (z ∷ zs) e below first) more,
       λ all. same.1 (and_right (below_all nat_cmp y.0 (z ∷ zs ++ e ∷ [])) (is_sorted nat_cmp (z ∷ zs ++ e ∷ [])) all),
     )

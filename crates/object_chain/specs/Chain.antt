@@ -1,6 +1,6 @@
 -- Chains of objects: buckets in pages, each naming the next, all but the first full, and their identifiers
 -- ascending (our interim format, docs/FORMAT.md, "Chains of objects").
-use Rattle.std.specs.Prelude.{◌≡◌, ℕ, ◌<◌, List, [], ◌∷◌, ◌++◌, length, drop, All, Option, Some, option_and_then, IsTrue}
+use Rattle.std.specs.Prelude.{◌≡◌, ℕ, ◌+◌, ◌/◌, ◌<◌, List, [], ◌∷◌, ◌++◌, length, drop, All, Option, Some, None, is_some, option_and_then, if◌then◌else◌, IsTrue}
 use Rattle.std.specs.List.{flat_map}
 use Rattle.std.specs.FinMap.{is_sorted}
 use Rattle.std.specs.Ordering.{nat_cmp}
@@ -48,3 +48,11 @@ pub record BreaksAt (pages : PageMap) (dims n bad : ℕ) : Type 0 where
 -- pages that were there stay as they were
 abbrev pub KeepsPages : PageMap → PageMap → Type 0
 KeepsPages old new = (k : ℕ) (page : List ℕ) → old k ≡ Some page → new k ≡ Some page
+
+-- the pages of a new map under numbers that no page had in the old one
+abbrev pub new_pages : PageMap → PageMap → PageMap
+new_pages old new k = if is_some (old k) then None else new k
+
+-- how many pages a chain of so many objects has
+abbrev pub pages_for : ℕ → ℕ
+pages_for count = (count + 99) / 100

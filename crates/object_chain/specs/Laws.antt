@@ -1,7 +1,6 @@
 -- What follows from a chain, for the crates that stand on chains.
-use Rattle.std.proofs.Common.{◌≡◌, ℕ, zero, suc, ◌<◌, ◌≤◌, ◌+◌, List, [], ◌∷◌, ◌++◌, length, drop, get_or, Option, Some, None, refl, sym, ◌∙◌, ap, arith, subst}
-use Rattle.std.specs.Prelude.{All, option_and_then, IsTrue, slice_index}
-use Rattle.std.specs.List.{flat_map}
+use Rattle.std.proofs.Common.{◌≡◌, ℕ, ◌<◌, List, [], ◌∷◌, ◌++◌, length, drop, Option, Some, None, refl, sym, ◌∙◌, ap, arith, subst, inl, inr, ⊎_elim, ◌⊎◌}
+use Rattle.std.specs.Prelude.{All, option_and_then, IsTrue, is_some, cond, slice_index}
 use Rattle.std.specs.FinMap.{is_sorted}
 use Rattle.std.specs.Ordering.{nat_cmp}
 use Rattle.std.proofs.lemmas.List.Concat.{flat_map-append}
@@ -9,11 +8,14 @@ use Rattle.std.proofs.lemmas.List.{append_assoc, get_or_append_left, length-appe
 use Rattle.std.proofs.lemmas.List.Elements.{All-append, All-nil}
 use Rattle.box_math.specs.Bounds.{Bounds, IsBox}
 use Rattle.block_bytes.specs.Numbers.{number_at}
-use Rattle.bucket_page.specs.Layout.{Content, Spells, bucket_at}
+use Rattle.bucket_page.specs.Layout.{Content, bucket_at}
 use Rattle.bucket_page.proofs.Named.{spells_buckets}
 use Rattle.bucket_page.proofs.Reading.{spells}
+use Rattle.page_file.specs.declared.file.PageFile.{PageFile}
+use Rattle.page_file.specs.File.{IsPageMap, given, pages}
+use Rattle.page_file.specs.Laws.{a_live_page_is_given, a_page_in_use_is_live}
 use Rattle.object_chain.specs.Ascending.{IsAscending, ascending_front}
-use Rattle.object_chain.specs.Chain.{BreaksAt, HoldsObjects, IsFilled, KeepsPages, Leads, PageMap, bucket_in, objects_of}
+use Rattle.object_chain.specs.Chain.{BreaksAt, HoldsObjects, IsFilled, KeepsPages, Leads, PageMap, bucket_in, new_pages, objects_of}
 
 -- ---- the pages that lead from one to another
 
@@ -81,12 +83,41 @@ filled_front xs ys filled = record {
   ascending = ascending_front (objects_of xs) (objects_of ys) (subst IsAscending (flat_map-append (λ (b : Content). b.entries) xs ys) filled.ascending);
 }
 
+-- two fronts of a chain end at one page, or one of them goes on behind the other
+one_end : (pages : PageMap) (dims n p q : ℕ) (xs ys : List Content) → 0 < p → 0 < q → Leads pages dims n xs p → Leads pages dims n ys q → (p ≡ q) ⊎ (HasNext pages dims ys xs p ⊎ HasNext pages dims xs ys q)
+one_end pages dims n p q [] [] page other a b = inl (sym a ∙ b)
+one_end pages dims n p q [] (y ∷ ys) page other a b = inr (inl (record { bucket = y; behind = ys; there = ap (bucket_in pages dims) (sym a) ∙ b.1; whole = refl }))
+one_end pages dims n p q (x ∷ xs) [] page other a b = inr (inr (record { bucket = x; behind = xs; there = ap (bucket_in pages dims) (sym b) ∙ a.1; whole = refl }))
+one_end pages dims n p q (x ∷ xs) (y ∷ ys) page other a b =
+    let same : Some x ≡ Some y = sym a.1 ∙ b.1 in
+    let is : x ≡ y = cc in
+    let rest : Leads pages dims x.next ys q = subst (λ (c : Content). Leads pages dims c.next ys q) (sym is) b.2 in
+    ⊎_elim (λ (e : p ≡ q). inl e)
+    (λ more. inr (⊎_elim
+    (λ (m : HasNext pages dims ys xs p). inl (record { bucket = m.bucket; behind = m.behind; there = m.there; whole = ap (λ (c : Content). c ∷ ys) (sym is) ∙ ap (λ (cs : List Content). x ∷ cs) m.whole }))
+    (λ (m : HasNext pages dims xs ys q). inr (record { bucket = m.bucket; behind = m.behind; there = m.there; whole = ap (λ (cs : List Content). x ∷ cs) m.whole ∙ ap (λ (c : Content). c ∷ (ys ++ m.bucket ∷ m.behind)) is }))
+    more))
+    (one_end pages dims x.next p q xs ys page other a.2 rest)
+
+-- where a front of a chain breaks, no longer front is filled
+no_longer : (pages : PageMap) (dims n bad : ℕ) (all : List Content) (broken : BreaksAt pages dims n bad) → IsFilled all → HasNext pages dims all broken.before bad → ⊥
+no_longer pages dims n bad all broken filled more =
+    let split : all ≡ (broken.before ++ more.bucket ∷ []) ++ more.behind = more.whole ∙ sym (append_assoc broken.before (more.bucket ∷ []) more.behind) in
+    broken.breaks more.bucket more.there (filled_front (broken.before ++ more.bucket ∷ []) more.behind (subst IsFilled split filled))
+
 -- a whole chain breaks nowhere
 pub a_whole_chain_breaks_nowhere : (pages : PageMap) (dims n bad : ℕ) (objects : List (ℕ × Bounds)) → HoldsObjects pages dims n objects → BreaksAt pages dims n bad → ⊥
 a_whole_chain_breaks_nowhere pages dims n bad objects h broken =
-    let more = goes_on pages dims n bad h.buckets broken.before broken.is_page h.linked broken.linked in
-    let split : h.buckets ≡ (broken.before ++ more.bucket ∷ []) ++ more.behind = more.whole ∙ sym (append_assoc broken.before (more.bucket ∷ []) more.behind) in
-    broken.breaks more.bucket more.there (filled_front (broken.before ++ more.bucket ∷ []) more.behind (subst IsFilled split h.filled))
+    no_longer pages dims n bad h.buckets broken h.filled (goes_on pages dims n bad h.buckets broken.before broken.is_page h.linked broken.linked)
+
+-- a chain breaks at one page at most
+pub a_chain_breaks_at_one_page : (pages : PageMap) (dims n a b : ℕ) → BreaksAt pages dims n a → BreaksAt pages dims n b → a ≡ b
+a_chain_breaks_at_one_page pages dims n a b x y = ⊎_elim (λ (e : a ≡ b). e)
+    (λ more. absurd (⊎_elim
+    (λ (m : HasNext pages dims y.before x.before a). no_longer pages dims n a y.before x y.filled m)
+    (λ (m : HasNext pages dims x.before y.before b). no_longer pages dims n b x.before y x.filled m)
+    more))
+    (one_end pages dims n a b x.before y.before x.is_page y.is_page x.linked y.linked)
 
 -- ---- chains in other maps
 
@@ -124,12 +155,31 @@ kept_bucket old new dims k b keeps e =
 pub a_chain_stays : (old new : PageMap) (dims n : ℕ) (objects : List (ℕ × Bounds)) → KeepsPages old new → HoldsObjects old dims n objects → HoldsObjects new dims n objects
 a_chain_stays old new dims n objects keeps h = kept_objects old new dims n objects (λ k b e. kept_bucket old new dims k b keeps e) h
 
+-- new pages stay in the map that they came into
+pub new_pages_stay : (old new : PageMap) → KeepsPages (new_pages old new) new
+new_pages_stay old new k page e = case (old k) e
+  where
+    case : (o : Option (List ℕ)) → cond (is_some o) None (new k) ≡ Some page → new k ≡ Some page
+    case None e = e
+    case (Some was) e = absurd (cc)
+
 -- each page of a chain is of the buckets' kind
 pub a_chain_has_bucket_pages : (large small : PageMap) (dims n : ℕ) (objects : List (ℕ × Bounds)) → ((k : ℕ) (page : List ℕ) → large k ≡ Some page → number_at 1 0 page ≡ 4 → small k ≡ Some page)
     → HoldsObjects large dims n objects → HoldsObjects small dims n objects
 a_chain_has_bucket_pages large small dims n objects has h = kept_objects large small dims n objects
     (λ k b e. let at = bucket_page large dims k b e in
     ap (option_and_then (bucket_at dims)) (has k at.page at.there (spells dims at.page b at.spelled).head.kind) ∙ at.spelled) h
+
+-- ---- chains in a file
+
+-- a chain of live pages is one of pages given out
+pub a_live_chain_is_given : {D : Type 0} {m : _} (file : PageFile D m) (dims n : ℕ) (objects : List (ℕ × Bounds)) → HoldsObjects (pages file) dims n objects → HoldsObjects (given file) dims n objects
+a_live_chain_is_given file dims n objects h = a_chain_stays (pages file) (given file) dims n objects (λ k page e. a_live_page_is_given file k page e) h
+
+-- and one of pages given out is one of live pages
+pub a_given_chain_is_live : {D : Type 0} {m : _} (file : PageFile D m) (dims n : ℕ) (objects : List (ℕ × Bounds)) → IsPageMap file → HoldsObjects (given file) dims n objects → HoldsObjects (pages file) dims n objects
+a_given_chain_is_live file dims n objects map h =
+    a_chain_has_bucket_pages (given file) (pages file) dims n objects (λ k page e kind. a_page_in_use_is_live file k page map e (λ free. omega (arith, kind, free))) h
 
 -- ---- the objects of a chain
 

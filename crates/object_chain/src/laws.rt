@@ -1,14 +1,26 @@
-//! What chains are, as laws of all maps of pages: each law is the contract of a function that does nothing.
+//! What chains are, as laws of all maps of pages: each law is the contract of a function that does nothing,
+//! but for the last, which writes and reads.
 
-ghost use Rattle.std.specs.Prelude.{◌≡◌, ℕ, ◌<◌, List, [], Some, All, IsTrue, slice_index};
+ghost use Rattle.std.specs.Prelude.{◌≡◌, ◌⊎◌, ℕ, ◌<◌, List, [], Some, All, IsTrue, IfOk, IfErr, slice_index};
 ghost use Rattle.std.specs.FinMap.{is_sorted};
 ghost use Rattle.std.specs.Ordering.{nat_cmp};
 ghost use Rattle.block_bytes.specs.Numbers.{number_at};
-ghost use Rattle.box_math.specs.Bounds.{Bounds, IsBox};
-ghost use Rattle.object_chain.specs.Chain.{PageMap, HoldsObjects, BreaksAt, KeepsPages};
+ghost use Rattle.box_math.specs.Bounds.{Bounds, IsBox, IsDims};
+ghost use Rattle.page_file.specs.Fault.{IsOfDevice};
+ghost use Rattle.page_file.specs.File.{IsPageMap, gate_of, given, pages};
+ghost use Rattle.page_file.specs.declared.fault.Fault.TheVariants as fault;
+ghost use Rattle.page_file.specs.declared.file.PageFile.{PageFile};
+ghost use Rattle.page_file.specs.declared.gate.Gate.TheVariants.{Open};
+ghost use Rattle.object_chain.specs.Chain.{PageMap, HoldsObjects, BreaksAt, KeepsPages, new_pages};
+
+use crate::reading::read_chain;
+use crate::writing::write_chain;
+use block_device::BlockDevice;
+use box_math::BBox;
+use page_file::{Fault, PageFile};
+use std::alloc::Allocator;
 
 /// A chain holds one list of objects.
-#[tactic(auto, using(crate::specs::Laws::a_chain_holds_one_list))]
 pub fn a_chain_holds_one_list()
     ensures { (pages : PageMap) (dims n : ℕ) (a b : List (ℕ × Bounds)) → HoldsObjects pages dims n a → HoldsObjects pages dims n b → a ≡ b }
 {}
@@ -20,9 +32,13 @@ pub fn page_0_holds_nothing()
 {}
 
 /// A whole chain breaks nowhere.
-#[tactic(auto, using(crate::specs::Laws::a_whole_chain_breaks_nowhere))]
 pub fn a_whole_chain_breaks_nowhere()
     ensures { (pages : PageMap) (dims n bad : ℕ) (objects : List (ℕ × Bounds)) → HoldsObjects pages dims n objects → BreaksAt pages dims n bad → ⊥ }
+{}
+
+/// A chain breaks at one page at most, so it is known which page is answered as damaged.
+pub fn a_chain_breaks_at_one_page()
+    ensures { (pages : PageMap) (dims n a b : ℕ) → BreaksAt pages dims n a → BreaksAt pages dims n b → a ≡ b }
 {}
 
 /// A chain stays where its pages stay.
@@ -40,6 +56,19 @@ pub fn a_chain_has_bucket_pages()
         HoldsObjects large dims n objects → HoldsObjects small dims n objects }
 {}
 
+/// A chain in new pages is one of the map that they came into.
+#[tactic(auto, using(crate::specs::Laws::new_pages_stay))]
+pub fn new_pages_stay()
+    ensures { (old new : PageMap) → KeepsPages (new_pages old new) new }
+{}
+
+/// A chain of live pages is one of pages given out, and in a sound map the other way round.
+#[tactic(auto, using(crate::specs::Laws::a_live_chain_is_given, crate::specs::Laws::a_given_chain_is_live))]
+pub fn a_live_chain_is_given<B: BlockDevice>()
+    ensures given { (file : PageFile B ⟦<B as BlockDevice>⟧) (dims n : ℕ) (objects : List (ℕ × Bounds)) → HoldsObjects (pages file) dims n objects → HoldsObjects (given file) dims n objects }
+    ensures live { (file : PageFile B ⟦<B as BlockDevice>⟧) (dims n : ℕ) (objects : List (ℕ × Bounds)) → IsPageMap file → HoldsObjects (given file) dims n objects → HoldsObjects (pages file) dims n objects }
+{}
+
 /// The objects of a chain ascend by identifier and, where pages are of bytes, have boxes of 32-bit
 /// coordinates.
 #[tactic(auto, using(crate::specs::Laws::objects_ascend, crate::specs::Laws::objects_have_boxes))]
@@ -49,3 +78,19 @@ pub fn objects_ascend_and_have_boxes()
         ((k : ℕ) (page : List ℕ) → pages k ≡ Some page → (i : ℕ) → slice_index page i < 256) →
         HoldsObjects pages dims n objects → All (λ object. IsBox dims object.1) objects }
 {}
+
+/// Objects that are written come back as they were.
+pub fn a_chain_comes_back<const D: usize, B: BlockDevice, A: Allocator + Copy>(
+    alloc: A,
+    file: &mut PageFile<B>,
+    objects: &[(u64, BBox<D>)],
+) -> Result<Vec<(u64, BBox<D>), A>, Fault>
+    requires dims { IsDims D }
+    requires ascending { IsTrue (is_sorted nat_cmp objects.now) }
+    requires open { gate_of file.old ≡ Open }
+    ensures same { IsPageMap file.old → IfOk result (λ rows. rows.items ≡ objects.now) }
+    ensures faults { IsPageMap file.old → IfErr result (λ f. IsOfDevice f ⊎ (f ≡ fault.NoPages)) }
+{
+    let first = write_chain(file, objects)?;
+    read_chain(alloc, file, first)
+}

@@ -3,8 +3,8 @@
 
 pub mod laws;
 mod reading;
-//#[cfg(test)]
-//mod tests;
+#[cfg(test)]
+mod tests;
 mod writing;
 
 pub use reading::read_chain;

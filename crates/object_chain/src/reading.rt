@@ -30,8 +30,8 @@ fn is_above<const D: usize>(objects: &[(u64, BBox<D>)], id: u64) -> bool
     }
 }
 
-// Appends objects to the rows, as long as the identifiers ascend. Else page n is damaged.
-fn append<const D: usize, A: Allocator + Copy>(
+/// Appends objects to the rows, as long as the identifiers ascend. Else page n is damaged.
+pub(crate) fn append<const D: usize, A: Allocator + Copy>(
     rows: Vec<(u64, BBox<D>), A>,
     objects: &[(u64, BBox<D>)],
     n: u32,

@@ -1,6 +1,6 @@
 //! Objects written as a chain, from the last page to the first.
 
-ghost use Rattle.std.specs.Prelude.{◌≡◌, ℕ, ◌<◌, ◌≤◌, ◌^◌, ◌⊎◌, Some, length, IsTrue, IsErrOf, IfOk, IfErr};
+ghost use Rattle.std.specs.Prelude.{◌≡◌, ℕ, ◌<◌, ◌≤◌, ◌+◌, ◌^◌, ◌⊎◌, Some, None, length, IsTrue, IsErrOf, IfOk, IfErr};
 ghost use Rattle.std.specs.FinMap.{is_sorted};
 ghost use Rattle.std.specs.Ordering.{nat_cmp};
 ghost use Rattle.box_math.specs.Bounds.{IsDims};
@@ -9,7 +9,7 @@ ghost use Rattle.page_file.specs.Fault.{HasCause, IsOfDevice, IsDamage};
 ghost use Rattle.page_file.specs.File.{device_of, gate_of, next_of, pages, IsPageMap, KeepsGate};
 ghost use Rattle.page_file.specs.declared.fault.Fault.TheVariants as fault;
 ghost use Rattle.page_file.specs.declared.gate.Gate.TheVariants.{Open};
-ghost use Rattle.object_chain.specs.Chain.{HoldsObjects, KeepsPages, bucket_in};
+ghost use Rattle.object_chain.specs.Chain.{HoldsObjects, KeepsPages, bucket_in, new_pages, pages_for};
 
 use crate::FULL;
 use arrayvec::ArrayVec;
@@ -47,9 +47,10 @@ fn write_bucket<const D: usize, B: BlockDevice>(
     ensures gate { KeepsGate file.old file.new }
     ensures written { IsPageMap file.old → IfOk result (λ n. bucket_in (pages file.new) D n ≡ Some (record { next = next; entries = objects.now })) }
     ensures number { IfOk result (λ n. (3 ≤ n) × (n < next_of file.new)) }
+    ensures fresh { IsPageMap file.old → IfOk result (λ n. pages file.old n ≡ None) }
     ensures others { IsPageMap file.old → KeepsPages (pages file.old) (pages file.new) }
     ensures sound { IsPageMap file.old → IsPageMap file.new }
-    ensures next { next_of file.old ≤ next_of file.new }
+    ensures next { (next_of file.old ≤ next_of file.new) × (next_of file.new ≤ next_of file.old + 1) }
     ensures faults { IsPageMap file.old → IfErr result (λ f. IsOfDevice f ⊎ (f ≡ fault.NoPages)) }
     ensures other_faults { IfErr result (λ f. IsOfDevice f ⊎ ((f ≡ fault.NoPages) ⊎ IsDamage f)) }
     ensures no_pages { IsErrOf result fault.NoPages → next_of file.new ≡ 2 ^ 31 }
@@ -61,7 +62,7 @@ fn write_bucket<const D: usize, B: BlockDevice>(
     Ok(n)
 }
 
-#[tactic(auto, using(page_file::specs::Laws::no_call_keeps_the_gate, page_file::specs::Laws::the_gate_is_kept_in_turn, crate::proofs::Frames::keeps_in_turn, crate::proofs::Linking::nothing_linked, crate::proofs::Linking::one_more_linked, crate::proofs::Linking::all_linked))]
+#[tactic(auto, using(page_file::specs::Laws::no_call_keeps_the_gate, page_file::specs::Laws::the_gate_is_kept_in_turn, crate::proofs::Linking::nothing_linked, crate::proofs::Linking::no_pages_yet, crate::proofs::Linking::all_pages))]
 /// Writes the objects into newly allocated pages, and answers the first of them, or 0 for no objects. The gate
 /// has to be open.
 ///
@@ -77,10 +78,12 @@ pub fn write_chain<const D: usize, B: BlockDevice>(
     requires open { gate_of file.old ≡ Open }
     ensures gate { KeepsGate file.old file.new }
     ensures chain { IsPageMap file.old → IfOk result (λ n. HoldsObjects (pages file.new) D n objects.now) }
+    ensures fresh { IsPageMap file.old → IfOk result (λ n. HoldsObjects (new_pages (pages file.old) (pages file.new)) D n objects.now) }
     ensures first { IfOk result (λ n. (n ≡ 0) ⊎ ((3 ≤ n) × (n < next_of file.new))) }
     ensures others { IsPageMap file.old → KeepsPages (pages file.old) (pages file.new) }
     ensures sound { IsPageMap file.old → IsPageMap file.new }
     ensures next { next_of file.old ≤ next_of file.new }
+    ensures few { next_of file.new ≤ next_of file.old + pages_for (length objects.now) }
     ensures faults { IsPageMap file.old → IfErr result (λ f. IsOfDevice f ⊎ (f ≡ fault.NoPages)) }
     ensures other_faults { IfErr result (λ f. IsOfDevice f ⊎ ((f ≡ fault.NoPages) ⊎ IsDamage f)) }
     ensures no_pages { IsErrOf result fault.NoPages → next_of file.new ≡ 2 ^ 31 }

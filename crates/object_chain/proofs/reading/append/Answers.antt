@@ -1,5 +1,5 @@
 -- Each object is appended where it is above the one before.
-use Rattle.std.proofs.Common.{◌≡◌, ◌++◌, ◌∷◌, [], ℕ, List, true, false, refl, sym, ◌∙◌, ap, subst, arith, inr, rules}
+use Rattle.std.proofs.Common.{◌≡◌, ◌++◌, ◌∷◌, [], ℕ, List, true, refl, sym, ◌∙◌, ap, subst, arith, inr}
 use Rattle.std.proofs.lemmas.Grind.{common_steps}
 use Rattle.box_math.specs.Bounds.{Bounds}
 use Rattle.object_chain.specs.Ascending.{IsAscending}

@@ -1,5 +1,5 @@
 -- The last of the objects tells.
-use Rattle.std.proofs.Common.{◌≡◌, ◌<◌, ◌-◌, ℕ, length, get_or, refl, arith, rules}
+use Rattle.std.proofs.Common.{◌<◌, ◌-◌, length, arith}
 use Rattle.std.proofs.lemmas.Bool.Decides.{nat_tests}
 use Rattle.object_chain.specs.Ascending.{above_last}
 use Rattle.object_chain.proofs.reading.is_above.Goals as goal

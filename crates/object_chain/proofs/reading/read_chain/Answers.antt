@@ -1,6 +1,5 @@
 -- Each page goes on behind those before it, or the chain breaks there.
-use Rattle.std.proofs.Common.{◌≡◌, ℕ, ◌<◌, ◌≤◌, ◌⊎◌, Some, None, Err, refl, sym, ◌∙◌, arith, inl, inr, ⊎_elim}
-use Rattle.std.specs.Prelude.{length, IfErr}
+use Rattle.std.proofs.Common.{◌≡◌, ℕ, ◌⊎◌, Some, None, Err, sym, ◌∙◌, arith, inl, inr, ⊎_elim}
 use Rattle.page_file.specs.Fault.{IsOfDevice}
 use Rattle.page_file.specs.File.{IsHonest, blocks_of, given, next_of}
 use Rattle.page_file.specs.Laws.{the_gate_is_kept_in_turn, the_map_is_kept_in_turn}
@@ -21,8 +20,12 @@ returns-in_err-read-clause-damaged g c = λ honest.
     (⊎_elim
     (λ (of_device : IsOfDevice f). inl of_device)
     (λ (outside : (f ≡ fault.Damaged c.loop-next.next) × (given c.loop-next.file c.loop-next.next ≡ None)).
-    inr (c.loop-next.next, outside.0, breaks_outside pages g.row.D c.args.first c.loop-next.next c.loop-next.rows.items (before.read honest) (omega (arith, c.loop-next-test.true))
-    (sym (same_given (blocks_of c.args.file.now) (blocks_of c.loop-next.file) (next_of c.args.file.now) (next_of c.loop-next.file) c.loop-next.next (before.blocks honest) before.map.next) ∙ outside.1)))
+    inr (
+      c.loop-next.next,
+      outside.0,
+      breaks_outside pages g.row.D c.args.first c.loop-next.next c.loop-next.rows.items (before.read honest) (omega (arith, c.loop-next-test.true))
+          (sym (same_given (blocks_of c.args.file.now) (blocks_of c.loop-next.file) (next_of c.args.file.now) (next_of c.loop-next.file) c.loop-next.next (before.blocks honest) before.map.next) ∙ outside.1),
+    ))
     (refused_page (blocks_of c.loop-next.file) (next_of c.loop-next.file) c.loop-next.next f (c.in_err-read.ensures.faults here)
     (λ outside. let is : Err f ≡ Err (fault.Damaged c.loop-next.next) = (c.in_err-read.ensures.outside outside).0 in cc)))
 

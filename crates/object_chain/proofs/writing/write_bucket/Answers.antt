@@ -1,5 +1,5 @@
 -- The page that is written is one that was not live, and spells the bucket.
-use Rattle.std.proofs.Common.{◌≡◌, ℕ, List, Some, refl, ◌∙◌, ap}
+use Rattle.std.proofs.Common.{◌∙◌, ap}
 use Rattle.std.specs.Prelude.{is_some, option_and_then}
 use Rattle.bucket_page.specs.Layout.{Content, bucket_at}
 use Rattle.bucket_page.proofs.Reading.{spelled}
