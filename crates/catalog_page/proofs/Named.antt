@@ -1,11 +1,11 @@
 -- The laws of what pages spell: which bytes are read, and what layers are.
-use Rattle.std.proofs.Common.{◌≡◌, ℕ, ◌+◌, ◌<◌, ◌≤◌, ◌&&◌, ◌==◌, nat_le, List, [], length, get_or, All, Some, None, refl, sym, ◌∙◌, ap, subst, arith, lit≤, inl, inr, if◌then◌else◌}
+use Rattle.std.proofs.Common.{◌≡◌, ℕ, ◌<◌, ◌&&◌, ◌==◌, nat_le, List, [], length, get_or, Some, None, sym, ◌∙◌, ap, subst, arith, inl, inr, if◌then◌else◌}
 use Rattle.std.specs.List.{list_all}
 use Rattle.std.proofs.lemmas.List.FromFn.{fill_by_all}
 use Rattle.std.proofs.lemmas.List.Elements.{All-nil}
 use Rattle.block_bytes.specs.Numbers.{number_at, zeros, put_number}
 use Rattle.block_bytes.specs.Laws.{number_at-put, number_at-put_other, number_at-zeros, length-zeros}
-use Rattle.catalog_page.specs.Layout.{Record, HasName, IsRecord, has_name, record_place, record_at, first_records, Spells, catalog_test, records_at}
+use Rattle.catalog_page.specs.Layout.{Record, HasName, IsRecord, has_name, record_place, record_at, first_records, catalog_test, records_at}
 use Rattle.catalog_page.specs.PageLaws.{ReadsWhatIsSpelled, ReadsNamedBytes, SpellsCatalogs, BeginsEmpty}
 use Rattle.catalog_page.proofs.Places.{record_same, record_fits}
 use Rattle.catalog_page.proofs.Reading.{spells, spelled, first_records-none, length-first_records, get_or-first_records}

@@ -1,5 +1,5 @@
 -- Names and records: read from their own bytes alone.
-use Rattle.std.proofs.Common.{◌≡◌, ◌⊎◌, ℕ, ◌+◌, ◌^◌, ◌<◌, ◌≤◌, ◌↔◌, List, [], ◌∷◌, ◌++◌, length, get_or, slice_index, All, refl, sym, ◌∙◌, ap, subst, arith, inl, inr, ⊎_elim}
+use Rattle.std.proofs.Common.{◌≡◌, ◌⊎◌, ℕ, ◌+◌, ◌<◌, ◌≤◌, ◌↔◌, List, [], ◌∷◌, ◌++◌, length, get_or, slice_index, refl, sym, ◌∙◌, ap, arith, inl, inr, ⊎_elim}
 use Rattle.std.proofs.lemmas.List.FromFn.{map-range_with_len_more, length-map-range_with_len, get_or-map-range_with_len, fill_by_all}
 use Rattle.block_bytes.specs.Numbers.{number_at, IsApart}
 use Rattle.block_bytes.specs.Laws.{number_at-same, number_at-lt}
@@ -39,7 +39,7 @@ bytes_at-same n at a b same = sym (bytes_are n at b (bytes_at n at a) (length-by
 same_record : (name name' : List ℕ) (dims dims' fanout fanout' level level' root root' directory directory' count count' : ℕ)
     → name ≡ name' → dims ≡ dims' → fanout ≡ fanout' → level ≡ level' → root ≡ root' → directory ≡ directory' → count ≡ count'
     → ◌≡◌ {A = Record} (record { name = name; dims = dims; fanout = fanout; level = level; root = root; directory = directory; count = count })
-      (record { name = name'; dims = dims'; fanout = fanout'; level = level'; root = root'; directory = directory'; count = count' })
+    (record { name = name'; dims = dims'; fanout = fanout'; level = level'; root = root'; directory = directory'; count = count' })
 same_record name name' dims dims' fanout fanout' level level' root root' directory directory' count count' n d f l r t c = cc
 
 -- a record is that of its name and its numbers

@@ -1,5 +1,5 @@
 -- The records of a catalog, written one after the other.
-use Rattle.std.proofs.Common.{◌≡◌, ◌⊎◌, ℕ, ◌+◌, ◌<◌, ◌≤◌, List, [], length, get_or, All, sym, ◌∙◌, ap, subst, arith, below_more, inl, inr, ⊎_elim}
+use Rattle.std.proofs.Common.{◌≡◌, ◌⊎◌, ℕ, ◌+◌, ◌<◌, ◌≤◌, List, length, get_or, sym, ◌∙◌, ap, subst, arith, below_more, inl, inr, ⊎_elim}
 use Rattle.std.proofs.lemmas.List.FromFn.{fill_by_all}
 use Rattle.block_bytes.specs.Numbers.{number_at, zeros, put_number}
 use Rattle.block_bytes.specs.Laws.{number_at-put, number_at-put_other, number_at-zeros, length-put, length-zeros}

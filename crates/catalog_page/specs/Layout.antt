@@ -17,7 +17,15 @@ pub record Record : Type 0 where
   pub count : ℕ
 
 abbrev pub record_of : LayerRecord → Record
-record_of layer = record { name = layer.name.items; dims = layer.dims; fanout = layer.fanout; level = layer.level; root = layer.root; directory = layer.directory; count = layer.count }
+record_of layer = record {
+  name = layer.name.items;
+  dims = layer.dims;
+  fanout = layer.fanout;
+  level = layer.level;
+  root = layer.root;
+  directory = layer.directory;
+  count = layer.count;
+}
 
 abbrev pub records_of : ArrayVec LayerRecord → List Record
 records_of layers = map record_of layers.items
@@ -97,17 +105,18 @@ has_name layer = nat_le 1 (length layer.name) && nat_le (length layer.name) 24
 unfoldable pub catalog_test : List ℕ → Bool
 catalog_test page = number_at 1 0 page == 1 && nat_le (number_at 1 1 page) 60 && list_all has_name (first_records page (number_at 1 1 page))
 
--- the layers that the page spells, if it spells any list of them
+-- the list of layers that the page spells, if it spells one
 unfoldable pub records_at : List ℕ → Option (List Record)
 records_at page = if catalog_test page then Some (first_records page (number_at 1 1 page)) else None
 
 -- ---- which bytes are named
 
--- a byte of a record whose name has this length, which begins at this byte: the bytes behind the name, and those from 44 on, are not
+-- a byte of the record that begins at a byte and whose name has this length: those behind the name, and those from
+-- 44 on, are not
 abbrev pub IsOfRecord : ℕ → ℕ → ℕ → Type 0
 IsOfRecord length at k = ((at ≤ k) × (k < at + 1 + length)) ⊎ ((at + 25 ≤ k) × (k < at + 44))
 
--- a byte of the page that has a meaning: its kind, its count, and those of the records below its count
+-- a byte of the page that is named: its kind, its count, and those of the records below its count
 abbrev pub IsNamed : List ℕ → ℕ → Type 0
 IsNamed page k = (k < 2) ⊎ ((place : ℕ) × (place < number_at 1 1 page) × IsOfRecord (number_at 1 (record_place place) page) (record_place place) k)
 
@@ -115,6 +124,6 @@ IsNamed page k = (k < 2) ⊎ ((place : ℕ) × (place < number_at 1 1 page) × I
 abbrev pub ChangesOnly : ℕ → ℕ → List ℕ → List ℕ → Type 0
 ChangesOnly size at old new = (k : ℕ) → IsApart 1 k size at → number_at 1 k new ≡ number_at 1 k old
 
--- all bytes stay but those of a record whose name has this length, which begins at this byte
+-- all bytes stay but those of the record that begins at a byte and whose name has this length
 abbrev pub ChangesRecord : ℕ → ℕ → List ℕ → List ℕ → Type 0
 ChangesRecord length at old new = (k : ℕ) → (IsOfRecord length at k → ⊥) → number_at 1 k new ≡ number_at 1 k old

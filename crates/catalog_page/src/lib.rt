@@ -1,8 +1,8 @@
 //! The catalog's page: the list of a file's layers as the bytes of a page (docs/FORMAT.md).
 #![tactic(auto)]
 
-mod layer_record;
 pub mod laws;
+mod layer_record;
 mod names;
 mod page;
 mod records;

@@ -32,7 +32,8 @@ pub fn decode(page: &[u8; 4096]) -> Option<ArrayVec<LayerRecord, 60>>
     Some(layers)
 }
 
-/// Makes the page the one that spells these records, with zeros in all bytes that they do not name.
+/// Makes the page the one that spells these records, with zeros in all bytes that they do not name. Each of them
+/// must have a name of at least one byte.
 pub fn encode(layers: &ArrayVec<LayerRecord, 60>, page: &mut [u8; 4096])
     requires { All (λ layer. 0 < length layer.name) (records_of layers.now) }
     ensures spelled { Spells page.new (records_of layers.now) }

@@ -1,6 +1,5 @@
 -- Each byte is read behind those before it.
 use Rattle.std.proofs.Common.{◌≡◌, ◌+◌, ◌++◌, ◌∷◌, ℕ, List, [], length, sym, ◌∙◌, ap}
-use Rattle.block_bytes.specs.Numbers.{number_at}
 use Rattle.catalog_page.specs.Layout.{bytes_at}
 use Rattle.catalog_page.proofs.Places.{bytes_at-none, bytes_at-more, length-bytes_at}
 use Rattle.catalog_page.proofs.names.read_name.Goals as goal

@@ -1,6 +1,6 @@
 -- Another kind, too great a count or a record without a name spell no layers, and else the records are spelled.
 use Rattle.std.proofs.Common.{◌≡◌, ◌+◌, ◌++◌, ◌∷◌, ◌<◌, ℕ, List, [], length, map, All, true, false, Some, slice_index, refl, sym, ◌∙◌, ap, subst, arith, rules}
-use Rattle.std.proofs.lemmas.List.{map_push, length-map}
+use Rattle.std.proofs.lemmas.List.{map_push}
 use Rattle.std.proofs.lemmas.List.Elements.{All-nil, All-push}
 use Rattle.block_bytes.specs.Numbers.{number_at}
 use Rattle.catalog_page.specs.Layout.{Record, HasName, record_of, records_of, record_at, first_records}

@@ -1,6 +1,6 @@
 -- Each record is written behind those before it.
-use Rattle.std.proofs.Common.{◌≡◌, ◌<◌, ◌≤◌, ℕ, List, length, map, get_or, refl, sym, ◌∙◌, ap, arith}
-use Rattle.std.proofs.lemmas.List.{get_or_default, get_or-map, length-map}
+use Rattle.std.proofs.Common.{◌≡◌, ◌<◌, List, length, map, get_or, sym, ◌∙◌, ap, arith}
+use Rattle.std.proofs.lemmas.List.{get_or-map, length-map}
 use Rattle.catalog_page.specs.declared.layer_record.LayerRecord.{LayerRecord}
 use Rattle.catalog_page.specs.Layout.{Record, HasName, record_of, records_of}
 use Rattle.catalog_page.proofs.Reading.{spelled}

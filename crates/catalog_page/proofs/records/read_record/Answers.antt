@@ -1,5 +1,5 @@
 -- The record is that of its name and its numbers, and it has a name where the length of one stands.
-use Rattle.std.proofs.Common.{◌≡◌, ℕ, refl, sym, ◌∙◌, ap}
+use Rattle.std.proofs.Common.{ℕ, refl, sym, ◌∙◌, ap}
 use Rattle.catalog_page.specs.Layout.{Record, record_from}
 use Rattle.catalog_page.proofs.Places.{record_is, has_name_at}
 use Rattle.catalog_page.proofs.records.read_record.Goals as goal
