@@ -100,7 +100,7 @@ more_record next next' r le e =
     let rest = is_layer_name r.name && is_dims r.dims && is_fanout r.fanout && (r.level == 0 && r.root == 0) in
     and_both rest (is_page_or_none next' r.directory) (and_left rest (is_page_or_none next r.directory) e) (more_pages next next' r.directory le (and_right rest (is_page_or_none next r.directory) e))
 
-more_records : (next next' : ℕ) (rs : List Record) → next ≤ next' → list_all (is_layer_record next) rs ≡ true → list_all (is_layer_record next') rs ≡ true
+pub more_records : (next next' : ℕ) (rs : List Record) → next ≤ next' → list_all (is_layer_record next) rs ≡ true → list_all (is_layer_record next') rs ≡ true
 more_records next next' [] le e = refl
 more_records next next' (r ∷ rs) le e = and_both (is_layer_record next' r) (list_all (is_layer_record next') rs)
     (more_record next next' r le (and_left (is_layer_record next r) (list_all (is_layer_record next) rs) e))

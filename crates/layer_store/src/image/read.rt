@@ -27,6 +27,7 @@ use std::alloc::Allocator;
 // The page of the catalog.
 const CATALOG: u32 = 2;
 
+#[tactic(auto, using(page_file::specs::Laws::no_call_keeps_the_gate, page_file::specs::Laws::the_gate_is_kept_in_turn, page_file::specs::Laws::no_call_keeps_the_map, page_file::specs::Laws::the_map_is_kept_in_turn))]
 /// Reads the table that the pages given out hold. A page that is not what it must be is `Damaged` with its number;
 /// any other refusal is `Memory` or `Device`. The file stays as it is.
 pub fn read_table<D: BlockDevice, A: Allocator + Copy>(

@@ -4,7 +4,7 @@ ghost use Rattle.std.specs.Prelude.{◌≡◌, ◌≤◌, ◌^◌, ◌⊎◌, Is
 ghost use Rattle.std.specs.FinMap.{is_sorted};
 ghost use Rattle.std.specs.Ordering.{nat_cmp};
 ghost use Rattle.catalog_page.specs.Layout.{record_of};
-ghost use Rattle.object_chain.specs.Chain.{HoldsObjects, KeepsPages};
+ghost use Rattle.object_chain.specs.Chain.{HoldsObjects, KeepsPages, new_pages};
 ghost use Rattle.page_file.specs.Fault.{HasCause, IsOfDevice};
 ghost use Rattle.page_file.specs.File.{device_of, gate_of, next_of, pages, IsPageMap, KeepsGate};
 ghost use Rattle.page_file.specs.declared.fault.Fault.TheVariants as fault;
@@ -26,6 +26,7 @@ use std::alloc::Allocator;
 // The page of the catalog.
 const CATALOG: u32 = 2;
 
+#[tactic(auto, using(page_file::specs::Laws::no_call_keeps_the_gate, page_file::specs::Laws::the_gate_is_kept_in_turn))]
 /// Writes the table into newly allocated pages, and the catalog that names them. The gate has to be open.
 ///
 /// `NoPages` comes only where all page numbers were given out; with a sound map any other refusal is `Memory` or
@@ -60,7 +61,7 @@ fn write_layer<D: BlockDevice, A: Allocator + Copy>(
 ) -> Result<LayerRecord, Fault>
     requires { gate_of file.old ≡ Open }
     ensures gate { KeepsGate file.old file.new }
-    ensures holds { IsPageMap file.old → IfOk result (λ r. HoldsLayer (pages file.new) (record_of r) (entry_of layer.now)) }
+    ensures holds { IsPageMap file.old → IfOk result (λ r. HoldsLayer (new_pages (pages file.old) (pages file.new)) (record_of r) (entry_of layer.now)) }
     ensures good { IfOk result (λ r. IsTrue (is_layer_record (next_of file.new) (record_of r))) }
     ensures others { IsPageMap file.old → KeepsPages (pages file.old) (pages file.new) }
     ensures sound { IsPageMap file.old → IsPageMap file.new }
@@ -91,7 +92,7 @@ fn write_objects<D: BlockDevice, A: Allocator + Copy>(
     requires ascending { IsTrue (is_sorted nat_cmp (entries_of objects.now)) }
     requires open { gate_of file.old ≡ Open }
     ensures gate { KeepsGate file.old file.new }
-    ensures chain { IsPageMap file.old → IfOk result (λ n. HoldsObjects (pages file.new) (axes_of objects.now) n (entries_of objects.now)) }
+    ensures chain { IsPageMap file.old → IfOk result (λ n. HoldsObjects (new_pages (pages file.old) (pages file.new)) (axes_of objects.now) n (entries_of objects.now)) }
     ensures first { IfOk result (λ n. IsTrue (is_page_or_none (next_of file.new) n)) }
     ensures others { IsPageMap file.old → KeepsPages (pages file.old) (pages file.new) }
     ensures sound { IsPageMap file.old → IsPageMap file.new }

@@ -1,4 +1,23 @@
+-- The layers so far are those of the records so far, and the file is as it was.
+use Rattle.std.proofs.Common.{◌≡◌, ◌≤◌, map, take, length}
+use Rattle.catalog_page.specs.Layout.{record_of}
+use Rattle.catalog_page.specs.declared.layer_record.LayerRecord.{LayerRecord}
+use Rattle.page_file.specs.File.{blocks_of, device_of, given, IsHonest, KeepsGate, KeepsMap}
+use Rattle.plain_table.specs.Kept.{entry_of}
+use Rattle.plain_table.specs.Objects.{entries_of}
+use Rattle.plain_table.specs.declared.layer.Layer.{Layer as KeptLayer}
+use Rattle.layer_store.specs.Catalog.{objects_named}
+use Rattle.layer_store.specs.Image.{HoldsLayers}
 use Rattle.layer_store.proofs.image.read.read_table.Given as goal
 
 abbrev pub invariant-loop-record : goal.invariant-loop-record
-invariant-loop-record g l = ?
+invariant-loop-record g l = record {
+  gate : KeepsGate l.fn.file l.file;
+  same_map : KeepsMap l.fn.file l.file;
+  blocks : IsHonest l.fn.file → blocks_of l.file ≡ blocks_of l.fn.file;
+  later : g.D.BlockDevice.faults (device_of l.fn.file) ≤ g.D.BlockDevice.faults (device_of l.file);
+  holds : IsHonest l.fn.file → HoldsLayers (given l.fn.file) (map record_of (take l.record-index l.record-items)) (map entry_of l.layers.items);
+  names : map (λ layer. layer.name.items) l.layers.items ≡ map (λ layer. layer.name.items) (take l.record-index l.record-items);
+  counts : map (λ layer. length (entries_of layer.objects)) l.layers.items ≡ map (λ layer. layer.count) (take l.record-index l.record-items);
+  counted : l.object_count ≡ objects_named (map record_of (take l.record-index l.record-items));
+}

@@ -1,5 +1,5 @@
 use Rattle.std.proofs.Common.{rules, sym, subst}
-use Rattle.object_chain.specs.Chain.{HoldsObjects}
+use Rattle.object_chain.specs.Chain.{HoldsObjects, new_pages}
 use Rattle.page_file.specs.File.{pages}
 use Rattle.plain_table.specs.Objects.{entries_of}
 use Rattle.layer_store.proofs.ImageLemmas.{kept_chain, kept_count}
@@ -14,6 +14,6 @@ returns-clause-holds g c = λ h.
       dims = sym c.dims.ensures;
       fanout = search rules;
       count = kept_count objects _ ascend (search rules);
-      objects = kept_chain (pages c.write_objects.new.file) c.dims.result c.in_ok-directory.directory objects ascend
-          (subst (λ dims. HoldsObjects (pages c.write_objects.new.file) dims c.in_ok-directory.directory objects) (sym c.dims.ensures) (c.in_ok-directory.ensures.chain h));
+      objects = kept_chain (new_pages (pages c.args.file.now) (pages c.write_objects.new.file)) c.dims.result c.in_ok-directory.directory objects ascend
+          (subst (λ dims. HoldsObjects (new_pages (pages c.args.file.now) (pages c.write_objects.new.file)) dims c.in_ok-directory.directory objects) (sym c.dims.ensures) (c.in_ok-directory.ensures.chain h));
     }

@@ -1,8 +1,8 @@
--- The records so far name the layers so far, in pages that stay.
-use Rattle.std.proofs.Common.{◌≡◌, ◌≤◌, map, take}
+-- The records so far name the layers so far, in pages that were not live before.
+use Rattle.std.proofs.Common.{◌≡◌, ◌≤◌, map, take, length, true}
 use Rattle.std.specs.List.{list_all}
-use Rattle.std.specs.Prelude.{IsTrue}
 use Rattle.catalog_page.specs.Layout.{record_of}
+use Rattle.object_chain.specs.Chain.{KeepsPages, new_pages}
 use Rattle.page_file.specs.File.{device_of, next_of, pages, IsPageMap, KeepsGate}
 use Rattle.plain_table.specs.Kept.{entry_of}
 use Rattle.layer_store.specs.Catalog.{is_layer_record}
@@ -10,4 +10,13 @@ use Rattle.layer_store.specs.Image.{HoldsLayers}
 use Rattle.layer_store.proofs.image.write.write_table.Given as goal
 
 abbrev pub invariant-loop-layer : goal.invariant-loop-layer
-invariant-loop-layer g l = ?
+invariant-loop-layer g l = record {
+  gate : KeepsGate l.initial.file l.file;
+  sound : IsPageMap l.initial.file → IsPageMap l.file;
+  holds : IsPageMap l.initial.file → HoldsLayers (new_pages (pages l.initial.file) (pages l.file)) (map record_of l.records.items) (map entry_of (take l.layer-index l.layer-items));
+  others : IsPageMap l.initial.file → KeepsPages (pages l.initial.file) (pages l.file);
+  good : list_all (is_layer_record (next_of l.file)) (map record_of l.records.items) ≡ true;
+  count : length l.records.items ≡ l.layer-index;
+  next : next_of l.initial.file ≤ next_of l.file;
+  later : g.D.BlockDevice.faults (device_of l.initial.file) ≤ g.D.BlockDevice.faults (device_of l.file);
+}

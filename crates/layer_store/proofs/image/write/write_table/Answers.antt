@@ -1,0 +1,58 @@
+-- The records name layers whose chains stand in new pages, so the catalog may be written over the old one.
+use Rattle.std.proofs.Common.{◌≡◌, ◌∙◌, ◌⊎◌, List, map, length, true, sym, ap, subst, arith, inl}
+use Rattle.std.proofs.lemmas.List.{map-append}
+use Rattle.std.specs.List.{list_all}
+use Rattle.catalog_page.specs.Layout.{Record, record_of}
+use Rattle.object_chain.specs.Chain.{new_pages}
+use Rattle.object_chain.proofs.Frames.{keeps_in_turn}
+use Rattle.page_file.specs.Fault.{IsOfDevice}
+use Rattle.page_file.specs.File.{next_of, pages}
+use Rattle.page_file.specs.Laws.{the_catalog_is_live, the_gate_is_kept_in_turn}
+use Rattle.page_file.specs.declared.fault.Fault.TheVariants as fault
+use Rattle.layer_store.specs.Catalog.{is_layer_record}
+use Rattle.layer_store.specs.Laws.{more_records}
+use Rattle.layer_store.proofs.HeldLemmas.{all_held, good_more, held, layers_stay, one_more_held, written_aside}
+use Rattle.layer_store.proofs.Results.{if_err, on_ok}
+use Rattle.layer_store.proofs.image.write.write_table.Goals as goal
+
+pub loop-layer-preserved : goal.loop-layer-preserved
+loop-layer-preserved g c =
+    let before = c.loop-layer.invariant in
+    let done = c.in_ok-record.ensures in
+    let old = pages c.args.file.now in
+    let mid = pages c.loop-layer.file in
+    let new = pages c.write_layer.new.file in
+    let records = c.loop-layer.records.items in
+    record {
+      gate = the_gate_is_kept_in_turn c.args.file.now c.loop-layer.file c.write_layer.new.file before.gate done.gate;
+      sound = λ map. done.sound (before.sound map);
+      holds = λ map. one_more_held old mid new records c.push.new.self.items c.layers-layer-items.result.now c.loop-layer.layer-index c.in_ok-record.record c.layer-item.result
+          (before.others map) (done.others (before.sound map)) c.push.ensures.items c.loop-layer-test.true c.layer-item.is (before.holds map) (done.holds (before.sound map));
+      others = λ map. keeps_in_turn old mid new (before.others map) (done.others (before.sound map));
+      good = subst (λ (rs : List Record). list_all (is_layer_record (next_of c.write_layer.new.file)) rs ≡ true) (sym (ap (map record_of) c.push.ensures.items ∙ map-append record_of records _))
+          (good_more (next_of c.loop-layer.file) (next_of c.write_layer.new.file) (map record_of records) (record_of c.in_ok-record.record) before.good (more_records (next_of c.loop-layer.file) (next_of c.write_layer.new.file) (map record_of records) done.next) done.good);
+      count = omega (arith, before.count, c.push.ensures.len);
+      next = omega (arith, before.next, done.next);
+      later = omega (arith, before.later, done.cause.later);
+    }
+
+pub returns-clause-holds : goal.returns-clause-holds
+returns-clause-holds g c = λ map'.
+    let before = c.loop-layer.invariant in
+    let mid = before.sound map' in
+    let wrote = c.write.ensures in
+    let live = the_catalog_is_live c.loop-layer.file mid in
+    let records = map record_of c.loop-layer.records.items in
+    let layers = layers_stay (new_pages (pages c.args.file.now) (pages c.loop-layer.file)) (pages c.write.new.self) records _
+        (written_aside 2 (pages c.args.file.now) (pages c.loop-layer.file) (pages c.write.new.self) (the_catalog_is_live c.args.file.now map') (wrote.others mid.honest live)) (before.holds map') in
+    on_ok c.write.result (λ there. held (pages c.write.new.self) (next_of c.write.new.self) c.encode.new.page records c.args.table.now there c.encode.ensures.read_back
+        (ap (λ next. list_all (is_layer_record next) records) wrote.next ∙ before.good)
+        (all_held (pages c.write.new.self) records c.layers-layer-items.result.now c.args.table.now c.loop-layer.layer-index _ (omega (arith, c.loop-layer-test.false)) c.layers-layer-items.ensures.table c.layers-layer-items.ensures.listed layers)
+        c.layers-layer-items.ensures.listed.within)
+    (wrote.written mid.honest live)
+
+pub returns-clause-sound : goal.returns-clause-sound
+returns-clause-sound g c = λ map. let mid = c.loop-layer.invariant.sound map in c.write.ensures.sound mid (the_catalog_is_live c.loop-layer.file mid)
+
+pub returns-clause-faults : goal.returns-clause-faults
+returns-clause-faults g c = λ map. let mid = c.loop-layer.invariant.sound map in if_err c.write.result (λ f h. inl h) (c.write.ensures.faults mid.honest (the_catalog_is_live c.loop-layer.file mid))
