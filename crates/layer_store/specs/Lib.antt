@@ -1,3 +1,5 @@
 pub mod Catalog
 pub mod Image
 pub mod Laws
+pub mod Faults
+pub mod Keeping

@@ -2,6 +2,9 @@
 #![tactic(auto)]
 
 mod catalog;
+mod faults;
 mod image;
+mod kept;
 
-pub use image::{read_table, write_table};
+pub use faults::refusal_of;
+pub use kept::Kept;

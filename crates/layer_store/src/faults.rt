@@ -1,0 +1,22 @@
+//! The refusals that faults of a file are.
+
+ghost use Rattle.std.specs.Prelude.{◌≡◌};
+ghost use Rattle.layer_store.specs.Faults as faults;
+
+use page_file::Fault;
+use plain_table::Refusal;
+
+/// The refusal of the same name.
+pub fn refusal_of(fault: Fault) -> Refusal
+    ensures { result ≡ faults.refusal_of fault }
+{
+    match fault {
+        Fault::Memory => Refusal::Memory,
+        Fault::Device => Refusal::Device,
+        Fault::Damaged(page) => Refusal::Damaged(page),
+        Fault::NotClosed => Refusal::NotClosed,
+        Fault::NotAStore => Refusal::NotAStore,
+        Fault::WrongVersion => Refusal::WrongVersion,
+        Fault::NoPages => Refusal::NoPages,
+    }
+}

@@ -1,0 +1,107 @@
+//! What a store keeps while it has not failed: a file of pages, and the table in memory that it answers from.
+
+ghost use Rattle.std.specs.Prelude.{◌≡◌, ◌≤◌, ◌⊎◌, ◌^◌, true, IsErrOf, IfOk, IfErr, OnOk};
+ghost use Rattle.plain_table.specs.Answers.{done_answer};
+ghost use Rattle.plain_table.specs.Commands.Command.{Create, Insert};
+ghost use Rattle.plain_table.specs.Lawful.{AnsweredInMemory};
+ghost use Rattle.page_file.specs.Fault.{HasCause, IsOfDevice};
+ghost use Rattle.page_file.specs.File.{blocks_of, device_of, gate_of, next_of, IsPageMap, LiesIn};
+ghost use Rattle.page_file.specs.declared.fault.Fault.TheVariants as fault;
+ghost use Rattle.page_file.specs.declared.gate.Gate.TheVariants.{Shut};
+ghost use Rattle.layer_store.specs.Keeping.{HoldsItsTable, IsSound};
+
+use crate::image::{read_table, write_table};
+use block_device::BlockDevice;
+use page_file::{Fault, PageFile};
+use plain_table::{ListTable, RawBox, Refusal};
+use std::alloc::Allocator;
+
+/// A file of pages, and the table in memory.
+#[derive(Drop)]
+pub struct Kept<D: BlockDevice, A: Allocator> {
+    /// Where the table in memory takes its memory from.
+    pub alloc: A,
+    /// The file.
+    pub file: PageFile<D>,
+    /// The table.
+    pub table: ListTable<A>,
+    /// Whether the pages of the file hold the table.
+    pub written: bool,
+}
+
+impl<D: BlockDevice, A: Allocator + Copy> Kept<D, A> {
+    /// Makes an empty layer in the table.
+    pub fn create(&mut self, layer: &[u8], dims: u64, fanout: u64) -> Result<(), Refusal>
+        ensures table { AnsweredInMemory self.old.table (Create layer.now dims fanout) (done_answer result) self.new.table }
+        ensures file { self.new.file ≡ self.old.file }
+        ensures written { self.new.written ≡ true → (self.old.written ≡ true) × (self.new.table ≡ self.old.table) }
+    {
+        self.table.create(layer, dims, fanout)?;
+        self.written = false;
+        Ok(())
+    }
+
+    /// Adds an object to a layer of the table.
+    pub fn insert(&mut self, layer: &[u8], id: u64, bounds: RawBox) -> Result<(), Refusal>
+        ensures table { AnsweredInMemory self.old.table (Insert layer.now id bounds) (done_answer result) self.new.table }
+        ensures file { self.new.file ≡ self.old.file }
+        ensures written { self.new.written ≡ true → (self.old.written ≡ true) × (self.new.table ≡ self.old.table) }
+    {
+        self.table.insert(layer, id, bounds)?;
+        self.written = false;
+        Ok(())
+    }
+
+    // Writes the table into the pages, if they do not hold it.
+    fn write(&mut self) -> Result<(), Fault>
+        ensures written { OnOk result (self.new.written ≡ true) }
+        ensures table { self.new.table ≡ self.old.table }
+        ensures map { IsPageMap self.old.file → IsPageMap self.new.file }
+        ensures sound { IsSound self.old → IsSound self.new }
+        ensures next { next_of self.old.file ≤ next_of self.new.file }
+        ensures faults { IsPageMap self.old.file → IfErr result (λ f. IsOfDevice f ⊎ (f ≡ fault.NoPages)) }
+        ensures no_pages { IsErrOf result fault.NoPages → next_of self.new.file ≡ 2 ^ 31 }
+        ensures cause { HasCause (D.faults (device_of self.old.file)) (D.faults (device_of self.new.file)) result }
+    {
+        if self.written {
+            return Ok(());
+        }
+        self.file.begin_change()?;
+        write_table(&mut self.file, &self.table)?;
+        self.written = true;
+        Ok(())
+    }
+
+    /// Writes the table into the pages, if they do not hold it, and shuts the gate behind them.
+    pub fn settle(&mut self) -> Result<(), Fault>
+        ensures shut { OnOk result (gate_of self.new.file ≡ Shut) }
+        ensures written { OnOk result (self.new.written ≡ true) }
+        ensures lies { IsPageMap self.old.file → OnOk result (LiesIn self.new.file (blocks_of self.new.file)) }
+        ensures table { self.new.table ≡ self.old.table }
+        ensures map { IsPageMap self.old.file → IsPageMap self.new.file }
+        ensures sound { IsSound self.old → IsSound self.new }
+        ensures next { next_of self.old.file ≤ next_of self.new.file }
+        ensures faults { IsPageMap self.old.file → IfErr result (λ f. IsOfDevice f ⊎ (f ≡ fault.NoPages)) }
+        ensures no_pages { IsErrOf result fault.NoPages → next_of self.new.file ≡ 2 ^ 31 }
+        ensures cause { HasCause (D.faults (device_of self.old.file)) (D.faults (device_of self.new.file)) result }
+    {
+        self.write()?;
+        self.file.settle()
+    }
+
+    /// Reads gate, header and table again from a file whose gate is shut.
+    pub fn read_again(&mut self) -> Result<(), Fault>
+        requires { gate_of self.old.file ≡ Shut }
+        ensures table { IsPageMap self.old.file → HoldsItsTable self.old → self.new.table ≡ self.old.table }
+        ensures written { self.new.written ≡ self.old.written }
+        ensures sound { IsPageMap self.old.file → HoldsItsTable self.old → IsPageMap self.new.file × HoldsItsTable self.new }
+        ensures next { IsPageMap self.old.file → next_of self.new.file ≡ next_of self.old.file }
+        ensures blocks { IsPageMap self.old.file → blocks_of self.new.file ≡ blocks_of self.old.file }
+        ensures faults { IsPageMap self.old.file → HoldsItsTable self.old → IfErr result IsOfDevice }
+        ensures cause { HasCause (D.faults (device_of self.old.file)) (D.faults (device_of self.new.file)) result }
+    {
+        self.file.check_again()?;
+        self.table = read_table(self.alloc, &mut self.file)?;
+        Ok(())
+    }
+}
