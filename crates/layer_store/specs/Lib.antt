@@ -3,3 +3,5 @@ pub mod Image
 pub mod Laws
 pub mod Faults
 pub mod Keeping
+pub mod Starting
+pub mod Standing

@@ -1,13 +1,15 @@
 //! What a store keeps while it has not failed: a file of pages, and the table in memory that it answers from.
 
-ghost use Rattle.std.specs.Prelude.{◌≡◌, ◌≤◌, ◌⊎◌, ◌^◌, true, IsErrOf, IfOk, IfErr, OnOk};
+ghost use Rattle.std.specs.Prelude.{◌≡◌, ◌≤◌, ◌⊎◌, ◌^◌, ◌↔◌, true, IsErrOf, IfOk, IfErr, OnOk};
 ghost use Rattle.plain_table.specs.Answers.{done_answer};
 ghost use Rattle.plain_table.specs.Commands.Command.{Create, Insert};
 ghost use Rattle.plain_table.specs.Lawful.{AnsweredInMemory};
+ghost use Rattle.block_device.specs.Device.{HasRisen};
 ghost use Rattle.page_file.specs.Fault.{HasCause, IsOfDevice};
-ghost use Rattle.page_file.specs.File.{blocks_of, device_of, gate_of, next_of, IsPageMap, LiesIn};
+ghost use Rattle.page_file.specs.File.{blocks_of, device_of, gate_of, next_of, IsHonest, IsPageMap, LiesIn};
 ghost use Rattle.page_file.specs.declared.fault.Fault.TheVariants as fault;
 ghost use Rattle.page_file.specs.declared.gate.Gate.TheVariants.{Shut};
+ghost use Rattle.layer_store.specs.Image.{IsImage};
 ghost use Rattle.layer_store.specs.Keeping.{HoldsItsTable, IsSound};
 
 use crate::image::{read_table, write_table};
@@ -55,6 +57,7 @@ impl<D: BlockDevice, A: Allocator + Copy> Kept<D, A> {
     // Writes the table into the pages, if they do not hold it.
     fn write(&mut self) -> Result<(), Fault>
         ensures written { OnOk result (self.new.written ≡ true) }
+        ensures honest { IsHonest self.old.file ↔ IsHonest self.new.file }
         ensures table { self.new.table ≡ self.old.table }
         ensures map { IsPageMap self.old.file → IsPageMap self.new.file }
         ensures sound { IsSound self.old → IsSound self.new }
@@ -103,5 +106,21 @@ impl<D: BlockDevice, A: Allocator + Copy> Kept<D, A> {
         self.file.check_again()?;
         self.table = read_table(self.alloc, &mut self.file)?;
         Ok(())
+    }
+
+    /// Writes the table into the pages, if they do not hold it, shuts the gate behind them, and hands the device back.
+    pub fn close(self) -> Result<D, (Fault, D)>
+        ensures closed { IsSound self → IfOk result (λ device. IsImage (D.shown device) self.table) }
+        ensures faults { IsPageMap self.file → IfErr result (λ e. IsOfDevice e.0 ⊎ (e.0 ≡ fault.NoPages)) }
+        ensures honest { IfOk result (λ device. IsHonest self.file ↔ D.honest device) }
+        ensures refused_honest { IfErr result (λ e. IsHonest self.file ↔ D.honest e.1) }
+        ensures later { IfOk result (λ device. D.faults (device_of self.file) ≤ D.faults device) }
+        ensures cause { IfErr result (λ e. (D.faults (device_of self.file) ≤ D.faults e.1) × (e.0 ≡ fault.Device → HasRisen (D.faults (device_of self.file)) (D.faults e.1))) }
+    {
+        let mut kept = self;
+        match kept.write() {
+            Ok(()) => kept.file.close(),
+            Err(fault) => Err((fault, kept.file.abandon())),
+        }
     }
 }

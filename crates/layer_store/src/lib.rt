@@ -1,10 +1,12 @@
-//! X.
+//! The spatial store: layers of boxes in a file of pages, their commands, and the theorem that each answers as a plain
+//! table does.
 #![tactic(auto)]
 
 mod catalog;
 mod faults;
 mod image;
 mod kept;
+mod store;
 
-pub use faults::refusal_of;
-pub use kept::Kept;
+pub use plain_table::{AnyBox, RawBox, RawPoint, Refusal};
+pub use store::{Store, create_store, open_store};

@@ -1,0 +1,129 @@
+-- The steps of a store: alive, failed, and failing.
+use Rattle.std.proofs.Common.{◌≡◌, ◌∙◌, ◌≤◌, ◌<◌, ◌-◌, ◌^◌, ◌⊎◌, ℕ, Bool, true, false, cond, refl, sym, ap, subst, arith, inl, inr, ⊎_elim}
+use Rattle.std.specs.Prelude.{Result, Ok, Err, min}
+use Rattle.block_device.specs.Device.{HasRisen}
+use Rattle.page_file.specs.Fault.{HasCause, IsOfDevice, number_of}
+use Rattle.page_file.specs.File.{IsHonest, IsPageMap, device_of, next_of, pages}
+use Rattle.page_file.specs.declared.fault.Fault.{Fault}
+use Rattle.page_file.specs.declared.fault.Fault.TheVariants as fault
+use Rattle.page_file.specs.declared.file.PageFile.{PageFile}
+use Rattle.plain_table.specs.Commands.{Command}
+use Rattle.plain_table.specs.Commands.Command.{Reopen}
+use Rattle.plain_table.specs.Lawful.{AnsweredInMemory, IsEnd, IsFault, IsSpent, Lawful, LawfulFrom, LawfulStep, RefusedBy, Rose, Standing, State, Takes}
+use Rattle.plain_table.specs.Lawful.Request.{Asks}
+use Rattle.plain_table.specs.Lawful.State.{Alive, Dead}
+use Rattle.plain_table.specs.Laws.{memory_is_lawful}
+use Rattle.plain_table.specs.Step.{Answer}
+use Rattle.plain_table.specs.Step.Answer.{Done, Refused}
+use Rattle.plain_table.specs.Table.{Table}
+use Rattle.plain_table.specs.declared.refusal.Refusal.TheVariants as refusal
+use Rattle.layer_store.specs.Faults.{refusal_of}
+use Rattle.layer_store.specs.Image.{Holds}
+use Rattle.layer_store.specs.Keeping.{IsSound}
+use Rattle.layer_store.specs.Standing.{Stands, StandsFor, standing_of}
+use Rattle.layer_store.specs.declared.kept.Kept.{Kept}
+use Rattle.layer_store.specs.declared.store.Store.{Store}
+
+-- a count that has risen rose
+rose_from : (old new : ℕ) → HasRisen old new → Rose old new
+rose_from old new (inl lt) = omega (arith, lt)
+rose_from old new (inr full) = omega (arith, full)
+
+-- ---- faults of a file as refusals of a command
+
+-- want of memory, of the device or of page numbers is a fault of the command
+pub fault_of_command : (old new next : ℕ) (f : Fault) → IsOfDevice f ⊎ (f ≡ fault.NoPages) → (f ≡ fault.Device → HasRisen old new) → (f ≡ fault.NoPages → next ≡ 2 ^ 31) → IsFault (Rose old new) (IsSpent next) (refusal_of f)
+fault_of_command old new next fault.Memory is rose spent = tt
+fault_of_command old new next fault.Device is rose spent = rose_from old new (rose refl)
+fault_of_command old new next (fault.Damaged page) is rose spent = absurd (other is)
+  where
+    other : IsOfDevice (fault.Damaged page) ⊎ (fault.Damaged page ≡ fault.NoPages) → ⊥
+    other (inl (inl e)) = cc
+    other (inl (inr e)) = cc
+    other (inr e) = cc
+fault_of_command old new next fault.NotClosed is rose spent = absurd (other is)
+  where
+    other : IsOfDevice fault.NotClosed ⊎ (fault.NotClosed ≡ fault.NoPages) → ⊥
+    other (inl (inl e)) = cc
+    other (inl (inr e)) = cc
+    other (inr e) = cc
+fault_of_command old new next fault.NotAStore is rose spent = absurd (other is)
+  where
+    other : IsOfDevice fault.NotAStore ⊎ (fault.NotAStore ≡ fault.NoPages) → ⊥
+    other (inl (inl e)) = cc
+    other (inl (inr e)) = cc
+    other (inr e) = cc
+fault_of_command old new next fault.WrongVersion is rose spent = absurd (other is)
+  where
+    other : IsOfDevice fault.WrongVersion ⊎ (fault.WrongVersion ≡ fault.NoPages) → ⊥
+    other (inl (inl e)) = cc
+    other (inl (inr e)) = cc
+    other (inr e) = cc
+fault_of_command old new next fault.NoPages is rose spent = spent refl
+
+-- and half way through, the end of the store
+pub end_of_store : (old new : ℕ) (f : Fault) → IsOfDevice f → (f ≡ fault.Device → HasRisen old new) → IsEnd (Rose old new) (refusal.StoreFailed (number_of f))
+end_of_store old new f (inl e) rose = inl (ap number_of e)
+end_of_store old new f (inr e) rose = inr (ap number_of e, rose_from old new (rose e))
+
+-- ---- states
+
+-- a step of a live store
+alive_step : (rose spent : Type 0) (o n : Bool) (t u : Table) (c : Command) (a : Answer) → o ≡ false → n ≡ false → LawfulFrom rose spent t c a (Alive u) → Lawful rose spent (cond o Dead (Alive t)) (Asks c) a (cond n Dead (Alive u))
+alive_step rose spent false false t u c a e f h = h
+alive_step rose spent true n t u c a e f h = absurd (cc)
+alive_step rose spent false true t u c a e f h = absurd (cc)
+
+-- its last step
+last_step : (rose spent : Type 0) (o n : Bool) (t u : Table) (c : Command) (a : Answer) → o ≡ false → n ≡ true → LawfulFrom rose spent t c a Dead → Lawful rose spent (cond o Dead (Alive t)) (Asks c) a (cond n Dead (Alive u))
+last_step rose spent false true t u c a e f h = h
+last_step rose spent true n t u c a e f h = absurd (cc)
+last_step rose spent false false t u c a e f h = absurd (cc)
+
+-- a step of one that failed
+dead_step : (rose spent : Type 0) (o : Bool) (t : Table) (c : Command) → o ≡ true → Lawful rose spent (cond o Dead (Alive t)) (Asks c) (Refused (refusal.StoreFailed 19)) (cond o Dead (Alive t))
+dead_step rose spent true t c e = (refl, refl)
+dead_step rose spent false t c e = absurd (cc)
+
+module _ {D A : Type 0} {m : _} where
+  -- the file of a store that answered from its table is as it was
+  pub sound_after : (old new : Kept D A m) → new.file ≡ old.file → (new.written ≡ true → (old.written ≡ true) × (new.table ≡ old.table)) → IsSound old → IsSound new
+  sound_after old new file written sound = record {
+    map = subst IsPageMap (sym file) sound.map;
+    held = λ w. let was = written w in
+        subst (λ (f : PageFile D m). Holds (pages f) (next_of f) new.table) (sym file) (subst (Holds (pages old.file) (next_of old.file)) (sym was.1) (sound.held was.0));
+  }
+
+  -- a store that is sound and has not failed
+  pub alive : (store : Store D A m) → IsSound store.kept → store.failed ≡ false → StandsFor store store.kept.table
+  unfolding Stands
+  alive store sound failed = record {
+    next = standing_of store;
+    stands = (refl, sound);
+    so = ap (λ (b : Bool). cond b Dead (Alive store.kept.table)) failed;
+  }
+
+  -- a command of a live store
+  pub takes_step : (old new : Store D A m) (c : Command) (a : Answer) → old.failed ≡ false → new.failed ≡ false → (IsSound old.kept → IsSound new.kept)
+      → (IsSound old.kept → LawfulFrom (Rose (m.faults (device_of old.kept.file)) (m.faults (device_of new.kept.file))) (IsSpent (next_of new.kept.file)) old.kept.table c a (Alive new.kept.table))
+      → Takes Stands old new (λ s s'. LawfulStep s (Asks c) a s')
+  unfolding Stands
+  takes_step old new c a o n sound lawful = λ s stands. record {
+    next = standing_of new;
+    stands = (refl, sound stands.1);
+    so = subst (λ (z : Standing). LawfulStep z (Asks c) a (standing_of new)) (sym stands.0) (alive_step _ _ old.failed new.failed old.kept.table new.kept.table c a o n (lawful stands.1));
+  }
+
+  -- one answered from the table in memory
+  pub takes_in_memory : (old new : Store D A m) (c : Command) (a : Answer) → old.failed ≡ false → new.failed ≡ false → AnsweredInMemory old.kept.table c a new.kept.table → new.kept.file ≡ old.kept.file
+      → (new.kept.written ≡ true → (old.kept.written ≡ true) × (new.kept.table ≡ old.kept.table)) → Takes Stands old new (λ s s'. LawfulStep s (Asks c) a s')
+  takes_in_memory old new c a o n answered file written = takes_step old new c a o n (sound_after old.kept new.kept file written) (λ sound. memory_is_lawful _ _ old.kept.table new.kept.table c a answered)
+
+  -- a command of a store that failed
+  pub takes_nothing : (store : Store D A m) (c : Command) → store.failed ≡ true → Takes Stands store store (λ s s'. LawfulStep s (Asks c) (Refused (refusal.StoreFailed 19)) s')
+  unfolding Stands
+  takes_nothing store c failed = λ s stands. record {
+    next = standing_of store;
+    stands = (refl, stands.1);
+    so = subst (λ (z : Standing). LawfulStep z (Asks c) (Refused (refusal.StoreFailed 19)) (standing_of store)) (sym stands.0) (dead_step _ _ store.failed store.kept.table c failed);
+  }

@@ -1,0 +1,34 @@
+use Rattle.std.proofs.Common.{rules, ◌≡◌, ◌⊎◌, ℕ, Ok, Err, IsOk, IfOk, IfErr, true, false, length, ◌+◌, ◌-◌, ◌*◌, ◌<◌, ◌≤◌, ◌/◌, ◌%◌, Bool, nat_eq, nat_lt, List, [], ◌∷◌, ◌++◌, slice_index_or, slice_set, bit_and, bit_or, Fits, w8, w32, w64, Bor, MutBor}
+use Rattle.block_device.specs.Device.{HasRisen}
+use Rattle.page_file.specs.Opening.{IsRefused}
+use Rattle.page_file.specs.Pages.{given_pages, next_in}
+use Rattle.plain_table.specs.Answers.{done_answer, boxes_answer}
+use Rattle.plain_table.specs.Commands.Command.{Create, Insert, Window, Reopen}
+use Rattle.plain_table.specs.Lawful.{Takes, LawfulStep}
+use Rattle.plain_table.specs.Lawful.Request.{Asks}
+use Rattle.plain_table.specs.Table.{Table}
+use Rattle.plain_table.specs.declared.refusal.Refusal.TheVariants as refusal
+use Rattle.layer_store.specs.Image.{Holds, IsImage}
+use Rattle.layer_store.specs.Starting.{GivesUp, IsRefusedFor}
+use Rattle.layer_store.specs.Standing.{Stands, StandsFor, HasFailed, blocks_in, device_in}
+use Rattle.layer_store.proofs.store.Store.close.Goals as goal
+
+-- src/store.rt:119:13
+pub returns-then-self-clause-refused : goal.returns-then-self-clause-refused
+returns-then-self-clause-refused g c = ?
+
+-- src/store.rt:111:5
+pub returns-in-Ok-clause-closed : goal.returns-in-Ok-clause-closed
+returns-in-Ok-clause-closed g c = ?
+
+-- src/store.rt:111:5
+pub returns-in-Ok-clause-failed : goal.returns-in-Ok-clause-failed
+returns-in-Ok-clause-failed g c = ?
+
+-- src/store.rt:111:5
+pub returns-in-Err-clause-refused : goal.returns-in-Err-clause-refused
+returns-in-Err-clause-refused g c = ?
+
+-- src/store.rt:111:5
+pub returns-in-Err-clause-failed : goal.returns-in-Err-clause-failed
+returns-in-Err-clause-failed g c = ?

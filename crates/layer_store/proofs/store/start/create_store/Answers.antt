@@ -1,0 +1,25 @@
+-- A new file holds the empty table, and lies in its blocks.
+use Rattle.std.proofs.Common.{◌≡◌, true, false, refl, sym, subst}
+use Rattle.std.specs.FinMap.{empty}
+use Rattle.page_file.specs.File.{blocks_of, next_of, pages}
+use Rattle.plain_table.specs.Table.{Table}
+use Rattle.layer_store.specs.Image.{Holds}
+use Rattle.layer_store.specs.Standing.{StandsFor}
+use Rattle.layer_store.specs.declared.store.Store.{Store}
+use Rattle.layer_store.proofs.KeepLemmas.{image_of, nothing_held}
+use Rattle.layer_store.proofs.StoreLemmas.{alive}
+use Rattle.layer_store.proofs.store.start.create_store.Goals as goal
+
+pub returns-in-Ok-clause-stands : goal.returns-in-Ok-clause-stands
+returns-in-Ok-clause-stands g c = λ honest.
+    let made = c.in-Ok.ensures in
+    let held = subst (λ next. Holds (pages c.in-Ok.file) next empty) (sym made.next) (nothing_held (pages c.in-Ok.file) (made.catalog honest)) in
+    let store : Store _ _ _ = record { kept = record { alloc = c.args.alloc; file = c.in-Ok.file; table = c.new.result; written = true }; failed = false } in
+    subst (StandsFor store) c.new.ensures
+    (alive store (record { map = made.sound honest; held = λ written. subst (Holds (pages c.in-Ok.file) (next_of c.in-Ok.file)) (sym c.new.ensures) held }) refl)
+
+pub returns-in-Ok-clause-closed : goal.returns-in-Ok-clause-closed
+returns-in-Ok-clause-closed g c = λ honest.
+    let made = c.in-Ok.ensures in
+    let held = subst (λ next. Holds (pages c.in-Ok.file) next empty) (sym made.next) (nothing_held (pages c.in-Ok.file) (made.catalog honest)) in
+    image_of c.in-Ok.file (blocks_of c.in-Ok.file) empty (made.sound honest) (made.lies honest) held

@@ -1,0 +1,38 @@
+-- What a store stands for, and what it begins and ends with.
+use Rattle.std.specs.Prelude.{ℕ, ◌≡◌, if◌then◌else◌, true, Result, IsOk}
+use Rattle.block_device.specs.Device.{Blocks}
+use Rattle.page_file.specs.File.{blocks_of, device_of, next_of}
+use Rattle.plain_table.specs.Lawful.{Reaches, Standing}
+use Rattle.plain_table.specs.Lawful.State.{Alive, Dead}
+use Rattle.plain_table.specs.Table.{Table}
+use Rattle.layer_store.specs.Keeping.{IsSound}
+use Rattle.layer_store.specs.declared.store.Store.{Store}
+
+-- dead once it failed, else alive with its table; the faults of its device; and the page numbers given out
+abbrev pub standing_of : {D A : Type 0} {m : _} → Store D A m → Standing
+standing_of {m = m} store = record {
+  state = if store.failed then Dead else Alive store.kept.table;
+  faults = m.faults (device_of store.kept.file);
+  next = next_of store.kept.file;
+}
+
+-- The standing is the store's, and the store is sound: its device is honest, its map of pages is whole, and holds the
+-- table where that was written.
+unfoldable pub Stands : {D A : Type 0} {m : _} → Store D A m → Standing → Type 0
+Stands store s = (s ≡ standing_of store) × IsSound store.kept
+
+-- the store is sound and alive, and stands for the table
+abbrev pub StandsFor : {D A : Type 0} {m : _} → Store D A m → Table → Type 0
+StandsFor store t = Reaches Stands store (λ s. s.state ≡ Alive t)
+
+-- the store is sound, and has failed
+abbrev pub HasFailed : {D A : Type 0} {m : _} → Store D A m → Type 0
+HasFailed store = Reaches Stands store (λ s. s.state ≡ Dead)
+
+-- the blocks on its device
+abbrev pub blocks_in : {D A : Type 0} {m : _} → Store D A m → Blocks
+blocks_in store = blocks_of store.kept.file
+
+-- its device
+abbrev pub device_in : {D A : Type 0} {m : _} → Store D A m → D
+device_in store = device_of store.kept.file

@@ -1,0 +1,20 @@
+-- How a store begins and ends. Our rule, docs/COMMANDS.md.
+use Rattle.std.specs.Prelude.{ℕ, ◌≡◌, ◌⊎◌, Bool, ◌&&◌, nat_le}
+use Rattle.block_device.specs.Device.{Blocks, HasRisen}
+use Rattle.page_file.specs.declared.fault.Fault.{Fault}
+use Rattle.plain_table.specs.declared.refusal.Refusal.{Refusal}
+use Rattle.plain_table.specs.declared.refusal.Refusal.TheVariants as refusal
+use Rattle.layer_store.specs.Faults.{refusal_of}
+use Rattle.layer_store.specs.Image.{Refuses}
+
+-- a cache holds 8 to 4096 pages
+abbrev pub is_cache : ℕ → Bool
+is_cache pages = nat_le 8 pages && nat_le pages 4096
+
+-- want of memory, or a device that failed between these counts of its faults
+abbrev pub GivesUp : ℕ → ℕ → Refusal → Type 0
+GivesUp before now r = (r ≡ refusal.Memory) ⊎ ((r ≡ refusal.Device) × HasRisen before now)
+
+-- opening refuses the blocks for what they are
+abbrev pub IsRefusedFor : Blocks → Refusal → Type 0
+IsRefusedFor blocks r = (f : Fault) × (r ≡ refusal_of f) × Refuses blocks f

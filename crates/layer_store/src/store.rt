@@ -1,0 +1,126 @@
+//! The store, and its commands.
+
+ghost use Rattle.std.specs.Prelude.{◌≡◌, ◌⊎◌, ℕ, Ok, Err, IsOk, IfOk, IfErr, true, false, length};
+ghost use Rattle.block_device.specs.Device.{HasRisen};
+ghost use Rattle.page_file.specs.Opening.{IsRefused};
+ghost use Rattle.page_file.specs.Pages.{given_pages, next_in};
+ghost use Rattle.plain_table.specs.Answers.{done_answer, boxes_answer};
+ghost use Rattle.plain_table.specs.Commands.Command.{Create, Insert, Window, Reopen};
+ghost use Rattle.plain_table.specs.Lawful.{Takes, LawfulStep};
+ghost use Rattle.plain_table.specs.Lawful.Request.{Asks};
+ghost use Rattle.plain_table.specs.Table.{Table};
+ghost use Rattle.plain_table.specs.declared.refusal.Refusal.TheVariants as refusal;
+ghost use Rattle.layer_store.specs.Image.{Holds, IsImage};
+ghost use Rattle.layer_store.specs.Starting.{GivesUp, IsRefusedFor};
+
+mod start;
+
+pub use start::{create_store, open_store};
+
+use crate::faults::refusal_of;
+use crate::kept::Kept;
+use block_device::BlockDevice;
+use plain_table::{AnyBox, RawBox, Refusal};
+use std::alloc::{Allocator, Global};
+
+// What a store that failed answers.
+const FAILED: Refusal = Refusal::StoreFailed(19);
+
+/// A spatial store on a device. Each of its commands is one lawful step of the plain table: it answers as the table
+/// does and leaves the table that it leaves; or it answers `Memory`, `Device` or `NoPages` and leaves the table as it
+/// was; or, half way through, it answers `StoreFailed` with the number of the fault, and the store answers
+/// `StoreFailed(19)` from then on.
+///
+/// It answers from a table in memory. Only a closing writes: [`Store::reopen`] and [`Store::close`], where the table
+/// has changed since the last one.
+#[derive(Drop)]
+pub struct Store<D: BlockDevice, A: Allocator = Global> {
+    kept: Kept<D, A>,
+    failed: bool,
+}
+
+impl<D: BlockDevice, A: Allocator + Copy> Store<D, A> {
+    ghost use Rattle.layer_store.specs.Standing.{Stands, StandsFor, HasFailed, blocks_in, device_in};
+
+    /// Makes an empty layer of that name with 2 or 3 axes, whose nodes may have 4 to 100 entries.
+    ///
+    /// Refused, in this order, by BadName, BadDims, BadFanout, LayerExists and TooManyLayers.
+    pub fn create(&mut self, layer: &[u8], dims: u64, fanout: u64) -> Result<(), Refusal>
+        ensures { Takes Stands self.old self.new
+            (λ s s'. LawfulStep s (Asks (Create layer.now dims fanout)) (done_answer result) s') }
+    {
+        if self.failed {
+            return Err(FAILED);
+        }
+        self.kept.create(layer, dims, fanout)
+    }
+
+    /// Adds an object with a new identifier to a layer.
+    ///
+    /// Refused, in this order, by BadName, NoLayer, WrongDims, BadBox, Duplicate and TooManyObjects.
+    pub fn insert(&mut self, layer: &[u8], id: u64, bounds: RawBox) -> Result<(), Refusal>
+        ensures { Takes Stands self.old self.new
+            (λ s s'. LawfulStep s (Asks (Insert layer.now id bounds)) (done_answer result) s') }
+    {
+        if self.failed {
+            return Err(FAILED);
+        }
+        self.kept.insert(layer, id, bounds)
+    }
+
+    /// The objects of a layer whose boxes meet the window (boxes that touch meet), ascending by identifier.
+    ///
+    /// Refused, in this order, by BadName, NoLayer, WrongDims and BadBox.
+    pub fn window(&mut self, layer: &[u8], bounds: RawBox) -> Result<Vec<(u64, AnyBox), A>, Refusal>
+        ensures { Takes Stands self.old self.new
+            (λ s s'. LawfulStep s (Asks (Window layer.now bounds)) (boxes_answer result) s') }
+    {
+        if self.failed {
+            return Err(FAILED);
+        }
+        self.kept.table.window(layer, bounds)
+    }
+
+    /// Closes the table into the file, and reads it from there again.
+    ///
+    /// Refused while closing it answers `Memory`, `Device` or `NoPages`, and the store goes on. Refused afterwards it
+    /// answers `StoreFailed`, the store has failed, and the file is closed with its table.
+    pub fn reopen(&mut self) -> Result<(), Refusal>
+        ensures step { Takes Stands self.old self.new (λ s s'. LawfulStep s (Asks Reopen) (done_answer result) s') }
+        ensures closed { (t : Table) → StandsFor self.old t → IsOk result ⊎ HasFailed self.new → IsImage (blocks_in self.new) t }
+    {
+        if self.failed {
+            return Err(FAILED);
+        }
+        if let Err(fault) = self.kept.settle() {
+            return Err(refusal_of(fault));
+        }
+        match self.kept.read_again() {
+            Ok(()) => Ok(()),
+            Err(fault) => {
+                self.failed = true;
+                Err(Refusal::StoreFailed(fault.number()))
+            }
+        }
+    }
+
+    /// Closes the table into the file, and hands the device back.
+    ///
+    /// Refused it answers `Memory`, `Device` or `NoPages`, and the device comes back with its gate open or unsure. A
+    /// store that failed answers `StoreFailed(19)`, and the device comes back as it is.
+    pub fn close(self) -> Result<D, (Refusal, D)>
+        ensures closed { (t : Table) → StandsFor self t → IfOk result (λ device. IsImage (D.shown device) t) }
+        ensures refused { (t : Table) → StandsFor self t → IfErr result (λ e. GivesUp (D.faults (device_in self)) (D.faults e.1) e.0 ⊎ (e.0 ≡ refusal.NoPages)) }
+        ensures failed { HasFailed self → result ≡ Err (refusal.StoreFailed 19, device_in self) }
+        ensures honest { IfOk result (λ device. D.honest (device_in self) → D.honest device) }
+        ensures refused_honest { IfErr result (λ e. D.honest (device_in self) → D.honest e.1) }
+    {
+        if self.failed {
+            return Err((FAILED, self.kept.file.abandon()));
+        }
+        match self.kept.close() {
+            Ok(device) => Ok(device),
+            Err((fault, device)) => Err((refusal_of(fault), device)),
+        }
+    }
+}

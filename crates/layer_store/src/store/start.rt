@@ -1,0 +1,118 @@
+//! How a store begins: made anew on a device without blocks, or opened.
+
+ghost use Rattle.std.specs.Prelude.{◌≡◌, ◌⊎◌, ◌≤◌, ℕ, Err, IfOk, IfErr, true, false, length};
+ghost use Rattle.std.specs.FinMap.{empty};
+ghost use Rattle.page_file.specs.Pages.{given_pages, next_in};
+ghost use Rattle.plain_table.specs.Table.{Table};
+ghost use Rattle.plain_table.specs.declared.refusal.Refusal.TheVariants as refusal;
+ghost use Rattle.page_file.specs.File.{blocks_of, device_of, given, next_of, IsHonest, IsPageMap};
+ghost use Rattle.layer_store.specs.Image.{Holds, IsDamaged, IsImage};
+ghost use Rattle.layer_store.specs.Standing.{StandsFor, blocks_in, device_in};
+ghost use Rattle.layer_store.specs.Starting.{GivesUp, IsRefusedFor, is_cache};
+
+use crate::faults::refusal_of;
+use crate::image::read_table;
+use crate::kept::Kept;
+use crate::store::Store;
+use block_device::BlockDevice;
+use page_file::{PageFile, create_pages, open_pages};
+use plain_table::{ListTable, Refusal};
+use std::alloc::Allocator;
+
+// Whether a cache may hold so many pages.
+fn is_cache(pages: u32) -> bool
+    ensures { result ≡ is_cache pages }
+{
+    pages >= 8 && pages <= 4096
+}
+
+/// Makes a store without layers on a device without blocks, which takes its memory from this allocator and caches so
+/// many pages (8 to 4096; not used yet). Its file is closed with the empty table.
+///
+/// Refused by `BadCache`, before any call of the device, and else by `Memory` or `Device`. The device comes back.
+pub fn create_store<D: BlockDevice, A: Allocator + Copy>(
+    alloc: A,
+    device: D,
+    cache: u32,
+) -> Result<Store<D, A>, (Refusal, D)>
+    requires { length (D.shown device) ≡ 0 }
+    ensures bad_cache { is_cache cache ≡ false → result ≡ Err (refusal.BadCache, device) }
+    ensures stands { IfOk result (λ store. D.honest device → StandsFor store empty) }
+    ensures closed { IfOk result (λ store. D.honest device → IsImage (blocks_in store) empty) }
+    ensures refused { is_cache cache ≡ true → IfErr result (λ e. D.honest device → GivesUp (D.faults device) (D.faults e.1) e.0) }
+    ensures honest { IfOk result (λ store. D.honest device → D.honest (device_in store)) }
+    ensures refused_honest { IfErr result (λ e. D.honest device → D.honest e.1) }
+{
+    if !is_cache(cache) {
+        return Err((Refusal::BadCache, device));
+    }
+    match create_pages(device) {
+        Ok(file) => Ok(Store {
+            kept: Kept {
+                alloc,
+                file,
+                table: ListTable::new(alloc),
+                written: true,
+            },
+            failed: false,
+        }),
+        Err((fault, device)) => Err((refusal_of(fault), device)),
+    }
+}
+
+/// Opens the store that lies on a device: gate, header, catalog and the objects of each layer are read and checked
+/// (docs/FORMAT.md, "Opening"), and nothing is written. The store takes its memory from this allocator and caches so
+/// many pages (8 to 4096; not used yet).
+///
+/// Refused by `BadCache`, before any call of the device. On an honest device any other refusal is `Memory`, `Device`,
+/// or that of the first check that fails. The device comes back, with its blocks as they were.
+pub fn open_store<D: BlockDevice, A: Allocator + Copy>(
+    alloc: A,
+    device: D,
+    cache: u32,
+) -> Result<Store<D, A>, (Refusal, D)>
+    ensures bad_cache { is_cache cache ≡ false → result ≡ Err (refusal.BadCache, device) }
+    ensures image { (t : Table) → D.honest device → IsImage (D.shown device) t → IfOk result (λ store. StandsFor store t) }
+    ensures refused { is_cache cache ≡ true → IfErr result (λ e. D.honest device → GivesUp (D.faults device) (D.faults e.1) e.0 ⊎ IsRefusedFor (D.shown device) e.0) }
+    ensures blocks { IfOk result (λ store. D.honest device → blocks_in store ≡ D.shown device) }
+    ensures refused_blocks { IfErr result (λ e. D.honest device → D.shown e.1 ≡ D.shown device) }
+    ensures honest { IfOk result (λ store. D.honest device → D.honest (device_in store)) }
+    ensures refused_honest { IfErr result (λ e. D.honest device → D.honest e.1) }
+{
+    if !is_cache(cache) {
+        return Err((Refusal::BadCache, device));
+    }
+    match open_pages(device) {
+        Ok(file) => read_store(alloc, file),
+        Err((fault, device)) => Err((refusal_of(fault), device)),
+    }
+}
+
+// Reads the table of a file that was opened.
+fn read_store<D: BlockDevice, A: Allocator + Copy>(
+    alloc: A,
+    file: PageFile<D>,
+) -> Result<Store<D, A>, (Refusal, D)>
+    ensures stands { IsPageMap file → IfOk result (λ store. (t : Table) → Holds (given file) (next_of file) t → StandsFor store t) }
+    ensures refused { IsHonest file → IfErr result (λ e. GivesUp (D.faults (device_of file)) (D.faults e.1) e.0
+        ⊎ ((n : ℕ) × (e.0 ≡ refusal.Damaged n) × IsDamaged (given file) (next_of file) n)) }
+    ensures later { IfErr result (λ e. D.faults (device_of file) ≤ D.faults e.1) }
+    ensures blocks { IfOk result (λ store. IsHonest file → blocks_in store ≡ blocks_of file) }
+    ensures refused_blocks { IfErr result (λ e. IsHonest file → D.shown e.1 ≡ blocks_of file) }
+    ensures honest { IfOk result (λ store. IsHonest file → D.honest (device_in store)) }
+    ensures refused_honest { IfErr result (λ e. IsHonest file → D.honest e.1) }
+{
+    let mut file = file;
+    match read_table(alloc, &mut file) {
+        Ok(table) => Ok(Store {
+            kept: Kept {
+                alloc,
+                file,
+                table,
+                written: true,
+            },
+            failed: false,
+        }),
+        Err(fault) => Err((refusal_of(fault), file.abandon())),
+    }
+}
