@@ -163,6 +163,14 @@ new_pages_stay old new k page e = case (old k) e
     case None e = e
     case (Some was) e = absurd (cc)
 
+-- and where only pages under old numbers change
+pub new_pages_are_apart : (old new later : PageMap) → ((k : ℕ) → old k ≡ None → later k ≡ new k) → KeepsPages (new_pages old new) (new_pages old later)
+new_pages_are_apart old new later same k page e = case (old k) refl e
+  where
+    case : (o : Option (List ℕ)) → old k ≡ o → cond (is_some o) None (new k) ≡ Some page → cond (is_some o) None (later k) ≡ Some page
+    case None none e = same k none ∙ e
+    case (Some was) there e = absurd (cc)
+
 -- each page of a chain is of the buckets' kind
 pub a_chain_has_bucket_pages : (large small : PageMap) (dims n : ℕ) (objects : List (ℕ × Bounds)) → ((k : ℕ) (page : List ℕ) → large k ≡ Some page → number_at 1 0 page ≡ 4 → small k ≡ Some page)
     → HoldsObjects large dims n objects → HoldsObjects small dims n objects
