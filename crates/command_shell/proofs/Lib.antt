@@ -6,3 +6,4 @@ pub mod WriteLemmas
 pub mod ReadLemmas
 pub mod SessionLemmas
 pub mod AnswerLemmas
+pub mod Examples
