@@ -1,6 +1,6 @@
 -- Worked examples of the command language: lines, words, numbers, what lines mean, and the texts of replies.
 -- No other proof rests on them. A definition that says another thing than docs/COMMANDS.md is refused here.
-use Rattle.std.proofs.Common.{◌≡◌, ℕ, List, [], ◌∷◌, ◌++◌, Bool, true, false, refl, sym, ap, ◌∙◌, ℤ, pos, negsuc, Option, Some, None, codes, replicate, map, length, length-append, get_or, arith}
+use Rattle.std.proofs.Common.{◌≡◌, ℕ, List, [], ◌∷◌, ◌++◌, Bool, true, false, refl, sym, ap, ap₂, ◌∙◌, ℤ, pos, negsuc, Option, Some, None, codes, replicate, map, length, length-append, get_or, arith}
 use Rattle.std.specs.Fmt.{digits}
 use Rattle.plain_table.specs.Commands.Command.{Create, Insert, Window}
 use Rattle.plain_table.specs.Lawful.{Request}
@@ -146,6 +146,11 @@ asked_alone : (m : Meaning) (rs ss : List Request) → AsksAlone m rs → AsksAl
 asked_alone Blank rs ss h g = h ∙ sym g
 asked_alone Bad rs ss h g = h ∙ sym g
 asked_alone (Asks c) rs ss h g = h ∙ sym g
+
+-- lines ask one list of requests, and no other
+pub one_reading : {ended : Bool} {lines : List (List ℕ)} {rs ss : List Request} → AreCommands ended lines rs → AreCommands ended lines ss → rs ≡ ss
+one_reading none none = refl
+one_reading (one {line = line} rs h p) (one ss g q) = ap₂ (λ x y. x ++ y) (asked_alone (meaning_of line) rs ss h g) (one_reading p q)
 
 -- ---- the texts of replies
 

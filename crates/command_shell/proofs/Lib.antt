@@ -7,3 +7,4 @@ pub mod ReadLemmas
 pub mod SessionLemmas
 pub mod AnswerLemmas
 pub mod Examples
+pub mod RunExamples
