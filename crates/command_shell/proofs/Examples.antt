@@ -1,6 +1,6 @@
 -- Worked examples of the command language: lines, words, numbers, what lines mean, and the texts of replies.
 -- No other proof rests on them. A definition that says another thing than docs/COMMANDS.md is refused here.
-use Rattle.std.proofs.Common.{◌≡◌, ℕ, List, [], ◌∷◌, ◌++◌, Bool, true, false, refl, sym, ap, ap₂, ◌∙◌, ℤ, pos, negsuc, Option, Some, None, codes, replicate, map, length, length-append, get_or, arith}
+use Rattle.std.proofs.Common.{◌≡◌, ℕ, List, [], ◌∷◌, ◌++◌, Bool, true, refl, sym, ap, ap₂, ◌∙◌, pos, negsuc, Some, None, codes, replicate, map, length, length-append, get_or, arith}
 use Rattle.std.specs.Fmt.{digits}
 use Rattle.plain_table.specs.Commands.Command.{Create, Insert, Window}
 use Rattle.plain_table.specs.Lawful.{Request}
@@ -14,7 +14,7 @@ use Rattle.command_shell.specs.Lines.{lines_of, words_of, IsWhole}
 use Rattle.command_shell.specs.Lines.IsWhole.{none as nothing, ends}
 use Rattle.command_shell.specs.Meanings.{Meaning, meaning_of, words_mean}
 use Rattle.command_shell.specs.Meanings.Meaning.{Blank, Bad, Asks}
-use Rattle.command_shell.specs.Numbers.{number_of, coordinate_of, box_of}
+use Rattle.command_shell.specs.Numbers.{number_of, coordinate_of}
 use Rattle.command_shell.specs.Texts.{answer_text, texts_of}
 
 abbrev a : List ℕ

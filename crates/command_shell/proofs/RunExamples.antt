@@ -1,14 +1,13 @@
 -- Worked examples of whole runs: what may be said of one, and what may not.
 -- No other proof rests on them. A reader is the bytes that it has left, and a writer the bytes that it was given.
-use Rattle.std.proofs.Common.{◌≡◌, ℕ, List, [], ◌∷◌, ◌++◌, Bool, true, false, refl, sym, ap, ◌∙◌, Option, Some, None, codes, take, length, length-append, arith, subst, inl, inr}
+use Rattle.std.proofs.Common.{◌≡◌, ℕ, List, [], ◌∷◌, ◌++◌, true, false, refl, sym, ap, ◌∙◌, Option, Some, codes, length, length-append, get_or, append_assoc, arith, subst}
 use Rattle.std.specs.Fmt.{digits}
 use Rattle.std.specs.FinMap.{empty}
 use Rattle.plain_table.specs.Lawful.{Standing, Request, Session}
-use Rattle.plain_table.specs.Lawful.Request.{BadCommand, Asks as Wants}
+use Rattle.plain_table.specs.Lawful.Request.{BadCommand}
 use Rattle.plain_table.specs.Lawful.State.{Alive}
 use Rattle.plain_table.specs.Step.{Answer}
-use Rattle.plain_table.specs.Step.Answer.{Done, Refused}
-use Rattle.plain_table.specs.Table.{Table}
+use Rattle.plain_table.specs.Step.Answer.{Refused}
 use Rattle.plain_table.specs.declared.refusal.Refusal.TheVariants as refusal
 use Rattle.command_shell.specs.Commands.{AreCommands}
 use Rattle.command_shell.specs.Commands.AreCommands.{none, one}
@@ -108,3 +107,20 @@ some_last (a ∷ as') last e = absurd (cc)
 -- what broke off was an answer
 a_break_has_an_answer : (old new : Option (List ℕ)) → BreaksOff old new [] → ⊥
 a_break_has_an_answer old new h = some_last h.before h.last h.are
+
+-- whole lines do not begin in the middle of one
+no_whole_front : (line rest : List ℕ) → codes "x" ≡ (line ++ 10 ∷ []) ++ rest → ⊥
+no_whole_front [] rest e = absurd (omega (arith, ap (λ t. get_or t 0 0) e))
+no_whole_front (b ∷ line) rest e = absurd (omega (arith, ap length e, length-append (line ++ 10 ∷ []) rest, length-append line (10 ∷ [])))
+
+whole_front : {text : List ℕ} (rest : List ℕ) → IsWhole text → codes "x" ≡ text ++ rest → text ≡ []
+whole_front rest nothing e = refl
+whole_front rest (ends line) e = absurd (no_whole_front line rest e)
+
+-- a line without its newline is not answered where a read failed behind it
+a_read_fault_answers_no_unfinished_line : (s s' : Standing) (left written : List ℕ) → Runs known known ReadFault s s' (codes "x") left [] written → (written ≡ []) × (s' ≡ s)
+a_read_fault_answers_no_unfinished_line s s' left written (unread, part, run) =
+    let all : codes "x" ≡ run.text ++ (unread ++ left) = run.reads.read.read ∙ ap (λ m. m ++ left) run.reads.read.so ∙ append_assoc run.text unread left in
+    let text = whole_front (unread ++ left) run.reads.stops all in
+    let answered = no_answers s s' run.requests run.answers run.lawful (one_reading (subst (λ t. AreCommands false (lines_of t) run.requests) text run.asked) none) in
+    (run.written ∙ ap texts_of answered.0, answered.1)
