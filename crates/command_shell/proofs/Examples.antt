@@ -2,7 +2,7 @@
 -- No other proof rests on them. A definition that says another thing than docs/COMMANDS.md is refused here.
 use Rattle.std.proofs.Common.{◌≡◌, ℕ, List, [], ◌∷◌, ◌++◌, Bool, true, refl, sym, ap, ap₂, ◌∙◌, pos, negsuc, Some, None, codes, replicate, map, length, length-append, get_or, arith}
 use Rattle.std.specs.Fmt.{digits}
-use Rattle.plain_table.specs.Commands.Command.{Create, Insert, Window}
+use Rattle.plain_table.specs.Commands.Command.{Create, Insert, Window, Reopen}
 use Rattle.plain_table.specs.Lawful.{Request}
 use Rattle.plain_table.specs.Lawful.Request.{BadCommand, Asks as Wants}
 use Rattle.plain_table.specs.Step.Answer.{Done, Refused, Boxes}
@@ -105,6 +105,12 @@ insert_in_space = refl
 
 window_gives_a_box : meaning_of (codes "window window 1 2 3 4") ≡ Asks (Window (codes "window") (Two (pos 1 ∷ pos 2 ∷ []) (pos 3 ∷ pos 4 ∷ [])))
 window_gives_a_box = refl
+
+reopen_is_one_word : map meaning_of (codes "reopen" ∷ codes "\t reopen \r" ∷ []) ≡ replicate 2 (Asks Reopen)
+reopen_is_one_word = refl
+
+bad_reopens : map meaning_of (codes "reopen a" ∷ codes "reopen reopen" ∷ codes "reopen #" ∷ codes "REOPEN" ∷ codes "reopens" ∷ codes "reope" ∷ codes "re open" ∷ []) ≡ replicate 7 Bad
+bad_reopens = refl
 
 -- the store refuses it, not the language
 a_low_above_its_high_is_a_box : meaning_of (codes "window a 1 1 0 0") ≡ Asks (Window a (Two (pos 1 ∷ pos 1 ∷ []) (pos 0 ∷ pos 0 ∷ [])))

@@ -121,6 +121,7 @@ fn reply_to<A: Allocator + Copy>(store: &mut Store<A>, line: Line<'_>) -> Option
         } => Some(change_reply(store.create(layer, dims, fanout))),
         Line::Insert { layer, id, bounds } => Some(change_reply(store.insert(layer, id, bounds))),
         Line::Window { layer, bounds } => Some(window_reply(store.window(layer, bounds))),
+        Line::Reopen => Some(change_reply(store.reopen())),
     }
 }
 

@@ -7,7 +7,7 @@ use refusing::Refusing;
 use std::test::Fail;
 
 // Each line and its reply. Layers `a` and `b` have two axes, `c` has three.
-const ROWS: [(&[u8], &[u8]); 36] = [
+const ROWS: [(&[u8], &[u8]); 39] = [
     (b"# the first run", b""),
     (b"create a 2 4", b"ok\n"),
     (b"insert a 1 0 0 10 10", b"ok\n"),
@@ -65,6 +65,9 @@ const ROWS: [(&[u8], &[u8]); 36] = [
         b"window b 0 0 1 1",
         b"ok 3\n1 0 0 1 1\n2 1 1 2 2\n18446744073709551615 0 0 0 0\n",
     ),
+    (b"# what a reopening keeps", b""),
+    (b"reopen", b"ok\n"),
+    (b"window b 2 2 9 9", b"ok 1\n2 1 1 2 2\n"),
 ];
 
 #[test]
