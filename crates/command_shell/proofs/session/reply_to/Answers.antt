@@ -21,4 +21,4 @@ pub returns-in-Window : goal.returns-in-Window
 returns-in-Window g c = replied _ (Window c.in-Window.layer.now c.in-Window.bounds) (boxes_answer c.window.result) _ (ap said c.in-Window.is) c.window_reply.ensures c.window.ensures
 
 pub returns-in-Reopen : goal.returns-in-Reopen
-returns-in-Reopen g c = replied _ Reopen (done_answer c.reopen.result) _ (ap said c.in-Reopen.is) c.change_reply-in-Reopen.ensures c.reopen.ensures
+returns-in-Reopen g c = replied _ Reopen (done_answer c.reopen.result) _ (ap said c.in-Reopen.is) c.change_reply-in-Reopen.ensures c.reopen.ensures.step
