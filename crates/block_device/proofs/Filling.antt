@@ -5,11 +5,11 @@ use Rattle.std.proofs.lemmas.List.{same_lists, get_or-set_same, get_or-set_other
 use Rattle.std.proofs.lemmas.Bool.{cases_lt, cases_eq, cases_Bool, eqb-true, or_cases, both_ways, false_from_ne_true}
 use Rattle.block_device.specs.declared.left.Left.{Left}
 use Rattle.block_device.specs.declared.left.Left.TheVariants as left
-use Rattle.block_device.specs.declared.write.Write.{Write}
+use Rattle.block_device.specs.Logged.{Write, restored}
 use Rattle.block_device.specs.Device.{Blocks, block_at}
 use Rattle.block_device.specs.History.{Event, IsHistory, MayLeave, at_sync, unsynced}
 use Rattle.block_device.specs.Memory.{IsLeft}
-use Rattle.block_device.specs.Kept.{IsKept, IsOld, FillsMarked, IsLeftFrom, is_in, is_logged, restored}
+use Rattle.block_device.specs.Kept.{IsKept, IsOld, FillsMarked, IsLeftFrom, is_in, is_logged}
 use Rattle.block_device.specs.Outcomes.{sync_le, sync_same, shown_left}
 use Rattle.block_device.specs.Stop.{IsFilled}
 use Rattle.block_device.proofs.Numbers.{contains_from, is_in_from, not_in}

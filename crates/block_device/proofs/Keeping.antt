@@ -4,7 +4,7 @@ use Rattle.std.specs.List.{All}
 use Rattle.std.proofs.lemmas.List.{get_or-set_same, get_or-set_other, get_or_append_left, get_or_push, length_push, take_at, set-set, set-get_or}
 use Rattle.std.proofs.lemmas.List.Elements.{All-push}
 use Rattle.std.proofs.lemmas.Bool.{cases_lt, cases_eq, cases_Bool, eq-eqb, ne_eqb, or_left, both_ways}
-use Rattle.block_device.specs.declared.write.Write.{Write}
+use Rattle.block_device.specs.Logged.{Write}
 use Rattle.block_device.specs.Device.{Blocks, Follows, Torn, Elapses, block_at, written}
 use Rattle.block_device.specs.History.{Event, Wrote, undone, IsThere, IsHistory, MayLeave, LeftSince, at_sync, unsynced}
 use Rattle.block_device.specs.Kept.{IsKept, IsOld, Keeps, is_in, is_logged}

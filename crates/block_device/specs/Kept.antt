@@ -4,9 +4,9 @@ use Rattle.std.specs.Prelude.{◌≡◌, ◌<◌, ℕ, Bool, true, false, ◌||�
 use Rattle.std.specs.List.{All}
 use Rattle.block_device.specs.declared.left.Left.{Left}
 use Rattle.block_device.specs.declared.left.Left.TheVariants as left
-use Rattle.block_device.specs.declared.write.Write.{Write}
 use Rattle.block_device.specs.Device.{Blocks, block_at}
 use Rattle.block_device.specs.History.{Event, IsHistory, at_sync, unsynced}
+use Rattle.block_device.specs.Logged.{Write, restored}
 
 -- whether k is one of these numbers
 abbrev pub is_in : ℕ → List ℕ → Bool
@@ -37,11 +37,6 @@ pub record IsKept (blocks : Blocks) (marks : List Bool) (log : List Write) (sync
 pub record Keeps (i : ℕ) (bytes : List ℕ) (marks : List Bool) (log : List Write) (marks' : List Bool) (log' : List Write) : Type 0 where
   pub marked : marks' ≡ set marks i true
   pub logged : log' ≡ (if slice_index_or marks i false then log else log ++ record { at = i; old = bytes } ∷ [])
-
--- the blocks with what these writes replaced
-abbrev pub restored : List Write → Blocks → Blocks
-restored [] blocks = blocks
-restored (w ∷ ws) blocks = restored ws (set blocks w.at w.old)
 
 -- the new blocks have these bytes where there is a mark, and are the old ones elsewhere
 pub record FillsMarked (bytes : List ℕ) (marks : List Bool) (old new : Blocks) : Type 0 where

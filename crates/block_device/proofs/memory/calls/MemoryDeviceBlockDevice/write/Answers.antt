@@ -13,14 +13,14 @@ added : (g : given.Over) (c : goal.After-saturating_add-self g)
     → Adds c.args.self.now.blocks.items c.append.new.blocks.items (history c.args.self.now.past.notes) (history c.appends.new.self.notes) c.args.i c.args.bytes.now
 added g c =
     let old = c.args.self.now in
-    appends old.blocks.items c.append.new.blocks.items old.marks.items c.append.new.marks.items old.log.items old.synced (history old.past.notes) (history c.appends.new.self.notes) c.args.i c.args.bytes.now
-    old.kept (omega arith) c.in_ok-append.ensures.blocks c.in_ok-append.ensures.marks (ap history c.appends.ensures)
+    appends old.blocks.items c.append.new.blocks.items old.marks.items c.append.new.beside.items old.log old.synced (history old.past.notes) (history c.appends.new.self.notes) c.args.i c.args.bytes.now
+    old.kept (omega arith) c.in_ok-append.ensures.blocks c.in_ok-append.ensures.beside (ap history c.appends.ensures)
 
 pub invariant_of-self-then-at-len-clause-kept : goal.invariant_of-self-then-at-len-clause-kept
 invariant_of-self-then-at-len-clause-kept g c =
     let old = c.args.self.now in
-    appended_kept old.blocks.items c.append.new.blocks.items old.marks.items c.append.new.marks.items old.log.items old.synced (history old.past.notes) (history c.appends.new.self.notes) c.args.i c.args.bytes.now
-    old.kept (omega arith) c.in_ok-append.ensures.blocks c.in_ok-append.ensures.marks (ap history c.appends.ensures)
+    appended_kept old.blocks.items c.append.new.blocks.items old.marks.items c.append.new.beside.items old.log old.synced (history old.past.notes) (history c.appends.new.self.notes) c.args.i c.args.bytes.now
+    old.kept (omega arith) c.in_ok-append.ensures.blocks c.in_ok-append.ensures.beside (ap history c.appends.ensures)
 
 pub returns-then-at-len-clause-written : goal.returns-then-at-len-clause-written
 returns-then-at-len-clause-written g c = λ _. (added g (goal.at.returns-then-at-len-clause-written g c).After-saturating_add-self).shown
@@ -42,14 +42,14 @@ changed_so : (g : given.Over) (c : goal.After-saturating_add-self-2 g)
     → Adds c.args.self.now.blocks.items (set c.args.self.now.blocks.items c.args.i c.args.bytes.now) (history c.args.self.now.past.notes) (history c.changes.new.self.notes) c.args.i c.args.bytes.now
 changed_so g c =
     let old = c.args.self.now in
-    changes old.blocks.items old.marks.items c.keep.new.marks.items old.log.items c.keep.new.log.items old.synced (history old.past.notes) (history c.changes.new.self.notes) c.args.i c.index-old.result.now c.args.bytes.now
+    changes old.blocks.items old.marks.items c.keep.new.marks.items old.log c.keep.new.log old.synced (history old.past.notes) (history c.changes.new.self.notes) c.args.i c.index-old.result.now c.args.bytes.now
     old.kept (there g c) (read_is g c) c.in_ok-keep.ensures.kept (ap history c.changes.ensures)
 
 pub invariant_of-self-2-clause-kept : goal.invariant_of-self-2-clause-kept
 invariant_of-self-2-clause-kept g c =
     let old = c.args.self.now in
     let at = (goal.at.invariant_of-self-2-clause-kept g c).After-saturating_add-self-2 in
-    changed old.blocks.items old.marks.items c.keep.new.marks.items old.log.items c.keep.new.log.items old.synced (history old.past.notes) (history c.changes.new.self.notes) c.args.i c.index-old.result.now c.args.bytes.now
+    changed old.blocks.items old.marks.items c.keep.new.marks.items old.log c.keep.new.log old.synced (history old.past.notes) (history c.changes.new.self.notes) c.args.i c.index-old.result.now c.args.bytes.now
     old.kept (there g at) (read_is g at) c.in_ok-keep.ensures.kept (ap history c.changes.ensures)
 
 pub invariant_of-self-2-clause-few : goal.invariant_of-self-2-clause-few
