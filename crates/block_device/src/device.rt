@@ -5,13 +5,16 @@ ghost use Rattle.block_device.specs.declared.device.DeviceError.TheVariants.{Mem
 ghost use Rattle.block_device.specs.Device.{Blocks, Only, LeavesNoMore, Follows, Torn, Elapses, Counts, block_at, written};
 
 use std::alloc::{AllocError, AllocFailed};
+use thiserror::Error;
 
 /// Why a call of a device did not do what it was asked.
-#[derive(Clone, Copy, Debug, PartialEq, Eq)]
+#[derive(Clone, Copy, Debug, PartialEq, Eq, Drop, Error)]
 pub enum DeviceError {
     /// The device failed. Each such answer counts as a fault.
+    #[error("the device failed")]
     Failed,
     /// Memory was refused.
+    #[error("no memory")]
     Memory,
 }
 
