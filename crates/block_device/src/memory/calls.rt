@@ -91,9 +91,11 @@ impl<A: Allocator + Copy> BlockDevice for MemoryDevice<A> {
 
     ghost few_blocks = { λ d. d.few };
 
-    ghost shown_counts = { λ d _. shown_left (shown_of d) (history_of d) d.kept.leads };
+    ghost shown_counts = { λ d _. shown_left (shown_of d) (history_of d) d.kept.whole d.kept.leads };
 
     ghost no_longer = { λ d c _ now. no_longer_left (shown_of d) (history_of d) c now };
+
+    ghost whole = { λ d c _ now. now.whole };
 
     ghost counts_now = { λ d t c _ le now. now_since (shown_of d) (history_of d) t c now };
 
