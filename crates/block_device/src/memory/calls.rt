@@ -1,5 +1,5 @@
 //! The calls of a device in memory.
-ghost use Rattle.std.specs.Prelude.{◌≡◌, ◌<◌, [], length, OnOk, OnErr, IsErrOf};
+ghost use Rattle.std.specs.Prelude.{false, true, slice_index_or, IsOk, ◌≡◌, ◌<◌, [], length, OnOk, OnErr, IsErrOf};
 ghost use Rattle.block_device.specs.Kept.{Keeps};
 ghost use Rattle.block_device.specs.Memory.{shown_of, history_of, writes_of, may_leave_of, moment_of, left_since_of, AnswersRead, AnswersWrite, AnswersSync};
 ghost use Rattle.block_device.specs.Outcomes.{shown_left, no_longer_left, now_since, since_now, since_earlier_left, none_fits};
@@ -116,6 +116,7 @@ fn keep<A: Allocator + Copy>(
     requires { i < length marks.old.items }
     ensures kept { OnOk result (Keeps i block.now marks.old.items log.old marks.new.items log.new) }
     ensures refused { OnErr result ((log.new ≡ log.old) × (marks.new.items ≡ marks.old.items)) }
+    ensures again { slice_index_or marks.old.items i false ≡ true → IsOk result }
     ensures memory { IsErrOf result DeviceError.Failed → ⊥ }
 {
     let at = i as usize;

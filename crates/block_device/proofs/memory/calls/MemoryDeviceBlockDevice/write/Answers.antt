@@ -1,9 +1,10 @@
 -- A write of one block more, and of one that is there.
-use Rattle.std.proofs.Common.{◌≡◌, ◌<◌, [], length, set, ap, arith, rules, length-set}
+use Rattle.std.proofs.Common.{◌≡◌, ◌∙◌, ◌<◌, [], false, true, get_or, length, set, ap, arith, rules, length-set}
 use Rattle.std.proofs.lemmas.List.{get_or_read}
 use Rattle.block_device.specs.Device.{block_at}
-use Rattle.block_device.specs.History.{history}
+use Rattle.block_device.specs.History.{history, unsynced}
 use Rattle.block_device.proofs.Done.{answers_ok}
+use Rattle.block_device.proofs.Numbers.{is_in_from}
 use Rattle.block_device.proofs.Keeping.{Adds, appends, appended_kept, changes, changed}
 use Rattle.block_device.proofs.memory.calls.MemoryDeviceBlockDevice.write.Given as given
 use Rattle.block_device.proofs.memory.calls.MemoryDeviceBlockDevice.write.Goals as goal
@@ -67,3 +68,17 @@ returns-clause-time g c = λ _. (changed_so g (goal.at.returns-clause-time g c).
 pub returns-clause-gives : goal.returns-clause-gives
 returns-clause-gives g c =
     answers_ok _ _ c.args.i c.args.bytes.now (changed_so g (goal.at.returns-clause-gives g c).After-saturating_add-self-2) c.saturating_add-self-2.ensures
+
+-- a block that is marked was not refused
+pub returns-in_err-keep-clause-gives : goal.returns-in_err-keep-clause-gives
+returns-in_err-keep-clause-gives g c =
+    let old = c.args.self.now in
+    record {
+      done = search rules;
+      refused = search rules;
+      memory = search rules;
+      again = λ one lt.
+          let marked : get_or old.marks.items c.args.i false ≡ true = old.kept.marked c.args.i lt ∙ is_in_from c.args.i (unsynced (history old.past.notes)) one in
+          let never : false ≡ true = c.in_err-keep.ensures.again marked in
+          cc;
+    }
