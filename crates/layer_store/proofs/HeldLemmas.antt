@@ -111,12 +111,12 @@ pub one_more_held : {A : Type 0} (old mid new : PageMap) (rs rs' : List LayerRec
     → HoldsLayers (new_pages old mid) (map record_of rs) (map entry_of (take i layers)) → HoldsLayer (new_pages mid new) (record_of r) (entry_of l) → HoldsLayers (new_pages old new) (map record_of rs') (map entry_of (take (i + 1) layers))
 one_more_held {A = A} old mid new rs rs' layers i r l first then more lt is before this =
     let all = layers_more (new_pages old new) (map record_of rs) (map entry_of (take i layers)) (record_of r) (entry_of l)
-        (layers_stay (new_pages old mid) (new_pages old new) (map record_of rs) (map entry_of (take i layers)) (new_pages_kept old mid new then) before)
-        (layer_stays (new_pages mid new) (new_pages old new) (record_of r) (entry_of l) (newer_pages old mid new first) this) in
+    (layers_stay (new_pages old mid) (new_pages old new) (map record_of rs) (map entry_of (take i layers)) (new_pages_kept old mid new then) before)
+    (layer_stays (new_pages mid new) (new_pages old new) (record_of r) (entry_of l) (newer_pages old mid new first) this) in
     let records : map record_of rs' ≡ map record_of rs ++ record_of r ∷ [] = ap (map record_of) more ∙ map-append record_of rs (r ∷ []) in
     let next : i + 1 ≡ suc i = omega arith in
     let taken : map entry_of (take (i + 1) layers) ≡ map entry_of (take i layers) ++ entry_of l ∷ [] =
-        ap (map entry_of) (ap (λ (k : ℕ). take k layers) next ∙ take-suc layers i l lt ∙ ap (λ (x : KeptLayer A). take i layers ++ x ∷ []) (sym is)) ∙ map-append entry_of (take i layers) (l ∷ []) in
+    ap (map entry_of) (ap (λ (k : ℕ). take k layers) next ∙ take-suc layers i l lt ∙ ap (λ (x : KeptLayer A). take i layers ++ x ∷ []) (sym is)) ∙ map-append entry_of (take i layers) (l ∷ []) in
     subst (λ (es : List (List ℕ × Layer)). HoldsLayers (new_pages old new) (map record_of rs') es) (sym taken)
     (subst (λ (xs : List Record). HoldsLayers (new_pages old new) xs (map entry_of (take i layers) ++ entry_of l ∷ [])) (sym records) all)
 

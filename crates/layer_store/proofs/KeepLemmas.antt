@@ -42,6 +42,7 @@ module _ {D : Type 0} {m : _} where
   pub only_of_device : (file : PageFile D m) (t : Table) (f : Fault) → Holds (pages file) (next_of file) t → IsOfDevice f ⊎ ((n : ℕ) × (f ≡ fault.Damaged n) × IsDamaged (given file) (next_of file) n) → IsOfDevice f
   only_of_device file t f h (inl of_device) = of_device
   only_of_device file t f h (inr damaged) = absurd (held_pages_are_not_damaged (given file) (next_of file) damaged.0 t (given_table file t h) damaged.2)
+
   -- a file that lies in blocks and holds a table makes them an image of it
   pub image_of : (file : PageFile D m) (blocks : Blocks) (t : Table) → IsPageMap file → LiesIn file blocks → Holds (pages file) (next_of file) t → IsImage blocks t
   image_of file blocks t map lies h = record {

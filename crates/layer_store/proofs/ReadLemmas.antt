@@ -55,7 +55,7 @@ pub good_record : (next : ℕ) (rs : List LayerRecord) (i : ℕ) (r : LayerRecor
 good_record next rs i r good lt is =
     let all = and_left (list_all (is_layer_record next) (map record_of rs)) (names_ascend (map record_of rs) && nat_le (objects_named (map record_of rs)) most_objects) good in
     let this : is_layer_record next (record_of r) ≡ true = ap (λ (x : LayerRecord). is_layer_record next (record_of x)) is ∙ ap (is_layer_record next) (sym (get_or-map record_of rs i r (record_of r) lt))
-        ∙ all_at (is_layer_record next) (map record_of rs) i (record_of r) all (omega (arith, lt, length-map rs record_of)) in
+    ∙ all_at (is_layer_record next) (map record_of rs) i (record_of r) all (omega (arith, lt, length-map rs record_of)) in
     let n = is_layer_name r.name.items in let d = is_dims r.dims in let f = is_fanout r.fanout in let t = has_no_tree (record_of r) in
     let four = and_left (n && d && f && t) (is_page_or_none next r.directory) this in
     let three = and_left (n && d && f) t four in
@@ -127,12 +127,12 @@ module _ {A : Type 0} where
   read_listed next rs ls count good few names counts so =
       let order = and_left (names_ascend (map record_of rs)) (nat_le (objects_named (map record_of rs)) most_objects) (and_right (list_all (is_layer_record next) (map record_of rs)) (names_ascend (map record_of rs) && nat_le (objects_named (map record_of rs)) most_objects) good) in
       let ascend : is_sorted (slice_cmp nat_cmp) (map entry_of ls) ≡ true =
-          sorted_by_keys (map entry_of ls) ∙ ap sorted_keys (entry_names ls ∙ names ∙ sym (record_names rs)) ∙ sym (sorted_by_keys (by_name (map record_of rs))) ∙ order in
+      sorted_by_keys (map entry_of ls) ∙ ap sorted_keys (entry_names ls ∙ names ∙ sym (record_names rs)) ∙ sym (sorted_by_keys (by_name (map record_of rs))) ∙ order in
       let all : entries (table_from ls) ≡ map entry_of ls = entries-from_sorted (slice_cmp nat_cmp) (map entry_of ls) (subst T (sym ascend) tt) in
       let total : object_count (table_from ls) ≡ objects_named (map record_of rs) =
-          ap (λ (es : List (List ℕ × Layer)). sum_by (λ (l : Layer). len l.objects) (map (λ (e : List ℕ × Layer). e.1) es)) all
-          ∙ sym (sum-map (λ (l : Layer). len l.objects) (map (λ (e : List ℕ × Layer). e.1) (map entry_of ls)))
-          ∙ ap sum (entry_counts ls ∙ counts ∙ sym (record_counts rs)) ∙ sum-map (λ (r : Record). r.count) (map record_of rs) in
+      ap (λ (es : List (List ℕ × Layer)). sum_by (λ (l : Layer). len l.objects) (map (λ (e : List ℕ × Layer). e.1) es)) all
+      ∙ sym (sum-map (λ (l : Layer). len l.objects) (map (λ (e : List ℕ × Layer). e.1) (map entry_of ls)))
+      ∙ ap sum (entry_counts ls ∙ counts ∙ sym (record_counts rs)) ∙ sum-map (λ (r : Record). r.count) (map record_of rs) in
       record {
         ascending = ascend;
         counted = so ∙ sym total;

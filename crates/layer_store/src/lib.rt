@@ -6,6 +6,7 @@ mod catalog;
 mod faults;
 mod image;
 mod kept;
+pub mod laws;
 mod store;
 
 pub use plain_table::{AnyBox, RawBox, RawPoint, Refusal};

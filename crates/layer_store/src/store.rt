@@ -15,12 +15,11 @@ ghost use Rattle.layer_store.specs.Starting.{GivesUp, IsRefusedFor};
 
 mod start;
 
-pub use start::{create_store, open_store};
-
 use crate::faults::refusal_of;
 use crate::kept::Kept;
 use block_device::BlockDevice;
 use plain_table::{AnyBox, RawBox, Refusal};
+pub use start::{create_store, open_store};
 use std::alloc::{Allocator, Global};
 
 // What a store that failed answers.

@@ -1,8 +1,8 @@
 //! Runs over readers and writers that are slow or fail, with lines that ask nothing of the store.
 
 use super::fakes::{Short, Slow};
-use crate::{MAX_LINE, RunEnd, run};
 use super::new_store;
+use crate::{MAX_LINE, RunEnd, run};
 use std::io::ErrorKind;
 use std::test::Fail;
 

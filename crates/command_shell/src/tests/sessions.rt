@@ -1,8 +1,8 @@
 //! Sessions with a store: the worked rows, in their part on the commands that there are.
 
 use super::fakes::{Short, Slow};
-use crate::{RunEnd, run};
 use super::new_store;
+use crate::{RunEnd, run};
 use refusing::Refusing;
 use std::test::Fail;
 

@@ -31,6 +31,7 @@ impl<D: BlockDevice> PageFile<D> {
         ensures number { IfOk result (λ n. (3 ≤ n) × (n < next_of self.new)) }
         ensures next { (next_of self.old ≤ next_of self.new) × (next_of self.new ≤ next_of self.old + 1) }
         ensures no_pages { IsErrOf result fault.NoPages → next_of self.old ≡ 2 ^ 31 }
+        ensures full { next_of self.old ≡ 2 ^ 31 → (result ≡ Err fault.NoPages) × (self.new ≡ self.old) }
         ensures faults { IsPageMap self.old → IfErr result (λ f. IsOfDevice f ⊎ (f ≡ fault.NoPages)) }
         ensures other_faults { IfErr result (λ f. IsOfDevice f ⊎ ((f ≡ fault.NoPages) ⊎ IsDamage f)) }
         ensures cause { HasCause (D.faults (device_of self.old)) (D.faults (device_of self.new)) result }
@@ -44,7 +45,8 @@ impl<D: BlockDevice> PageFile<D> {
         Ok(n)
     }
 
-    /// Writes a live page. The gate has to be open.
+    /// Writes a live page. The gate has to be open. A number outside 2 to the last one given out is `Damaged` with
+    /// that number, without a call of the device.
     ///
     /// After a refusal the page is still live and may hold any bytes; all others are as before. On an
     /// honest device that is `Memory` or `Device`.
@@ -56,6 +58,7 @@ impl<D: BlockDevice> PageFile<D> {
         ensures others { IsHonest self.old → IsLive self.old n → SameBut n (pages self.old) (pages self.new) }
         ensures sound { IsPageMap self.old → IsLive self.old n → IsPageMap self.new }
         ensures next { next_of self.new ≡ next_of self.old }
+        ensures outside { (n < 2) ⊎ (next_of self.old ≤ n) → (result ≡ Err (fault.Damaged n)) × (self.new ≡ self.old) }
         ensures faults { IsHonest self.old → IsLive self.old n → IfErr result IsOfDevice }
         ensures other_faults { IfErr result (λ f. IsOfDevice f ⊎ (f ≡ fault.Damaged n)) }
         ensures cause { HasCause (D.faults (device_of self.old)) (D.faults (device_of self.new)) result }
@@ -67,7 +70,8 @@ impl<D: BlockDevice> PageFile<D> {
     }
 
     /// Frees a live page other than the catalog: it is no longer live, and is the first of the free
-    /// pages. The gate has to be open.
+    /// pages. The gate has to be open. A number outside 3 to the last one given out is `Damaged` with that number,
+    /// without a call of the device.
     ///
     /// After a refusal the page may hold any bytes, and may be live or not; all others are as before.
     /// With a sound map that is `Memory` or `Device`.
@@ -78,6 +82,7 @@ impl<D: BlockDevice> PageFile<D> {
         ensures others { IsHonest self.old → IsLive self.old n → SameBut n (pages self.old) (pages self.new) }
         ensures sound { IsPageMap self.old → IsLive self.old n → IsPageMap self.new }
         ensures next { next_of self.new ≡ next_of self.old }
+        ensures outside { (n < 3) ⊎ (next_of self.old ≤ n) → (result ≡ Err (fault.Damaged n)) × (self.new ≡ self.old) }
         ensures faults { IsPageMap self.old → IsLive self.old n → ¬ (n ≡ 2) → IfErr result IsOfDevice }
         ensures other_faults { IfErr result (λ f. IsOfDevice f ⊎ (f ≡ fault.Damaged n)) }
         ensures cause { HasCause (D.faults (device_of self.old)) (D.faults (device_of self.new)) result }

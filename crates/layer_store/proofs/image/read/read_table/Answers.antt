@@ -55,8 +55,12 @@ returns-in_err-layer-clause-damaged g c = λ honest.
     at_error c.from_residual-in_err-layer.result f P c.from_residual-in_err-layer.ensures.1
     (⊎_elim (λ (of_device : IsOfDevice f). inl of_device)
     (λ (damaged : (n : ℕ) × (f ≡ fault.Damaged n) × IsBroken (given c.loop-record.file) (record_of c.record-item.result) n).
-    inr (damaged.0, damaged.1, broken_is_damaged pages next c.loop-record.record-index damaged.0 items c.record-item.result spelled good c.loop-record-test.true c.record-item.is
-    (subst (λ (m : PageMap). IsBroken m (record_of c.record-item.result) damaged.0) here damaged.2)))
+    inr (
+      damaged.0,
+      damaged.1,
+      broken_is_damaged pages next c.loop-record.record-index damaged.0 items c.record-item.result spelled good c.loop-record-test.true c.record-item.is
+          (subst (λ (m : PageMap). IsBroken m (record_of c.record-item.result) damaged.0) here damaged.2),
+    ))
     (c.in_err-layer.ensures.damaged (before.gate.honest.0 honest)))
 
 pub overflow_add-object_count : goal.overflow_add-object_count
@@ -105,6 +109,6 @@ returns-clause-holds g c = λ honest.
     let spelled = c.in_ok-records.ensures.catalog honest ∙ ap (λ (rs : List LayerRecord). Some (map record_of rs)) (sym c.as_slice-record-items.ensures.value) in
     let all : take c.loop-record.record-index items ≡ items = take_all c.loop-record.record-index items (omega (arith, c.loop-record-test.false)) in
     let listed = read_listed (next_of c.args.file.now) items c.loop-record.layers.items c.loop-record.object_count good (omega (arith, c.as_slice-record-items.ensures.fits))
-        (before.names ∙ ap (map (λ (l : LayerRecord). l.name.items)) all) (before.counts ∙ ap (map (λ (l : LayerRecord). l.count)) all) (before.counted ∙ ap (λ (rs : List LayerRecord). objects_named (map record_of rs)) all) in
+    (before.names ∙ ap (map (λ (l : LayerRecord). l.name.items)) all) (before.counts ∙ ap (map (λ (l : LayerRecord). l.count)) all) (before.counted ∙ ap (λ (rs : List LayerRecord). objects_named (map record_of rs)) all) in
     all_read (given c.args.file.now) (next_of c.args.file.now) c.loop-record.record-index c.loop-record.object_count items c.loop-record.layers.items c.from_layers.result spelled good (omega (arith, c.loop-record-test.false))
     listed c.from_layers.ensures (before.holds honest)

@@ -44,11 +44,11 @@ returns-clause-holds g c = λ map'.
     let live = the_catalog_is_live c.loop-layer.file mid in
     let records = map record_of c.loop-layer.records.items in
     let layers = layers_stay (new_pages (pages c.args.file.now) (pages c.loop-layer.file)) (pages c.write.new.self) records _
-        (written_aside 2 (pages c.args.file.now) (pages c.loop-layer.file) (pages c.write.new.self) (the_catalog_is_live c.args.file.now map') (wrote.others mid.honest live)) (before.holds map') in
+    (written_aside 2 (pages c.args.file.now) (pages c.loop-layer.file) (pages c.write.new.self) (the_catalog_is_live c.args.file.now map') (wrote.others mid.honest live)) (before.holds map') in
     on_ok c.write.result (λ there. held (pages c.write.new.self) (next_of c.write.new.self) c.encode.new.page records c.args.table.now there c.encode.ensures.read_back
-        (ap (λ next. list_all (is_layer_record next) records) wrote.next ∙ before.good)
-        (all_held (pages c.write.new.self) records c.layers-layer-items.result.now c.args.table.now c.loop-layer.layer-index _ (omega (arith, c.loop-layer-test.false)) c.layers-layer-items.ensures.table c.layers-layer-items.ensures.listed layers)
-        c.layers-layer-items.ensures.listed.within)
+    (ap (λ next. list_all (is_layer_record next) records) wrote.next ∙ before.good)
+    (all_held (pages c.write.new.self) records c.layers-layer-items.result.now c.args.table.now c.loop-layer.layer-index _ (omega (arith, c.loop-layer-test.false)) c.layers-layer-items.ensures.table c.layers-layer-items.ensures.listed layers)
+    c.layers-layer-items.ensures.listed.within)
     (wrote.written mid.honest live)
 
 pub returns-clause-sound : goal.returns-clause-sound

@@ -20,8 +20,7 @@ returns-in-Ok-clause-faults g c = λ map. if_err c.close.result (λ e h. inl (h 
 pub returns-clause-cause : goal.returns-clause-cause
 returns-clause-cause g c =
     let faults = g.D.BlockDevice.faults in
-    let before = faults (device_of c.args.self.file) in
-    (
+    let before = faults (device_of c.args.self.file) in (
       subst (λ (device : _). before ≤ faults device) (sym c.abandon.ensures) c.in-Err.ensures.cause.later,
       λ is. subst (λ (device : _). HasRisen before (faults device)) (sym c.abandon.ensures) (c.in-Err.ensures.cause.device (ap Err is)),
     )

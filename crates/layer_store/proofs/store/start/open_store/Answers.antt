@@ -21,6 +21,14 @@ returns-in-Ok-clause-refused g c = λ cache.
     if_err_given c.read_store.result (λ honest. c.read_store.ensures.refused (opened.honest.0 honest))
     (λ e honest refused. ⊎_elim
     (λ gave_up. inl (gives_up_since (g.D.BlockDevice.faults c.args.device) (g.D.BlockDevice.faults (device_of c.in-Ok.file)) (g.D.BlockDevice.faults e.1) e.0 opened.later gave_up))
-    (λ damaged. inr (fault.Damaged damaged.0, damaged.1, inr ((opened.lies honest).passes, damaged.0, refl,
-    subst_both (λ pages next. IsDamaged pages next damaged.0) (same_blocks c.in-Ok.file blocks (opened.blocks honest) (opened.lies honest).next) (sym (opened.lies honest).next) damaged.2)))
+    (λ damaged. inr (
+      fault.Damaged damaged.0,
+      damaged.1,
+      inr (
+        (opened.lies honest).passes,
+        damaged.0,
+        refl,
+        subst_both (λ pages next. IsDamaged pages next damaged.0) (same_blocks c.in-Ok.file blocks (opened.blocks honest) (opened.lies honest).next) (sym (opened.lies honest).next) damaged.2,
+      ),
+    ))
     refused)

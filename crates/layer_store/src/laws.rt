@@ -1,0 +1,23 @@
+//! What follows from the definitions of pages and images, each law the contract of a function that does nothing.
+ghost use Rattle.std.specs.Prelude.{◌≡◌, ◌≤◌, ℕ};
+ghost use Rattle.block_device.specs.Device.{Blocks};
+ghost use Rattle.object_chain.specs.Chain.{KeepsPages, PageMap};
+ghost use Rattle.page_file.specs.declared.fault.Fault.{Fault};
+ghost use Rattle.plain_table.specs.Table.{Table};
+ghost use Rattle.layer_store.specs.Image.{Holds, IsImage, Refuses};
+
+/// Blocks are an image of at most one table.
+pub fn an_image_is_of_one_table()
+    ensures { (blocks : Blocks) (t u : Table) → IsImage blocks t → IsImage blocks u → t ≡ u }
+{}
+
+/// An image is refused by no check of opening.
+pub fn an_image_is_not_refused()
+    ensures { (blocks : Blocks) (t : Table) (f : Fault) → IsImage blocks t → Refuses blocks f → ⊥ }
+{}
+
+/// A table that pages hold stays where those pages stay, and more may be given out.
+#[tactic(auto, using(crate::specs::Laws::a_held_table_stays))]
+pub fn a_held_table_stays()
+    ensures { (old new : PageMap) (next after : ℕ) (t : Table) → KeepsPages old new → next ≤ after → Holds old next t → Holds new after t }
+{}
