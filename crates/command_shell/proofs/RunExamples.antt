@@ -39,32 +39,48 @@ a_run_on_no_text = record { text = []; requests = []; answers = []; reads = reco
 a_run_on_two_bad_lines : Runs known known Finished fresh fresh (codes "x\n# y\nz") [] [] (codes "fail 24 BadLine\nfail 24 BadLine\n")
 unfolding digits
 a_run_on_two_bad_lines = record {
-  text = codes "x\n# y\nz"; requests = BadCommand ∷ BadCommand ∷ []; answers = Refused refusal.BadLine ∷ Refused refusal.BadLine ∷ [];
+  text = codes "x\n# y\nz";
+  requests = BadCommand ∷ BadCommand ∷ [];
+  answers = Refused refusal.BadLine ∷ Refused refusal.BadLine ∷ [];
   reads = record { stops = (refl, refl); read = record { more = codes "x\n# y\nz"; read = refl; so = refl } };
   asked = one (BadCommand ∷ []) refl (one [] refl (one (BadCommand ∷ []) refl none));
-  lawful = (fresh, (refl, refl), (fresh, (refl, refl), refl)); written = refl;
+  lawful = (fresh, (refl, refl), (fresh, (refl, refl), refl));
+  written = refl;
 }
 
 -- the line that was not read to its newline is not answered
 a_run_that_a_read_ended : Runs known known ReadFault fresh fresh (codes "x\ny") [] [] (codes "fail 24 BadLine\n")
 unfolding digits
-a_run_that_a_read_ended = (codes "y", (λ e. absurd (omega (arith, e)), tt), record {
-  text = codes "x\n"; requests = BadCommand ∷ []; answers = Refused refusal.BadLine ∷ [];
-  reads = record { stops = ends (codes "x"); read = record { more = codes "x\ny"; read = refl; so = refl } };
-  asked = one (BadCommand ∷ []) refl none;
-  lawful = (fresh, (refl, refl), refl); written = refl;
-})
+a_run_that_a_read_ended = (
+  codes "y",
+  (λ e. absurd (omega (arith, e)), tt),
+  record {
+    text = codes "x\n";
+    requests = BadCommand ∷ [];
+    answers = Refused refusal.BadLine ∷ [];
+    reads = record { stops = ends (codes "x"); read = record { more = codes "x\ny"; read = refl; so = refl } };
+    asked = one (BadCommand ∷ []) refl none;
+    lawful = (fresh, (refl, refl), refl);
+    written = refl;
+  },
+)
 
 -- the line was answered, and four bytes of its reply were written
 a_run_that_a_write_ended : Runs known known WriteFault fresh fresh (codes "x\ny") (codes "y") [] (codes "fail")
 unfolding digits
-a_run_that_a_write_ended = (false, [], record {
-  text = codes "x\n"; requests = BadCommand ∷ []; answers = Refused refusal.BadLine ∷ [];
-  reads = record { stops = ends (codes "x"); read = record { more = codes "x\n"; read = refl; so = refl } };
-  asked = one (BadCommand ∷ []) refl none;
-  lawful = (fresh, (refl, refl), refl);
-  written = record { before = []; last = Refused refusal.BadLine; are = refl; shown = 4; is_part = omega arith; written = refl };
-})
+a_run_that_a_write_ended = (
+  false,
+  [],
+  record {
+    text = codes "x\n";
+    requests = BadCommand ∷ [];
+    answers = Refused refusal.BadLine ∷ [];
+    reads = record { stops = ends (codes "x"); read = record { more = codes "x\n"; read = refl; so = refl } };
+    asked = one (BadCommand ∷ []) refl none;
+    lawful = (fresh, (refl, refl), refl);
+    written = record { before = []; last = Refused refusal.BadLine; are = refl; shown = 4; is_part = omega arith; written = refl };
+  },
+)
 
 -- ---- what is none
 
