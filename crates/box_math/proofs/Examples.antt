@@ -1,6 +1,6 @@
 -- Worked examples of what the tests do not reach: the tests of points and boxes on their edges, joins, and distances.
 -- No other proof rests on them.
-use Rattle.std.proofs.Common.{◌≡◌, ℕ, List, [], ◌∷◌, Bool, true, false, refl, ℤ, pos, negsuc, map}
+use Rattle.std.proofs.Common.{◌≡◌, ℕ, List, [], ◌∷◌, true, false, refl, ℤ, pos, negsuc, map}
 use Rattle.box_math.specs.Bounds.{Bounds, ordered_test, holds_test, meets_test, within_test, join_of, meet_of}
 use Rattle.box_math.specs.Measures.{volume_of, margin_of, overlap_of, dist2, point_dist2_of, centre2_of, centre_dist2_of}
 

@@ -1,18 +1,17 @@
 -- Worked examples of the plain table: what single commands answer on small tables, and what they leave.
 -- No other proof rests on them. A definition that says another thing than docs/COMMANDS.md is refused here.
-use Rattle.std.proofs.Common.{◌≡◌, ℕ, List, [], ◌∷◌, Bool, true, false, refl, sym, ap, ◌∙◌, ℤ, pos, negsuc, Some, T, codes, replicate, map, length}
+use Rattle.std.proofs.Common.{◌≡◌, ℕ, List, [], ◌∷◌, true, false, refl, sym, ap, ◌∙◌, ℤ, pos, negsuc, Some, T, codes, replicate, map, length}
 use Rattle.std.specs.Cmp.{IsTotalOrder, nat_cmp_total}
 use Rattle.std.specs.Cmp.Lexicographic.{slice_cmp, nat_list_cmp_total}
 use Rattle.std.specs.Ordering.{nat_cmp}
-use Rattle.std.specs.FinMap.{put, is_sorted, from_sorted, empty, empty_of_len, get, contains_key, len, entries, insert, same_entries_map, entries-insert, entries-from_sorted, get-from_sorted, len-entries}
+use Rattle.std.specs.FinMap.{put, is_sorted, from_sorted, empty, empty_of_len, get, contains_key, len, insert, same_entries_map, entries-insert, entries-from_sorted, get-from_sorted, len-entries}
 use Rattle.std.specs.declared.cmp.Ordering.{Ordering}
 use Rattle.box_math.specs.Bounds.{Bounds, ordered_test, meets_test}
-use Rattle.plain_table.specs.Commands.{Command}
 use Rattle.plain_table.specs.Commands.Command.{Create, Insert, Window, Reopen}
 use Rattle.plain_table.specs.Refusals.{number_of, name_of}
-use Rattle.plain_table.specs.Step.{Answer, reply_of, after}
+use Rattle.plain_table.specs.Step.{reply_of, after}
 use Rattle.plain_table.specs.Step.Answer.{Done, Refused, Boxes}
-use Rattle.plain_table.specs.Table.{Table, Layer, Objects, is_layer_name, is_dims, is_fanout, object_count}
+use Rattle.plain_table.specs.Table.{Table, Layer, is_layer_name, is_dims, is_fanout, object_count}
 use Rattle.plain_table.specs.declared.boxes.RawBox.{RawBox}
 use Rattle.plain_table.specs.declared.boxes.RawBox.TheVariants.{Two, Three}
 use Rattle.plain_table.specs.declared.refusal.Refusal.{Refusal}

@@ -1,18 +1,17 @@
 -- Worked examples of lawful steps: what a live and a dead store may answer, and what they may not.
 -- No other proof rests on them. A definition that says another thing than docs/COMMANDS.md is refused here.
-use Rattle.std.proofs.Common.{◌≡◌, ℕ, ◌<◌, List, [], ◌∷◌, Some, None, refl, sym, ap, ◌∙◌, inl, inr, arith, codes, pos}
-use Rattle.std.specs.Prelude.{◌⊎◌}
+use Rattle.std.proofs.Common.{◌≡◌, ℕ, [], ◌∷◌, refl, sym, ap, ◌∙◌, inl, inr, arith}
 use Rattle.std.specs.Cmp.Lexicographic.{slice_cmp}
 use Rattle.std.specs.Ordering.{nat_cmp}
 use Rattle.std.specs.FinMap.{entries, entries-from_sorted}
 use Rattle.plain_table.specs.Commands.{Command}
-use Rattle.plain_table.specs.Commands.Command.{Create, Insert, Window, Reopen}
+use Rattle.plain_table.specs.Commands.Command.{Create, Window, Reopen}
 use Rattle.plain_table.specs.Lawful.{Standing, State, Request, LawfulStep, Session}
 use Rattle.plain_table.specs.Lawful.Request.{BadCommand, Asks}
 use Rattle.plain_table.specs.Lawful.State.{Alive, Dead}
 use Rattle.plain_table.specs.Laws.{a_refusal_changes_nothing}
-use Rattle.plain_table.specs.Step.{Answer, reply_of, after}
-use Rattle.plain_table.specs.Step.Answer.{Done, Refused, Boxes}
+use Rattle.plain_table.specs.Step.{Answer, after}
+use Rattle.plain_table.specs.Step.Answer.{Done, Refused}
 use Rattle.plain_table.specs.Table.{Table, Layer}
 use Rattle.plain_table.specs.declared.boxes.RawBox.TheVariants.{Two}
 use Rattle.plain_table.specs.declared.refusal.Refusal.TheVariants as refusal
