@@ -9,7 +9,7 @@ use Rattle.page_file.specs.declared.fault.Fault.TheVariants as fault
 use Rattle.page_file.specs.declared.file.PageFile.{PageFile}
 use Rattle.plain_table.specs.Commands.{Command}
 use Rattle.plain_table.specs.Commands.Command.{Reopen}
-use Rattle.plain_table.specs.Lawful.{AnsweredInMemory, IsEnd, IsFault, IsSpent, Lawful, LawfulFrom, LawfulStep, RefusedBy, Rose, Standing, State, Takes}
+use Rattle.plain_table.specs.Lawful.{AnsweredInMemory, IsEnd, IsFault, IsSpent, Lawful, LawfulFrom, LawfulStep, MayWrite, RefusedBy, Rose, Standing, State, Takes}
 use Rattle.plain_table.specs.Lawful.Request.{Asks}
 use Rattle.plain_table.specs.Lawful.State.{Alive, Dead}
 use Rattle.plain_table.specs.Laws.{memory_is_lawful}
@@ -34,34 +34,34 @@ rose_from old new (inr full) = omega (arith, full)
 -- ---- faults of a file as refusals of a command
 
 -- want of memory, of the device or of page numbers is a fault of the command
-pub fault_of_command : (old new next : ℕ) (f : Fault) → IsOfDevice f ⊎ (f ≡ fault.NoPages) → (f ≡ fault.Device → HasRisen old new) → (f ≡ fault.NoPages → next ≡ 2 ^ 31) → IsFault (Rose old new) (IsSpent next) (refusal_of f)
-fault_of_command old new next fault.Memory is rose spent = tt
-fault_of_command old new next fault.Device is rose spent = rose_from old new (rose refl)
-fault_of_command old new next (fault.Damaged page) is rose spent = absurd (other is)
+pub fault_of_command : (old new : ℕ) (spent : Type 0) (f : Fault) → IsOfDevice f ⊎ (f ≡ fault.NoPages) → (f ≡ fault.Device → HasRisen old new) → (f ≡ fault.NoPages → spent) → IsFault (Rose old new) spent (refusal_of f)
+fault_of_command old new spent fault.Memory is rose wanting = tt
+fault_of_command old new spent fault.Device is rose wanting = rose_from old new (rose refl)
+fault_of_command old new spent (fault.Damaged page) is rose wanting = absurd (other is)
   where
     other : IsOfDevice (fault.Damaged page) ⊎ (fault.Damaged page ≡ fault.NoPages) → ⊥
     other (inl (inl e)) = cc
     other (inl (inr e)) = cc
     other (inr e) = cc
-fault_of_command old new next fault.NotClosed is rose spent = absurd (other is)
+fault_of_command old new spent fault.NotClosed is rose wanting = absurd (other is)
   where
     other : IsOfDevice fault.NotClosed ⊎ (fault.NotClosed ≡ fault.NoPages) → ⊥
     other (inl (inl e)) = cc
     other (inl (inr e)) = cc
     other (inr e) = cc
-fault_of_command old new next fault.NotAStore is rose spent = absurd (other is)
+fault_of_command old new spent fault.NotAStore is rose wanting = absurd (other is)
   where
     other : IsOfDevice fault.NotAStore ⊎ (fault.NotAStore ≡ fault.NoPages) → ⊥
     other (inl (inl e)) = cc
     other (inl (inr e)) = cc
     other (inr e) = cc
-fault_of_command old new next fault.WrongVersion is rose spent = absurd (other is)
+fault_of_command old new spent fault.WrongVersion is rose wanting = absurd (other is)
   where
     other : IsOfDevice fault.WrongVersion ⊎ (fault.WrongVersion ≡ fault.NoPages) → ⊥
     other (inl (inl e)) = cc
     other (inl (inr e)) = cc
     other (inr e) = cc
-fault_of_command old new next fault.NoPages is rose spent = spent refl
+fault_of_command old new spent fault.NoPages is rose wanting = wanting refl
 
 -- and half way through, the end of the store
 pub end_of_store : (old new : ℕ) (f : Fault) → IsOfDevice f → (f ≡ fault.Device → HasRisen old new) → IsEnd (Rose old new) (refusal.StoreFailed (number_of f))
@@ -181,7 +181,7 @@ refused_closing before now f (inr e) rose = inr (ap refusal_of e)
 pub done_lawful : (rose spent : Type 0) (t u : Table) → u ≡ t → LawfulFrom rose spent t Reopen Done (Alive u)
 done_lawful rose spent t u e = inl (refl, ap Alive e)
 
-pub gave_up_lawful : (rose spent : Type 0) (t u : Table) (c : Command) (r : Refusal) → IsFault rose spent r → u ≡ t → LawfulFrom rose spent t c (Refused r) (Alive u)
+pub gave_up_lawful : (rose spent : Type 0) (t u : Table) (c : Command) (r : Refusal) → IsFault rose (spent × MayWrite t c) r → u ≡ t → LawfulFrom rose spent t c (Refused r) (Alive u)
 gave_up_lawful rose spent t u c r is e = inr (inl (is, ap Alive e))
 
 pub died_lawful : (rose spent : Type 0) (t : Table) (r : Refusal) → IsEnd rose r → LawfulFrom rose spent t Reopen (Refused r) Dead

@@ -31,20 +31,20 @@ fn are_layer_records(records: &[LayerRecord], next: u32) -> bool
     records.iter().all(|record| is_layer_record(record, next))
 }
 
-fn is_layer_record(record: &LayerRecord, next: u32) -> bool
-    ensures { result ≡ catalog.is_layer_record next (record_of record.now) }
+fn is_layer_record(layer: &LayerRecord, next: u32) -> bool
+    ensures { result ≡ catalog.is_layer_record next (record_of layer.now) }
 {
-    is_layer_name(&record.name)
-        && is_dims(u64::from(record.dims))
-        && is_fanout(u64::from(record.fanout))
-        && has_no_tree(record)
-        && is_page_or_none(next, record.directory)
+    is_layer_name(&layer.name)
+        && is_dims(u64::from(layer.dims))
+        && is_fanout(u64::from(layer.fanout))
+        && has_no_tree(layer)
+        && is_page_or_none(next, layer.directory)
 }
 
-fn has_no_tree(record: &LayerRecord) -> bool
-    ensures { result ≡ catalog.has_no_tree (record_of record.now) }
+fn has_no_tree(layer: &LayerRecord) -> bool
+    ensures { result ≡ catalog.has_no_tree (record_of layer.now) }
 {
-    record.level == 0 && record.root == 0
+    layer.level == 0 && layer.root == 0
 }
 
 fn is_page_or_none(next: u32, n: u32) -> bool

@@ -142,11 +142,16 @@ the_count_below_it_does_not_stay s' same (inr (inr h)) = absurd h.0
 -- ---- want of page numbers
 
 page_numbers_may_be_wanting : LawfulStep (live none 0 2147483648) create (Refused refusal.NoPages) (live none 0 2147483648)
-page_numbers_may_be_wanting = inr (inl (refl, refl))
+page_numbers_may_be_wanting = inr (inl ((refl, inr (λ e. made_is_another (sym create_makes_an_empty_layer ∙ e))), refl))
+
+a_window_wants_no_page_number : (s' : Standing) → LawfulStep (live (table touching) 0 2147483648) (Asks (Window a (Two (at 1 1) (at 1 1)))) (Refused refusal.NoPages) s' → ⊥
+a_window_wants_no_page_number s' (inl h) = let no = h.0 ∙ squares_that_touch_are_both_found in absurd (cc)
+a_window_wants_no_page_number s' (inr (inl h)) = elim h.0.1 [ inl e ↦ absurd (cc) | inr changes ↦ changes window_changes_nothing ]
+a_window_wants_no_page_number s' (inr (inr h)) = absurd h.0
 
 a_page_number_that_is_left_is_given : (s' : Standing) → s'.next ≡ 2147483647 → LawfulStep (live none 0 2147483647) create (Refused refusal.NoPages) s' → ⊥
 a_page_number_that_is_left_is_given s' left (inl h) = let no = h.0 ∙ create_is_done in absurd (cc)
-a_page_number_that_is_left_is_given s' left (inr (inl h)) = absurd (omega (arith, left, h.0))
+a_page_number_that_is_left_is_given s' left (inr (inl h)) = absurd (omega (arith, left, h.0.0))
 a_page_number_that_is_left_is_given s' left (inr (inr h)) = absurd h.0
 
 no_page_is_damaged : (s' : Standing) → LawfulStep (live none 0 3) create (Refused (refusal.Damaged 3)) s' → ⊥

@@ -40,6 +40,10 @@ IsFault rose spent refusal.Device = rose
 IsFault rose spent refusal.NoPages = spent
 IsFault rose spent r = ⊥
 
+-- the command may write: it reopens the store, or changes the table
+abbrev pub MayWrite : Table → Command → Type 0
+MayWrite t c = (c ≡ Reopen) ⊎ ¬ (after t c ≡ t)
+
 -- want of memory or a fault of the device half way through: the end of the store, with the number of the fault
 abbrev pub IsEnd : Type 0 → Refusal → Type 0
 IsEnd rose (refusal.StoreFailed n) = (n ≡ 16) ⊎ ((n ≡ 17) × rose)
@@ -54,9 +58,9 @@ RefusedBy P a = ⊥
 abbrev pub Answered : Table → Command → Answer → State → Type 0
 Answered t c a new = (a ≡ reply_of t c) × (new ≡ Alive (after t c))
 
--- a fault, and the table is as it was
-abbrev pub GaveUp : Type 0 → Type 0 → Table → Answer → State → Type 0
-GaveUp rose spent t a new = RefusedBy (IsFault rose spent) a × (new ≡ Alive t)
+-- a fault, and the table is as it was; page numbers are wanting only where some are asked for
+abbrev pub GaveUp : Type 0 → Type 0 → Table → Command → Answer → State → Type 0
+GaveUp rose spent t c a new = RefusedBy (IsFault rose (spent × MayWrite t c)) a × (new ≡ Alive t)
 
 -- the plain table's answer and table, or want of memory and the same table: what a table in memory does
 abbrev pub AnsweredInMemory : Table → Command → Answer → Table → Type 0
@@ -64,11 +68,11 @@ AnsweredInMemory t c a new = ((a ≡ reply_of t c) × (new ≡ after t c)) ⊎ (
 
 -- a fault half way through a reopening or a change of the table
 abbrev pub Died : Type 0 → Table → Command → Answer → State → Type 0
-Died rose t c a new = RefusedBy (IsEnd rose) a × ((c ≡ Reopen) ⊎ ¬ (after t c ≡ t)) × (new ≡ Dead)
+Died rose t c a new = RefusedBy (IsEnd rose) a × MayWrite t c × (new ≡ Dead)
 
 -- what a command may do to a live store
 abbrev pub LawfulFrom : Type 0 → Type 0 → Table → Command → Answer → State → Type 0
-LawfulFrom rose spent t c a new = Answered t c a new ⊎ (GaveUp rose spent t a new ⊎ Died rose t c a new)
+LawfulFrom rose spent t c a new = Answered t c a new ⊎ (GaveUp rose spent t c a new ⊎ Died rose t c a new)
 
 -- What a request may do. A bad line changes nothing, and a dead store refuses all else.
 abbrev pub Lawful : Type 0 → Type 0 → State → Request → Answer → State → Type 0

@@ -6,7 +6,7 @@ use Rattle.std.specs.Ordering.{nat_cmp}
 use Rattle.plain_table.specs.Commands.{Command}
 use Rattle.plain_table.specs.Commands.Command.{Create, Insert, Window, Reopen}
 use Rattle.plain_table.specs.Kept.{entry_of}
-use Rattle.plain_table.specs.Lawful.{AnsweredInMemory, IsFault, LawfulFrom, RefusedBy}
+use Rattle.plain_table.specs.Lawful.{AnsweredInMemory, IsFault, LawfulFrom, MayWrite, RefusedBy}
 use Rattle.plain_table.specs.Lawful.State.{Alive}
 use Rattle.plain_table.specs.Listed.{table_from, IsListed}
 use Rattle.plain_table.specs.Step.{Answer, answer_of, changed, kept_or, refused_or, refusal_of}
@@ -30,7 +30,7 @@ a_refusal_changes_nothing t u c r (inr h) = h.1
 -- what a table in memory does is lawful
 pub memory_is_lawful : (rose spent : Type 0) (t u : Table) (c : Command) (a : Answer) → AnsweredInMemory t c a u → LawfulFrom rose spent t c a (Alive u)
 memory_is_lawful rose spent t u c a (inl h) = inl (h.0, ap Alive h.1)
-memory_is_lawful rose spent t u c a (inr h) = inr (inl (subst (RefusedBy (IsFault rose spent)) (sym h.0) tt, ap Alive h.1))
+memory_is_lawful rose spent t u c a (inr h) = inr (inl (subst (RefusedBy (IsFault rose (spent × MayWrite t c))) (sym h.0) tt, ap Alive h.1))
 
 -- the layers of a list are the entries of its table
 pub listed_are_entries : {A : Type 0} (layers : List (KeptLayer A)) (count : ℕ) → IsListed layers count → entries (table_from layers) ≡ map entry_of layers

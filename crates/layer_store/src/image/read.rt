@@ -27,9 +27,9 @@ use std::alloc::Allocator;
 // The page of the catalog.
 const CATALOG: u32 = 2;
 
-#[tactic(auto, using(page_file::specs::Laws::no_call_keeps_the_gate, page_file::specs::Laws::the_gate_is_kept_in_turn, page_file::specs::Laws::no_call_keeps_the_map, page_file::specs::Laws::the_map_is_kept_in_turn))]
 /// Reads the table that the pages given out hold. A page that is not what it must be is `Damaged` with its number;
 /// any other refusal is `Memory` or `Device`. The file stays as it is.
+#[tactic(auto, using(page_file::specs::Laws::no_call_keeps_the_gate, page_file::specs::Laws::the_gate_is_kept_in_turn, page_file::specs::Laws::no_call_keeps_the_map, page_file::specs::Laws::the_map_is_kept_in_turn))]
 pub fn read_table<D: BlockDevice, A: Allocator + Copy>(
     alloc: A,
     file: &mut PageFile<D>,
@@ -72,35 +72,35 @@ fn read_catalog<D: BlockDevice>(file: &mut PageFile<D>) -> Result<ArrayVec<Layer
     }
 }
 
-// Reads the layer of a record.
+// Reads the layer of a record of the catalog.
 #[tactic(auto, using(crate::proofs::ImageLemmas::miscounted))]
 fn read_layer<D: BlockDevice, A: Allocator + Copy>(
     alloc: A,
     file: &mut PageFile<D>,
-    record: &LayerRecord,
+    row: &LayerRecord,
 ) -> Result<Layer<A>, Fault>
-    requires named { IsTrue (is_layer_name record.now.name.items) }
-    requires dims_are { IsTrue (is_dims record.now.dims) }
-    requires sized { IsTrue (is_fanout record.now.fanout) }
+    requires named { IsTrue (is_layer_name row.now.name.items) }
+    requires dims_are { IsTrue (is_dims row.now.dims) }
+    requires sized { IsTrue (is_fanout row.now.fanout) }
     ensures gate { KeepsGate file.old file.new }
     ensures map { KeepsMap file.old file.new }
     ensures blocks { IsHonest file.old → blocks_of file.new ≡ blocks_of file.old }
-    ensures holds { IsHonest file.old → IfOk result (λ layer. HoldsLayer (given file.old) (record_of record.now) (entry_of layer)) }
-    ensures name { IfOk result (λ layer. layer.name.items ≡ record.now.name.items) }
-    ensures count { IfOk result (λ layer. length (entries_of layer.objects) ≡ record.now.count) }
-    ensures damaged { IsHonest file.old → IfErr result (λ f. IsOfDevice f ⊎ ((n : ℕ) × (f ≡ fault.Damaged n) × IsBroken (given file.old) (record_of record.now) n)) }
+    ensures holds { IsHonest file.old → IfOk result (λ layer. HoldsLayer (given file.old) (record_of row.now) (entry_of layer)) }
+    ensures name { IfOk result (λ layer. layer.name.items ≡ row.now.name.items) }
+    ensures count { IfOk result (λ layer. length (entries_of layer.objects) ≡ row.now.count) }
+    ensures damaged { IsHonest file.old → IfErr result (λ f. IsOfDevice f ⊎ ((n : ℕ) × (f ≡ fault.Damaged n) × IsBroken (given file.old) (record_of row.now) n)) }
     ensures only { IfErr result (λ f. IsOfDevice f ⊎ IsDamage f) }
     ensures cause { HasCause (D.faults (device_of file.old)) (D.faults (device_of file.new)) result }
 {
-    let objects = read_objects(alloc, file, record.dims, record.directory)?;
-    if objects.count() as u64 != record.count {
+    let objects = read_objects(alloc, file, row.dims, row.directory)?;
+    if objects.count() as u64 != row.count {
         return Err(Fault::Damaged(CATALOG));
     }
     let mut name = ArrayVec::new();
-    name.try_extend_from_slice(&record.name).unwrap();
+    name.try_extend_from_slice(&row.name).unwrap();
     Ok(Layer {
         name,
-        fanout: u64::from(record.fanout),
+        fanout: u64::from(row.fanout),
         objects,
     })
 }

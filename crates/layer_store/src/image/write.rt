@@ -26,11 +26,11 @@ use std::alloc::Allocator;
 // The page of the catalog.
 const CATALOG: u32 = 2;
 
-#[tactic(auto, using(page_file::specs::Laws::no_call_keeps_the_gate, page_file::specs::Laws::the_gate_is_kept_in_turn))]
 /// Writes the table into newly allocated pages, and the catalog that names them. The gate has to be open.
 ///
 /// `NoPages` comes only where all page numbers were given out; with a sound map any other refusal is `Memory` or
 /// `Device`. After a refusal the pages hold any table or none.
+#[tactic(auto, using(page_file::specs::Laws::no_call_keeps_the_gate, page_file::specs::Laws::the_gate_is_kept_in_turn))]
 pub fn write_table<D: BlockDevice, A: Allocator + Copy>(
     file: &mut PageFile<D>,
     table: &ListTable<A>,

@@ -13,5 +13,5 @@ returns-clause-holds g c = λ h.
       dims = c.in_ok-objects.ensures.dims;
       fanout = c.from.ensures;
       count = kept_count objects _ ascend (search rules);
-      objects = kept_chain (given c.args.file.now) c.args.record.now.dims c.args.record.now.directory objects ascend (c.in_ok-objects.ensures.holds h);
+      objects = kept_chain (given c.args.file.now) c.args.row.now.dims c.args.row.now.directory objects ascend (c.in_ok-objects.ensures.holds h);
     }

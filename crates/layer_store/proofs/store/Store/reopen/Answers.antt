@@ -3,7 +3,7 @@ use Rattle.std.proofs.Common.{◌≡◌, ◌∙◌, ◌⊎◌, Err, true, false,
 use Rattle.block_device.specs.Device.{Blocks}
 use Rattle.page_file.specs.File.{blocks_of, device_of, next_of}
 use Rattle.plain_table.specs.Commands.Command.{Reopen}
-use Rattle.plain_table.specs.Lawful.{IsEnd, IsFault, IsSpent, Rose}
+use Rattle.plain_table.specs.Lawful.{IsEnd, IsFault, IsSpent, MayWrite, Rose}
 use Rattle.plain_table.specs.Step.Answer.{Done, Refused}
 use Rattle.plain_table.specs.declared.refusal.Refusal.{Refusal}
 use Rattle.plain_table.specs.declared.refusal.Refusal.TheVariants as refusal
@@ -29,8 +29,8 @@ returns-in-Err-clause-step g c =
     let settled = c.in-Err.ensures in
     takes_step c.args.self.now (record { kept = c.settle.new.self; failed = c.args.self.now.failed }) Reopen (Refused c.refusal_of.result) c.if-self.false c.if-self.false settled.sound
     (λ sound. gave_up_lawful (Rose before now) (IsSpent (next_of c.settle.new.self.file)) c.args.self.now.kept.table c.settle.new.self.table Reopen c.refusal_of.result
-    (subst (IsFault (Rose before now) (IsSpent (next_of c.settle.new.self.file))) (sym c.refusal_of.ensures)
-    (fault_of_command before now (next_of c.settle.new.self.file) c.in-Err.fault (settled.faults sound.map) (λ is. settled.cause.device (ap Err is)) (λ is. settled.no_pages (ap Err is))))
+    (subst (IsFault (Rose before now) (IsSpent (next_of c.settle.new.self.file) × MayWrite c.args.self.now.kept.table Reopen)) (sym c.refusal_of.ensures)
+    (fault_of_command before now (IsSpent (next_of c.settle.new.self.file) × MayWrite c.args.self.now.kept.table Reopen) c.in-Err.fault (settled.faults sound.map) (λ is. settled.cause.device (ap Err is)) (λ is. (settled.no_pages (ap Err is), inl refl))))
     settled.table)
 
 pub returns-in-Err-clause-closed : goal.returns-in-Err-clause-closed
