@@ -5,7 +5,7 @@ ghost use Rattle.std.specs.Prelude.{◌<◌};
 use crate::changes::{Change, answers_alike, change_store, change_table, stands_for};
 use crate::fixture::{CACHE, new_store, opened_again};
 use block_device::MemoryDevice;
-use layer_store::{RawBox, Refusal, Store};
+use layer_store::{RawBox, Store};
 use plain_table::ListTable;
 use std::alloc::Global;
 use std::test::Fail;
@@ -69,7 +69,11 @@ impl Dice {
     fn change(&mut self) -> Change {
         let place = self.place();
         if self.below(8) == 0 {
-            let dims = if place == 0 { 2 } else { self.below(5) };
+            let dims = match place {
+                0 => 2,
+                1 => 3,
+                _ => self.below(6),
+            };
             Change::Create(place, u64::from(dims), u64::from(3 + self.below(99)))
         } else {
             let bounds = self.bounds_at(place);
@@ -78,11 +82,44 @@ impl Dice {
     }
 }
 
-// The session so far: a store and the plain list, and how many objects were made in them.
-struct Session {
-    store: Store<MemoryDevice>,
-    table: ListTable<Global>,
-    dice: Dice,
-    made: u32,
-    refused: u32,
+// A question or a change on the store and on the plain list, and whether both answer alike.
+fn is_alike(
+    dice: &mut Dice,
+    store: &mut Store<MemoryDevice>,
+    table: &mut ListTable<Global>,
+) -> bool {
+    if dice.below(3) == 0 {
+        let place = dice.place();
+        let window = dice.bounds_at(place);
+        answers_alike(store, table, place, window)
+    } else {
+        let change = dice.change();
+        change_store(store, change) == change_table(table, change)
+    }
+}
+
+#[test]
+fn sessions_answer_as_the_plain_list_does(rt: HostRuntime) -> Result<(), Fail> {
+    for seed in 1..5 {
+        let mut dice = Dice { state: seed };
+        let mut store = new_store(rt.alloc())?;
+        let mut table = ListTable::new(rt.alloc());
+        for step in 0..2000 {
+            match dice.below(64) {
+                0 => store = opened_again(rt.alloc(), store, CACHE)?,
+                1 | 2 => store.reopen()?,
+                _ => assert!(rt;
+                    is_alike(&mut dice, &mut store, &mut table),
+                    "step {step} of session {seed}"
+                ),
+            }
+        }
+        assert!(rt; stands_for(&mut store, &table), "session {seed}");
+        let sizes = table.layers().iter().map(|layer| layer.objects.count());
+        assert!(rt;
+            sizes.filter(|&count| count > 100).count() == 2,
+            "session {seed}"
+        );
+    }
+    Ok(())
 }
