@@ -4,11 +4,11 @@ use Rattle.std.specs.List.{All}
 use Rattle.std.proofs.lemmas.List.{get_or-set_same, get_or-set_other, get_or_append_left, get_or_push, length_push, take_at, set-set, set-get_or}
 use Rattle.std.proofs.lemmas.List.Elements.{All-push}
 use Rattle.std.proofs.lemmas.Bool.{cases_lt, cases_eq, cases_Bool, eq-eqb, ne_eqb, or_left, both_ways}
-use Rattle.block_device.specs.declared.write.Write.{Write}
-use Rattle.block_device.specs.Device.{Blocks, Follows, Torn, Elapses, block_at, written}
+use Rattle.block_device.specs.Logged.{Write}
+use Rattle.block_device.specs.Device.{Blocks, IsBlock, Follows, Torn, Elapses, block_at, written}
 use Rattle.block_device.specs.History.{Event, Wrote, undone, IsThere, IsHistory, MayLeave, LeftSince, at_sync, unsynced}
 use Rattle.block_device.specs.Kept.{IsKept, IsOld, Keeps, is_in, is_logged}
-use Rattle.block_device.specs.Outcomes.{sync_le, sync_same}
+use Rattle.block_device.specs.Outcomes.{sync_le, sync_same, set_blocks}
 use Rattle.block_device.specs.Stop.{IsOutcome}
 use Rattle.block_device.specs.Written.{set_written, push_written}
 use Rattle.block_device.proofs.Numbers.{not_in, appended, logged_more, logged_last}
@@ -24,7 +24,7 @@ pub record Adds (blocks after : Blocks) (es es' : List Event) (i : ℕ) (bytes :
 
 -- a write of block i, which held `old` or was not there
 module _ (blocks after : Blocks) (es es' : List Event) (i : ℕ) (old : Option (List ℕ)) (bytes : List ℕ)
-    (shown : after ≡ written i bytes blocks) (e : es' ≡ Wrote i old ∷ es) (back : undone i old after ≡ blocks) (h : IsHistory blocks es) (at_most : i ≤ length blocks) where
+    (shown : after ≡ written i bytes blocks) (e : es' ≡ Wrote i old ∷ es) (back : undone i old after ≡ blocks) (h : IsHistory blocks es) (at_most : i ≤ length blocks) (sized : All IsBlock blocks) where
   certain_same : at_sync after es' ≡ at_sync blocks es
   certain_same = ap (at_sync after) e ∙ ap (λ (x : Blocks). at_sync x es) back
 
@@ -33,7 +33,7 @@ module _ (blocks after : Blocks) (es es' : List Event) (i : ℕ) (old : Option (
     shown = shown;
     certain = certain_same;
     numbers = ap unsynced e;
-    stops = λ c now. outcome_before blocks (at_sync blocks es) (unsynced es) i bytes at_most (sync_le blocks es h) c (
+    stops = λ c now. outcome_before blocks (at_sync blocks es) (unsynced es) i bytes at_most (sync_le blocks es h) sized c (
         subst (λ (x : Blocks). IsOutcome x (at_sync blocks es) (i ∷ unsynced es) c) shown
         (subst (λ (x : Blocks). IsOutcome after x (i ∷ unsynced es) c) certain_same
         (subst (λ (ns : List ℕ). IsOutcome after (at_sync after es') ns c) (ap unsynced e) now))
@@ -54,12 +54,12 @@ marked_other k i ns apart = ap (λ (t : Bool). t || is_in k ns) (ne_eqb k i apar
 -- a block that is there, written again
 module _ (blocks : Blocks) (marks marks' : List Bool) (log log' : List Write) (synced : ℕ) (es es' : List Event) (i : ℕ) (old bytes : List ℕ)
     (k₀ : IsKept blocks marks log synced es) (lt : i < length blocks) (is : old ≡ block_at i blocks)
-    (keeps : Keeps i old marks log marks' log') (e : es' ≡ Wrote i (Some old) ∷ es) where
+    (block : IsBlock bytes) (keeps : Keeps i old marks log marks' log') (e : es' ≡ Wrote i (Some old) ∷ es) where
   back : undone i (Some old) (set blocks i bytes) ≡ blocks
   back = set-set blocks i bytes old ∙ ap (set blocks i) is ∙ set-get_or blocks i []
 
   pub changes : Adds blocks (set blocks i bytes) es es' i bytes
-  changes = adds blocks (set blocks i bytes) es es' i (Some old) bytes (set_written i bytes blocks lt) e back k₀.leads (omega (arith, lt))
+  changes = adds blocks (set blocks i bytes) es es' i (Some old) bytes (set_written i bytes blocks lt) e back k₀.leads (omega (arith, lt)) k₀.whole
 
   certain : at_sync (set blocks i bytes) es' ≡ at_sync blocks es
   certain = changes.certain
@@ -84,7 +84,8 @@ module _ (blocks : Blocks) (marks marks' : List Bool) (log log' : List Write) (s
 
   pub changed : IsKept (set blocks i bytes) marks' log' synced es'
   changed = record {
-    leads = leads blocks (set blocks i bytes) es es' i (Some old) bytes (set_written i bytes blocks lt) e back k₀.leads (omega (arith, lt)) (omega (arith, lt, length-set blocks i bytes));
+    whole = set_blocks i bytes blocks block k₀.whole;
+    leads = leads blocks (set blocks i bytes) es es' i (Some old) bytes (set_written i bytes blocks lt) e back k₀.leads (omega (arith, lt)) k₀.whole (omega (arith, lt, length-set blocks i bytes), subst IsBlock (sym is) (k₀.whole i [] lt));
     as_many = ap length keeps.marked ∙ length-set marks i true ∙ k₀.as_many ∙ sym (length-set blocks i bytes);
     marked = λ k less. ap (λ (l : List Bool). get_or l k false) keeps.marked
         ∙ ⊎_elim
@@ -111,7 +112,7 @@ module _ (blocks : Blocks) (marks marks' : List Bool) (log log' : List Write) (s
 
 -- one more block
 module _ (blocks blocks' : Blocks) (marks marks' : List Bool) (log : List Write) (synced : ℕ) (es es' : List Event) (i : ℕ) (bytes : List ℕ)
-    (k₀ : IsKept blocks marks log synced es) (last : i ≡ length blocks) (pushed : blocks' ≡ blocks ++ bytes ∷ []) (marked_too : marks' ≡ marks ++ true ∷ [])
+    (k₀ : IsKept blocks marks log synced es) (block : IsBlock bytes) (last : i ≡ length blocks) (pushed : blocks' ≡ blocks ++ bytes ∷ []) (marked_too : marks' ≡ marks ++ true ∷ [])
     (e : es' ≡ Wrote i None ∷ es) where
   size : length blocks' ≡ i + 1
   size = ap length pushed ∙ length_push blocks bytes ∙ (let s : length blocks + 1 ≡ i + 1 = omega (arith, last) in s)
@@ -123,11 +124,12 @@ module _ (blocks blocks' : Blocks) (marks marks' : List Bool) (log : List Write)
   shown_is = pushed ∙ push_written i bytes blocks (omega (arith, last))
 
   pub appends : Adds blocks blocks' es es' i bytes
-  appends = adds blocks blocks' es es' i None bytes shown_is e undo k₀.leads (omega (arith, last))
+  appends = adds blocks blocks' es es' i None bytes shown_is e undo k₀.leads (omega (arith, last)) k₀.whole
 
   pub appended_kept : IsKept blocks' marks' log synced es'
   appended_kept = record {
-    leads = leads blocks blocks' es es' i None bytes shown_is e undo k₀.leads (omega (arith, last)) (sym size);
+    whole = subst (λ (bs : Blocks). All IsBlock bs) (sym pushed) (All-push IsBlock blocks bytes k₀.whole block);
+    leads = leads blocks blocks' es es' i None bytes shown_is e undo k₀.leads (omega (arith, last)) k₀.whole (sym size);
     as_many = omega (arith, size, ap length marked_too, length_push marks true, k₀.as_many, last);
     marked = λ k less. ap (λ (l : List Bool). get_or l k false) marked_too
         ∙ ⊎_elim

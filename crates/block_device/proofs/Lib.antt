@@ -2,5 +2,6 @@
 pub mod Done
 pub mod Filling
 pub mod Keeping
+pub mod Logged
 pub mod Numbers
 pub mod Stops

@@ -3,7 +3,7 @@ use Rattle.std.proofs.Common.{◌≡◌, ℕ, zero, suc, ◌<◌, ◌≤◌, tru
 use Rattle.std.specs.List.{Contains}
 use Rattle.std.proofs.lemmas.Bool.{cases_lt, eq-eqb, eqb-true, or_cases, or_left, or_right, both_ways}
 use Rattle.std.proofs.lemmas.List.{length-take-le}
-use Rattle.block_device.specs.declared.write.Write.{Write}
+use Rattle.block_device.specs.Logged.{Write}
 use Rattle.block_device.specs.Device.{Blocks}
 use Rattle.block_device.specs.History.{Event, Wrote, Synced, undone, IsHistory, at_sync, unsynced}
 use Rattle.block_device.specs.Kept.{is_in, is_logged}

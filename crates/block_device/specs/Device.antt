@@ -1,8 +1,12 @@
 -- The words of a device's contract: what a call does to the blocks, what a stop may leave, and how
 -- faults are counted (our disk model, docs/FORMAT.md, "The disk model of a stop").
-use Rattle.std.specs.Prelude.{◌≡◌, ◌<◌, ◌≤◌, ◌⊎◌, ◌+◌, ◌-◌, ◌^◌, ℕ, zero, suc, List, [], ◌∷◌, slice_index_or, Result, IsErrOf, min}
+use Rattle.std.specs.Prelude.{◌≡◌, ◌<◌, ◌≤◌, ◌⊎◌, ◌+◌, ◌-◌, ◌^◌, ℕ, zero, suc, List, [], ◌∷◌, length, slice_index_or, Result, IsErrOf, min}
 use Rattle.block_device.specs.declared.device.DeviceError.{DeviceError}
 use Rattle.block_device.specs.declared.device.DeviceError.TheVariants.{Failed}
+
+-- the bytes of one block
+abbrev pub IsBlock : List ℕ → Type 0
+IsBlock bytes = length bytes ≡ 4096
 
 -- the bytes of each block of a device
 abbrev pub Blocks : Type 0
@@ -18,9 +22,9 @@ written i bytes [] = bytes ∷ []
 written zero bytes (b ∷ blocks) = bytes ∷ blocks
 written (suc i) bytes (b ∷ blocks) = b ∷ written i bytes blocks
 
--- what a write of block i that is cut short makes of the old blocks: nothing, or any bytes in it
+-- what a write of block i that is cut short makes of the old blocks: nothing, or any 4096 bytes in it
 abbrev pub Torn : ℕ → Blocks → Blocks → Type 0
-Torn i old new = (new ≡ old) ⊎ ((bytes : List ℕ) × (new ≡ written i bytes old))
+Torn i old new = (new ≡ old) ⊎ ((bytes : List ℕ) × IsBlock bytes × (new ≡ written i bytes old))
 
 -- each new outcome of a stop is an old outcome after a step
 abbrev pub Follows : (Blocks → Blocks → Type 0) → (Blocks → Type 0) → (Blocks → Type 0) → Type 0

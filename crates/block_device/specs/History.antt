@@ -1,7 +1,7 @@
 -- The writes and syncs of a device in memory, newest first, and what a stop at each moment between
 -- them might have left (our disk model, docs/FORMAT.md, "The disk model of a stop").
 use Rattle.std.specs.Prelude.{◌≡◌, ◌⊎◌, ◌<◌, ◌≤◌, ◌+◌, ℕ, List, [], ◌∷◌, length, take, set, Option, Some, None}
-use Rattle.block_device.specs.Device.{Blocks}
+use Rattle.block_device.specs.Device.{Blocks, IsBlock}
 use Rattle.block_device.specs.Noted.{Note}
 use Rattle.block_device.specs.Stop.{IsOutcome}
 
@@ -32,7 +32,7 @@ before Synced blocks = blocks
 
 -- a block that was written is there, and is the last one if it was appended
 abbrev pub IsThere : ℕ → Option (List ℕ) → Blocks → Type 0
-IsThere i (Some old) blocks = i < length blocks
+IsThere i (Some old) blocks = (i < length blocks) × IsBlock old
 IsThere i None blocks = i + 1 ≡ length blocks
 
 -- these events may have led to the blocks

@@ -4,9 +4,9 @@ use Rattle.std.specs.Prelude.{◌≡◌, ◌<◌, ℕ, Bool, true, false, ◌||�
 use Rattle.std.specs.List.{All}
 use Rattle.block_device.specs.declared.left.Left.{Left}
 use Rattle.block_device.specs.declared.left.Left.TheVariants as left
-use Rattle.block_device.specs.declared.write.Write.{Write}
-use Rattle.block_device.specs.Device.{Blocks, block_at}
+use Rattle.block_device.specs.Device.{Blocks, IsBlock, block_at}
 use Rattle.block_device.specs.History.{Event, IsHistory, at_sync, unsynced}
+use Rattle.block_device.specs.Logged.{Write, restored}
 
 -- whether k is one of these numbers
 abbrev pub is_in : ℕ → List ℕ → Bool
@@ -25,6 +25,7 @@ IsOld synced w = (w.at < length synced) × (w.old ≡ block_at w.at synced)
 -- A mark for each block that was written since the last sync, and for those of them that were there
 -- then, what they held.
 pub record IsKept (blocks : Blocks) (marks : List Bool) (log : List Write) (synced : ℕ) (es : List Event) : Type 0 where
+  pub whole : All IsBlock blocks
   pub leads : IsHistory blocks es
   pub as_many : length marks ≡ length blocks
   pub marked : (k : ℕ) → k < length blocks → slice_index_or marks k false ≡ is_in k (unsynced es)
@@ -37,11 +38,6 @@ pub record IsKept (blocks : Blocks) (marks : List Bool) (log : List Write) (sync
 pub record Keeps (i : ℕ) (bytes : List ℕ) (marks : List Bool) (log : List Write) (marks' : List Bool) (log' : List Write) : Type 0 where
   pub marked : marks' ≡ set marks i true
   pub logged : log' ≡ (if slice_index_or marks i false then log else log ++ record { at = i; old = bytes } ∷ [])
-
--- the blocks with what these writes replaced
-abbrev pub restored : List Write → Blocks → Blocks
-restored [] blocks = blocks
-restored (w ∷ ws) blocks = restored ws (set blocks w.at w.old)
 
 -- the new blocks have these bytes where there is a mark, and are the old ones elsewhere
 pub record FillsMarked (bytes : List ℕ) (marks : List Bool) (old new : Blocks) : Type 0 where

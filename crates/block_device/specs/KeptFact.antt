@@ -1,7 +1,7 @@
 -- What a device in memory keeps is a fact: a ghost field may hold it.
 use Rattle.std.specs.Prelude.{ℕ, Bool, List, [], ◌∷◌, Option, Some, None}
 use Rattle.std.proofs.Props.{props}
-use Rattle.block_device.specs.declared.write.Write.{Write}
+use Rattle.block_device.specs.Logged.{Write}
 use Rattle.block_device.specs.Device.{Blocks}
 use Rattle.block_device.specs.History.{Event, Wrote, Synced, undone, IsThere, IsHistory}
 use Rattle.block_device.specs.Kept.{IsKept}

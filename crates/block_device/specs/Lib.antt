@@ -5,6 +5,7 @@ pub mod History
 pub mod Kept
 pub mod KeptFact
 pub mod Laws
+pub mod Logged
 pub mod Memory
 pub mod Moments
 pub mod Noted

@@ -1,5 +1,6 @@
 -- A device in memory as its contracts see it: its blocks, its history, and what its calls answer.
-use Rattle.std.specs.Prelude.{◌≡◌, ℕ, List, [], ◌∷◌, length, replicate, Result, IsOk, OnOk, OnErr, IsErrOf}
+use Rattle.std.specs.Prelude.{◌≡◌, ◌<◌, ℕ, List, [], ◌∷◌, length, replicate, Result, IsOk, OnOk, OnErr, IsErrOf}
+use Rattle.std.specs.List.{Contains}
 use Rattle.block_device.specs.declared.device.DeviceError.{DeviceError}
 use Rattle.block_device.specs.declared.device.DeviceError.TheVariants.{Failed}
 use Rattle.block_device.specs.declared.left.Left.{Left}
@@ -60,11 +61,13 @@ pub record IsUnchanged {X : Type 0} (old new : MemoryDevice X) : Type 0 where
   pub history : history_of new ≡ history_of old
   pub writes : writes_of new ≡ writes_of old
 
--- A write answers Ok and is done, or Memory and nothing has changed.
+-- A write answers Ok and is done, or Memory and nothing has changed. A block that was written since the
+-- last sync takes no memory to be written again.
 pub record AnswersWrite {X : Type 0} (old : MemoryDevice X) (i : ℕ) (bytes : List ℕ) (result : Result (Unit {0}) DeviceError) (new : MemoryDevice X) : Type 0 where
   pub done : OnOk result (HasWritten old i bytes new)
   pub refused : OnErr result (IsUnchanged old new)
   pub memory : IsErrOf result Failed → ⊥
+  pub again : Contains (unsynced_of old) i → i < length (shown_of old) → IsOk result
 
 -- A sync answers Ok, after which nothing is unsynced.
 pub record AnswersSync {X : Type 0} (old : MemoryDevice X) (result : Result (Unit {0}) DeviceError) (new : MemoryDevice X) : Type 0 where

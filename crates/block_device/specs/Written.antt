@@ -2,7 +2,7 @@
 use Rattle.std.proofs.Common.{◌≡◌, ◌∙◌, ℕ, zero, suc, ◌+◌, ◌<◌, ◌≤◌, List, [], ◌∷◌, ◌++◌, length, take, set, refl, sym, ap, arith, ⊎_elim, inr, length-set}
 use Rattle.std.proofs.lemmas.List.{take_all, take_more, set-set, set-get_or, length-take-le}
 use Rattle.std.proofs.lemmas.Bool.{cases_lt}
-use Rattle.block_device.specs.Device.{Blocks, Torn, block_at, written}
+use Rattle.block_device.specs.Device.{Blocks, IsBlock, Torn, block_at, written}
 
 -- a block that is there
 pub set_written : (i : ℕ) (b : List ℕ) (bs : Blocks) → i < length bs → set bs i b ≡ written i b bs
@@ -46,30 +46,31 @@ block_at-written_other (suc i) (suc k) b (x ∷ bs) le apart = block_at-written_
 pub torn_other : (i k : ℕ) (old new : Blocks) → Torn i old new → i ≤ length old → ¬ (k ≡ i) → block_at k new ≡ block_at k old
 torn_other i k old new torn le apart = ⊎_elim
     (λ (e : new ≡ old). ap (block_at k) e)
-    (λ (w : (b : List ℕ) × (new ≡ written i b old)). ap (block_at k) w.1 ∙ block_at-written_other i k w.0 old le apart)
+    (λ (w : (b : List ℕ) × IsBlock b × (new ≡ written i b old)). ap (block_at k) w.2 ∙ block_at-written_other i k w.0 old le apart)
     torn
 
 pub torn_length : (i : ℕ) (old new : Blocks) → Torn i old new → (length old ≤ length new) × (length new ≤ length old + 1)
 torn_length i old new torn = ⊎_elim
     (λ (e : new ≡ old). (omega (arith, ap length e), omega (arith, ap length e)))
-    (λ (w : (b : List ℕ) × (new ≡ written i b old)). ⊎_elim
-    (λ (within : i < length old). (omega (arith, ap length w.1, length-written_within i w.0 old within), omega (arith, ap length w.1, length-written_within i w.0 old within)))
-    (λ (behind : length old ≤ i). (omega (arith, ap length w.1, length-written_behind i w.0 old behind), omega (arith, ap length w.1, length-written_behind i w.0 old behind)))
+    (λ (w : (b : List ℕ) × IsBlock b × (new ≡ written i b old)). ⊎_elim
+    (λ (within : i < length old). (omega (arith, ap length w.2, length-written_within i w.0 old within), omega (arith, ap length w.2, length-written_within i w.0 old within)))
+    (λ (behind : length old ≤ i). (omega (arith, ap length w.2, length-written_behind i w.0 old behind), omega (arith, ap length w.2, length-written_behind i w.0 old behind)))
     (cases_lt i (length old)))
     torn
 
 -- any blocks are those with other bytes in block i, torn there
-pub torn_within : (i : ℕ) (b : List ℕ) (c : Blocks) → i < length c → Torn i (set c i b) c
-torn_within i b c lt = inr (
+pub torn_within : (i : ℕ) (b : List ℕ) (c : Blocks) → i < length c → IsBlock (block_at i c) → Torn i (set c i b) c
+torn_within i b c lt sized = inr (
   block_at i c,
+  sized,
   sym (sym (set_written i (block_at i c) (set c i b) (omega (arith, length-set c i b))) ∙ set-set c i b (block_at i c) ∙ set-get_or c i []),
 )
 
 -- any blocks are those but the last, torn behind them
-pub torn_behind : (i : ℕ) (c : Blocks) → length c ≡ i + 1 → Torn i (take i c) c
-torn_behind i c size =
+pub torn_behind : (i : ℕ) (c : Blocks) → length c ≡ i + 1 → IsBlock (block_at i c) → Torn i (take i c) c
+torn_behind i c size sized =
     let last : written i (block_at i c) (take i c) ≡ c =
     sym (push_written i (block_at i c) (take i c) (omega (arith, length-take-le i c (omega (arith, size)))))
     ∙ sym (take_more c i [] (omega (arith, size)))
     ∙ take_all (i + 1) c (omega (arith, size)) in
-    inr (block_at i c, sym last)
+    inr (block_at i c, sized, sym last)

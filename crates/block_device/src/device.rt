@@ -2,16 +2,20 @@
 ghost use Rattle.std.specs.Prelude.{◌≡◌, ◌≤◌, ◌<◌, ◌+◌, ◌^◌, ◌↔◌, ℕ, List, length, Result, OnOk, OnErr, ⊤};
 ghost use Rattle.block_device.specs.declared.device.DeviceError.{DeviceError};
 ghost use Rattle.block_device.specs.declared.device.DeviceError.TheVariants.{Memory};
-ghost use Rattle.block_device.specs.Device.{Blocks, Only, LeavesNoMore, Follows, Torn, Elapses, Counts, block_at, written};
+ghost use Rattle.std.specs.List.{All};
+ghost use Rattle.block_device.specs.Device.{Blocks, IsBlock, Only, LeavesNoMore, Follows, Torn, Elapses, Counts, block_at, written};
 
 use std::alloc::{AllocError, AllocFailed};
+use thiserror::Error;
 
 /// Why a call of a device did not do what it was asked.
-#[derive(Clone, Copy, Debug, PartialEq, Eq)]
+#[derive(Clone, Copy, Debug, PartialEq, Eq, Drop, Error)]
 pub enum DeviceError {
     /// The device failed. Each such answer counts as a fault.
+    #[error("the device failed")]
     Failed,
     /// Memory was refused.
+    #[error("no memory")]
     Memory,
 }
 
@@ -122,6 +126,9 @@ pub trait BlockDevice {
 
     /// A stop leaves at most one block more than is read, one of an append that failed.
     ghost no_longer: { (d : Self) (c : Blocks) → honest d → may_leave d c → length c ≤ length (shown d) + 1 };
+
+    /// A stop leaves blocks of 4096 bytes, so what is read are such, too.
+    ghost whole: { (d : Self) (c : Blocks) → honest d → may_leave d c → All IsBlock c };
 
     /// This moment is one of those since an earlier one.
     ghost counts_now: { (d : Self) (t : ℕ) (c : Blocks) → honest d → t ≤ moment d → may_leave d c → left_since d t c };

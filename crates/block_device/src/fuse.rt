@@ -132,6 +132,8 @@ impl<D: BlockDevice> BlockDevice for FuseDevice<D> {
 
     ghost no_longer = { λ f. D.no_longer (inner_of f) };
 
+    ghost whole = { λ f. D.whole (inner_of f) };
+
     ghost counts_now = { λ f. D.counts_now (inner_of f) };
 
     ghost only_now = { λ f. D.only_now (inner_of f) };

@@ -1,6 +1,7 @@
 //! The laws of the device model, each the contract of a function that does nothing.
 ghost use Rattle.std.specs.Prelude.{◌≡◌, ◌≤◌, ◌+◌, ◌↔◌, ◌∷◌, ℕ, List, length};
-ghost use Rattle.block_device.specs.Device.{Blocks, Follows, LeavesNoMore, Only, Torn, block_at, written};
+ghost use Rattle.std.specs.List.{All};
+ghost use Rattle.block_device.specs.Device.{Blocks, IsBlock, Follows, LeavesNoMore, Only, Torn, block_at, written};
 ghost use Rattle.block_device.specs.History.{Event, MayLeave, Synced};
 ghost use Rattle.block_device.specs.Laws.{Both};
 
@@ -14,6 +15,12 @@ pub fn what_is_read_may_be_left<D: BlockDevice>()
 /// A stop leaves at most one block more than is read, one of an append that failed.
 pub fn at_most_one_more_is_left<D: BlockDevice>()
     ensures { (d : D) (c : Blocks) → D.honest d → D.may_leave d c → length c ≤ length (D.shown d) + 1 }
+{}
+
+/// What is read, and what a stop leaves, are blocks of 4096 bytes.
+pub fn each_block_is_whole<D: BlockDevice>()
+    ensures shown { (d : D) → D.honest d → All IsBlock (D.shown d) }
+    ensures left { (d : D) (c : Blocks) → D.honest d → D.may_leave d c → All IsBlock c }
 {}
 
 /// The outcomes since a moment include those since a later one.
@@ -32,7 +39,7 @@ pub fn a_sync_makes_all_outcomes_one<D: BlockDevice>()
     ensures one { (d : D) (blocks a b : Blocks) → Only blocks (D.may_leave d) → D.may_leave d a → D.may_leave d b → a ≡ b }
     ensures shown { (d : D) (blocks : Blocks) → D.honest d → Only blocks (D.may_leave d) → D.shown d ≡ blocks }
     ensures stays { (d e : D) (blocks : Blocks) → Only blocks (D.may_leave d) → LeavesNoMore (D.may_leave d) (D.may_leave e) → Only blocks (D.may_leave e) }
-    ensures in_memory { (blocks : Blocks) (es : List Event) (c : Blocks) → MayLeave blocks (Synced ∷ es) c ↔ (c ≡ blocks) }
+    ensures in_memory { (blocks : Blocks) (es : List Event) (c : Blocks) → All IsBlock blocks → MayLeave blocks (Synced ∷ es) c ↔ (c ≡ blocks) }
 {}
 
 /// A block that was written is read, and each other one as before.

@@ -2,15 +2,16 @@
 //! on demand.
 #![tactic(auto)]
 
+mod append;
 mod device;
 mod fuse;
 pub mod laws;
 mod left;
+mod log;
 mod memory;
 mod past;
 #[cfg(test)]
 mod tests;
-mod write;
 
 pub use device::{BlockDevice, DeviceError};
 pub use fuse::{FuseDevice, FuseMode};

@@ -7,8 +7,8 @@ ghost use Rattle.block_device.specs.KeptFact.{kept_is_fact};
 mod calls;
 mod stop;
 
+use crate::log::Log;
 use crate::past::Past;
-use crate::write::Write;
 use std::alloc::{Allocator, Global};
 
 /// A device in memory, which is honest and never fails, and of which a stop can be tried.
@@ -22,12 +22,12 @@ pub struct MemoryDevice<A: Allocator + Copy = Global> {
     // whether each block was written since the last sync
     marks: Vec<bool, A>,
     // the first write since then of each block that was there
-    log: Vec<Write, A>,
+    log: Log<A>,
     // how many were there
     synced: usize,
     // how many writes answered Ok
     writes: u64,
     past: Past,
-    ghost kept: { IsKept blocks.items marks.items log.items synced (history past.notes) } by { kept_is_fact blocks.items marks.items log.items synced (history past.notes) },
+    ghost kept: { IsKept blocks.items marks.items log synced (history past.notes) } by { kept_is_fact blocks.items marks.items log synced (history past.notes) },
     ghost few: { length blocks.items ≤ 2 ^ 31 },
 }

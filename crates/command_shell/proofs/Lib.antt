@@ -6,3 +6,5 @@ pub mod WriteLemmas
 pub mod ReadLemmas
 pub mod SessionLemmas
 pub mod AnswerLemmas
+pub mod Examples
+pub mod RunExamples

@@ -1,7 +1,7 @@
 -- What a command line means. Our rule, docs/COMMANDS.md.
 use Rattle.std.specs.Prelude.{ℕ, ◌==◌, nat_lt, List, [], ◌∷◌, length, if◌then◌else◌, slice_index, Option, Some, None, option_map, option_and_then, codes, bytes_eq}
 use Rattle.plain_table.specs.Commands.{Command}
-use Rattle.plain_table.specs.Commands.Command.{Create, Insert, Window}
+use Rattle.plain_table.specs.Commands.Command.{Create, Insert, Window, Reopen}
 use Rattle.command_shell.specs.Lines.{words_of}
 use Rattle.command_shell.specs.Numbers.{number_of, box_of}
 
@@ -31,12 +31,18 @@ abbrev pub window_of : List (List ℕ) → Option Command
 window_of (layer ∷ ws) = option_map (λ b. Window layer b) (box_of ws)
 window_of ws = None
 
+-- `reopen`
+abbrev pub reopen_of : List (List ℕ) → Option Command
+reopen_of [] = Some Reopen
+reopen_of ws = None
+
 -- what the words behind the name of a command mean
 abbrev pub command_of : List ℕ → List (List ℕ) → Meaning
 command_of name ws =
     if bytes_eq name (codes "create") then asked (create_of ws)
     else if bytes_eq name (codes "insert") then asked (insert_of ws)
     else if bytes_eq name (codes "window") then asked (window_of ws)
+    else if bytes_eq name (codes "reopen") then asked (reopen_of ws)
     else Bad
 
 -- the byte that a comment begins with

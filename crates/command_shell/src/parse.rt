@@ -1,7 +1,7 @@
 //! What a line asks.
 
 ghost use Rattle.std.specs.Prelude.{◌≡◌, ◌<◌, length, Some, IfSome, IfNone};
-ghost use Rattle.command_shell.specs.Meanings.{meaning_of, create_of, insert_of, window_of, command_of, asked};
+ghost use Rattle.command_shell.specs.Meanings.{meaning_of, create_of, insert_of, window_of, reopen_of, command_of, asked};
 ghost use Rattle.command_shell.specs.Numbers.{coordinates_of, box_of};
 ghost use Rattle.command_shell.specs.Said.{said, said_or_bad};
 
@@ -47,6 +47,8 @@ pub enum Line<'a> {
         /// The window.
         bounds: RawBox,
     },
+    /// `reopen`: closes the store and opens it again.
+    Reopen,
 }
 
 /// Reads a line, given without its newline. It takes no memory.
@@ -79,6 +81,8 @@ fn command<'a>(name: &[u8], words: Words<'a>) -> Option<Line<'a>>
         insert(words)
     } else if name == b"window".as_slice() {
         window(words)
+    } else if name == b"reopen".as_slice() {
+        reopen(words)
     } else {
         None
     }
@@ -116,6 +120,15 @@ fn window(mut words: Words<'_>) -> Option<Line<'_>>
     let layer = words.next()?;
     let bounds = bounds(words)?;
     Some(Line::Window { layer, bounds })
+}
+
+fn reopen(mut words: Words<'_>) -> Option<Line<'_>>
+    ensures { said_or_bad result ≡ asked (reopen_of words.entry) }
+{
+    match words.next() {
+        None => Some(Line::Reopen),
+        Some(_) => None,
+    }
 }
 
 // The box that all these words are.

@@ -13,6 +13,7 @@ ghost use Rattle.command_shell.specs.Texts.{reply_answer};
 use crate::lines::{Found, LineReader};
 use crate::parse::{Line, parse_line};
 use crate::replies::{Reply, write_reply};
+use block_device::BlockDevice;
 use layer_store::{AnyBox, Refusal, Store};
 use std::alloc::Allocator;
 use std::io;
@@ -34,8 +35,8 @@ pub enum RunEnd {
 ///
 /// An interrupted read is a fault like any other. The writer is not flushed. Beside what the store takes, it takes no
 /// memory.
-pub fn run<A: Allocator + Copy, R: Read, W: Write>(
-    store: &mut Store<A>,
+pub fn run<D: BlockDevice, A: Allocator + Copy, R: Read, W: Write>(
+    store: &mut Store<D, A>,
     input: &mut R,
     output: &mut W,
 ) -> RunEnd
@@ -51,8 +52,8 @@ pub fn run<A: Allocator + Copy, R: Read, W: Write>(
 }
 
 // Answers the next line, or says how the run ends.
-fn step<A: Allocator + Copy, R: Read, W: Write>(
-    store: &mut Store<A>,
+fn step<D: BlockDevice, A: Allocator + Copy, R: Read, W: Write>(
+    store: &mut Store<D, A>,
     lines: &mut LineReader,
     input: &mut R,
     output: &mut W,
@@ -93,8 +94,8 @@ fn end_after(written: io::Result<()>, ended: bool) -> Option<RunEnd>
 }
 
 // Answers a line.
-fn answer<A: Allocator + Copy, W: Write>(
-    store: &mut Store<A>,
+fn answer<D: BlockDevice, A: Allocator + Copy, W: Write>(
+    store: &mut Store<D, A>,
     line: Line<'_>,
     output: &mut W,
 ) -> io::Result<()>
@@ -108,7 +109,10 @@ fn answer<A: Allocator + Copy, W: Write>(
 }
 
 // The reply to a line, if it has one.
-fn reply_to<A: Allocator + Copy>(store: &mut Store<A>, line: Line<'_>) -> Option<Reply<A>>
+fn reply_to<D: BlockDevice, A: Allocator + Copy>(
+    store: &mut Store<D, A>,
+    line: Line<'_>,
+) -> Option<Reply<A>>
     ensures { Takes Stands store.old store.new (λ s s'. Replies (said line.entry) s s' (reply_answers result)) }
 {
     match line {
@@ -121,6 +125,7 @@ fn reply_to<A: Allocator + Copy>(store: &mut Store<A>, line: Line<'_>) -> Option
         } => Some(change_reply(store.create(layer, dims, fanout))),
         Line::Insert { layer, id, bounds } => Some(change_reply(store.insert(layer, id, bounds))),
         Line::Window { layer, bounds } => Some(window_reply(store.window(layer, bounds))),
+        Line::Reopen => Some(change_reply(store.reopen())),
     }
 }
 

@@ -16,11 +16,13 @@ use Rattle.plain_table.specs.Laws.{memory_is_lawful}
 use Rattle.plain_table.specs.Step.{Answer}
 use Rattle.plain_table.specs.Step.Answer.{Done, Refused}
 use Rattle.plain_table.specs.Table.{Table}
+use Rattle.plain_table.specs.declared.refusal.Refusal.{Refusal}
 use Rattle.plain_table.specs.declared.refusal.Refusal.TheVariants as refusal
 use Rattle.layer_store.specs.Faults.{refusal_of}
 use Rattle.layer_store.specs.Image.{Holds}
 use Rattle.layer_store.specs.Keeping.{IsSound}
-use Rattle.layer_store.specs.Standing.{Stands, StandsFor, standing_of}
+use Rattle.layer_store.specs.Standing.{HasFailed, Stands, StandsFor, standing_of}
+use Rattle.layer_store.specs.Starting.{GivesUp}
 use Rattle.layer_store.specs.declared.kept.Kept.{Kept}
 use Rattle.layer_store.specs.declared.store.Store.{Store}
 
@@ -85,6 +87,14 @@ dead_step : (rose spent : Type 0) (o : Bool) (t : Table) (c : Command) → o ≡
 dead_step rose spent true t c e = (refl, refl)
 dead_step rose spent false t c e = absurd (cc)
 
+state_alive : (b : Bool) (t u : Table) → cond b Dead (Alive t) ≡ Alive u → (b ≡ false) × (t ≡ u)
+state_alive true t u e = absurd (cc)
+state_alive false t u e = (refl, cc)
+
+state_dead : (b : Bool) (t : Table) → cond b Dead (Alive t) ≡ Dead → b ≡ true
+state_dead true t e = refl
+state_dead false t e = absurd (cc)
+
 module _ {D A : Type 0} {m : _} where
   -- the file of a store that answered from its table is as it was
   pub sound_after : (old new : Kept D A m) → new.file ≡ old.file → (new.written ≡ true → (old.written ≡ true) × (new.table ≡ old.table)) → IsSound old → IsSound new
@@ -127,3 +137,56 @@ module _ {D A : Type 0} {m : _} where
     stands = (refl, stands.1);
     so = subst (λ (z : Standing). LawfulStep z (Asks c) (Refused (refusal.StoreFailed 19)) (standing_of store)) (sym stands.0) (dead_step _ _ store.failed store.kept.table c failed);
   }
+
+  -- the last command of a live store
+  pub takes_last : (old new : Store D A m) (c : Command) (a : Answer) → old.failed ≡ false → new.failed ≡ true → (IsSound old.kept → IsSound new.kept)
+      → (IsSound old.kept → LawfulFrom (Rose (m.faults (device_of old.kept.file)) (m.faults (device_of new.kept.file))) (IsSpent (next_of new.kept.file)) old.kept.table c a Dead)
+      → Takes Stands old new (λ s s'. LawfulStep s (Asks c) a s')
+  unfolding Stands
+  takes_last old new c a o n sound lawful = λ s stands. record {
+    next = standing_of new;
+    stands = (refl, sound stands.1);
+    so = subst (λ (z : Standing). LawfulStep z (Asks c) a (standing_of new)) (sym stands.0) (last_step _ _ old.failed new.failed old.kept.table new.kept.table c a o n (lawful stands.1));
+  }
+
+  -- what a live store that stands for a table is
+  pub record IsAliveWith (store : Store D A m) (t : Table) : Type 0 where
+    pub going : store.failed ≡ false
+    pub table : store.kept.table ≡ t
+    pub sound : IsSound store.kept
+
+  pub alive_with : (store : Store D A m) (t : Table) → StandsFor store t → IsAliveWith store t
+  unfolding Stands
+  alive_with store t r =
+      let state = state_alive store.failed store.kept.table t (ap (λ (s : Standing). s.state) (sym r.stands.0) ∙ r.so) in
+      record { going = state.0; table = state.1; sound = r.stands.1 }
+
+  pub failed_so : (store : Store D A m) → HasFailed store → store.failed ≡ true
+  unfolding Stands
+  failed_so store r = state_dead store.failed store.kept.table (ap (λ (s : Standing). s.state) (sym r.stands.0) ∙ r.so)
+
+pub not_both : (b : Bool) → b ≡ true → b ≡ false → ⊥
+not_both b e f = cc
+
+-- ---- a refused closing
+
+-- the fault of a closing, as a refusal of it
+pub refused_closing : (before now : ℕ) (f : Fault) → IsOfDevice f ⊎ (f ≡ fault.NoPages) → (f ≡ fault.Device → HasRisen before now) → GivesUp before now (refusal_of f) ⊎ (refusal_of f ≡ refusal.NoPages)
+refused_closing before now f (inl (inl e)) rose = inl (inl (ap refusal_of e))
+refused_closing before now f (inl (inr e)) rose = inl (inr (ap refusal_of e, rose e))
+refused_closing before now f (inr e) rose = inr (ap refusal_of e)
+
+-- ---- a reopening
+
+pub done_lawful : (rose spent : Type 0) (t u : Table) → u ≡ t → LawfulFrom rose spent t Reopen Done (Alive u)
+done_lawful rose spent t u e = inl (refl, ap Alive e)
+
+pub gave_up_lawful : (rose spent : Type 0) (t u : Table) (c : Command) (r : Refusal) → IsFault rose spent r → u ≡ t → LawfulFrom rose spent t c (Refused r) (Alive u)
+gave_up_lawful rose spent t u c r is e = inr (inl (is, ap Alive e))
+
+pub died_lawful : (rose spent : Type 0) (t : Table) (r : Refusal) → IsEnd rose r → LawfulFrom rose spent t Reopen (Refused r) Dead
+died_lawful rose spent t r is = inr (inr (is, inl refl, refl))
+
+pub risen_since : (before mid now : ℕ) → before ≤ mid → HasRisen mid now → HasRisen before now
+risen_since before mid now le (inl lt) = inl (omega (arith, le, lt))
+risen_since before mid now le (inr full) = inr full

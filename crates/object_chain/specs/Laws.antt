@@ -19,6 +19,7 @@ use Rattle.object_chain.specs.Chain.{BreaksAt, HoldsObjects, IsFilled, KeepsPage
 
 -- ---- the pages that lead from one to another
 
+-- the buckets from a page on are those that they are
 same_leads : (pages : PageMap) (dims n : ℕ) (xs ys : List Content) → Leads pages dims n xs 0 → Leads pages dims n ys 0 → xs ≡ ys
 same_leads pages dims n [] [] a b = refl
 same_leads pages dims n [] (y ∷ ys) a b = absurd (omega (arith, a, b.0))
@@ -52,6 +53,7 @@ pub record HasNext (pages : PageMap) (dims : ℕ) (all before : List Content) (b
   pub there : bucket_in pages dims bad ≡ Some bucket
   pub whole : all ≡ before ++ bucket ∷ behind
 
+-- a front of a whole chain leads to a page that is there
 goes_on : (pages : PageMap) (dims n bad : ℕ) (all before : List Content) → 0 < bad → Leads pages dims n all 0 → Leads pages dims n before bad → HasNext pages dims all before bad
 goes_on pages dims n bad [] [] page a b = absurd (omega (arith, a, b, page))
 goes_on pages dims n bad [] (y ∷ ys) page a b = absurd (omega (arith, a, b.0))
@@ -134,6 +136,7 @@ bucket_page pages dims n b e = case (pages n) refl e
     case None is e = absurd (cc)
     case (Some page) is e = record { page = page; there = is; spelled = e }
 
+-- buckets that stay lead where they led
 pub kept_leads : (old new : PageMap) (dims n last : ℕ) (bs : List Content) → ((k : ℕ) (b : Content) → bucket_in old dims k ≡ Some b → bucket_in new dims k ≡ Some b) → Leads old dims n bs last → Leads new dims n bs last
 kept_leads old new dims n last [] keeps l = l
 kept_leads old new dims n last (b ∷ bs) keeps l = (l.0, keeps n b l.1, kept_leads old new dims b.next last bs keeps l.2)
@@ -162,6 +165,14 @@ new_pages_stay old new k page e = case (old k) e
     case : (o : Option (List ℕ)) → cond (is_some o) None (new k) ≡ Some page → new k ≡ Some page
     case None e = e
     case (Some was) e = absurd (cc)
+
+-- and where only pages under old numbers change
+pub new_pages_are_apart : (old new later : PageMap) → ((k : ℕ) → old k ≡ None → later k ≡ new k) → KeepsPages (new_pages old new) (new_pages old later)
+new_pages_are_apart old new later same k page e = case (old k) refl e
+  where
+    case : (o : Option (List ℕ)) → old k ≡ o → cond (is_some o) None (new k) ≡ Some page → cond (is_some o) None (later k) ≡ Some page
+    case None none e = same k none ∙ e
+    case (Some was) there e = absurd (cc)
 
 -- each page of a chain is of the buckets' kind
 pub a_chain_has_bucket_pages : (large small : PageMap) (dims n : ℕ) (objects : List (ℕ × Bounds)) → ((k : ℕ) (page : List ℕ) → large k ≡ Some page → number_at 1 0 page ≡ 4 → small k ≡ Some page)

@@ -1,13 +1,13 @@
 //! What chains are, as laws of all maps of pages: each law is the contract of a function that does nothing,
 //! but for the last, which writes and reads.
 
-ghost use Rattle.std.specs.Prelude.{◌≡◌, ◌⊎◌, ℕ, ◌<◌, List, [], Some, All, IsTrue, IfOk, IfErr, slice_index};
+ghost use Rattle.std.specs.Prelude.{◌≡◌, ◌⊎◌, ℕ, ◌<◌, ◌^◌, List, [], Some, None, All, IsTrue, IfOk, IfErr, IsErrOf, slice_index};
 ghost use Rattle.std.specs.FinMap.{is_sorted};
 ghost use Rattle.std.specs.Ordering.{nat_cmp};
 ghost use Rattle.block_bytes.specs.Numbers.{number_at};
 ghost use Rattle.box_math.specs.Bounds.{Bounds, IsBox, IsDims};
-ghost use Rattle.page_file.specs.Fault.{IsOfDevice};
-ghost use Rattle.page_file.specs.File.{IsPageMap, gate_of, given, pages};
+ghost use Rattle.page_file.specs.Fault.{HasCause, IsOfDevice};
+ghost use Rattle.page_file.specs.File.{IsPageMap, device_of, gate_of, given, next_of, pages};
 ghost use Rattle.page_file.specs.declared.fault.Fault.TheVariants as fault;
 ghost use Rattle.page_file.specs.declared.file.PageFile.{PageFile};
 ghost use Rattle.page_file.specs.declared.gate.Gate.TheVariants.{Open};
@@ -56,10 +56,12 @@ pub fn a_chain_has_bucket_pages()
         HoldsObjects large dims n objects → HoldsObjects small dims n objects }
 {}
 
-/// A chain in new pages is one of the map that they came into.
-#[tactic(auto, using(crate::specs::Laws::new_pages_stay))]
+/// A chain in new pages is one of the map that they came into, and stays where only pages under old numbers
+/// change.
+#[tactic(auto, using(crate::specs::Laws::new_pages_stay, crate::specs::Laws::new_pages_are_apart))]
 pub fn new_pages_stay()
-    ensures { (old new : PageMap) → KeepsPages (new_pages old new) new }
+    ensures there { (old new : PageMap) → KeepsPages (new_pages old new) new }
+    ensures apart { (old new later : PageMap) → ((k : ℕ) → old k ≡ None → later k ≡ new k) → KeepsPages (new_pages old new) (new_pages old later) }
 {}
 
 /// A chain of live pages is one of pages given out, and in a sound map the other way round.
@@ -90,6 +92,8 @@ pub fn a_chain_comes_back<const D: usize, B: BlockDevice, A: Allocator + Copy>(
     requires open { gate_of file.old ≡ Open }
     ensures same { IsPageMap file.old → IfOk result (λ rows. rows.items ≡ objects.now) }
     ensures faults { IsPageMap file.old → IfErr result (λ f. IsOfDevice f ⊎ (f ≡ fault.NoPages)) }
+    ensures no_pages { IsErrOf result fault.NoPages → next_of file.new ≡ 2 ^ 31 }
+    ensures cause { HasCause (B.faults (device_of file.old)) (B.faults (device_of file.new)) result }
 {
     let first = write_chain(file, objects)?;
     read_chain(alloc, file, first)

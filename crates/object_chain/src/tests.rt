@@ -74,19 +74,12 @@ fn scene(alloc: Global) -> Result<PageFile<MemoryDevice>, Fault> {
     }
 }
 
-// Puts bytes at a place of a page.
-fn patch<B: BlockDevice>(
-    file: &mut PageFile<B>,
-    n: u32,
-    at: usize,
-    bytes: &[u8],
-) -> Result<(), Fault> {
+// Puts a byte at a place of a page.
+fn patch<B: BlockDevice>(file: &mut PageFile<B>, n: u32, at: usize, byte: u8) -> Result<(), Fault> {
     let mut page = [0; 4096];
     file.read(n, &mut page)?;
-    for (k, &byte) in bytes.iter().enumerate() {
-        if at < 4096 && k < 4096 - at {
-            page[at + k] = byte;
-        }
+    if at < 4096 {
+        page[at] = byte;
     }
     file.begin_change()?;
     file.write(n, &page)
@@ -148,41 +141,42 @@ fn the_first_page_has_what_is_left_over(rt: HostRuntime) -> Result<(), Fail> {
     Ok(())
 }
 
+// The page that is answered as damaged where this byte of a page of the scene is another one.
+fn damaged_by(alloc: Global, n: u32, at: usize, byte: u8) -> Result<Option<Fault>, Fault> {
+    let mut file = scene(alloc)?;
+    patch(&mut file, n, at, byte)?;
+    Ok(read_chain::<2, _, _>(alloc, &mut file, 5).err())
+}
+
 #[test]
-fn a_chain_breaks_at_the_page_that_is_damaged(rt: HostRuntime) -> Result<(), Fail> {
-    let table: [(&str, u32, usize, &[u8], u32); 14] = [
-        ("no longer full", 4, 2, b"\x00\x63", 4),
-        ("the last page not full", 3, 2, b"\x00\x63", 3),
-        ("no object", 5, 2, b"\x00\x00", 5),
-        ("another kind", 3, 0, b"\x02", 3),
-        ("another dimension", 4, 1, b"\x03", 4),
-        ("a low above its high", 4, 24, b"\x7f", 4),
-        (
-            "an identifier across pages",
-            4,
-            16,
-            b"\x00\x00\x00\x00\x00\x00\xbf\x68",
-            4,
-        ),
-        (
-            "an identifier in a page",
-            5,
-            40,
-            b"\x00\x00\x00\x00\x00\x00\x00\x00",
-            5,
-        ),
-        ("back to the first page", 3, 4, b"\x00\x00\x00\x05", 5),
-        ("back to a full page", 3, 4, b"\x00\x00\x00\x04", 4),
-        ("on to itself", 5, 4, b"\x00\x00\x00\x05", 5),
-        ("to the catalog", 3, 4, b"\x00\x00\x00\x02", 2),
-        ("to the header", 3, 4, b"\x00\x00\x00\x01", 1),
-        ("behind the pages", 3, 4, b"\x00\x00\x00\x06", 6),
-    ];
-    for (what, n, at, bytes, damaged) in table {
-        let mut file = scene(rt.alloc())?;
-        patch(&mut file, n, at, bytes)?;
-        let read = read_chain::<2, _, _>(rt.alloc(), &mut file, 5);
-        assert_eq!(rt; read.err(), Some(Fault::Damaged(damaged)), "{what}");
+fn a_page_that_is_not_what_it_must_be_is_damaged(rt: HostRuntime) -> Result<(), Fail> {
+    for (n, at, byte) in [
+        // not full
+        (4, 3, 99),
+        (3, 3, 99),
+        // no object
+        (5, 3, 0),
+        // another kind and another dimension
+        (3, 0, 2),
+        (4, 1, 3),
+        // a low above its high
+        (4, 24, 0x7f),
+        // an identifier that is not above the one before, in the page before and in the page
+        (4, 22, 0xbf),
+        (5, 70, 3),
+    ] {
+        let damaged = damaged_by(rt.alloc(), n, at, byte)?;
+        assert_eq!(rt; damaged, Some(Fault::Damaged(n)), "page {n} at {at}");
+    }
+    Ok(())
+}
+
+#[test]
+fn a_next_page_that_is_none_of_the_chain_is_damaged(rt: HostRuntime) -> Result<(), Fail> {
+    // back into the chain, the catalog, the header, and behind the last page
+    for next in [5, 4, 3, 2, 1, 6] {
+        let damaged = damaged_by(rt.alloc(), 3, 7, next)?;
+        assert_eq!(rt; damaged, Some(Fault::Damaged(u32::from(next))));
     }
     Ok(())
 }
@@ -196,7 +190,7 @@ fn a_chain_is_read_from_where_it_begins(rt: HostRuntime) -> Result<(), Fail> {
         read_chain::<3, _, _>(rt.alloc(), &mut file, 5).err(),
         Some(Fault::Damaged(5))
     );
-    patch(&mut file, 5, 2, b"\x00\x01")?;
+    patch(&mut file, 5, 3, 1)?;
     assert_eq!(rt; read_chain::<2, _, _>(rt.alloc(), &mut file, 5)?.len(), 201);
     Ok(())
 }

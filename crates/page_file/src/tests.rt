@@ -222,3 +222,17 @@ fn a_stopped_file_is_refused_or_whole(rt: HostRuntime) -> Result<(), Fail> {
     }
     Ok(())
 }
+
+#[test]
+fn a_file_is_checked_again_by_three_calls(rt: HostRuntime) -> Result<(), Fail> {
+    // A sync and a read of gate and header each open the file, and so they check it again.
+    for k in 0..4 {
+        let fuse = FuseDevice::new(scene(rt.alloc(), true)?, 3 + k, FuseMode::Onward);
+        let Ok(mut file) = open_pages(fuse) else {
+            return Err(Fail::from("open"));
+        };
+        let want = if k < 3 { Err(Fault::Device) } else { Ok(()) };
+        assert_eq!(rt; file.check_again(), want, "after {k} calls");
+    }
+    Ok(())
+}

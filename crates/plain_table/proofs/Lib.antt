@@ -3,3 +3,5 @@ pub mod LayerLemmas
 pub mod ListLemmas
 pub mod StepLemmas
 pub mod TableLemmas
+pub mod Examples
+pub mod LawfulExamples

@@ -1,17 +1,23 @@
 //! The program `rstore`: command lines from standard input, replies to standard output (docs/COMMANDS.md).
 #![tactic(auto)]
 
-use command_shell::{RunEnd, run};
-use layer_store::Store;
+use block_device::MemoryDevice;
+use command_shell::{Reply, RunEnd, run, write_reply};
+use layer_store::create_store;
+use std::alloc::Global;
 use std::io;
 use std::io::{BufWriter, Write};
 use std::process::ExitCode;
 
-/// Answers the commands of standard input over a store in memory, which is lost at the end.
+// How many pages the store caches.
+const CACHED_PAGES: u32 = 64;
+
+/// Answers the commands of standard input over a store in memory, which is closed and lost at the end.
 ///
-/// Its status is 0 where all was read and each reply was written, and else 1.
+/// Its status is 0 where all was read, each reply was written and the store was closed, and else 1.
 fn main(rt: HostRuntime) -> io::Result<ExitCode> {
-    let Ok(mut store) = Store::empty(rt.alloc()) else {
+    let device = MemoryDevice::new(rt.alloc());
+    let Ok(mut store) = create_store(rt.alloc(), device, CACHED_PAGES) else {
         eprintln!(rt; "rstore: fail 16 Memory")?;
         return Ok(ExitCode::FAILURE);
     };
@@ -21,8 +27,13 @@ fn main(rt: HostRuntime) -> io::Result<ExitCode> {
     };
     let mut input = rt.reader();
     let end = run(&mut store, &mut input, &mut output);
-    // The replies so far are written however the run ended.
+    // The replies so far are written, and the store is closed, however the run ended.
     let flushed = output.flush();
+    if let Err((refusal, _)) = store.close() {
+        eprint!(rt; "rstore: ")?;
+        write_reply(&Reply::<Global>::Refused(refusal), &mut rt.stderr())?;
+        return Ok(ExitCode::FAILURE);
+    }
     if end == RunEnd::Finished && flushed.is_ok() {
         return Ok(ExitCode::SUCCESS);
     }

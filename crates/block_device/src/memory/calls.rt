@@ -1,12 +1,13 @@
 //! The calls of a device in memory.
-ghost use Rattle.std.specs.Prelude.{◌≡◌, ◌<◌, ◌++◌, ◌∷◌, [], true, length, OnOk, OnErr, IsErrOf};
+ghost use Rattle.std.specs.Prelude.{false, true, slice_index_or, IsOk, ◌≡◌, ◌<◌, [], length, OnOk, OnErr, IsErrOf};
 ghost use Rattle.block_device.specs.Kept.{Keeps};
 ghost use Rattle.block_device.specs.Memory.{shown_of, history_of, writes_of, may_leave_of, moment_of, left_since_of, AnswersRead, AnswersWrite, AnswersSync};
 ghost use Rattle.block_device.specs.Outcomes.{shown_left, no_longer_left, now_since, since_now, since_earlier_left, none_fits};
 
+use crate::append::append;
+use crate::log::Log;
 use crate::memory::MemoryDevice;
 use crate::past::Past;
-use crate::write::Write;
 use crate::{BlockDevice, DeviceError};
 use std::alloc::Allocator;
 
@@ -21,7 +22,7 @@ impl<A: Allocator + Copy> MemoryDevice<A> {
         MemoryDevice {
             blocks: Vec::new(alloc),
             marks: Vec::new(alloc),
-            log: Vec::new(alloc),
+            log: Log::new(alloc),
             synced: 0,
             writes: 0,
             past: Past::new(),
@@ -67,7 +68,7 @@ impl<A: Allocator + Copy> BlockDevice for MemoryDevice<A> {
     fn write(&mut self, i: u32, bytes: &[u8; 4096]) -> Result<(), DeviceError> {
         let at = i as usize;
         if at >= self.blocks.len() {
-            append(&mut self.blocks, &mut self.marks, bytes)?;
+            append(&mut self.blocks, bytes, &mut self.marks, true)?;
             self.past.appends(i);
             self.writes = self.writes.saturating_add(1);
             return Ok(());
@@ -90,9 +91,11 @@ impl<A: Allocator + Copy> BlockDevice for MemoryDevice<A> {
 
     ghost few_blocks = { λ d. d.few };
 
-    ghost shown_counts = { λ d _. shown_left (shown_of d) (history_of d) d.kept.leads };
+    ghost shown_counts = { λ d _. shown_left (shown_of d) (history_of d) d.kept.whole d.kept.leads };
 
     ghost no_longer = { λ d c _ now. no_longer_left (shown_of d) (history_of d) c now };
+
+    ghost whole = { λ d c _ now. now.whole };
 
     ghost counts_now = { λ d t c _ le now. now_since (shown_of d) (history_of d) t c now };
 
@@ -103,42 +106,24 @@ impl<A: Allocator + Copy> BlockDevice for MemoryDevice<A> {
     ghost faults_fit = { λ d. none_fits };
 }
 
-// Appends a block with its mark, or neither.
-fn append<A: Allocator>(
-    blocks: &mut Vec<[u8; 4096], A>,
-    marks: &mut Vec<bool, A>,
-    bytes: &[u8; 4096],
-) -> Result<(), DeviceError>
-    ensures blocks { OnOk result (blocks.new.items ≡ blocks.old.items ++ bytes.now ∷ []) }
-    ensures marks { OnOk result (marks.new.items ≡ marks.old.items ++ true ∷ []) }
-    ensures refused { OnErr result ((blocks.new.items ≡ blocks.old.items) × (marks.new.items ≡ marks.old.items)) }
-    ensures memory { IsErrOf result DeviceError.Failed → ⊥ }
-{
-    marks.push(true)?;
-    if blocks.push(*bytes).is_err() {
-        marks.pop();
-        return Err(DeviceError::Memory);
-    }
-    Ok(())
-}
-
 // Before the first write of block i since the last sync, marks it and logs what it holds.
-fn keep<A: Allocator>(
-    log: &mut Vec<Write, A>,
+fn keep<A: Allocator + Copy>(
+    log: &mut Log<A>,
     marks: &mut Vec<bool, A>,
     i: u32,
     block: &[u8; 4096],
 ) -> Result<(), DeviceError>
     requires { i < length marks.old.items }
-    ensures kept { OnOk result (Keeps i block.now marks.old.items log.old.items marks.new.items log.new.items) }
-    ensures refused { OnErr result ((log.new.items ≡ log.old.items) × (marks.new.items ≡ marks.old.items)) }
+    ensures kept { OnOk result (Keeps i block.now marks.old.items log.old marks.new.items log.new) }
+    ensures refused { OnErr result ((log.new ≡ log.old) × (marks.new.items ≡ marks.old.items)) }
+    ensures again { slice_index_or marks.old.items i false ≡ true → IsOk result }
     ensures memory { IsErrOf result DeviceError.Failed → ⊥ }
 {
     let at = i as usize;
     if marks[at] {
         return Ok(());
     }
-    log.push(Write { at: i, old: *block })?;
+    log.add(i, block)?;
     marks[at] = true;
     Ok(())
 }

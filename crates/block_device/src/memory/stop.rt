@@ -2,12 +2,12 @@
 ghost use Rattle.std.specs.Prelude.{◌≡◌, ◌<◌, length, replicate};
 ghost use Rattle.std.specs.List.{All};
 ghost use Rattle.block_device.specs.Device.{Only};
-ghost use Rattle.block_device.specs.Kept.{restored, FillsMarked, IsLeftFrom};
+ghost use Rattle.block_device.specs.Kept.{FillsMarked, IsLeftFrom};
 ghost use Rattle.block_device.specs.Memory.{shown_of, may_leave_of, IsLeftBy};
 
+use crate::log::Log;
 use crate::memory::MemoryDevice;
 use crate::past::Past;
-use crate::write::Write;
 use crate::{BlockDevice, Left};
 use std::alloc::Allocator;
 
@@ -44,11 +44,11 @@ impl<A: Allocator + Copy> MemoryDevice<A> {
 }
 
 // Makes of the blocks what such a stop leaves.
-fn leave<A: Allocator>(
+fn leave<A: Allocator + Copy>(
     left: Left,
     blocks: &mut Vec<[u8; 4096], A>,
     marks: &[bool],
-    log: &[Write],
+    log: &Log<A>,
     synced: usize,
 )
     requires marks { length marks.now ≡ length blocks.old.items }
@@ -58,20 +58,10 @@ fn leave<A: Allocator>(
     match left {
         Left::Written => {}
         Left::Synced => {
-            restore(blocks, log);
+            log.restore(blocks);
             blocks.truncate(synced);
         }
         Left::Filled(byte) => fill(blocks, marks, &[byte; 4096]),
-    }
-}
-
-// Writes back what these writes replaced.
-fn restore<A: Allocator>(blocks: &mut Vec<[u8; 4096], A>, log: &[Write])
-    requires { All (λ w. w.at < length blocks.old.items) log.now }
-    ensures { blocks.new.items ≡ restored log.now blocks.old.items }
-{
-    for write in log {
-        blocks[write.at as usize] = write.old;
     }
 }
 

@@ -2,7 +2,7 @@
 
 use super::fakes::{Short, Slow};
 use crate::{MAX_LINE, RunEnd, run};
-use layer_store::Store;
+use super::new_store;
 use std::io::ErrorKind;
 use std::test::Fail;
 
@@ -21,7 +21,7 @@ fn answers_what_a_slow_reader_gives(rt: HostRuntime) -> Result<(), Fail> {
         (TEXT, REPLIES),
     ];
     for (text, replies) in texts {
-        let mut store = Store::empty(rt.alloc())?;
+        let mut store = new_store(rt.alloc())?;
         let mut input = Slow {
             rest: text,
             fails: None,
@@ -44,7 +44,7 @@ fn ends_where_a_read_fails(rt: HostRuntime) -> Result<(), Fail> {
     ];
     for (text, replies) in texts {
         for kind in [ErrorKind::Other, ErrorKind::Interrupted] {
-            let mut store = Store::empty(rt.alloc())?;
+            let mut store = new_store(rt.alloc())?;
             let mut input = Slow {
                 rest: text,
                 fails: Some(kind),
@@ -62,7 +62,7 @@ fn ends_where_a_read_fails(rt: HostRuntime) -> Result<(), Fail> {
 fn ends_where_a_write_fails(rt: HostRuntime) -> Result<(), Fail> {
     for room in 0..REPLIES.len() {
         for fails in [false, true] {
-            let mut store = Store::empty(rt.alloc())?;
+            let mut store = new_store(rt.alloc())?;
             let mut input = TEXT;
             let mut output = Short {
                 written: Vec::new(rt.alloc()),
@@ -91,7 +91,7 @@ fn passes_lines_that_are_too_long(rt: HostRuntime) -> Result<(), Fail> {
         for ending in [b"".as_slice(), b"\n".as_slice(), b"\n# more\n#".as_slice()] {
             let mut text = vec![in rt.alloc(); b'#'; length]?;
             text.extend_from_slice(ending)?;
-            let mut store = Store::empty(rt.alloc())?;
+            let mut store = new_store(rt.alloc())?;
             let mut input = text.as_slice();
             let mut output = Vec::new(rt.alloc());
             let end = run(&mut store, &mut input, &mut output);

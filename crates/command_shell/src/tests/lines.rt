@@ -38,6 +38,7 @@ fn reads_good_lines(rt: HostRuntime) -> Result<(), Fail> {
                 bounds: RawBox::Three([1, 2, 3], [-4, -5, -6]),
             },
         ),
+        (b"\treopen \r".as_slice(), Line::Reopen),
         (b"".as_slice(), Line::Blank),
         (b" \t\r".as_slice(), Line::Blank),
         (b"#".as_slice(), Line::Blank),
@@ -76,6 +77,8 @@ fn refuses_bad_lines(rt: HostRuntime) -> Result<(), Fail> {
         b"window a 0 0 0 0 1 1 1".as_slice(),
         b"window a 0 0 0 0 # a comment".as_slice(),
         b"load a 1".as_slice(),
+        b"reopen a".as_slice(),
+        b"REOPEN".as_slice(),
         b"\xff\xfe".as_slice(),
         b"\0".as_slice(),
     ];

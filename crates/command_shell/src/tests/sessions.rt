@@ -2,12 +2,12 @@
 
 use super::fakes::{Short, Slow};
 use crate::{RunEnd, run};
-use layer_store::Store;
+use super::new_store;
 use refusing::Refusing;
 use std::test::Fail;
 
 // Each line and its reply. Layers `a` and `b` have two axes, `c` has three.
-const ROWS: [(&[u8], &[u8]); 36] = [
+const ROWS: [(&[u8], &[u8]); 39] = [
     (b"# the first run", b""),
     (b"create a 2 4", b"ok\n"),
     (b"insert a 1 0 0 10 10", b"ok\n"),
@@ -65,11 +65,14 @@ const ROWS: [(&[u8], &[u8]); 36] = [
         b"window b 0 0 1 1",
         b"ok 3\n1 0 0 1 1\n2 1 1 2 2\n18446744073709551615 0 0 0 0\n",
     ),
+    (b"# what a reopening keeps", b""),
+    (b"reopen", b"ok\n"),
+    (b"window b 2 2 9 9", b"ok 1\n2 1 1 2 2\n"),
 ];
 
 #[test]
 fn answers_the_worked_rows(rt: HostRuntime) -> Result<(), Fail> {
-    let mut store = Store::empty(rt.alloc())?;
+    let mut store = new_store(rt.alloc())?;
     for (line, reply) in ROWS {
         let mut input = line;
         let mut output = Vec::new(rt.alloc());
@@ -89,7 +92,7 @@ fn answers_the_worked_rows_as_one_text(rt: HostRuntime) -> Result<(), Fail> {
         text.push(b'\n')?;
         replies.extend_from_slice(reply)?;
     }
-    let mut store = Store::empty(rt.alloc())?;
+    let mut store = new_store(rt.alloc())?;
     let mut input = Slow {
         rest: &text,
         fails: None,
@@ -99,7 +102,7 @@ fn answers_the_worked_rows_as_one_text(rt: HostRuntime) -> Result<(), Fail> {
     assert_eq!(rt; end, RunEnd::Finished);
     assert_eq!(rt; output.as_slice(), replies.as_slice());
     for room in 0..replies.len() {
-        let mut store = Store::empty(rt.alloc())?;
+        let mut store = new_store(rt.alloc())?;
         let mut input = text.as_slice();
         let mut output = Short {
             written: Vec::new(rt.alloc()),
@@ -115,7 +118,7 @@ fn answers_the_worked_rows_as_one_text(rt: HostRuntime) -> Result<(), Fail> {
 
 #[test]
 fn refuses_a_layer_too_many(rt: HostRuntime) -> Result<(), Fail> {
-    let mut store = Store::empty(rt.alloc())?;
+    let mut store = new_store(rt.alloc())?;
     for first in b'a'..=b'z' {
         for second in b'0'..=b'9' {
             let number = u32::from(first - b'a') * 10 + u32::from(second - b'0');
@@ -140,7 +143,7 @@ fn refuses_a_layer_too_many(rt: HostRuntime) -> Result<(), Fail> {
 #[test]
 fn gives_up_where_memory_is_refused(rt: HostRuntime) -> Result<(), Fail> {
     let heap = Refusing::new(rt.alloc());
-    let mut store = Store::empty(&heap)?;
+    let mut store = new_store(&heap)?;
     let lines = [
         (b"create a 2 4".as_slice(), b"fail 3 NoLayer\n".as_slice()),
         (b"insert a 1 0 0 9 9".as_slice(), b"ok 0\n".as_slice()),

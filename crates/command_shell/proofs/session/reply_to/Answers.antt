@@ -1,6 +1,6 @@
 use Rattle.std.proofs.Common.{ap}
 use Rattle.plain_table.specs.Answers.{done_answer, boxes_answer}
-use Rattle.plain_table.specs.Commands.Command.{Create, Insert, Window}
+use Rattle.plain_table.specs.Commands.Command.{Create, Insert, Window, Reopen}
 use Rattle.command_shell.specs.Said.{said}
 use Rattle.command_shell.proofs.AnswerLemmas.{replied, replied_bad, replied_blank}
 use Rattle.command_shell.proofs.session.reply_to.Goals as goal
@@ -19,3 +19,6 @@ returns-in-Insert g c = replied _ (Insert c.in-Insert.layer.now c.in-Insert.id c
 
 pub returns-in-Window : goal.returns-in-Window
 returns-in-Window g c = replied _ (Window c.in-Window.layer.now c.in-Window.bounds) (boxes_answer c.window.result) _ (ap said c.in-Window.is) c.window_reply.ensures c.window.ensures
+
+pub returns-in-Reopen : goal.returns-in-Reopen
+returns-in-Reopen g c = replied _ Reopen (done_answer c.reopen.result) _ (ap said c.in-Reopen.is) c.change_reply-in-Reopen.ensures c.reopen.ensures.step

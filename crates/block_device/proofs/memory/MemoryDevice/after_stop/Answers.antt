@@ -1,8 +1,6 @@
 -- What a stop leaves is kept anew.
-use Rattle.std.proofs.Common.{◌≡◌, ◌<◌, ◌∙◌, ℕ, Bool, false, List, [], length, get_or, replicate, vec_len, ap, sym, subst, arith, rules}
-use Rattle.std.specs.List.{All}
+use Rattle.std.proofs.Common.{◌≡◌, ◌<◌, ◌∙◌, ℕ, Bool, false, List, [], length, get_or, replicate, vec_len, ap, subst, arith, rules}
 use Rattle.std.proofs.lemmas.List.{length-replicate, get_or-replicate}
-use Rattle.block_device.specs.declared.write.Write.{Write}
 use Rattle.block_device.specs.History.{Event, history, at_sync, unsynced, MayLeave}
 use Rattle.block_device.specs.Kept.{IsLeftFrom}
 use Rattle.block_device.specs.Memory.{IsLeft}
@@ -15,31 +13,30 @@ use Rattle.block_device.proofs.memory.MemoryDevice.after_stop.Goals.{After-leave
 left : (g : given.Over) (c : goal.After-leave g) → IsLeft c.args.left c.args.self.blocks.items (at_sync c.args.self.blocks.items (history c.args.self.past.notes)) (unsynced (history c.args.self.past.notes)) c.leave.new.blocks.items
 left g c =
     let d = c.args.self in
-    left_is c.args.left d.blocks.items c.leave.new.blocks.items d.marks.items d.log.items d.synced (history d.past.notes) d.kept
-    (subst (λ (l : List Write). IsLeftFrom c.args.left d.marks.items l d.synced d.blocks.items c.leave.new.blocks.items) c.deref-2.ensures.value
-    (subst (λ (m : List Bool). IsLeftFrom c.args.left m c.deref-2.result.now d.synced d.blocks.items c.leave.new.blocks.items) c.deref.ensures.value c.leave.ensures))
+    left_is c.args.left d.blocks.items c.leave.new.blocks.items d.marks.items d.log d.synced (history d.past.notes) d.kept
+    (subst (λ (m : List Bool). IsLeftFrom c.args.left m d.log d.synced d.blocks.items c.leave.new.blocks.items) c.deref.ensures.value c.leave.ensures)
 
 outcome : (g : given.Over) (c : goal.After-leave g) → MayLeave c.args.self.blocks.items (history c.args.self.past.notes) c.leave.new.blocks.items
-outcome g c = left_outcome c.args.left c.args.self.blocks.items c.leave.new.blocks.items (history c.args.self.past.notes) c.args.self.kept.leads (left g c)
+outcome g c = left_outcome c.args.left c.args.self.blocks.items c.leave.new.blocks.items (history c.args.self.past.notes) c.args.self.kept.whole c.args.self.kept.leads (left g c)
 
 pub leave-requires-clause-log : goal.leave-requires-clause-log
 leave-requires-clause-log g c =
     let d = c.args.self in
-    subst (λ (l : List Write). All (λ w. w.at < length d.blocks.items) l) (sym c.deref-2.ensures.value)
-    (logged_there d.blocks.items d.marks.items d.log.items d.synced (history d.past.notes) d.kept)
+    logged_there d.blocks.items d.marks.items d.log d.synced (history d.past.notes) d.kept
 
 pub invariant_of-result-clause-kept : goal.invariant_of-result-clause-kept
 invariant_of-result-clause-kept g c =
     let d = c.args.self in
-    let no_more = (outcome g (goal.at.invariant_of-result-clause-kept g c).After-leave).no_longer in
+    let left_so = outcome g (goal.at.invariant_of-result-clause-kept g c).After-leave in
+    let no_more = left_so.no_longer in
     let none : c.fill.new.self.items ≡ replicate (vec_len c.truncate.new.self) false = c.fill.ensures.items (λ y e. e) in
     let size : vec_len c.truncate.new.self ≡ length c.leave.new.blocks.items
     = omega (arith, c.truncate.ensures.len, c.len.ensures, d.kept.as_many, no_more, c.leave.new.blocks.ok.0, d.marks.ok.0, d.blocks.ok.0) in
     let as_many : length c.fill.new.self.items ≡ length c.leave.new.blocks.items = ap length none ∙ length-replicate (vec_len c.truncate.new.self) false ∙ size in
     let marks : (k : ℕ) → k < length c.leave.new.blocks.items → get_or c.fill.new.self.items k false ≡ false
     = λ k lt. ap (λ (l : List Bool). get_or l k false) none ∙ get_or-replicate (vec_len c.truncate.new.self) k false false (omega (arith, lt, size)) in
-    let fresh = kept_fresh c.leave.new.blocks.items c.fill.new.self.items c.len-2.result as_many marks (search rules) in
-    rw (c.clear.ensures.items, ap history c.new.ensures) fresh
+    let fresh = kept_fresh c.leave.new.blocks.items c.fill.new.self.items c.len-2.result left_so.whole as_many marks (search rules) in
+    rw (c.clear.ensures, ap history c.new.ensures) fresh
 
 pub invariant_of-result-clause-few : goal.invariant_of-result-clause-few
 invariant_of-result-clause-few g c = omega (arith, (outcome g (goal.at.invariant_of-result-clause-few g c).After-leave).no_longer, c.args.self.few)

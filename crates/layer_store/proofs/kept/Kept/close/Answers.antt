@@ -1,7 +1,8 @@
 -- The table is in the pages, and the pages are in the blocks.
-use Rattle.std.proofs.Common.{◌≡◌, refl, subst, sym, inl}
-use Rattle.page_file.specs.File.{next_of, pages}
-use Rattle.layer_store.specs.Image.{Holds, IsImage}
+use Rattle.std.proofs.Common.{◌≤◌, Err, ap, subst, sym, inl}
+use Rattle.block_device.specs.Device.{HasRisen}
+use Rattle.page_file.specs.File.{device_of, next_of, pages}
+use Rattle.layer_store.specs.Image.{Holds}
 use Rattle.layer_store.proofs.KeepLemmas.{image_of}
 use Rattle.layer_store.proofs.Results.{if_err, if_ok}
 use Rattle.layer_store.proofs.kept.Kept.close.Goals as goal
@@ -17,4 +18,10 @@ pub returns-in-Ok-clause-faults : goal.returns-in-Ok-clause-faults
 returns-in-Ok-clause-faults g c = λ map. if_err c.close.result (λ e h. inl (h (c.in-Ok.ensures.map map).honest)) c.close.ensures.faults
 
 pub returns-clause-cause : goal.returns-clause-cause
-returns-clause-cause g c = ?
+returns-clause-cause g c =
+    let faults = g.D.BlockDevice.faults in
+    let before = faults (device_of c.args.self.file) in
+    (
+      subst (λ (device : _). before ≤ faults device) (sym c.abandon.ensures) c.in-Err.ensures.cause.later,
+      λ is. subst (λ (device : _). HasRisen before (faults device)) (sym c.abandon.ensures) (c.in-Err.ensures.cause.device (ap Err is)),
+    )

@@ -1,34 +1,31 @@
-use Rattle.std.proofs.Common.{rules, ◌≡◌, ◌⊎◌, ℕ, Ok, Err, IsOk, IfOk, IfErr, true, false, length, ◌+◌, ◌-◌, ◌*◌, ◌<◌, ◌≤◌, ◌/◌, ◌%◌, Bool, nat_eq, nat_lt, List, [], ◌∷◌, ◌++◌, slice_index_or, slice_set, bit_and, bit_or, Fits, w8, w32, w64, Bor, MutBor}
-use Rattle.block_device.specs.Device.{HasRisen}
-use Rattle.page_file.specs.Opening.{IsRefused}
-use Rattle.page_file.specs.Pages.{given_pages, next_in}
-use Rattle.plain_table.specs.Answers.{done_answer, boxes_answer}
-use Rattle.plain_table.specs.Commands.Command.{Create, Insert, Window, Reopen}
-use Rattle.plain_table.specs.Lawful.{Takes, LawfulStep}
-use Rattle.plain_table.specs.Lawful.Request.{Asks}
-use Rattle.plain_table.specs.Table.{Table}
+-- A live store closes its table, and one that failed answers that alone.
+use Rattle.std.proofs.Common.{◌≡◌, ◌⊎◌, sym, subst}
+use Rattle.page_file.specs.File.{device_of}
+use Rattle.plain_table.specs.declared.refusal.Refusal.{Refusal}
 use Rattle.plain_table.specs.declared.refusal.Refusal.TheVariants as refusal
-use Rattle.layer_store.specs.Image.{Holds, IsImage}
-use Rattle.layer_store.specs.Starting.{GivesUp, IsRefusedFor}
-use Rattle.layer_store.specs.Standing.{Stands, StandsFor, HasFailed, blocks_in, device_in}
+use Rattle.layer_store.specs.Image.{IsImage}
+use Rattle.layer_store.specs.Starting.{GivesUp}
+use Rattle.layer_store.proofs.StoreLemmas.{alive_with, failed_so, not_both, refused_closing}
 use Rattle.layer_store.proofs.store.Store.close.Goals as goal
 
--- src/store.rt:119:13
 pub returns-then-self-clause-refused : goal.returns-then-self-clause-refused
-returns-then-self-clause-refused g c = ?
+returns-then-self-clause-refused g c = λ t stands. absurd (not_both _ c.if-self.true (alive_with c.args.self t stands).going)
 
--- src/store.rt:111:5
 pub returns-in-Ok-clause-closed : goal.returns-in-Ok-clause-closed
-returns-in-Ok-clause-closed g c = ?
+returns-in-Ok-clause-closed g c = λ t stands.
+    let live = alive_with c.args.self t stands in
+    subst (IsImage (g.D.BlockDevice.shown c.in-Ok.device)) live.table (c.in-Ok.ensures.closed live.sound)
 
--- src/store.rt:111:5
 pub returns-in-Ok-clause-failed : goal.returns-in-Ok-clause-failed
-returns-in-Ok-clause-failed g c = ?
+returns-in-Ok-clause-failed g c = λ failed. absurd (not_both _ (failed_so c.args.self failed) c.if-self.false)
 
--- src/store.rt:111:5
 pub returns-in-Err-clause-refused : goal.returns-in-Err-clause-refused
-returns-in-Err-clause-refused g c = ?
+returns-in-Err-clause-refused g c = λ t stands.
+    let live = alive_with c.args.self t stands in
+    let before = g.D.BlockDevice.faults (device_of c.args.self.kept.file) in
+    let now = g.D.BlockDevice.faults c.in-Err.device in
+    subst (λ (r : Refusal). GivesUp before now r ⊎ (r ≡ refusal.NoPages)) (sym c.refusal_of.ensures)
+    (refused_closing before now c.in-Err.fault (c.in-Err.ensures.faults live.sound.map) c.in-Err.ensures.cause.1)
 
--- src/store.rt:111:5
 pub returns-in-Err-clause-failed : goal.returns-in-Err-clause-failed
-returns-in-Err-clause-failed g c = ?
+returns-in-Err-clause-failed g c = λ failed. absurd (not_both _ (failed_so c.args.self failed) c.if-self.false)

@@ -1,46 +1,82 @@
-use Rattle.std.proofs.Common.{rules, ◌≡◌, ◌⊎◌, ℕ, Ok, Err, IsOk, IfOk, IfErr, true, false, length, ◌+◌, ◌-◌, ◌*◌, ◌<◌, ◌≤◌, ◌/◌, ◌%◌, Bool, nat_eq, nat_lt, List, [], ◌∷◌, ◌++◌, slice_index_or, slice_set, bit_and, bit_or, Fits, w8, w32, w64, Bor, MutBor}
-use Rattle.block_device.specs.Device.{HasRisen}
-use Rattle.page_file.specs.Opening.{IsRefused}
-use Rattle.page_file.specs.Pages.{given_pages, next_in}
-use Rattle.plain_table.specs.Answers.{done_answer, boxes_answer}
-use Rattle.plain_table.specs.Commands.Command.{Create, Insert, Window, Reopen}
-use Rattle.plain_table.specs.Lawful.{Takes, LawfulStep}
-use Rattle.plain_table.specs.Lawful.Request.{Asks}
-use Rattle.plain_table.specs.Table.{Table}
+-- A reopening closes the table, and reads the same table back.
+use Rattle.std.proofs.Common.{◌≡◌, ◌∙◌, ◌⊎◌, Err, true, false, refl, sym, ap, subst, inl, inr}
+use Rattle.block_device.specs.Device.{Blocks}
+use Rattle.page_file.specs.File.{blocks_of, device_of, next_of}
+use Rattle.plain_table.specs.Commands.Command.{Reopen}
+use Rattle.plain_table.specs.Lawful.{IsEnd, IsFault, IsSpent, Rose}
+use Rattle.plain_table.specs.Step.Answer.{Done, Refused}
+use Rattle.plain_table.specs.declared.refusal.Refusal.{Refusal}
 use Rattle.plain_table.specs.declared.refusal.Refusal.TheVariants as refusal
-use Rattle.layer_store.specs.Image.{Holds, IsImage}
-use Rattle.layer_store.specs.Starting.{GivesUp, IsRefusedFor}
-use Rattle.layer_store.specs.Standing.{Stands, StandsFor, HasFailed, blocks_in, device_in}
+use Rattle.layer_store.specs.Image.{IsImage}
+use Rattle.layer_store.specs.Standing.{HasFailed}
+use Rattle.layer_store.proofs.KeepLemmas.{image_of}
+use Rattle.layer_store.proofs.StoreLemmas.{alive_with, died_lawful, done_lawful, end_of_store, failed_so, fault_of_command, gave_up_lawful, not_both, risen_since, takes_last, takes_nothing, takes_step}
 use Rattle.layer_store.proofs.store.Store.reopen.Goals as goal
 
--- src/store.rt:93:13
+true_false : true ≡ false → ⊥
+true_false e = absurd (cc)
+
 pub returns-then-self-clause-step : goal.returns-then-self-clause-step
-returns-then-self-clause-step g c = ?
+returns-then-self-clause-step g c = takes_nothing c.args.self.now Reopen c.if-self.true
 
--- src/store.rt:93:13
 pub returns-then-self-clause-closed : goal.returns-then-self-clause-closed
-returns-then-self-clause-closed g c = ?
+returns-then-self-clause-closed g c = λ t stands end. absurd (not_both _ c.if-self.true (alive_with c.args.self.now t stands).going)
 
--- src/store.rt:96:13
 pub returns-in-Err-clause-step : goal.returns-in-Err-clause-step
-returns-in-Err-clause-step g c = ?
+returns-in-Err-clause-step g c =
+    let before = g.D.BlockDevice.faults (device_of c.args.self.now.kept.file) in
+    let now = g.D.BlockDevice.faults (device_of c.settle.new.self.file) in
+    let settled = c.in-Err.ensures in
+    takes_step c.args.self.now (record { kept = c.settle.new.self; failed = c.args.self.now.failed }) Reopen (Refused c.refusal_of.result) c.if-self.false c.if-self.false settled.sound
+    (λ sound. gave_up_lawful (Rose before now) (IsSpent (next_of c.settle.new.self.file)) c.args.self.now.kept.table c.settle.new.self.table Reopen c.refusal_of.result
+    (subst (IsFault (Rose before now) (IsSpent (next_of c.settle.new.self.file))) (sym c.refusal_of.ensures)
+    (fault_of_command before now (next_of c.settle.new.self.file) c.in-Err.fault (settled.faults sound.map) (λ is. settled.cause.device (ap Err is)) (λ is. settled.no_pages (ap Err is))))
+    settled.table)
 
--- src/store.rt:96:13
 pub returns-in-Err-clause-closed : goal.returns-in-Err-clause-closed
-returns-in-Err-clause-closed g c = ?
+returns-in-Err-clause-closed g c = λ t stands end. absurd (case end)
+  where
+    case : (false ≡ true) ⊎ HasFailed (record { kept = c.settle.new.self; failed = c.args.self.now.failed }) → ⊥
+    case (inl ok) = true_false (sym ok)
+    case (inr failed) = not_both _ (failed_so (record { kept = c.settle.new.self; failed = c.args.self.now.failed }) failed) c.if-self.false
 
--- src/store.rt:88:5
 pub returns-in-Ok-clause-step : goal.returns-in-Ok-clause-step
-returns-in-Ok-clause-step g c = ?
+returns-in-Ok-clause-step g c =
+    let settled = c.in_default.ensures in
+    let again = c.in-Ok.ensures in
+    takes_step c.args.self.now (record { kept = c.read_again.new.self; failed = c.args.self.now.failed }) Reopen Done c.if-self.false c.if-self.false
+    (λ sound. let mid = settled.sound sound in let now = again.sound mid.map (mid.held settled.written) in record { map = now.0; held = λ written. now.1 })
+    (λ sound. let mid = settled.sound sound in done_lawful (Rose (g.D.BlockDevice.faults (device_of c.args.self.now.kept.file)) (g.D.BlockDevice.faults (device_of c.read_again.new.self.file))) (IsSpent (next_of c.read_again.new.self.file)) c.args.self.now.kept.table c.read_again.new.self.table (again.table mid.map (mid.held settled.written) ∙ settled.table))
 
--- src/store.rt:88:5
 pub returns-in-Ok-clause-closed : goal.returns-in-Ok-clause-closed
-returns-in-Ok-clause-closed g c = ?
+returns-in-Ok-clause-closed g c = λ t stands end.
+    let live = alive_with c.args.self.now t stands in
+    let settled = c.in_default.ensures in
+    let mid = settled.sound live.sound in
+    let held = mid.held settled.written in
+    let kept = c.settle.new.self in
+    subst (IsImage (blocks_of c.read_again.new.self.file)) (settled.table ∙ live.table)
+    (subst (λ (blocks : Blocks). IsImage blocks kept.table) (sym (c.in-Ok.ensures.blocks mid.map)) (image_of kept.file (blocks_of kept.file) kept.table mid.map (settled.lies live.sound.map) held))
 
--- src/store.rt:88:5
 pub returns-in-Err-read_again-clause-step : goal.returns-in-Err-read_again-clause-step
-returns-in-Err-read_again-clause-step g c = ?
+returns-in-Err-read_again-clause-step g c =
+    let before = g.D.BlockDevice.faults (device_of c.args.self.now.kept.file) in
+    let between = g.D.BlockDevice.faults (device_of c.settle.new.self.file) in
+    let now = g.D.BlockDevice.faults (device_of c.read_again.new.self.file) in
+    let settled = c.in_default.ensures in
+    let again = c.in-Err-read_again.ensures in
+    takes_last c.args.self.now (record { kept = c.read_again.new.self; failed = true }) Reopen (Refused (refusal.StoreFailed c.number.result)) c.if-self.false refl
+    (λ sound. let mid = settled.sound sound in let after = again.sound mid.map (mid.held settled.written) in record { map = after.0; held = λ written. after.1 })
+    (λ sound. let mid = settled.sound sound in died_lawful (Rose before now) (IsSpent (next_of c.read_again.new.self.file)) c.args.self.now.kept.table (refusal.StoreFailed c.number.result)
+    (subst (λ n. IsEnd (Rose before now) (refusal.StoreFailed n)) (sym c.number.ensures)
+    (end_of_store before now c.in-Err-read_again.fault (again.faults mid.map (mid.held settled.written)) (λ is. risen_since before between now settled.cause.later (again.cause.device (ap Err is))))))
 
--- src/store.rt:88:5
 pub returns-in-Err-read_again-clause-closed : goal.returns-in-Err-read_again-clause-closed
-returns-in-Err-read_again-clause-closed g c = ?
+returns-in-Err-read_again-clause-closed g c = λ t stands end.
+    let live = alive_with c.args.self.now t stands in
+    let settled = c.in_default.ensures in
+    let mid = settled.sound live.sound in
+    let held = mid.held settled.written in
+    let kept = c.settle.new.self in
+    subst (IsImage (blocks_of c.read_again.new.self.file)) (settled.table ∙ live.table)
+    (subst (λ (blocks : Blocks). IsImage blocks kept.table) (sym (c.in-Err-read_again.ensures.blocks mid.map)) (image_of kept.file (blocks_of kept.file) kept.table mid.map (settled.lies live.sound.map) held))

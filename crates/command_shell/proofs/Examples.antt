@@ -1,0 +1,187 @@
+-- Worked examples of the command language: lines, words, numbers, what lines mean, and the texts of replies.
+-- No other proof rests on them. A definition that says another thing than docs/COMMANDS.md is refused here.
+use Rattle.std.proofs.Common.{◌≡◌, ℕ, List, [], ◌∷◌, ◌++◌, Bool, true, refl, sym, ap, ap₂, ◌∙◌, pos, negsuc, Some, None, codes, replicate, map, length, length-append, get_or, arith}
+use Rattle.std.specs.Fmt.{digits}
+use Rattle.plain_table.specs.Commands.Command.{Create, Insert, Window, Reopen}
+use Rattle.plain_table.specs.Lawful.{Request}
+use Rattle.plain_table.specs.Lawful.Request.{BadCommand, Asks as Wants}
+use Rattle.plain_table.specs.Step.Answer.{Done, Refused, Boxes}
+use Rattle.plain_table.specs.declared.boxes.RawBox.TheVariants.{Two, Three}
+use Rattle.plain_table.specs.declared.refusal.Refusal.TheVariants as refusal
+use Rattle.command_shell.specs.Commands.{AreCommands, AsksAlone}
+use Rattle.command_shell.specs.Commands.AreCommands.{none, one}
+use Rattle.command_shell.specs.Lines.{lines_of, words_of, IsWhole}
+use Rattle.command_shell.specs.Lines.IsWhole.{none as nothing, ends}
+use Rattle.command_shell.specs.Meanings.{Meaning, meaning_of, words_mean}
+use Rattle.command_shell.specs.Meanings.Meaning.{Blank, Bad, Asks}
+use Rattle.command_shell.specs.Numbers.{number_of, coordinate_of}
+use Rattle.command_shell.specs.Texts.{answer_text, texts_of}
+
+abbrev a : List ℕ
+a = codes "a"
+
+abbrev b : List ℕ
+b = codes "b"
+
+-- ---- lines
+
+no_text_has_no_line : lines_of [] ≡ []
+no_text_has_no_line = refl
+
+the_last_line_needs_no_newline : lines_of (codes "a\nb") ≡ a ∷ b ∷ []
+the_last_line_needs_no_newline = refl
+
+nothing_behind_the_last_newline_is_no_line : lines_of (codes "a\nb\n") ≡ a ∷ b ∷ []
+nothing_behind_the_last_newline_is_no_line = refl
+
+each_newline_ends_a_line : lines_of (codes "\n\n\n") ≡ [] ∷ [] ∷ [] ∷ []
+each_newline_ends_a_line = refl
+
+an_empty_line_between : lines_of (codes "a\n\nb") ≡ a ∷ [] ∷ b ∷ []
+an_empty_line_between = refl
+
+a_carriage_return_ends_no_line : lines_of (codes "a\rb\r\n") ≡ codes "a\rb\r" ∷ []
+a_carriage_return_ends_no_line = refl
+
+a_text_of_whole_lines : IsWhole (codes "a\nb\n")
+a_text_of_whole_lines = ends (codes "a\nb")
+
+one_byte_is_no_end : (line : List ℕ) → line ++ 10 ∷ [] ≡ a → ⊥
+one_byte_is_no_end [] e = absurd (omega (arith, ap (λ t. get_or t 0 0) e))
+one_byte_is_no_end (x ∷ xs) e = absurd (omega (arith, ap length e, length-append xs (10 ∷ [])))
+
+a_line_without_its_newline_is_not_whole : {text : List ℕ} → IsWhole text → text ≡ a → ⊥
+a_line_without_its_newline_is_not_whole nothing e = absurd (cc)
+a_line_without_its_newline_is_not_whole (ends line) e = one_byte_is_no_end line e
+
+-- ---- words
+
+a_line_of_blanks_has_no_word : words_of (codes " \t\r ") ≡ []
+a_line_of_blanks_has_no_word = refl
+
+blanks_stand_before_between_and_behind : words_of (codes "\t a \t\r b\r") ≡ a ∷ b ∷ []
+blanks_stand_before_between_and_behind = refl
+
+-- a vertical tab, a form feed, a zero and a byte above ASCII
+other_bytes_are_parts_of_words : words_of (97 ∷ 11 ∷ 12 ∷ 0 ∷ 160 ∷ 97 ∷ []) ≡ (97 ∷ 11 ∷ 12 ∷ 0 ∷ 160 ∷ 97 ∷ []) ∷ []
+other_bytes_are_parts_of_words = refl
+
+-- ---- numbers
+
+numbers : map number_of (codes "0" ∷ codes "7" ∷ codes "0007" ∷ codes "18446744073709551615" ∷ codes "00018446744073709551615" ∷ [])
+    ≡ Some 0 ∷ Some 7 ∷ Some 7 ∷ Some 18446744073709551615 ∷ Some 18446744073709551615 ∷ []
+numbers = refl
+
+no_numbers : map number_of ([] ∷ codes "+5" ∷ codes "-0" ∷ codes "5a" ∷ codes "0x5" ∷ codes "5." ∷ codes "18446744073709551616" ∷ codes "99999999999999999999999" ∷ []) ≡ replicate 8 None
+no_numbers = refl
+
+-- the bytes beside `0` and `9`
+no_digits : map (λ byte. number_of (49 ∷ byte ∷ [])) (47 ∷ 58 ∷ []) ≡ None ∷ None ∷ []
+no_digits = refl
+
+coordinates : map coordinate_of (codes "0" ∷ codes "-0" ∷ codes "00" ∷ codes "-1" ∷ codes "-007" ∷ codes "2147483647" ∷ codes "-2147483648" ∷ [])
+    ≡ Some (pos 0) ∷ Some (pos 0) ∷ Some (pos 0) ∷ Some (negsuc 0) ∷ Some (negsuc 6) ∷ Some (pos 2147483647) ∷ Some (negsuc 2147483647) ∷ []
+coordinates = refl
+
+no_coordinates : map coordinate_of ([] ∷ codes "-" ∷ codes "--1" ∷ codes "+5" ∷ codes "-+5" ∷ codes "1-" ∷ codes "2147483648" ∷ codes "-2147483649" ∷ codes "18446744073709551616" ∷ []) ≡ replicate 9 None
+no_coordinates = refl
+
+-- ---- what lines mean
+
+create_names_a_layer_its_axes_and_its_fanout : meaning_of (codes "create a 2 4") ≡ Asks (Create a 2 4)
+create_names_a_layer_its_axes_and_its_fanout = refl
+
+blanks_and_leading_zeros_do_not_matter : meaning_of (codes " \tcreate a\t0002  4 \r") ≡ Asks (Create a 2 4)
+blanks_and_leading_zeros_do_not_matter = refl
+
+a_layer_is_any_word : meaning_of (codes "create #A+ 18446744073709551615 0") ≡ Asks (Create (codes "#A+") 18446744073709551615 0)
+a_layer_is_any_word = refl
+
+insert_gives_all_lows_and_then_all_highs : meaning_of (codes "insert a 7 1 -2 3 -4") ≡ Asks (Insert a 7 (Two (pos 1 ∷ negsuc 1 ∷ []) (pos 3 ∷ negsuc 3 ∷ [])))
+insert_gives_all_lows_and_then_all_highs = refl
+
+insert_in_space : meaning_of (codes "insert a 7 1 2 3 4 5 6") ≡ Asks (Insert a 7 (Three (pos 1 ∷ pos 2 ∷ pos 3 ∷ []) (pos 4 ∷ pos 5 ∷ pos 6 ∷ [])))
+insert_in_space = refl
+
+window_gives_a_box : meaning_of (codes "window window 1 2 3 4") ≡ Asks (Window (codes "window") (Two (pos 1 ∷ pos 2 ∷ []) (pos 3 ∷ pos 4 ∷ [])))
+window_gives_a_box = refl
+
+reopen_is_one_word : map meaning_of (codes "reopen" ∷ codes "\t reopen \r" ∷ []) ≡ replicate 2 (Asks Reopen)
+reopen_is_one_word = refl
+
+bad_reopens : map meaning_of (codes "reopen a" ∷ codes "reopen reopen" ∷ codes "reopen #" ∷ codes "REOPEN" ∷ codes "reopens" ∷ codes "reope" ∷ codes "re open" ∷ []) ≡ replicate 7 Bad
+bad_reopens = refl
+
+-- the store refuses it, not the language
+a_low_above_its_high_is_a_box : meaning_of (codes "window a 1 1 0 0") ≡ Asks (Window a (Two (pos 1 ∷ pos 1 ∷ []) (pos 0 ∷ pos 0 ∷ [])))
+a_low_above_its_high_is_a_box = refl
+
+blank_lines_and_comments : map meaning_of ([] ∷ codes " \t\r" ∷ codes "#" ∷ codes "# create a 2 4" ∷ codes " \t#create a 2 4" ∷ codes "##" ∷ []) ≡ replicate 6 Blank
+blank_lines_and_comments = refl
+
+names_of_no_command : map meaning_of (codes "CREATE a 2 4" ∷ codes "Create a 2 4" ∷ codes "creat a 2 4" ∷ codes "creates a 2 4" ∷ codes "drop a" ∷ codes "load a 1" ∷ codes "a" ∷ []) ≡ replicate 7 Bad
+names_of_no_command = refl
+
+bad_creates : map meaning_of (codes "create" ∷ codes "create a" ∷ codes "create a 2" ∷ codes "create a 2 4 4" ∷ codes "create a +2 4" ∷ codes "create a 2 -4" ∷ codes "create a 2 4 # more" ∷ []) ≡ replicate 7 Bad
+bad_creates = refl
+
+bad_inserts : map meaning_of (codes "insert" ∷ codes "insert a" ∷ codes "insert a 1" ∷ codes "insert a -1 0 0 0 0" ∷ codes "insert a 18446744073709551616 0 0 0 0" ∷ codes "insert a 5 0 0 0 2147483648" ∷ []) ≡ replicate 6 Bad
+bad_inserts = refl
+
+-- of four or six coordinates, and of no other number
+boxes_of_another_number_of_coordinates : map meaning_of (codes "window a" ∷ codes "window a 0 0" ∷ codes "window a 0 0 0" ∷ codes "window a 0 0 0 0 0" ∷ codes "window a 0 0 0 0 0 0 0" ∷ codes "window a 0 0 0 0 0 0 0 0" ∷ []) ≡ replicate 6 Bad
+boxes_of_another_number_of_coordinates = refl
+
+a_line_of_4097_bytes_is_bad : (line : List ℕ) → length line ≡ 4097 → meaning_of line ≡ Bad
+a_line_of_4097_bytes_is_bad line long = rw long refl
+
+a_line_of_4096_bytes_is_read : (line : List ℕ) → length line ≡ 4096 → meaning_of line ≡ words_mean (words_of line)
+a_line_of_4096_bytes_is_read line fits = rw fits refl
+
+-- ---- the requests of a text
+
+-- the last line has no newline, and a comment and an empty line ask nothing
+a_text_asks_line_by_line : AreCommands true (lines_of (codes "create a 2 4\n# more\n\ndrop a\ncreate b 3 5")) (Wants (Create a 2 4) ∷ BadCommand ∷ Wants (Create b 3 5) ∷ [])
+a_text_asks_line_by_line = one (Wants (Create a 2 4) ∷ []) refl (one [] refl (one [] refl (one (BadCommand ∷ []) refl (one (Wants (Create b 3 5) ∷ []) refl none))))
+
+no_text_asks_nothing : (ended : Bool) → AreCommands ended (lines_of []) []
+no_text_asks_nothing ended = none
+
+-- what a meaning asks by itself is one list
+asked_alone : (m : Meaning) (rs ss : List Request) → AsksAlone m rs → AsksAlone m ss → rs ≡ ss
+asked_alone Blank rs ss h g = h ∙ sym g
+asked_alone Bad rs ss h g = h ∙ sym g
+asked_alone (Asks c) rs ss h g = h ∙ sym g
+
+-- lines ask one list of requests, and no other
+pub one_reading : {ended : Bool} {lines : List (List ℕ)} {rs ss : List Request} → AreCommands ended lines rs → AreCommands ended lines ss → rs ≡ ss
+one_reading none none = refl
+one_reading (one {line = line} rs h p) (one ss g q) = ap₂ (λ x y. x ++ y) (asked_alone (meaning_of line) rs ss h g) (one_reading p q)
+
+-- ---- the texts of replies
+
+done_is_ok : answer_text Done ≡ codes "ok\n"
+done_is_ok = refl
+
+no_row_is_counted_too : answer_text (Boxes []) ≡ codes "ok 0\n"
+unfolding digits
+no_row_is_counted_too = refl
+
+rows_are_identifier_lows_and_highs : answer_text (Boxes ((1, record { low = negsuc 0 ∷ pos 2 ∷ []; high = pos 3 ∷ pos 4 ∷ [] }) ∷ (18446744073709551615, record { low = pos 0 ∷ pos 0 ∷ pos 0 ∷ []; high = pos 1 ∷ pos 1 ∷ pos 2147483647 ∷ [] }) ∷ []))
+    ≡ codes "ok 2\n1 -1 2 3 4\n18446744073709551615 0 0 0 1 1 2147483647\n"
+unfolding digits
+rows_are_identifier_lows_and_highs = refl
+
+refusals_have_numbers_and_names : texts_of (Refused refusal.BadName ∷ Refused refusal.NoObject ∷ Refused refusal.BadLine ∷ Refused refusal.NoPages ∷ [])
+    ≡ codes "fail 1 BadName\nfail 10 NoObject\nfail 24 BadLine\nfail 25 NoPages\n"
+unfolding digits
+refusals_have_numbers_and_names = refl
+
+three_refusals_have_a_number_more : texts_of (Refused (refusal.DuplicateInLoad 18446744073709551615) ∷ Refused (refusal.Damaged 3) ∷ Refused (refusal.StoreFailed 17) ∷ [])
+    ≡ codes "fail 13 DuplicateInLoad 18446744073709551615\nfail 18 Damaged 3\nfail 19 StoreFailed 17\n"
+unfolding digits
+three_refusals_have_a_number_more = refl
+
+answers_follow_each_other : texts_of (Done ∷ Boxes [] ∷ Done ∷ []) ≡ codes "ok\nok 0\nok\n"
+unfolding digits
+answers_follow_each_other = refl

@@ -1,0 +1,126 @@
+-- Worked examples of whole runs: what may be said of one, and what may not.
+-- No other proof rests on them. A reader is the bytes that it has left, and a writer the bytes that it was given.
+use Rattle.std.proofs.Common.{◌≡◌, ℕ, List, [], ◌∷◌, ◌++◌, true, false, refl, sym, ap, ◌∙◌, Option, Some, codes, length, length-append, get_or, append_assoc, arith, subst}
+use Rattle.std.specs.Fmt.{digits}
+use Rattle.std.specs.FinMap.{empty}
+use Rattle.plain_table.specs.Lawful.{Standing, Request, Session}
+use Rattle.plain_table.specs.Lawful.Request.{BadCommand}
+use Rattle.plain_table.specs.Lawful.State.{Alive}
+use Rattle.plain_table.specs.Step.{Answer}
+use Rattle.plain_table.specs.Step.Answer.{Refused}
+use Rattle.plain_table.specs.declared.refusal.Refusal.TheVariants as refusal
+use Rattle.command_shell.specs.Commands.{AreCommands}
+use Rattle.command_shell.specs.Commands.AreCommands.{none, one}
+use Rattle.command_shell.specs.Lines.{lines_of, IsWhole}
+use Rattle.command_shell.specs.Lines.IsWhole.{none as nothing, ends}
+use Rattle.command_shell.specs.Runs.{Runs}
+use Rattle.command_shell.specs.Serving.{BreaksOff}
+use Rattle.command_shell.specs.Texts.{texts_of}
+use Rattle.command_shell.specs.declared.session.RunEnd.TheVariants.{Finished, ReadFault, WriteFault}
+use Rattle.command_shell.proofs.CommandLemmas.{append_none}
+use Rattle.command_shell.proofs.Examples.{one_reading}
+
+abbrev Bytes : Type 0
+Bytes = List ℕ
+
+abbrev known : Bytes → Option (List ℕ)
+known bytes = Some bytes
+
+-- a store with no layer
+abbrev fresh : Standing
+fresh = record { state = Alive empty; faults = 0; next = 3 }
+
+-- ---- what is a run
+
+a_run_on_no_text : Runs known known Finished fresh fresh (codes "") [] [] []
+a_run_on_no_text = record { text = []; requests = []; answers = []; reads = record { stops = (refl, refl); read = record { more = []; read = refl; so = refl } }; asked = none; lawful = refl; written = refl }
+
+-- the last line has no newline, and the comment no reply
+a_run_on_two_bad_lines : Runs known known Finished fresh fresh (codes "x\n# y\nz") [] [] (codes "fail 24 BadLine\nfail 24 BadLine\n")
+unfolding digits
+a_run_on_two_bad_lines = record {
+  text = codes "x\n# y\nz"; requests = BadCommand ∷ BadCommand ∷ []; answers = Refused refusal.BadLine ∷ Refused refusal.BadLine ∷ [];
+  reads = record { stops = (refl, refl); read = record { more = codes "x\n# y\nz"; read = refl; so = refl } };
+  asked = one (BadCommand ∷ []) refl (one [] refl (one (BadCommand ∷ []) refl none));
+  lawful = (fresh, (refl, refl), (fresh, (refl, refl), refl)); written = refl;
+}
+
+-- the line that was not read to its newline is not answered
+a_run_that_a_read_ended : Runs known known ReadFault fresh fresh (codes "x\ny") [] [] (codes "fail 24 BadLine\n")
+unfolding digits
+a_run_that_a_read_ended = (codes "y", (λ e. absurd (omega (arith, e)), tt), record {
+  text = codes "x\n"; requests = BadCommand ∷ []; answers = Refused refusal.BadLine ∷ [];
+  reads = record { stops = ends (codes "x"); read = record { more = codes "x\ny"; read = refl; so = refl } };
+  asked = one (BadCommand ∷ []) refl none;
+  lawful = (fresh, (refl, refl), refl); written = refl;
+})
+
+-- the line was answered, and four bytes of its reply were written
+a_run_that_a_write_ended : Runs known known WriteFault fresh fresh (codes "x\ny") (codes "y") [] (codes "fail")
+unfolding digits
+a_run_that_a_write_ended = (false, [], record {
+  text = codes "x\n"; requests = BadCommand ∷ []; answers = Refused refusal.BadLine ∷ [];
+  reads = record { stops = ends (codes "x"); read = record { more = codes "x\n"; read = refl; so = refl } };
+  asked = one (BadCommand ∷ []) refl none;
+  lawful = (fresh, (refl, refl), refl);
+  written = record { before = []; last = Refused refusal.BadLine; are = refl; shown = 4; is_part = omega arith; written = refl };
+})
+
+-- ---- what is none
+
+nothing_in_front : (xs ys : List ℕ) → [] ≡ xs ++ ys → xs ≡ []
+nothing_in_front [] ys e = refl
+nothing_in_front (x ∷ xs) ys e = absurd (cc)
+
+no_answers : (s s' : Standing) (requests : List Request) (answers : List Answer) → Session s requests answers s' → requests ≡ [] → (answers ≡ []) × (s' ≡ s)
+no_answers s s' [] [] h e = (refl, h)
+no_answers s s' [] (a ∷ as') h e = absurd h
+no_answers s s' (r ∷ rs) answers h e = absurd (cc)
+
+-- no text gets no reply, and changes nothing
+a_run_on_no_text_does_nothing : (s s' : Standing) (left written : List ℕ) → Runs known known Finished s s' [] left [] written → (written ≡ []) × (s' ≡ s)
+a_run_on_no_text_does_nothing s s' left written run =
+    let more = nothing_in_front run.reads.read.more left run.reads.read.read in
+    let text = nothing_in_front run.text [] (sym more ∙ run.reads.read.so) in
+    let answered = no_answers s s' run.requests run.answers run.lawful (one_reading (subst (λ t. AreCommands true (lines_of t) run.requests) text run.asked) none) in
+    (run.written ∙ ap texts_of answered.0, answered.1)
+
+-- a bad line has one answer, and changes nothing
+one_bad_line : (s s' : Standing) (answers : List Answer) → Session s (BadCommand ∷ []) answers s' → answers ≡ Refused refusal.BadLine ∷ []
+one_bad_line s s' [] h = absurd h
+one_bad_line s s' (a ∷ []) h = ap (λ x. x ∷ []) h.1.0
+one_bad_line s s' (a ∷ b ∷ as') h = absurd h.2
+
+-- a last line without its newline is answered
+a_run_answers_its_last_line : (s s' : Standing) (left written : List ℕ) → Runs known known Finished s s' (codes "x") left [] written → written ≡ codes "fail 24 BadLine\n"
+unfolding digits
+a_run_answers_its_last_line s s' left written run =
+    let more : codes "x" ≡ run.reads.read.more = run.reads.read.read ∙ ap (λ l. run.reads.read.more ++ l) run.reads.stops.1 ∙ append_none _ in
+    let text : run.text ≡ codes "x" = sym (append_none run.text) ∙ sym run.reads.read.so ∙ sym more in
+    let asked = one_reading (subst (λ t. AreCommands true (lines_of t) run.requests) text run.asked) (one (BadCommand ∷ []) refl none) in
+    run.written ∙ ap texts_of (one_bad_line s s' run.answers (subst (λ rs. Session s rs run.answers s') asked run.lawful))
+
+some_last : (before : List Answer) (last : Answer) → [] ≡ before ++ last ∷ [] → ⊥
+some_last [] last e = absurd (cc)
+some_last (a ∷ as') last e = absurd (cc)
+
+-- what broke off was an answer
+a_break_has_an_answer : (old new : Option (List ℕ)) → BreaksOff old new [] → ⊥
+a_break_has_an_answer old new h = some_last h.before h.last h.are
+
+-- whole lines do not begin in the middle of one
+no_whole_front : (line rest : List ℕ) → codes "x" ≡ (line ++ 10 ∷ []) ++ rest → ⊥
+no_whole_front [] rest e = absurd (omega (arith, ap (λ t. get_or t 0 0) e))
+no_whole_front (b ∷ line) rest e = absurd (omega (arith, ap length e, length-append (line ++ 10 ∷ []) rest, length-append line (10 ∷ [])))
+
+whole_front : {text : List ℕ} (rest : List ℕ) → IsWhole text → codes "x" ≡ text ++ rest → text ≡ []
+whole_front rest nothing e = refl
+whole_front rest (ends line) e = absurd (no_whole_front line rest e)
+
+-- a line without its newline is not answered where a read failed behind it
+a_read_fault_answers_no_unfinished_line : (s s' : Standing) (left written : List ℕ) → Runs known known ReadFault s s' (codes "x") left [] written → (written ≡ []) × (s' ≡ s)
+a_read_fault_answers_no_unfinished_line s s' left written (unread, part, run) =
+    let all : codes "x" ≡ run.text ++ (unread ++ left) = run.reads.read.read ∙ ap (λ m. m ++ left) run.reads.read.so ∙ append_assoc run.text unread left in
+    let text = whole_front (unread ++ left) run.reads.stops all in
+    let answered = no_answers s s' run.requests run.answers run.lawful (one_reading (subst (λ t. AreCommands false (lines_of t) run.requests) text run.asked) none) in
+    (run.written ∙ ap texts_of answered.0, answered.1)

@@ -1,0 +1,269 @@
+-- Worked examples of the plain table: what single commands answer on small tables, and what they leave.
+-- No other proof rests on them. A definition that says another thing than docs/COMMANDS.md is refused here.
+use Rattle.std.proofs.Common.{◌≡◌, ℕ, List, [], ◌∷◌, Bool, true, false, refl, sym, ap, ◌∙◌, ℤ, pos, negsuc, Some, T, codes, replicate, map, length}
+use Rattle.std.specs.Cmp.{IsTotalOrder, nat_cmp_total}
+use Rattle.std.specs.Cmp.Lexicographic.{slice_cmp, nat_list_cmp_total}
+use Rattle.std.specs.Ordering.{nat_cmp}
+use Rattle.std.specs.FinMap.{put, is_sorted, from_sorted, empty, empty_of_len, get, contains_key, len, entries, insert, same_entries_map, entries-insert, entries-from_sorted, get-from_sorted, len-entries}
+use Rattle.std.specs.declared.cmp.Ordering.{Ordering}
+use Rattle.box_math.specs.Bounds.{Bounds, ordered_test, meets_test}
+use Rattle.plain_table.specs.Commands.{Command}
+use Rattle.plain_table.specs.Commands.Command.{Create, Insert, Window, Reopen}
+use Rattle.plain_table.specs.Refusals.{number_of, name_of}
+use Rattle.plain_table.specs.Step.{Answer, reply_of, after}
+use Rattle.plain_table.specs.Step.Answer.{Done, Refused, Boxes}
+use Rattle.plain_table.specs.Table.{Table, Layer, Objects, is_layer_name, is_dims, is_fanout, object_count}
+use Rattle.plain_table.specs.declared.boxes.RawBox.{RawBox}
+use Rattle.plain_table.specs.declared.boxes.RawBox.TheVariants.{Two, Three}
+use Rattle.plain_table.specs.declared.refusal.Refusal.{Refusal}
+use Rattle.plain_table.specs.declared.refusal.Refusal.TheVariants as refusal
+
+-- ---- tables as lists
+
+module _ {K X : Type 0} (R : K → K → Ordering) where
+  -- how many entries a list in order makes
+  len_of : (es : List (K × X)) → T (is_sorted R es) → len (from_sorted {R = R} es) ≡ length es
+  len_of es h = len-entries (from_sorted es) ∙ ap length (entries-from_sorted R es h)
+
+  -- to put an entry into the map of a list is to put it into the list
+  put_into : IsTotalOrder R → (es : List (K × X)) (k : K) (v : X) → T (is_sorted R es) → T (is_sorted R (put R k v es)) → insert (from_sorted {R = R} es) k v ≡ from_sorted (put R k v es)
+  put_into o es k v h h' = same_entries_map _ _ (entries-insert o _ k v ∙ ap (put R k v) (entries-from_sorted R es h) ∙ sym (entries-from_sorted R _ h'))
+
+abbrev pub table : List (List ℕ × Layer) → Table
+table layers = from_sorted {R = slice_cmp nat_cmp} layers
+
+abbrev pub layer : ℕ → ℕ → List (ℕ × Bounds) → Layer
+layer dims fanout objects = record { dims = dims; fanout = fanout; objects = from_sorted {R = nat_cmp} objects }
+
+abbrev pub bounds : List ℤ → List ℤ → Bounds
+bounds low high = record { low = low; high = high }
+
+-- the coordinates of a point of the plane, and of space
+abbrev pub at : ℕ → ℕ → List ℤ
+at x y = pos x ∷ pos y ∷ []
+
+abbrev in_space : ℕ → ℕ → ℕ → List ℤ
+in_space x y z = pos x ∷ pos y ∷ pos z ∷ []
+
+-- the first and the last coordinate that there is
+abbrev lowest : ℤ
+lowest = negsuc 2147483647
+
+abbrev highest : ℤ
+highest = pos 2147483647
+
+abbrev pub a : List ℕ
+a = codes "a"
+
+-- two squares that touch in the point (1, 1)
+abbrev pub squares : List (ℕ × Bounds)
+squares = (1, bounds (at 0 0) (at 1 1)) ∷ (2, bounds (at 1 1) (at 2 2)) ∷ []
+
+abbrev pub empty_layer : List (List ℕ × Layer)
+empty_layer = (a, layer 2 4 []) ∷ []
+
+abbrev pub touching : List (List ℕ × Layer)
+touching = (a, layer 2 4 squares) ∷ []
+
+no_objects : from_sorted {X = Bounds} {R = nat_cmp} [] ≡ empty
+no_objects = empty_of_len (from_sorted []) (len_of nat_cmp [] tt)
+
+empty_at : get (table empty_layer) a ≡ Some (layer 2 4 [])
+empty_at = get-from_sorted (slice_cmp nat_cmp) empty_layer a tt
+
+touching_at : get (table touching) a ≡ Some (layer 2 4 squares)
+touching_at = get-from_sorted (slice_cmp nat_cmp) touching a tt
+
+touching_count : object_count (table touching) ≡ 2
+touching_count = rw (entries-from_sorted (slice_cmp nat_cmp) touching tt, len_of nat_cmp squares tt) refl
+
+-- ---- names and numbers
+
+good_names : map is_layer_name (a ∷ codes "z" ∷ codes "a_9" ∷ codes "a0z" ∷ codes "abcdefghijklmnopqrstuvwx" ∷ []) ≡ replicate 5 true
+good_names = refl
+
+bad_names : map is_layer_name ([] ∷ codes "A" ∷ codes "aB" ∷ codes "9a" ∷ codes "_a" ∷ codes "a-b" ∷ codes "a b" ∷ codes "abcdefghijklmnopqrstuvwxy" ∷ []) ≡ replicate 8 false
+bad_names = refl
+
+-- the bytes beside `a`, `z`, `0`, `9` and `_`
+no_names : map (λ byte. is_layer_name (97 ∷ byte ∷ [])) (96 ∷ 123 ∷ 47 ∷ 58 ∷ 94 ∷ 0 ∷ 255 ∷ []) ≡ replicate 7 false
+no_names = refl
+
+two_or_three_axes : map is_dims (0 ∷ 1 ∷ 2 ∷ 3 ∷ 4 ∷ 23 ∷ []) ≡ false ∷ false ∷ true ∷ true ∷ false ∷ false ∷ []
+two_or_three_axes = refl
+
+fanouts_from_4_to_100 : map is_fanout (0 ∷ 3 ∷ 4 ∷ 100 ∷ 101 ∷ []) ≡ false ∷ false ∷ true ∷ true ∷ false ∷ []
+fanouts_from_4_to_100 = refl
+
+abbrev refusals : List Refusal
+refusals = refusal.BadName ∷ refusal.LayerExists ∷ refusal.NoLayer ∷ refusal.BadDims ∷ refusal.BadFanout
+    ∷ refusal.TooManyLayers ∷ refusal.BadBox ∷ refusal.WrongDims ∷ refusal.Duplicate ∷ refusal.NoObject
+    ∷ refusal.TooManyObjects ∷ refusal.NotEmpty ∷ refusal.DuplicateInLoad 7 ∷ refusal.BadCount ∷ refusal.DimsDiffer
+    ∷ refusal.Memory ∷ refusal.Device ∷ refusal.Damaged 7 ∷ refusal.StoreFailed 7 ∷ refusal.NotClosed
+    ∷ refusal.NotAStore ∷ refusal.WrongVersion ∷ refusal.BadCache ∷ refusal.BadLine ∷ refusal.NoPages ∷ []
+
+refusals_are_numbered : map number_of refusals ≡ 1 ∷ 2 ∷ 3 ∷ 4 ∷ 5 ∷ 6 ∷ 7 ∷ 8 ∷ 9 ∷ 10 ∷ 11 ∷ 12 ∷ 13 ∷ 14 ∷ 15 ∷ 16 ∷ 17 ∷ 18 ∷ 19 ∷ 20 ∷ 21 ∷ 22 ∷ 23 ∷ 24 ∷ 25 ∷ []
+refusals_are_numbered = refl
+
+refusals_are_named : map name_of refusals ≡ codes "BadName" ∷ codes "LayerExists" ∷ codes "NoLayer" ∷ codes "BadDims" ∷ codes "BadFanout"
+    ∷ codes "TooManyLayers" ∷ codes "BadBox" ∷ codes "WrongDims" ∷ codes "Duplicate" ∷ codes "NoObject"
+    ∷ codes "TooManyObjects" ∷ codes "NotEmpty" ∷ codes "DuplicateInLoad" ∷ codes "BadCount" ∷ codes "DimsDiffer"
+    ∷ codes "Memory" ∷ codes "Device" ∷ codes "Damaged" ∷ codes "StoreFailed" ∷ codes "NotClosed"
+    ∷ codes "NotAStore" ∷ codes "WrongVersion" ∷ codes "BadCache" ∷ codes "BadLine" ∷ codes "NoPages" ∷ []
+refusals_are_named = refl
+
+-- ---- create
+
+pub create_is_done : reply_of (table []) (Create a 2 4) ≡ Done
+create_is_done = rw (get-from_sorted {X = Layer} (slice_cmp nat_cmp) [] a tt, len_of {X = Layer} (slice_cmp nat_cmp) [] tt) refl
+
+pub create_makes_an_empty_layer : after (table []) (Create a 2 4) ≡ table empty_layer
+create_makes_an_empty_layer = rw (get-from_sorted {X = Layer} (slice_cmp nat_cmp) [] a tt, len_of {X = Layer} (slice_cmp nat_cmp) [] tt, ← no_objects) (put_into (slice_cmp nat_cmp) nat_list_cmp_total [] a (layer 2 4 []) tt tt)
+
+pub create_of_a_layer_that_is_there : reply_of (table touching) (Create a 3 100) ≡ Refused refusal.LayerExists
+create_of_a_layer_that_is_there = rw touching_at refl
+
+pub a_refused_create_changes_nothing : after (table touching) (Create a 3 100) ≡ table touching
+a_refused_create_changes_nothing = rw touching_at refl
+
+create_in_capitals : (t : Table) → reply_of t (Create (codes "A") 2 4) ≡ Refused refusal.BadName
+create_in_capitals t = refl
+
+create_of_25_letters : (t : Table) → reply_of t (Create (codes "abcdefghijklmnopqrstuvwxy") 2 4) ≡ Refused refusal.BadName
+create_of_25_letters t = refl
+
+create_with_four_axes : (t : Table) → reply_of t (Create a 4 4) ≡ Refused refusal.BadDims
+create_with_four_axes t = refl
+
+create_with_a_fanout_of_3 : (t : Table) → reply_of t (Create a 2 3) ≡ Refused refusal.BadFanout
+create_with_a_fanout_of_3 t = refl
+
+create_with_a_fanout_of_101 : (t : Table) → reply_of t (Create a 2 101) ≡ Refused refusal.BadFanout
+create_with_a_fanout_of_101 t = refl
+
+bad_name_before_bad_dims : (t : Table) → reply_of t (Create (codes "A") 4 3) ≡ Refused refusal.BadName
+bad_name_before_bad_dims t = refl
+
+bad_dims_before_bad_fanout : (t : Table) → reply_of t (Create a 4 3) ≡ Refused refusal.BadDims
+bad_dims_before_bad_fanout t = refl
+
+bad_fanout_before_layer_exists : reply_of (table touching) (Create a 2 3) ≡ Refused refusal.BadFanout
+bad_fanout_before_layer_exists = refl
+
+layer_exists_before_too_many_layers : (t : Table) → contains_key t a ≡ true → len t ≡ 60 → reply_of t (Create a 2 4) ≡ Refused refusal.LayerExists
+layer_exists_before_too_many_layers t there full = rw there refl
+
+a_layer_beside_60 : (t : Table) → contains_key t a ≡ false → len t ≡ 60 → reply_of t (Create a 2 4) ≡ Refused refusal.TooManyLayers
+a_layer_beside_60 t new full = rw (new, full) refl
+
+a_layer_beside_59 : (t : Table) → contains_key t a ≡ false → len t ≡ 59 → reply_of t (Create a 2 4) ≡ Done
+a_layer_beside_59 t new room = rw (new, room) refl
+
+-- ---- insert
+
+insert_is_done : reply_of (table touching) (Insert a 18446744073709551615 (Two (at 0 0) (at 0 0))) ≡ Done
+unfolding ordered_test
+insert_is_done = rw (touching_at, touching_count, get-from_sorted nat_cmp squares 18446744073709551615 tt) refl
+
+-- put in before the others, since its identifier is less
+insert_adds_an_object : after (table touching) (Insert a 0 (Two (at 0 0) (at 9 9))) ≡ table ((a, layer 2 4 ((0, bounds (at 0 0) (at 9 9)) ∷ squares)) ∷ [])
+unfolding ordered_test
+insert_adds_an_object = rw (touching_at, touching_count, get-from_sorted nat_cmp squares 0 tt, put_into nat_cmp nat_cmp_total squares 0 (bounds (at 0 0) (at 9 9)) tt tt)
+    (put_into (slice_cmp nat_cmp) nat_list_cmp_total touching a (layer 2 4 ((0, bounds (at 0 0) (at 9 9)) ∷ squares)) tt tt)
+
+insert_of_an_identifier_that_is_there : reply_of (table touching) (Insert a 1 (Two (at 5 5) (at 6 6))) ≡ Refused refusal.Duplicate
+unfolding ordered_test
+insert_of_an_identifier_that_is_there = rw (touching_at, touching_count, get-from_sorted nat_cmp squares 1 tt) refl
+
+a_refused_insert_changes_nothing : after (table touching) (Insert a 1 (Two (at 5 5) (at 6 6))) ≡ table touching
+unfolding ordered_test
+a_refused_insert_changes_nothing = rw (touching_at, touching_count, get-from_sorted nat_cmp squares 1 tt) refl
+
+insert_of_a_low_above_its_high : reply_of (table touching) (Insert a 3 (Two (at 1 0) (at 0 0))) ≡ Refused refusal.BadBox
+unfolding ordered_test
+insert_of_a_low_above_its_high = rw touching_at refl
+
+bad_box_on_the_last_axis_too : reply_of (table touching) (Insert a 3 (Two (at 0 1) (at 0 0))) ≡ Refused refusal.BadBox
+unfolding ordered_test
+bad_box_on_the_last_axis_too = rw touching_at refl
+
+insert_into_no_layer : reply_of (table []) (Insert a 1 (Two (at 0 0) (at 1 1))) ≡ Refused refusal.NoLayer
+insert_into_no_layer = rw (get-from_sorted {X = Layer} (slice_cmp nat_cmp) [] a tt) refl
+
+-- the name in capitals is no layer's either
+bad_name_before_no_layer : (t : Table) (id : ℕ) (box : RawBox) → reply_of t (Insert (codes "A") id box) ≡ Refused refusal.BadName
+bad_name_before_no_layer t id box = refl
+
+no_layer_before_bad_box : reply_of (table []) (Insert a 1 (Two (at 1 1) (at 0 0))) ≡ Refused refusal.NoLayer
+no_layer_before_bad_box = rw (get-from_sorted {X = Layer} (slice_cmp nat_cmp) [] a tt) refl
+
+wrong_dims_before_bad_box : reply_of (table touching) (Insert a 1 (Three (in_space 1 1 1) (in_space 0 0 0))) ≡ Refused refusal.WrongDims
+wrong_dims_before_bad_box = rw touching_at refl
+
+bad_box_before_duplicate : reply_of (table touching) (Insert a 1 (Two (at 1 1) (at 0 0))) ≡ Refused refusal.BadBox
+unfolding ordered_test
+bad_box_before_duplicate = rw touching_at refl
+
+duplicate_before_too_many_objects : (t : Table) → get t a ≡ Some (layer 2 4 squares) → object_count t ≡ 1073741824 → reply_of t (Insert a 1 (Two (at 0 0) (at 1 1))) ≡ Refused refusal.Duplicate
+unfolding ordered_test
+duplicate_before_too_many_objects t there full = rw (there, full, get-from_sorted nat_cmp squares 1 tt) refl
+
+an_object_beside_2_to_the_30 : (t : Table) → get t a ≡ Some (layer 2 4 squares) → object_count t ≡ 1073741824 → reply_of t (Insert a 3 (Two (at 0 0) (at 1 1))) ≡ Refused refusal.TooManyObjects
+unfolding ordered_test
+an_object_beside_2_to_the_30 t there full = rw (there, full, get-from_sorted nat_cmp squares 3 tt) refl
+
+an_object_beside_one_less : (t : Table) → get t a ≡ Some (layer 2 4 squares) → object_count t ≡ 1073741823 → reply_of t (Insert a 3 (Two (at 0 0) (at 1 1))) ≡ Done
+unfolding ordered_test
+an_object_beside_one_less t there room = rw (there, room, get-from_sorted nat_cmp squares 3 tt) refl
+
+-- ---- window
+
+window_on_all_of_an_empty_layer : reply_of (table empty_layer) (Window a (Two (lowest ∷ lowest ∷ []) (highest ∷ highest ∷ []))) ≡ Boxes []
+unfolding meets_test ordered_test
+window_on_all_of_an_empty_layer = rw (empty_at, entries-from_sorted {X = Bounds} nat_cmp [] tt) refl
+
+pub squares_that_touch_are_both_found : reply_of (table touching) (Window a (Two (at 1 1) (at 1 1))) ≡ Boxes squares
+unfolding meets_test ordered_test
+squares_that_touch_are_both_found = rw (touching_at, entries-from_sorted nat_cmp squares tt) refl
+
+the_second_square_alone_is_found : reply_of (table touching) (Window a (Two (at 2 2) (at 9 9))) ≡ Boxes ((2, bounds (at 1 1) (at 2 2)) ∷ [])
+unfolding meets_test ordered_test
+the_second_square_alone_is_found = rw (touching_at, entries-from_sorted nat_cmp squares tt) refl
+
+-- it meets the second square on the first axis alone
+a_window_beside_both_finds_none : reply_of (table touching) (Window a (Two (at 2 0) (at 2 0))) ≡ Boxes []
+unfolding meets_test ordered_test
+a_window_beside_both_finds_none = rw (touching_at, entries-from_sorted nat_cmp squares tt) refl
+
+abbrev extremes : List (ℕ × Bounds)
+extremes = (1, bounds (lowest ∷ lowest ∷ lowest ∷ []) (highest ∷ highest ∷ highest ∷ [])) ∷ (2, bounds (highest ∷ highest ∷ highest ∷ []) (highest ∷ highest ∷ highest ∷ [])) ∷ []
+
+the_first_corner_of_space : reply_of (table ((a, layer 3 4 extremes) ∷ [])) (Window a (Three (lowest ∷ lowest ∷ lowest ∷ []) (lowest ∷ lowest ∷ lowest ∷ []))) ≡ Boxes ((1, bounds (lowest ∷ lowest ∷ lowest ∷ []) (highest ∷ highest ∷ highest ∷ [])) ∷ [])
+unfolding meets_test ordered_test
+the_first_corner_of_space = rw (get-from_sorted (slice_cmp nat_cmp) ((a, layer 3 4 extremes) ∷ []) a tt, entries-from_sorted nat_cmp extremes tt) refl
+
+the_last_corner_of_space : reply_of (table ((a, layer 3 4 extremes) ∷ [])) (Window a (Three (highest ∷ highest ∷ highest ∷ []) (highest ∷ highest ∷ highest ∷ []))) ≡ Boxes extremes
+unfolding meets_test ordered_test
+the_last_corner_of_space = rw (get-from_sorted (slice_cmp nat_cmp) ((a, layer 3 4 extremes) ∷ []) a tt, entries-from_sorted nat_cmp extremes tt) refl
+
+window_on_no_layer : reply_of (table touching) (Window (codes "q") (Two (at 0 0) (at 1 1))) ≡ Refused refusal.NoLayer
+window_on_no_layer = rw (get-from_sorted (slice_cmp nat_cmp) touching (codes "q") tt) refl
+
+window_wrong_dims_before_bad_box : reply_of (table touching) (Window a (Three (in_space 1 1 1) (in_space 0 0 0))) ≡ Refused refusal.WrongDims
+window_wrong_dims_before_bad_box = rw touching_at refl
+
+window_of_a_low_above_its_high : reply_of (table touching) (Window a (Two (at 1 0) (at 0 0))) ≡ Refused refusal.BadBox
+unfolding ordered_test
+window_of_a_low_above_its_high = rw touching_at refl
+
+pub window_changes_nothing : after (table touching) (Window a (Two (at 1 1) (at 1 1))) ≡ table touching
+unfolding ordered_test
+window_changes_nothing = rw touching_at refl
+
+-- ---- reopen
+
+reopen_is_done : (t : Table) → reply_of t Reopen ≡ Done
+reopen_is_done t = refl
+
+reopen_changes_nothing : (t : Table) → after t Reopen ≡ t
+reopen_changes_nothing t = refl
