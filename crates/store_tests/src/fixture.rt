@@ -33,6 +33,12 @@ pub fn is_row(row: &(u64, AnyBox), id: u64, bounds: RawBox) -> bool {
     }
 }
 
+/// The box from (i,2i) to (i+1,2i+1).
+pub fn step(i: u16) -> RawBox {
+    let i = i32::from(i);
+    plane([i, 2 * i, i + 1, 2 * i + 1])
+}
+
 /// Whether the rows have these identifiers and boxes of two axes, in this order.
 pub fn are_rows(rows: &[(u64, AnyBox)], wanted: &[(u64, [i32; 4])]) -> bool {
     for (row, want) in rows.iter().zip(wanted) {
@@ -44,9 +50,27 @@ pub fn are_rows(rows: &[(u64, AnyBox)], wanted: &[(u64, [i32; 4])]) -> bool {
 }
 
 /// A new store in memory.
-pub fn new_store(alloc: Global) -> Result<Store<MemoryDevice>, Refusal> {
-    match create_store(alloc, MemoryDevice::new(alloc), CACHE) {
+pub fn new_store(alloc: Global, cache: u32) -> Result<Store<MemoryDevice>, Refusal> {
+    match create_store(alloc, MemoryDevice::new(alloc), cache) {
         Ok(store) => Ok(store),
+        Err((refusal, _)) => Err(refusal),
+    }
+}
+
+/// Closes the store: why that is refused, if it is, and the device.
+pub fn closed<D: BlockDevice, A: Allocator + Copy>(store: Store<D, A>) -> (Option<Refusal>, D) {
+    match store.close() {
+        Ok(device) => (None, device),
+        Err((refusal, device)) => (Some(refusal), device),
+    }
+}
+
+/// The device of the store, closed.
+pub fn device_of<D: BlockDevice + Drop, A: Allocator + Copy>(
+    store: Store<D, A>,
+) -> Result<D, Refusal> {
+    match store.close() {
+        Ok(device) => Ok(device),
         Err((refusal, _)) => Err(refusal),
     }
 }
@@ -57,10 +81,8 @@ pub fn opened_again<D: BlockDevice + Drop, A: Allocator + Copy>(
     store: Store<D, A>,
     cache: u32,
 ) -> Result<Store<D, A>, Refusal> {
-    match store.close() {
-        Ok(device) => opened(alloc, device, cache),
-        Err((refusal, _)) => Err(refusal),
-    }
+    let device = device_of(store)?;
+    opened(alloc, device, cache)
 }
 
 /// The store on a device, which is lost where it is refused.
@@ -86,7 +108,7 @@ pub fn refusal_of_opening(
     let mut before = copy_of(alloc, &mut device)?;
     let writes = device.writes();
     let (refusal, device) = match open_store(alloc, device, cache) {
-        Ok(store) => (None, store.close().map_err(|(refusal, _)| refusal)?),
+        Ok(store) => closed(store),
         Err((refusal, device)) => (Some(refusal), device),
     };
     let mut device = device;

@@ -2,10 +2,11 @@
 //! leaves the same blocks.
 
 use crate::fixture::{
-    CACHE, PLANE, SPACE, are_rows, are_same_blocks, is_row, new_store, opened, plane, put, set,
+    CACHE, PLANE, SPACE, are_rows, are_same_blocks, device_of, is_row, new_store, opened, plane,
+    put, set, step,
 };
 use block_device::{BlockDevice, DeviceError, MemoryDevice};
-use layer_store::{Refusal, Store};
+use layer_store::{AnyBox, Refusal, Store};
 use std::alloc::Global;
 use std::test::Fail;
 
@@ -95,26 +96,25 @@ pub fn image(alloc: Global) -> Result<MemoryDevice, DeviceError> {
     Ok(device)
 }
 
+// Whether the rows are the objects of layer `a` from this one on.
+fn are_objects(rows: &[(u64, AnyBox)], first: u16) -> bool {
+    for (row, number) in rows.iter().zip(first..=COUNT) {
+        if !is_row(row, 10 * u64::from(number), step(number)) {
+            return false;
+        }
+    }
+    rows.len() + usize::from(first) == usize::from(COUNT) + 1
+}
+
 /// Whether the store has the objects of the file, those of `a` from the first one or from a later one on.
 pub fn answers<D: BlockDevice>(store: &mut Store<D>, first: u16) -> Result<bool, Refusal> {
-    let mut wanted = first;
-    for row in store.window(b"a", PLANE)? {
-        let i = i32::from(wanted);
-        if !is_row(
-            &row,
-            10 * u64::from(wanted),
-            plane([i, 2 * i, i + 1, 2 * i + 1]),
-        ) {
-            return Ok(false);
-        }
-        wanted = wanted.saturating_add(1);
-    }
+    let flat = store.window(b"a", PLANE)?;
     let deep = store.window(b"b", SPACE)?;
     let Some(row) = deep.first() else {
         return Ok(false);
     };
     Ok(
-        wanted == COUNT + 1
+        are_objects(&flat, first)
             && deep.len() == 1
             && is_row(row, u64::MAX, SPACE)
             && store.window(b"c", PLANE)?.is_empty(),
@@ -143,17 +143,15 @@ fn a_file_written_by_hand_is_opened(rt: HostRuntime) -> Result<(), Fail> {
 
 #[test]
 fn a_closed_store_has_the_blocks_of_the_format(rt: HostRuntime) -> Result<(), Fail> {
-    let mut store = new_store(rt.alloc())?;
+    let mut store = new_store(rt.alloc(), CACHE)?;
     store.create(b"c", 2, 50)?;
     store.create(b"a", 2, 4)?;
     store.create(b"b", 3, 100)?;
     store.insert(b"b", u64::MAX, SPACE)?;
     for number in (1..=COUNT).rev() {
-        let i = i32::from(number);
-        let bounds = plane([i, 2 * i, i + 1, 2 * i + 1]);
-        store.insert(b"a", 10 * u64::from(number), bounds)?;
+        store.insert(b"a", 10 * u64::from(number), step(number))?;
     }
-    let mut device = store.close().map_err(|(refusal, _)| refusal)?;
+    let mut device = device_of(store)?;
     let mut wanted = image(rt.alloc())?;
     assert!(rt; are_same_blocks(&mut wanted, &mut device)?);
     Ok(())

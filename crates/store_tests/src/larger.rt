@@ -1,8 +1,10 @@
 //! Stores with many objects, many layers, and chains of one page and more.
 
-use crate::fixture::{CACHE, PLANE, SPACE, are_rows, is_row, new_store, opened_again, plane};
+use crate::fixture::{
+    CACHE, PLANE, SPACE, are_rows, device_of, is_row, new_store, opened_again, plane, step,
+};
 use block_device::{BlockDevice, MemoryDevice};
-use layer_store::{RawBox, Refusal, Store, create_store};
+use layer_store::{RawBox, Refusal, Store};
 use std::test::Fail;
 
 // Whether layer `b` has 1000 objects, of which three meet a window.
@@ -18,13 +20,10 @@ fn has_a_thousand(store: &mut Store<MemoryDevice>) -> Result<bool, Refusal> {
 
 #[test]
 fn a_thousand_objects_come_back(rt: HostRuntime) -> Result<(), Fail> {
-    let device = MemoryDevice::new(rt.alloc());
-    let mut store = create_store(rt.alloc(), device, 8).map_err(|(refusal, _)| refusal)?;
+    let mut store = new_store(rt.alloc(), 8)?;
     store.create(b"b", 2, 4)?;
     for number in 1..=1000u16 {
-        let i = i32::from(number);
-        let bounds = plane([i, 2 * i, i + 1, 2 * i + 1]);
-        store.insert(b"b", u64::from(number), bounds)?;
+        store.insert(b"b", u64::from(number), step(number))?;
     }
     assert!(rt; has_a_thousand(&mut store)?);
     store.reopen()?;
@@ -32,7 +31,7 @@ fn a_thousand_objects_come_back(rt: HostRuntime) -> Result<(), Fail> {
     let mut store = opened_again(rt.alloc(), store, 8)?;
     assert!(rt; has_a_thousand(&mut store)?, "after a closing");
     // gate, header, catalog and ten full pages
-    let device = store.close().map_err(|(refusal, _)| refusal)?;
+    let device = device_of(store)?;
     assert_eq!(rt; device.blocks(), 13);
     Ok(())
 }
@@ -69,7 +68,7 @@ fn has_sixty_layers(store: &mut Store<MemoryDevice>) -> Result<bool, Refusal> {
 
 #[test]
 fn sixty_layers_come_back(rt: HostRuntime) -> Result<(), Fail> {
-    let mut store = new_store(rt.alloc())?;
+    let mut store = new_store(rt.alloc(), CACHE)?;
     for number in (0..60u8).rev() {
         let dims = 2 + u64::from(number % 2);
         store.create(&name_of(number), dims, 4 + u64::from(number))?;
@@ -111,7 +110,7 @@ fn chains_of_any_length_come_back(rt: HostRuntime) -> Result<(), Fail> {
         (200, 4),
         (201, 6),
     ] {
-        let mut store = new_store(rt.alloc())?;
+        let mut store = new_store(rt.alloc(), CACHE)?;
         store.create(b"a", 2, 4)?;
         store.create(b"b", 3, 100)?;
         for number in (1..=count).rev() {
@@ -123,7 +122,7 @@ fn chains_of_any_length_come_back(rt: HostRuntime) -> Result<(), Fail> {
         assert!(rt; has_points(&mut store, count)?, "{count} after a reopening");
         let mut store = opened_again(rt.alloc(), store, CACHE)?;
         assert!(rt; has_points(&mut store, count)?, "{count} after a closing");
-        let device = store.close().map_err(|(refusal, _)| refusal)?;
+        let device = device_of(store)?;
         assert_eq!(rt; device.blocks(), 3 + pages, "{count}");
     }
     Ok(())

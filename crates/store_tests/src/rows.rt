@@ -1,7 +1,7 @@
 //! Boxes that touch, and what stays and what is written when a store is closed.
 
 use crate::fixture::{
-    CACHE, are_rows, are_same_blocks, copy_of, new_store, opened, opened_again, plane,
+    CACHE, are_rows, are_same_blocks, copy_of, device_of, new_store, opened, opened_again, plane,
 };
 use block_device::{BlockDevice, MemoryDevice};
 use layer_store::{RawBox, Refusal, Store};
@@ -20,7 +20,7 @@ const POINT: RawBox = RawBox::Two([1, 1], [1, 1]);
 
 // A store with the two boxes in layer `a`.
 fn scene(alloc: Global) -> Result<Store<MemoryDevice>, Refusal> {
-    let mut store = new_store(alloc)?;
+    let mut store = new_store(alloc, CACHE)?;
     store.create(b"a", 2, 4)?;
     store.insert(b"a", 1, plane(FIRST))?;
     store.insert(b"a", 2, plane(SECOND))?;
@@ -75,7 +75,7 @@ fn a_change_behind_a_reopening_is_closed_too(rt: HostRuntime) -> Result<(), Fail
 #[test]
 fn a_closing_without_a_change_writes_nothing(rt: HostRuntime) -> Result<(), Fail> {
     let store = scene(rt.alloc())?;
-    let mut device = store.close().map_err(|(refusal, _)| refusal)?;
+    let mut device = device_of(store)?;
     let mut before = copy_of(rt.alloc(), &mut device)?;
     let writes = device.writes();
     let mut store = opened(rt.alloc(), device, CACHE)?;
@@ -83,12 +83,12 @@ fn a_closing_without_a_change_writes_nothing(rt: HostRuntime) -> Result<(), Fail
     assert_eq!(rt; store.insert(b"a", 1, plane(FAR)), Err(Refusal::Duplicate));
     store.reopen()?;
     store.reopen()?;
-    let mut device = store.close().map_err(|(refusal, _)| refusal)?;
+    let mut device = device_of(store)?;
     assert_eq!(rt; device.writes(), writes);
     assert!(rt; are_same_blocks(&mut before, &mut device)?);
     let mut store = opened(rt.alloc(), device, CACHE)?;
     store.insert(b"a", 3, plane(FAR))?;
-    let device = store.close().map_err(|(refusal, _)| refusal)?;
+    let device = device_of(store)?;
     assert!(rt; device.writes() > writes);
     assert!(rt; device.blocks() > before.blocks());
     Ok(())
@@ -96,8 +96,8 @@ fn a_closing_without_a_change_writes_nothing(rt: HostRuntime) -> Result<(), Fail
 
 #[test]
 fn a_new_store_is_closed_with_no_layers(rt: HostRuntime) -> Result<(), Fail> {
-    let store = new_store(rt.alloc())?;
-    let device = store.close().map_err(|(refusal, _)| refusal)?;
+    let store = new_store(rt.alloc(), CACHE)?;
+    let device = device_of(store)?;
     assert_eq!(rt; device.blocks(), 3);
     let mut store = opened(rt.alloc(), device, CACHE)?;
     assert_eq!(rt; store.window(b"a", POINT).err(), Some(Refusal::NoLayer));

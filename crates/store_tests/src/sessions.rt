@@ -102,7 +102,7 @@ fn is_alike(
 fn sessions_answer_as_the_plain_list_does(rt: HostRuntime) -> Result<(), Fail> {
     for seed in 1..5 {
         let mut dice = Dice { state: seed };
-        let mut store = new_store(rt.alloc())?;
+        let mut store = new_store(rt.alloc(), CACHE)?;
         let mut table = ListTable::new(rt.alloc());
         for step in 0..2000 {
             match dice.below(64) {
