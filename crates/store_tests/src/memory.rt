@@ -3,8 +3,6 @@
 //! A store's lists and its device's blocks take their memory from two heaps, of which `due` is the one that refuses, or
 //! both from one.
 
-ghost use Rattle.std.specs.Prelude.{◌≡◌};
-
 use crate::changes::{
     Change, SCENE, change_store, change_table, point, scene_change, scene_table, set_scene,
     stands_for,
