@@ -26,7 +26,7 @@ pub record HoldsLayer (pages : PageMap) (r : Record) (e : List ℕ × Layer) : T
   pub count : length (entries e.1.objects) ≡ r.count
   pub objects : HoldsObjects pages r.dims r.directory (entries e.1.objects)
 
--- each layer is that of its record
+-- each layer is that of the record in its place
 abbrev pub HoldsLayers : PageMap → List Record → List (List ℕ × Layer) → Type 0
 HoldsLayers pages [] [] = Unit {0}
 HoldsLayers pages (r ∷ rs) (e ∷ es) = HoldsLayer pages r e × HoldsLayers pages rs es
@@ -74,7 +74,8 @@ pub record HasBrokenLayer (pages : PageMap) (next n : ℕ) : Type 0 where
 abbrev pub IsDamaged : PageMap → ℕ → ℕ → Type 0
 IsDamaged pages next n = ((n ≡ 2) × HasNoCatalog pages next) ⊎ HasBrokenLayer pages next n
 
--- opening answers this fault: that of the first check of gate and header that fails, or else a damaged page
+-- Opening may answer this fault: that of the first check of gate and header that fails, or, where none fails, any page
+-- that is damaged.
 abbrev pub Refuses : Blocks → Fault → Type 0
 Refuses blocks f = (failed_check blocks ≡ Some f)
     ⊎ ((failed_check blocks ≡ None) × (n : ℕ) × (f ≡ Damaged n) × IsDamaged (given_pages blocks (next_in blocks)) (next_in blocks) n)

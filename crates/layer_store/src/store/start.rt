@@ -27,9 +27,10 @@ fn is_cache(pages: u32) -> bool
 }
 
 /// Makes a store without layers on a device without blocks, which takes its memory from this allocator and caches so
-/// many pages (8 to 4096; not used yet). Its file is closed with the empty table.
+/// many pages (8 to 4096; not used yet). Its blocks are an image of the empty table.
 ///
-/// Refused by `BadCache`, before any call of the device, and else by `Memory` or `Device`. The device comes back.
+/// Refused by `BadCache`, before any call of the device. On an honest device any other refusal is `Memory` or `Device`.
+/// The device comes back.
 pub fn create_store<D: BlockDevice, A: Allocator + Copy>(
     alloc: A,
     device: D,
@@ -64,8 +65,11 @@ pub fn create_store<D: BlockDevice, A: Allocator + Copy>(
 /// (docs/FORMAT.md, "Opening"), and nothing is written. The store takes its memory from this allocator and caches so
 /// many pages (8 to 4096; not used yet).
 ///
+/// On an honest device an image of a table is opened as a store of that table, but for `Memory` and `Device`.
+///
 /// Refused by `BadCache`, before any call of the device. On an honest device any other refusal is `Memory`, `Device`,
-/// or that of the first check that fails. The device comes back, with its blocks as they were.
+/// that of the first check of gate and header that fails, or `Damaged` with a page that is. The device comes back, with
+/// its blocks as they were.
 pub fn open_store<D: BlockDevice, A: Allocator + Copy>(
     alloc: A,
     device: D,
@@ -88,7 +92,7 @@ pub fn open_store<D: BlockDevice, A: Allocator + Copy>(
     }
 }
 
-// Reads the table of a file that was opened.
+// Reads the table of a file that was opened, and makes the store of it. The blocks stay as they were.
 fn read_store<D: BlockDevice, A: Allocator + Copy>(
     alloc: A,
     file: PageFile<D>,
