@@ -5,8 +5,9 @@ ghost use Rattle.std.specs.FinMap.{empty};
 ghost use Rattle.page_file.specs.Pages.{given_pages, next_in};
 ghost use Rattle.plain_table.specs.Table.{Table};
 ghost use Rattle.plain_table.specs.declared.refusal.Refusal.TheVariants as refusal;
+ghost use Rattle.page_file.specs.declared.fault.Fault.{Fault};
 ghost use Rattle.page_file.specs.File.{blocks_of, device_of, given, next_of, IsHonest, IsPageMap};
-ghost use Rattle.layer_store.specs.Image.{Holds, IsDamaged, IsImage};
+ghost use Rattle.layer_store.specs.Image.{Holds, IsDamaged, IsImage, Refuses};
 ghost use Rattle.layer_store.specs.Standing.{StandsFor, blocks_in, device_in};
 ghost use Rattle.layer_store.specs.Starting.{GivesUp, IsRefusedFor, is_cache};
 
@@ -65,7 +66,8 @@ pub fn create_store<D: BlockDevice, A: Allocator + Copy>(
 /// (docs/FORMAT.md, "Opening"), and nothing is written. The store takes its memory from this allocator and caches so
 /// many pages (8 to 4096; not used yet).
 ///
-/// On an honest device an image of a table is opened as a store of that table, but for `Memory` and `Device`.
+/// On an honest device an image of a table is opened as a store of that table, but for `Memory` and `Device`; and blocks
+/// are opened only where no check refuses them.
 ///
 /// Refused by `BadCache`, before any call of the device. On an honest device any other refusal is `Memory`, `Device`,
 /// that of the first check of gate and header that fails, or `Damaged` with a page that is. The device comes back, with
@@ -77,6 +79,7 @@ pub fn open_store<D: BlockDevice, A: Allocator + Copy>(
 ) -> Result<Store<D, A>, (Refusal, D)>
     ensures bad_cache { is_cache cache ≡ false → result ≡ Err (refusal.BadCache, device) }
     ensures image { (t : Table) → D.honest device → IsImage (D.shown device) t → IfOk result (λ store. StandsFor store t) }
+    ensures opened { IfOk result (λ store. D.honest device → (f : Fault) → Refuses (D.shown device) f → ⊥) }
     ensures refused { is_cache cache ≡ true → IfErr result (λ e. D.honest device → GivesUp (D.faults device) (D.faults e.1) e.0 ⊎ IsRefusedFor (D.shown device) e.0) }
     ensures blocks { IfOk result (λ store. D.honest device → blocks_in store ≡ D.shown device) }
     ensures refused_blocks { IfErr result (λ e. D.honest device → D.shown e.1 ≡ D.shown device) }
@@ -98,6 +101,7 @@ fn read_store<D: BlockDevice, A: Allocator + Copy>(
     file: PageFile<D>,
 ) -> Result<Store<D, A>, (Refusal, D)>
     ensures stands { IsPageMap file → IfOk result (λ store. (t : Table) → Holds (given file) (next_of file) t → StandsFor store t) }
+    ensures opened { IfOk result (λ store. IsHonest file → (n : ℕ) → IsDamaged (given file) (next_of file) n → ⊥) }
     ensures refused { IsHonest file → IfErr result (λ e. GivesUp (D.faults (device_of file)) (D.faults e.1) e.0
         ⊎ ((n : ℕ) × (e.0 ≡ refusal.Damaged n) × IsDamaged (given file) (next_of file) n)) }
     ensures later { IfErr result (λ e. D.faults (device_of file) ≤ D.faults e.1) }
