@@ -16,6 +16,11 @@ pub fn an_image_is_not_refused()
     ensures { (blocks : Blocks) (t : Table) (f : Fault) → IsImage blocks t → Refuses blocks f → ⊥ }
 {}
 
+/// Opening refuses blocks in one way, so it is known which fault is answered.
+pub fn blocks_are_refused_in_one_way()
+    ensures { (blocks : Blocks) (f g : Fault) → Refuses blocks f → Refuses blocks g → f ≡ g }
+{}
+
 /// A table that pages hold stays where those pages stay, and more may be given out.
 #[tactic(auto, using(crate::specs::Laws::a_held_table_stays))]
 pub fn a_held_table_stays()

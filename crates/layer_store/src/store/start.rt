@@ -69,9 +69,8 @@ pub fn create_store<D: BlockDevice, A: Allocator + Copy>(
 /// On an honest device an image of a table is opened as a store of that table, but for `Memory` and `Device`; and blocks
 /// are opened only where no check refuses them.
 ///
-/// Refused by `BadCache`, before any call of the device. On an honest device any other refusal is `Memory`, `Device`,
-/// that of the first check of gate and header that fails, or `Damaged` with a page that is. The device comes back, with
-/// its blocks as they were.
+/// Refused by `BadCache`, before any call of the device. On an honest device any other refusal is `Memory`, `Device`, or
+/// that of the first check that fails. The device comes back, with its blocks as they were.
 pub fn open_store<D: BlockDevice, A: Allocator + Copy>(
     alloc: A,
     device: D,
