@@ -8,6 +8,8 @@ mod image;
 mod kept;
 pub mod laws;
 mod store;
+#[cfg(test)]
+mod tests;
 
 pub use plain_table::{AnyBox, RawBox, RawPoint, Refusal};
 pub use store::{Store, create_store, open_store};
