@@ -16,6 +16,7 @@ pub record Record : Type 0 where
   pub directory : ℕ
   pub count : ℕ
 
+-- the record that a `LayerRecord` is
 abbrev pub record_of : LayerRecord → Record
 record_of layer = record {
   name = layer.name.items;
@@ -27,6 +28,7 @@ record_of layer = record {
   count = layer.count;
 }
 
+-- the records of a list of them
 abbrev pub records_of : ArrayVec LayerRecord → List Record
 records_of layers = map record_of layers.items
 
@@ -82,6 +84,7 @@ pub record HasNumbers (at : ℕ) (layer : Record) (page : List ℕ) : Type 0 whe
   pub directory_is : number_at 4 (at + 32) page ≡ layer.directory
   pub count_is : number_at 8 (at + 36) page ≡ layer.count
 
+-- the record in a place
 abbrev pub record_at : List ℕ → ℕ → Record
 record_at page place = record_from (record_place place) page
 
@@ -98,6 +101,7 @@ pub record Spells (page : List ℕ) (layers : List Record) : Type 0 where
   pub named : All HasName layers
   pub records : layers ≡ first_records page (number_at 1 1 page)
 
+-- whether the name has 1 to 24 bytes
 abbrev pub has_name : Record → Bool
 has_name layer = nat_le 1 (length layer.name) && nat_le (length layer.name) 24
 

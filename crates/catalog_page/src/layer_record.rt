@@ -12,11 +12,11 @@ pub struct LayerRecord {
     pub dims: u8,
     /// How many entries a node has at most.
     pub fanout: u8,
-    /// The level of the root.
+    /// The level of the root of its tree.
     pub level: u8,
-    /// The page of the root.
+    /// The page of the root of its tree.
     pub root: u32,
-    /// The page of the identifier table's directory.
+    /// The page of the identifier table's directory. Until layers are trees: the first page of its chain, 0 for none.
     pub directory: u32,
     /// How many objects it has.
     pub count: u64,

@@ -1,4 +1,4 @@
-//! Tests against bytes from outside, of each reason to refuse a page, and of a full catalog.
+//! Tests against bytes written out by hand, of each reason to refuse a page, and of a full catalog.
 
 use crate::{LayerRecord, decode, encode};
 use arrayvec::ArrayVec;

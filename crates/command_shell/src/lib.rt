@@ -1,7 +1,7 @@
 //! The command shell of the store: command lines in, replies out (docs/COMMANDS.md).
 //!
 //! `run` answers the lines of a reader, and its contract is the theorem of a whole run. `parse_line` and
-//! `write_reply` are its two ends, a line's meaning and a reply's text.
+//! `write_reply` are its two ends: a line's meaning and a reply's text.
 #![tactic(auto)]
 
 mod lines;

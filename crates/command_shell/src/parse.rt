@@ -1,4 +1,4 @@
-//! What a line asks.
+//! Lines, and what each of them asks.
 
 ghost use Rattle.std.specs.Prelude.{◌≡◌, ◌<◌, length, Some, IfSome, IfNone};
 ghost use Rattle.command_shell.specs.Meanings.{meaning_of, create_of, insert_of, window_of, reopen_of, command_of, asked};
@@ -51,7 +51,7 @@ pub enum Line<'a> {
     Reopen,
 }
 
-/// Reads a line, given without its newline. It takes no memory.
+/// The meaning of a line, given without its newline. It takes no memory.
 pub fn parse_line(line: &[u8]) -> Line<'_>
     ensures { said result ≡ meaning_of line.now }
 {
@@ -88,6 +88,7 @@ fn command<'a>(name: &[u8], words: Words<'a>) -> Option<Line<'a>>
     }
 }
 
+// `LAYER NUM NUM`
 fn create(mut words: Words<'_>) -> Option<Line<'_>>
     ensures { said_or_bad result ≡ asked (create_of words.entry) }
 {
@@ -105,6 +106,7 @@ fn create(mut words: Words<'_>) -> Option<Line<'_>>
     }
 }
 
+// `LAYER NUM BOX`
 fn insert(mut words: Words<'_>) -> Option<Line<'_>>
     ensures { said_or_bad result ≡ asked (insert_of words.entry) }
 {
@@ -114,6 +116,7 @@ fn insert(mut words: Words<'_>) -> Option<Line<'_>>
     Some(Line::Insert { layer, id, bounds })
 }
 
+// `LAYER BOX`
 fn window(mut words: Words<'_>) -> Option<Line<'_>>
     ensures { said_or_bad result ≡ asked (window_of words.entry) }
 {
@@ -122,6 +125,7 @@ fn window(mut words: Words<'_>) -> Option<Line<'_>>
     Some(Line::Window { layer, bounds })
 }
 
+// No further word.
 fn reopen(mut words: Words<'_>) -> Option<Line<'_>>
     ensures { said_or_bad result ≡ asked (reopen_of words.entry) }
 {

@@ -1,4 +1,4 @@
-//! What is written for a reply.
+//! Replies, and the texts that are written for them.
 #![tactic(auto, using(crate::proofs::WriteLemmas::front_more, crate::proofs::WriteLemmas::front_then, crate::proofs::WriteLemmas::writes_then, crate::proofs::WriteLemmas::appends_more))]
 
 ghost use Rattle.std.specs.Prelude.{◌++◌, length, map, flat_map};
@@ -35,6 +35,7 @@ pub fn write_reply<A: Allocator, W: Write>(reply: &Reply<A>, writer: &mut W) -> 
     }
 }
 
+// Writes the line of a refusal.
 fn write_refusal<W: Write>(writer: &mut W, refusal: Refusal) -> io::Result<()>
     ensures { Writes (W.contents writer.old) (W.contents writer.new) result (refusal_text refusal) }
 {
@@ -52,6 +53,7 @@ fn write_refusal<W: Write>(writer: &mut W, refusal: Refusal) -> io::Result<()>
     line.write(writer)
 }
 
+// Writes how many rows there are, and then the rows.
 fn write_rows<W: Write>(writer: &mut W, rows: &[(u64, AnyBox)]) -> io::Result<()>
     ensures { Writes (W.contents writer.old) (W.contents writer.new) result
         (count_text (length rows.now) ++ flat_map row_text (map row_of rows.now)) }
@@ -60,6 +62,7 @@ fn write_rows<W: Write>(writer: &mut W, rows: &[(u64, AnyBox)]) -> io::Result<()
     write_each(writer, rows)
 }
 
+// Writes the line that says how many rows follow.
 fn write_count<W: Write>(writer: &mut W, count: usize) -> io::Result<()>
     ensures { Writes (W.contents writer.old) (W.contents writer.new) result (count_text count) }
 {
@@ -69,6 +72,7 @@ fn write_count<W: Write>(writer: &mut W, count: usize) -> io::Result<()>
     line.write(writer)
 }
 
+// Writes the rows.
 fn write_each<W: Write>(writer: &mut W, rows: &[(u64, AnyBox)]) -> io::Result<()>
     ensures { Writes (W.contents writer.old) (W.contents writer.new) result
         (flat_map (λ row. row_text (row_of row)) rows.now) }
@@ -79,6 +83,7 @@ fn write_each<W: Write>(writer: &mut W, rows: &[(u64, AnyBox)]) -> io::Result<()
     Ok(())
 }
 
+// Writes the row of an object.
 fn write_row<W: Write>(writer: &mut W, row: &(u64, AnyBox)) -> io::Result<()>
     ensures { Writes (W.contents writer.old) (W.contents writer.new) result (row_text (row_of row.now)) }
 {

@@ -1,4 +1,4 @@
-//! The session of a reader's lines with a store.
+//! The session of a reader's lines with a store, and how it ends.
 
 ghost use Rattle.std.specs.Prelude.{◌≡◌, ◌<◌, Some, None, MatchResult, IfNone, if◌then◌else◌};
 ghost use Rattle.plain_table.specs.Answers.{done_answer, boxes_answer};
@@ -32,6 +32,11 @@ pub enum RunEnd {
 
 /// Answers the lines of a reader, each before the next one is looked for, until the text ends or a read or a write
 /// fails.
+///
+/// Whatever table and state the store stands for, the commands of the text that was read are a lawful session from
+/// there, the store stands for its end, and what was written are the texts of its answers; [`RunEnd`] says how much of
+/// the text and of the last answer's text that is. Where reader or writer does not make its bytes known, nothing is
+/// said of them.
 ///
 /// An interrupted read is a fault like any other. The writer is not flushed. Beside what the store takes, it takes no
 /// memory.
@@ -93,7 +98,7 @@ fn end_after(written: io::Result<()>, ended: bool) -> Option<RunEnd>
     }
 }
 
-// Answers a line.
+// Answers a line: makes the call of the store that it asks for, and writes the reply, if it has one.
 fn answer<D: BlockDevice, A: Allocator + Copy, W: Write>(
     store: &mut Store<D, A>,
     line: Line<'_>,
@@ -139,7 +144,7 @@ fn change_reply<A: Allocator>(outcome: Result<(), Refusal>) -> Reply<A>
     }
 }
 
-// The reply that the outcome of a range query is.
+// The reply that the outcome of a window is.
 fn window_reply<A: Allocator>(outcome: Result<Vec<(u64, AnyBox), A>, Refusal>) -> Reply<A>
     ensures { reply_answer result ≡ boxes_answer outcome }
 {

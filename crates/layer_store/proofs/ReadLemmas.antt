@@ -167,13 +167,17 @@ module _ {A : Type 0} where
         (subst (λ (xs : List LayerRecord). HoldsLayers pages (map record_of xs) (map entry_of ls)) (take_all i rs le) h);
   }
 
--- a layer that is broken damages a page
-pub broken_is_damaged : (pages : PageMap) (next i n : ℕ) (rs : List LayerRecord) (r : LayerRecord) → catalog_in pages ≡ Some (map record_of rs) → is_catalog next (map record_of rs) ≡ true → i < length rs → r ≡ get_or rs i r → IsBroken pages (record_of r) n → IsDamaged pages next n
-broken_is_damaged pages next i n rs r spelled good lt is broken = inr (record {
+-- the first layer that is broken damages a page
+pub broken_is_damaged : (pages : PageMap) (next i n : ℕ) (rs : List LayerRecord) (r : LayerRecord) (before : List (List ℕ × Layer)) → catalog_in pages ≡ Some (map record_of rs) → is_catalog next (map record_of rs) ≡ true → HoldsLayers pages (map record_of (take i rs)) before → i < length rs → r ≡ get_or rs i r → IsBroken pages (record_of r) n → IsDamaged pages next n
+broken_is_damaged pages next i n rs r before spelled good whole lt is broken = inr (record {
   records = map record_of rs;
   spelled = spelled;
   good = good;
+  place = i;
+  before = before;
+  whole = subst (λ (xs : List Record). HoldsLayers pages xs before) (sym (take-map record_of i rs)) whole;
   layer = record_of r;
-  named = (i, omega (arith, lt, length-map rs record_of), get_or-map record_of rs i r (record_of r) lt ∙ ap record_of (sym is));
+  within = omega (arith, lt, length-map rs record_of);
+  named = get_or-map record_of rs i r (record_of r) lt ∙ ap record_of (sym is);
   broken = broken;
 })

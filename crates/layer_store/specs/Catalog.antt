@@ -1,4 +1,4 @@
--- Which catalogs are good. Our rule, docs/FORMAT.md, "Catalog".
+-- Which catalogs are good. Our rule, docs/FORMAT.md, "Opening".
 use Rattle.std.specs.Prelude.{ℕ, Bool, ◌&&◌, ◌||◌, ◌==◌, nat_le, nat_lt, List, map, sum_by}
 use Rattle.std.specs.List.{list_all}
 use Rattle.std.specs.Cmp.Lexicographic.{slice_cmp}
@@ -31,6 +31,6 @@ names_ascend records = is_sorted (slice_cmp nat_cmp) (by_name records)
 abbrev pub objects_named : List Record → ℕ
 objects_named records = sum_by (λ r. r.count) records
 
--- the catalog of a file of which `next` is one more than the greatest page number given out
+-- a good catalog of a file of which `next` is one more than the greatest page number given out
 abbrev pub is_catalog : ℕ → List Record → Bool
 is_catalog next records = list_all (is_layer_record next) records && (names_ascend records && nat_le (objects_named records) most_objects)

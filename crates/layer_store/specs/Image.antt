@@ -1,7 +1,6 @@
 -- What the pages of a file hold of a table, which blocks are an image of one, and why opening refuses others.
 -- The directory of a layer is the first page of the chain of its objects, until layers are trees. Our rule, docs/FORMAT.md.
-use Rattle.std.specs.Prelude.{ℕ, ◌≡◌, ◌⊎◌, IsTrue, true, false, List, [], ◌∷◌, length, Option, Some, None, option_and_then}
-use Rattle.std.specs.List.{Contains}
+use Rattle.std.specs.Prelude.{ℕ, ◌≡◌, ◌⊎◌, IsTrue, true, false, ◌<◌, List, [], ◌∷◌, length, take, slice_index_or, Option, Some, None, option_and_then}
 use Rattle.std.specs.FinMap.{entries}
 use Rattle.block_device.specs.Device.{Blocks}
 use Rattle.box_math.specs.Bounds.{Bounds}
@@ -26,7 +25,7 @@ pub record HoldsLayer (pages : PageMap) (r : Record) (e : List ℕ × Layer) : T
   pub count : length (entries e.1.objects) ≡ r.count
   pub objects : HoldsObjects pages r.dims r.directory (entries e.1.objects)
 
--- each layer is that of its record
+-- each layer is that of the record in its place
 abbrev pub HoldsLayers : PageMap → List Record → List (List ℕ × Layer) → Type 0
 HoldsLayers pages [] [] = Unit {0}
 HoldsLayers pages (r ∷ rs) (e ∷ es) = HoldsLayer pages r e × HoldsLayers pages rs es
@@ -61,20 +60,24 @@ Miscounts pages r = (objects : List (ℕ × Bounds)) × HoldsObjects pages r.dim
 abbrev pub IsBroken : PageMap → Record → ℕ → Type 0
 IsBroken pages r n = BreaksAt pages r.dims r.directory n ⊎ ((n ≡ 2) × Miscounts pages r)
 
--- some layer of a good catalog is broken
+-- the first layer of a good catalog that is broken: the pages hold those before it
 pub record HasBrokenLayer (pages : PageMap) (next n : ℕ) : Type 0 where
   pub records : List Record
   pub spelled : catalog_in pages ≡ Some records
   pub good : IsTrue (is_catalog next records)
+  pub place : ℕ
+  pub before : List (List ℕ × Layer)
+  pub whole : HoldsLayers pages (take place records) before
   pub layer : Record
-  pub named : Contains records layer
+  pub within : place < length records
+  pub named : slice_index_or records place layer ≡ layer
   pub broken : IsBroken pages layer n
 
 -- page n is not what it must be
 abbrev pub IsDamaged : PageMap → ℕ → ℕ → Type 0
 IsDamaged pages next n = ((n ≡ 2) × HasNoCatalog pages next) ⊎ HasBrokenLayer pages next n
 
--- opening answers this fault: that of the first check of gate and header that fails, or else a damaged page
+-- opening answers this fault: that of the first check of gate and header that fails, or else the page that is damaged
 abbrev pub Refuses : Blocks → Fault → Type 0
 Refuses blocks f = (failed_check blocks ≡ Some f)
     ⊎ ((failed_check blocks ≡ None) × (n : ℕ) × (f ≡ Damaged n) × IsDamaged (given_pages blocks (next_in blocks)) (next_in blocks) n)

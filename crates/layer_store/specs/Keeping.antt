@@ -8,7 +8,7 @@ use Rattle.layer_store.specs.declared.kept.Kept.{Kept}
 abbrev pub HoldsItsTable : {D A : Type 0} {m : _} → Kept D A m → Type 0
 HoldsItsTable kept = Holds (pages kept.file) (next_of kept.file) kept.table
 
--- its map of pages is sound, and holds its table where that is written
+-- its device is honest and its map of pages sound, and the pages hold its table where that was written
 pub record IsSound {D A : Type 0} {m : _} (kept : Kept D A m) : Type 0 where
   pub map : IsPageMap kept.file
   pub held : kept.written ≡ true → HoldsItsTable kept

@@ -1,16 +1,18 @@
 -- What follows from pages that hold a table, and from images.
-use Rattle.std.proofs.Common.{◌≡◌, ◌∙◌, ℕ, zero, suc, ◌<◌, ◌≤◌, List, [], ◌∷◌, length, get_or, Bool, true, false, ◌&&◌, ◌||◌, ◌==◌, nat_le, nat_lt, Option, Some, None, refl, sym, ap, arith, subst, inl, inr}
+use Rattle.std.proofs.Common.{◌≡◌, ◌∙◌, ℕ, zero, suc, ◌<◌, ◌≤◌, List, [], ◌∷◌, length, take, get_or, Bool, true, false, ◌&&◌, ◌||◌, ◌==◌, nat_le, nat_lt, Option, Some, None, refl, sym, ap, arith, subst, inl, inr}
 use Rattle.std.specs.Prelude.{IsTrue, option_and_then}
 use Rattle.std.specs.List.{Contains, list_all}
 use Rattle.std.specs.FinMap.{entries, same_entries_map}
 use Rattle.std.proofs.lemmas.Bool.Decides.{nat_tests}
+use Rattle.std.proofs.lemmas.List.{get_or-take, get_or_default, length-take-le}
 use Rattle.block_device.specs.Device.{Blocks}
 use Rattle.box_math.specs.Bounds.{Bounds}
 use Rattle.catalog_page.specs.Layout.{Record, records_at}
 use Rattle.object_chain.specs.Chain.{PageMap, HoldsObjects, KeepsPages}
-use Rattle.object_chain.specs.Laws.{a_chain_holds_one_list, a_chain_stays, a_whole_chain_breaks_nowhere}
+use Rattle.object_chain.specs.Laws.{a_chain_breaks_at_one_page, a_chain_holds_one_list, a_chain_stays, a_whole_chain_breaks_nowhere}
 use Rattle.page_file.specs.Opening.{failed_check}
 use Rattle.page_file.specs.declared.fault.Fault.{Fault}
+use Rattle.page_file.specs.declared.fault.Fault.TheVariants.{Damaged}
 use Rattle.plain_table.specs.Table.{Table, Layer, is_layer_name, is_dims, is_fanout, most_objects}
 use Rattle.layer_store.specs.Catalog.{is_catalog, is_layer_record, is_page_or_none, names_ascend, objects_named}
 use Rattle.layer_store.specs.Image.{HasBrokenLayer, HasNoCatalog, Holds, HoldsLayer, HoldsLayers, IsBroken, IsDamaged, IsImage, Refuses, catalog_in}
@@ -66,7 +68,7 @@ pub held_pages_are_not_damaged : (pages : PageMap) (next n : ℕ) (t : Table) �
 held_pages_are_not_damaged pages next n t h (inl none) = true_is_not_false (sym h.good ∙ none.1 h.records h.spelled)
 held_pages_are_not_damaged pages next n t h (inr b) =
     let same : h.records ≡ b.records = same_some (sym h.spelled ∙ b.spelled) in
-    let e = held_layer pages b.records (entries t) b.layer (subst (λ (rs : List Record). HoldsLayers pages rs (entries t)) same h.layers) b.named in
+    let e = held_layer pages b.records (entries t) b.layer (subst (λ (rs : List Record). HoldsLayers pages rs (entries t)) same h.layers) (b.place, b.within, b.named) in
     case e.0 e.1 b.broken
   where
     case : (e : List ℕ × Layer) → HoldsLayer pages b.layer e → IsBroken pages b.layer n → ⊥
@@ -77,6 +79,68 @@ held_pages_are_not_damaged pages next n t h (inr b) =
 pub an_image_is_not_refused : (blocks : Blocks) (t : Table) (f : Fault) → IsImage blocks t → Refuses blocks f → ⊥
 an_image_is_not_refused blocks t f h (inl e) = some_is_not_none (sym h.passes ∙ e)
 an_image_is_not_refused blocks t f h (inr d) = held_pages_are_not_damaged _ _ d.1 t h.holds d.3
+
+-- ---- opening refuses in one way
+
+held_is_not_broken : (pages : PageMap) (r : Record) (e : List ℕ × Layer) (n : ℕ) → HoldsLayer pages r e → IsBroken pages r n → ⊥
+held_is_not_broken pages r e n h (inl at) = a_whole_chain_breaks_nowhere pages r.dims r.directory n (entries e.1.objects) h.objects at
+held_is_not_broken pages r e n h (inr at) = at.1.2 (ap length (a_chain_holds_one_list pages r.dims r.directory at.1.0 (entries e.1.objects) at.1.1 h.objects) ∙ h.count)
+
+broken_once : (pages : PageMap) (r : Record) (n m : ℕ) → IsBroken pages r n → IsBroken pages r m → n ≡ m
+broken_once pages r n m (inl a) (inl b) = a_chain_breaks_at_one_page pages r.dims r.directory n m a b
+broken_once pages r n m (inl a) (inr b) = absurd (a_whole_chain_breaks_nowhere pages r.dims r.directory n b.1.0 b.1.1 a)
+broken_once pages r n m (inr a) (inl b) = absurd (a_whole_chain_breaks_nowhere pages r.dims r.directory m a.1.0 a.1.1 b)
+broken_once pages r n m (inr a) (inr b) = a.0 ∙ sym b.0
+
+-- a layer before the first broken one is not broken
+not_earlier : (pages : PageMap) (rs : List Record) (before : List (List ℕ × Layer)) (i j n : ℕ) (r : Record) → HoldsLayers pages (take j rs) before → i < j → j < length rs → get_or rs i r ≡ r → IsBroken pages r n → ⊥
+not_earlier pages rs before i j n r h lt within is broken =
+    let size : length (take j rs) ≡ j = length-take-le j rs (omega (arith, within)) in
+    let e = held_layer pages (take j rs) before r h (i, omega (arith, lt, size), get_or-take j rs i r lt ∙ is) in
+    held_is_not_broken pages r e.0 n e.1 broken
+
+data Order (i j : ℕ) : Type 0 where
+  below : i < j → Order i j
+  same : i ≡ j → Order i j
+  above : j < i → Order i j
+
+order : (i j : ℕ) → Order i j
+order zero zero = same refl
+order zero (suc j) = below (omega arith)
+order (suc i) zero = above (omega arith)
+order (suc i) (suc j) = next (order i j)
+  where
+    next : Order i j → Order (suc i) (suc j)
+    next (below l) = below (omega (arith, l))
+    next (same e) = same (ap suc e)
+    next (above l) = above (omega (arith, l))
+
+-- one page is damaged at most
+pub one_page_is_damaged : (pages : PageMap) (next n m : ℕ) → IsDamaged pages next n → IsDamaged pages next m → n ≡ m
+one_page_is_damaged pages next n m (inl a) (inl b) = a.0 ∙ sym b.0
+one_page_is_damaged pages next n m (inl a) (inr b) = absurd (true_is_not_false (sym b.good ∙ a.1 b.records b.spelled))
+one_page_is_damaged pages next n m (inr a) (inl b) = absurd (true_is_not_false (sym a.good ∙ b.1 a.records a.spelled))
+one_page_is_damaged pages next n m (inr a) (inr b) = case (order a.place b.place)
+  where
+    one : a.records ≡ b.records
+    one = same_some (sym a.spelled ∙ b.spelled)
+
+    there : get_or b.records a.place a.layer ≡ a.layer
+    there = ap (λ (rs : List Record). get_or rs a.place a.layer) (sym one) ∙ a.named
+
+    case : Order a.place b.place → n ≡ m
+    case (below l) = absurd (not_earlier pages b.records b.before a.place b.place n a.layer b.whole l b.within there a.broken)
+    case (above l) = absurd (not_earlier pages a.records a.before b.place a.place m b.layer a.whole l a.within (ap (λ (rs : List Record). get_or rs b.place b.layer) one ∙ b.named) b.broken)
+    case (same e) =
+        let layer : a.layer ≡ b.layer = sym there ∙ ap (λ (i : ℕ). get_or b.records i a.layer) e ∙ get_or_default b.records b.place a.layer b.layer b.within ∙ b.named in
+        broken_once pages b.layer n m (subst (λ (r : Record). IsBroken pages r n) layer a.broken) b.broken
+
+-- opening refuses blocks in one way
+pub blocks_are_refused_in_one_way : (blocks : Blocks) (f g : Fault) → Refuses blocks f → Refuses blocks g → f ≡ g
+blocks_are_refused_in_one_way blocks f g (inl a) (inl b) = same_some (sym a ∙ b)
+blocks_are_refused_in_one_way blocks f g (inl a) (inr b) = absurd (some_is_not_none (sym b.0 ∙ a))
+blocks_are_refused_in_one_way blocks f g (inr a) (inl b) = absurd (some_is_not_none (sym a.0 ∙ b))
+blocks_are_refused_in_one_way blocks f g (inr a) (inr b) = a.2 ∙ ap Damaged (one_page_is_damaged _ _ a.1 b.1 a.3 b.3) ∙ sym b.2
 
 -- ---- tables stay where their pages stay
 

@@ -1,4 +1,4 @@
--- What a store stands for, and what it begins and ends with.
+-- What a store stands for, and the device and blocks that it has.
 use Rattle.std.specs.Prelude.{ℕ, ◌≡◌, if◌then◌else◌, true, Result, IsOk}
 use Rattle.block_device.specs.Device.{Blocks}
 use Rattle.page_file.specs.File.{blocks_of, device_of, next_of}

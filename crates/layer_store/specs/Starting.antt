@@ -1,4 +1,5 @@
--- How a store begins and ends. Our rule, docs/COMMANDS.md.
+-- What refuses the making, the opening and the closing of a store. Our rule, docs/COMMANDS.md and docs/FORMAT.md,
+-- "Opening".
 use Rattle.std.specs.Prelude.{ℕ, ◌≡◌, ◌⊎◌, Bool, ◌&&◌, nat_le}
 use Rattle.block_device.specs.Device.{Blocks, HasRisen}
 use Rattle.page_file.specs.declared.fault.Fault.{Fault}

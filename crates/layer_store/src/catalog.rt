@@ -1,4 +1,4 @@
-//! The checks of the catalog.
+//! The checks of the catalog, which opening makes behind those of gate and header (docs/FORMAT.md, "Opening").
 
 ghost use Rattle.std.specs.Prelude.{◌≡◌, ◌≤◌, map as each, nat_le, length};
 ghost use Rattle.std.specs.Cmp.Lexicographic.{slice_cmp};
@@ -25,12 +25,14 @@ pub fn is_catalog(records: &[LayerRecord], next: u32) -> bool
     names_ascend(records) && have_room(records)
 }
 
+// Whether each record is that of a layer that may be.
 fn are_layer_records(records: &[LayerRecord], next: u32) -> bool
     ensures { result ≡ list_all (λ (layer : Layer). catalog.is_layer_record next (record_of layer)) records.now }
 {
     records.iter().all(|record| is_layer_record(record, next))
 }
 
+// Whether the record is that of a layer that may be.
 fn is_layer_record(layer: &LayerRecord, next: u32) -> bool
     ensures { result ≡ catalog.is_layer_record next (record_of layer.now) }
 {
@@ -41,12 +43,14 @@ fn is_layer_record(layer: &LayerRecord, next: u32) -> bool
         && is_page_or_none(next, layer.directory)
 }
 
+// Whether the record names no root, as all do until layers are trees.
 fn has_no_tree(layer: &LayerRecord) -> bool
     ensures { result ≡ catalog.has_no_tree (record_of layer.now) }
 {
     layer.level == 0 && layer.root == 0
 }
 
+// Whether this is 0, or the number of a page given out behind the catalog.
 fn is_page_or_none(next: u32, n: u32) -> bool
     ensures { result ≡ catalog.is_page_or_none next n }
 {
@@ -64,12 +68,14 @@ fn names_ascend(records: &[LayerRecord]) -> bool
     is_first && names_ascend(rest)
 }
 
+// Whether the first name is below those of all the records.
 fn is_below_all(first: &LayerRecord, records: &[LayerRecord]) -> bool
     ensures { result ≡ list_all (λ (layer : Layer). is_lt (slice_cmp nat_cmp first.now.name.items layer.name.items)) records.now }
 {
     records.iter().all(|record| is_below(first, record))
 }
 
+// Whether the first name is below the second.
 fn is_below(first: &LayerRecord, second: &LayerRecord) -> bool
     ensures { result ≡ is_lt (slice_cmp nat_cmp first.now.name.items second.now.name.items) }
 {

@@ -6,7 +6,7 @@ ghost use Rattle.layer_store.specs.Faults as faults;
 use page_file::Fault;
 use plain_table::Refusal;
 
-/// The refusal of the same name.
+/// The refusal that this fault of a file is: the one of the same name.
 pub fn refusal_of(fault: Fault) -> Refusal
     ensures { result ≡ faults.refusal_of fault }
 {

@@ -32,7 +32,7 @@ pub struct Kept<D: BlockDevice, A: Allocator> {
 }
 
 impl<D: BlockDevice, A: Allocator + Copy> Kept<D, A> {
-    /// Makes an empty layer in the table.
+    /// Makes an empty layer in the table, as `ListTable::create` does. The file stays as it is.
     pub fn create(&mut self, layer: &[u8], dims: u64, fanout: u64) -> Result<(), Refusal>
         ensures table { AnsweredInMemory self.old.table (Create layer.now dims fanout) (done_answer result) self.new.table }
         ensures file { self.new.file ≡ self.old.file }
@@ -43,7 +43,7 @@ impl<D: BlockDevice, A: Allocator + Copy> Kept<D, A> {
         Ok(())
     }
 
-    /// Adds an object to a layer of the table.
+    /// Adds an object to a layer of the table, as `ListTable::insert` does. The file stays as it is.
     pub fn insert(&mut self, layer: &[u8], id: u64, bounds: RawBox) -> Result<(), Refusal>
         ensures table { AnsweredInMemory self.old.table (Insert layer.now id bounds) (done_answer result) self.new.table }
         ensures file { self.new.file ≡ self.old.file }
@@ -76,6 +76,9 @@ impl<D: BlockDevice, A: Allocator + Copy> Kept<D, A> {
     }
 
     /// Writes the table into the pages, if they do not hold it, and shuts the gate behind them.
+    ///
+    /// On an honest device with a sound map it is refused by `Memory` or `Device`, or by `NoPages` where all page
+    /// numbers were given out. The table in memory stays, and the map stays sound.
     pub fn settle(&mut self) -> Result<(), Fault>
         ensures shut { OnOk result (gate_of self.new.file ≡ Shut) }
         ensures written { OnOk result (self.new.written ≡ true) }
@@ -93,6 +96,9 @@ impl<D: BlockDevice, A: Allocator + Copy> Kept<D, A> {
     }
 
     /// Reads gate, header and table again from a file whose gate is shut.
+    ///
+    /// On an honest device with a sound map that holds the table, the table and the blocks are then what they were, and
+    /// a refusal is `Memory` or `Device`.
     pub fn read_again(&mut self) -> Result<(), Fault>
         requires { gate_of self.old.file ≡ Shut }
         ensures table { IsPageMap self.old.file → HoldsItsTable self.old → self.new.table ≡ self.old.table }
@@ -108,7 +114,11 @@ impl<D: BlockDevice, A: Allocator + Copy> Kept<D, A> {
         Ok(())
     }
 
-    /// Writes the table into the pages, if they do not hold it, shuts the gate behind them, and hands the device back.
+    /// Writes the table into the pages, if they do not hold it, shuts the gate behind them, and hands the device back:
+    /// of a sound store its blocks are an image of the table.
+    ///
+    /// On an honest device with a sound map a refusal is `Memory`, `Device` or `NoPages`. The device comes back with
+    /// it.
     pub fn close(self) -> Result<D, (Fault, D)>
         ensures closed { IsSound self → IfOk result (λ device. IsImage (D.shown device) self.table) }
         ensures faults { IsPageMap self.file → IfErr result (λ e. IsOfDevice e.0 ⊎ (e.0 ≡ fault.NoPages)) }

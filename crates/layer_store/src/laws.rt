@@ -1,4 +1,4 @@
-//! What follows from the definitions of pages and images, each law the contract of a function that does nothing.
+//! What follows from the definitions of pages and images: each law is the contract of a function that does nothing.
 ghost use Rattle.std.specs.Prelude.{◌≡◌, ◌≤◌, ℕ};
 ghost use Rattle.block_device.specs.Device.{Blocks};
 ghost use Rattle.object_chain.specs.Chain.{KeepsPages, PageMap};
@@ -11,9 +11,14 @@ pub fn an_image_is_of_one_table()
     ensures { (blocks : Blocks) (t u : Table) → IsImage blocks t → IsImage blocks u → t ≡ u }
 {}
 
-/// An image is refused by no check of opening.
+/// No check of opening refuses an image.
 pub fn an_image_is_not_refused()
     ensures { (blocks : Blocks) (t : Table) (f : Fault) → IsImage blocks t → Refuses blocks f → ⊥ }
+{}
+
+/// Opening refuses blocks in one way, so it is known which fault is answered.
+pub fn blocks_are_refused_in_one_way()
+    ensures { (blocks : Blocks) (f g : Fault) → Refuses blocks f → Refuses blocks g → f ≡ g }
 {}
 
 /// A table that pages hold stays where those pages stay, and more may be given out.

@@ -1,4 +1,4 @@
-//! The store, and its commands.
+//! The store: its commands, and its closing.
 
 ghost use Rattle.std.specs.Prelude.{◌≡◌, ◌⊎◌, ℕ, Ok, Err, IsOk, IfOk, IfErr, true, false, length};
 ghost use Rattle.block_device.specs.Device.{HasRisen};
@@ -80,10 +80,11 @@ impl<D: BlockDevice, A: Allocator + Copy> Store<D, A> {
         self.kept.table.window(layer, bounds)
     }
 
-    /// Closes the table into the file, and reads it from there again.
+    /// Closes the table into the file, and reads it from there again. The blocks are then an image of the table.
     ///
     /// Refused while closing it answers `Memory`, `Device` or `NoPages`, and the store goes on. Refused afterwards it
-    /// answers `StoreFailed`, the store has failed, and the file is closed with its table.
+    /// answers `StoreFailed` with the number of the fault, the store has failed, and the blocks are an image of its
+    /// table.
     pub fn reopen(&mut self) -> Result<(), Refusal>
         ensures step { Takes Stands self.old self.new (λ s s'. LawfulStep s (Asks Reopen) (done_answer result) s') }
         ensures closed { (t : Table) → StandsFor self.old t → IsOk result ⊎ HasFailed self.new → IsImage (blocks_in self.new) t }
@@ -105,8 +106,9 @@ impl<D: BlockDevice, A: Allocator + Copy> Store<D, A> {
 
     /// Closes the table into the file, and hands the device back.
     ///
-    /// Refused it answers `Memory`, `Device` or `NoPages`, and the device comes back with its gate open or unsure. A
-    /// store that failed answers `StoreFailed(19)`, and the device comes back as it is.
+    /// Closed, its blocks are an image of the table. Refused it answers `Memory`, `Device` or `NoPages`, and the device
+    /// comes back; of its blocks nothing is promised then. A store that failed answers `StoreFailed(19)`, and the
+    /// device comes back as it is.
     pub fn close(self) -> Result<D, (Refusal, D)>
         ensures closed { (t : Table) → StandsFor self t → IfOk result (λ device. IsImage (D.shown device) t) }
         ensures refused { (t : Table) → StandsFor self t → IfErr result (λ e. GivesUp (D.faults (device_in self)) (D.faults e.1) e.0 ⊎ (e.0 ≡ refusal.NoPages)) }

@@ -80,7 +80,8 @@ fn append_page<const D: usize, A: Allocator + Copy>(
 /// `Damaged` with its number: one that was not given out or is no bucket page of this dimension, one but the
 /// first that is not full, and one where the identifiers do not ascend.
 ///
-/// On an honest device any other refusal is `Memory` or `Device`. Nothing is written.
+/// On an honest device any other refusal is `Memory` or `Device`. On any device what is read ascends by identifier.
+/// Nothing is written.
 #[tactic(auto, using(page_file::specs::Laws::no_call_keeps_the_gate, page_file::specs::Laws::the_gate_is_kept_in_turn, page_file::specs::Laws::no_call_keeps_the_map, page_file::specs::Laws::the_map_is_kept_in_turn))]
 pub fn read_chain<const D: usize, B: BlockDevice, A: Allocator + Copy>(
     alloc: A,

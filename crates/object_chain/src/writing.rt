@@ -62,7 +62,8 @@ fn write_bucket<const D: usize, B: BlockDevice>(
     Ok(n)
 }
 
-/// Writes the objects into newly allocated pages, and answers the first of them, or 0 for no objects. The gate
+/// Writes the objects, which ascend by identifier, as a chain into newly allocated pages, and answers its first page,
+/// or 0 for no objects. It takes a page number for each 100 objects, and one for what is left over, at most. The gate
 /// has to be open.
 ///
 /// After a refusal the pages that were written are live, and lost; all that were live before are as they were.

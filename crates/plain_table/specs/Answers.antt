@@ -7,7 +7,7 @@ use Rattle.plain_table.specs.Step.Answer.{Done, Refused, Boxes}
 use Rattle.plain_table.specs.declared.boxes.AnyBox.{AnyBox}
 use Rattle.plain_table.specs.declared.refusal.Refusal.{Refusal}
 
--- of a change
+-- the answer that the result of a change is
 abbrev pub done_answer : Result (Unit {0}) Refusal → Answer
 done_answer (Ok u) = Done
 done_answer (Err r) = Refused r
@@ -16,7 +16,7 @@ done_answer (Err r) = Refused r
 abbrev pub row_of : ℕ × AnyBox → ℕ × Bounds
 row_of row = (row.0, bounds_of row.1)
 
--- of a range query
+-- the answer that the result of a window is
 abbrev pub boxes_answer : {A : Type 0} → Result (Vec (ℕ × AnyBox) A) Refusal → Answer
 boxes_answer (Ok rows) = Boxes (map row_of rows.items)
 boxes_answer (Err r) = Refused r

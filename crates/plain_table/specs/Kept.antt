@@ -1,4 +1,4 @@
--- The layers that the lists in memory keep.
+-- The layers that the lists in memory keep: `KeptLayer` is the struct `Layer`, and `Layer` the table's.
 use Rattle.std.specs.Prelude.{ℕ, ◌≡◌, ◌⊎◌, List, Option, Some}
 use Rattle.std.specs.FinMap.{from_sorted}
 use Rattle.plain_table.specs.Table.{Layer}

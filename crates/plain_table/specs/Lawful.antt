@@ -66,11 +66,12 @@ GaveUp rose spent t c a new = RefusedBy (IsFault rose (spent × MayWrite t c)) a
 abbrev pub AnsweredInMemory : Table → Command → Answer → Table → Type 0
 AnsweredInMemory t c a new = ((a ≡ reply_of t c) × (new ≡ after t c)) ⊎ ((a ≡ Refused refusal.Memory) × (new ≡ t))
 
--- a fault half way through a reopening or a change of the table
+-- a fault half way through a reopening or a change of the table: the store is dead
 abbrev pub Died : Type 0 → Table → Command → Answer → State → Type 0
 Died rose t c a new = RefusedBy (IsEnd rose) a × MayWrite t c × (new ≡ Dead)
 
--- what a command may do to a live store
+-- What a command may do to a live store: `rose` says that its device's count of faults rose in this command, `spent`
+-- that all page numbers were given out.
 abbrev pub LawfulFrom : Type 0 → Type 0 → Table → Command → Answer → State → Type 0
 LawfulFrom rose spent t c a new = Answered t c a new ⊎ (GaveUp rose spent t c a new ⊎ Died rose t c a new)
 
@@ -97,6 +98,6 @@ pub record Reaches {S : Type 0} (Stands : S → Standing → Type 0) (left : S) 
   pub stands : Stands left next
   pub so : P next
 
--- P holds of each standing before and some standing after
+-- whatever standing the old one stands for, the new one stands for a standing that P allows after it
 abbrev pub Takes : {S : Type 0} → (S → Standing → Type 0) → S → S → (Standing → Standing → Type 0) → Type 0
 Takes Stands old new P = (s : Standing) → Stands old s → Reaches Stands new (P s)

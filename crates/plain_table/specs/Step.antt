@@ -21,11 +21,11 @@ abbrev pub first_refusal : List (Bool × Refusal) → Option Refusal
 first_refusal [] = None
 first_refusal (c ∷ cs) = if c.0 then Some c.1 else first_refusal cs
 
--- a name that is none, or that no layer has
+-- a name that is none, or that no layer has, before further refusals
 abbrev pub layer_refusals : Table → List ℕ → List (Bool × Refusal) → List (Bool × Refusal)
 layer_refusals t name more = (not (is_layer_name name), refusal.BadName) ∷ (not (map.contains_key t name), refusal.NoLayer) ∷ more
 
--- a box of another dimension than the layer, or one with a low above its high
+-- a box of another dimension than the layer, or one with a low above its high, before further refusals
 abbrev pub box_refusals : Layer → RawBox → List (Bool × Refusal) → List (Bool × Refusal)
 box_refusals layer box more = (not (dims_of box == layer.dims), refusal.WrongDims) ∷ (not (is_ordered (dims_of box) (given_bounds box)), refusal.BadBox) ∷ more
 
@@ -60,10 +60,12 @@ answer_of t (Insert name id box) = Done
 answer_of t (Window name box) = Boxes (window_rows (layer_at t name) (given_bounds box))
 answer_of t Reopen = Done
 
+-- the refusal, if there is one, and else the answer
 abbrev pub refused_or : Option Refusal → Answer → Answer
 refused_or (Some r) answer = Refused r
 refused_or None answer = answer
 
+-- the old table where there is a refusal, and else the new one
 abbrev pub kept_or : Option Refusal → Table → Table → Table
 kept_or (Some r) old new = old
 kept_or None old new = new

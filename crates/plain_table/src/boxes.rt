@@ -5,9 +5,9 @@ use box_math::BBox;
 /// A box as a command gives it: the low and the high of each axis, unchecked.
 #[derive(Clone, Copy, PartialEq, Eq, Debug)]
 pub enum RawBox {
-    /// Two axes.
+    /// Two axes: the lows, and then the highs.
     Two([i32; 2], [i32; 2]),
-    /// Three axes.
+    /// Three axes: the lows, and then the highs.
     Three([i32; 3], [i32; 3]),
 }
 

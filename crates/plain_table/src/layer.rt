@@ -1,4 +1,4 @@
-//! One layer in memory.
+//! One layer in memory: its name, its fanout and the list of its objects.
 
 ghost use Rattle.std.specs.Prelude.{◌≡◌, ◌≤◌, [], IsTrue, MatchResult, None, length, map as each};
 ghost use Rattle.std.specs.FinMap as map;
@@ -20,12 +20,12 @@ use std::alloc::Allocator;
 /// How many bytes the name of a layer has at most.
 pub const MOST_NAME_BYTES: usize = 24;
 
-/// A layer.
+/// A layer in memory. Its name and fanout are good, and its objects ascend by identifier.
 #[derive(Drop)]
 pub struct Layer<A: Allocator> {
     /// Its name.
     pub name: ArrayVec<u8, MOST_NAME_BYTES>,
-    /// How many entries its nodes may have.
+    /// How many entries a node of its tree may have at most.
     pub fanout: u64,
     /// Its objects, which also say how many axes it has.
     pub objects: Objects<A>,
@@ -37,7 +37,7 @@ pub struct Layer<A: Allocator> {
 impl<A: Allocator + Copy> Layer<A> {
     ghost use Rattle.plain_table.specs.Kept.{layer_of, IsRefusal};
 
-    /// A layer with no object.
+    /// A layer with no object, of a good name, 2 or 3 axes and a good fanout.
     pub fn new(alloc: A, name: &[u8], dims: u64, fanout: u64) -> Self
         requires short { length name.now ≤ MOST_NAME_BYTES }
         requires named { IsTrue (is_layer_name name.now) }
@@ -60,7 +60,8 @@ impl<A: Allocator + Copy> Layer<A> {
         }
     }
 
-    /// Adds an object, or refuses as the table does. `is_full` says that the table has no room for another.
+    /// Adds an object, or refuses as the table does, or for want of memory. A refusal leaves the layer as it was.
+    /// `is_full` says that the table has no room for another object.
     pub fn insert(&mut self, id: u64, bounds: RawBox, is_full: bool) -> Result<(), Refusal>
         ensures inserts { MatchResult result
             (λ _. (first_refusal (object_refusals (layer_of self.old) id bounds is_full) ≡ None)
@@ -89,7 +90,8 @@ impl<A: Allocator + Copy> Layer<A> {
         }
     }
 
-    /// The objects whose boxes meet the window, ascending by identifier, or a refusal as the table's.
+    /// The objects whose boxes meet the window, ascending by identifier; or a refusal as the table's, or for want of
+    /// memory.
     pub fn window(&self, alloc: A, bounds: RawBox) -> Result<Vec<(u64, AnyBox), A>, Refusal>
         ensures { MatchResult result
             (λ rows. (first_refusal (box_refusals (layer_of self.now) bounds []) ≡ None)

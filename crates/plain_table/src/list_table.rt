@@ -1,4 +1,4 @@
-//! The table as a plain list of layers, ascending by name: what the store answers from, and what it means.
+//! The table as a plain list of layers, ascending by name: what the store answers from until layers are trees.
 
 ghost use Rattle.std.specs.Prelude.{◌≡◌, IsTrue, nat_le, map as each};
 ghost use Rattle.std.specs.Cmp.Lexicographic.{slice_cmp};
@@ -27,6 +27,9 @@ const MOST_LAYERS: usize = 60;
 const MOST_OBJECTS: u64 = 1 << 30;
 
 /// Layers in a list. Contracts see the table that they are.
+///
+/// Each command answers as the table does and leaves the table that it leaves; or it answers `Memory` and leaves the
+/// table as it was, as after each refusal.
 #[derive(Drop)]
 pub struct ListTable<A: Allocator> {
     alloc: A,
@@ -49,7 +52,7 @@ impl<A: Allocator> Model for ListTable<A> {
 }
 
 impl<A: Allocator + Copy> ListTable<A> {
-    /// No layer. It takes its memory from this allocator.
+    /// The table of no layer. It takes its memory from this allocator.
     pub fn new(alloc: A) -> Self
         ensures { result ≡ empty }
     {
@@ -80,7 +83,9 @@ impl<A: Allocator + Copy> ListTable<A> {
         &self.layers
     }
 
-    /// Makes an empty layer.
+    /// Makes an empty layer of that name, with so many axes and that fanout.
+    ///
+    /// Refused, in this order, by BadName, BadDims, BadFanout, LayerExists and TooManyLayers.
     pub fn create(&mut self, name: &[u8], dims: u64, fanout: u64) -> Result<(), Refusal>
         ensures { AnsweredInMemory self.old (Create name.now dims fanout) (done_answer result) self.new }
     {
@@ -104,7 +109,9 @@ impl<A: Allocator + Copy> ListTable<A> {
         Ok(())
     }
 
-    /// Adds an object to a layer.
+    /// Adds an object with a new identifier to a layer.
+    ///
+    /// Refused, in this order, by BadName, NoLayer, WrongDims, BadBox, Duplicate and TooManyObjects.
     pub fn insert(&mut self, name: &[u8], id: u64, bounds: RawBox) -> Result<(), Refusal>
         ensures { AnsweredInMemory self.old (Insert name.now id bounds) (done_answer result) self.new }
     {
@@ -124,7 +131,9 @@ impl<A: Allocator + Copy> ListTable<A> {
         }
     }
 
-    /// The objects of a layer whose boxes meet the window, ascending by identifier.
+    /// The objects of a layer whose boxes meet the window (boxes that touch meet), ascending by identifier.
+    ///
+    /// Refused, in this order, by BadName, NoLayer, WrongDims and BadBox.
     pub fn window(&self, name: &[u8], bounds: RawBox) -> Result<Vec<(u64, AnyBox), A>, Refusal>
         ensures { AnsweredInMemory self.now (Window name.now bounds) (boxes_answer result) self.now }
     {

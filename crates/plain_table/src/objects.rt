@@ -1,4 +1,5 @@
-//! The objects of one layer in a list, ascending by identifier. Plain and slow: each call looks at one object after the other.
+//! The objects of one layer in a list, ascending by identifier. Plain and slow: each search looks at one after the
+//! other.
 
 ghost use Rattle.std.specs.Prelude.{◌≡◌, IsTrue, IfOk, MatchResult, None, Some, filter, map as each};
 ghost use Rattle.std.specs.FinMap.{is_sorted};
@@ -14,7 +15,7 @@ use box_math::BBox;
 use std::alloc::{AllocError, Allocator};
 use std::cmp::Ordering;
 
-/// The objects of a layer of either dimension.
+/// The objects of a layer of either dimension: identifiers with their boxes.
 #[derive(Drop)]
 pub enum Objects<A: Allocator> {
     /// Two axes.
@@ -37,7 +38,7 @@ impl<A: Allocator> Objects<A> {
         }
     }
 
-    /// How many there are.
+    /// How many objects there are.
     pub fn count(&self) -> usize
         ensures { result ≡ length (entries_of self.now) }
     {
@@ -48,7 +49,8 @@ impl<A: Allocator> Objects<A> {
     }
 }
 
-/// The box with these corners, and where an object with it is added. Else the table's refusal.
+/// The place where an object with this identifier and these corners is added, and its box. Else the table's refusal, of
+/// those that do not ask for the layer's dimension: BadBox, Duplicate and TooManyObjects, in this order.
 pub fn admit<const D: usize>(
     objects: &[(u64, BBox<D>)],
     id: u64,
@@ -91,7 +93,7 @@ fn search<const D: usize>(objects: &[(u64, BBox<D>)], id: u64) -> Result<usize, 
     Err(objects.len())
 }
 
-/// The objects whose boxes meet the window, in their order.
+/// The objects whose boxes meet the window, in their order. It fails only for want of memory.
 pub fn meeting<const D: usize, A: Allocator + Copy>(
     alloc: A,
     objects: &[(u64, BBox<D>)],

@@ -1,4 +1,4 @@
-//! Why a command is refused.
+//! Why a command, or the making or opening of a store, is refused; and the number and name that replies show.
 
 ghost use Rattle.std.specs.Prelude.{◌≡◌, ◌≤◌, length};
 ghost use Rattle.plain_table.specs.Refusals.{number_of, name_of};
@@ -63,7 +63,8 @@ pub enum Refusal {
     /// This page is not what it must be.
     #[error("page {0} is damaged")]
     Damaged(u32),
-    /// The store failed half way through a change, by the fault of this number, or had failed before (19).
+    /// The store failed half way through a change or a reopening, by the fault of this number, or had failed before
+    /// (19).
     #[error("the store failed: {0}")]
     StoreFailed(u8),
     /// The file was not closed.

@@ -6,7 +6,7 @@ use std::test::Fail;
 
 const ONE: RawBox = RawBox::Two([0, 0], [1, 1]);
 
-// The identifiers of a range answer.
+// The identifiers of rows.
 fn ids<A: Allocator + Copy>(alloc: A, rows: &[(u64, AnyBox)]) -> Result<Vec<u64, A>, AllocError> {
     let mut all = Vec::new(alloc);
     for row in rows {

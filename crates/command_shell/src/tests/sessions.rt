@@ -1,4 +1,4 @@
-//! Sessions with a store: the worked rows, in their part on the commands that there are.
+//! Sessions with a store: lines with their replies, a layer too many, and growths that are refused.
 
 use super::fakes::{Short, Slow};
 use super::new_store;

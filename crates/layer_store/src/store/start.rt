@@ -5,8 +5,9 @@ ghost use Rattle.std.specs.FinMap.{empty};
 ghost use Rattle.page_file.specs.Pages.{given_pages, next_in};
 ghost use Rattle.plain_table.specs.Table.{Table};
 ghost use Rattle.plain_table.specs.declared.refusal.Refusal.TheVariants as refusal;
+ghost use Rattle.page_file.specs.declared.fault.Fault.{Fault};
 ghost use Rattle.page_file.specs.File.{blocks_of, device_of, given, next_of, IsHonest, IsPageMap};
-ghost use Rattle.layer_store.specs.Image.{Holds, IsDamaged, IsImage};
+ghost use Rattle.layer_store.specs.Image.{Holds, IsDamaged, IsImage, Refuses};
 ghost use Rattle.layer_store.specs.Standing.{StandsFor, blocks_in, device_in};
 ghost use Rattle.layer_store.specs.Starting.{GivesUp, IsRefusedFor, is_cache};
 
@@ -27,9 +28,10 @@ fn is_cache(pages: u32) -> bool
 }
 
 /// Makes a store without layers on a device without blocks, which takes its memory from this allocator and caches so
-/// many pages (8 to 4096; not used yet). Its file is closed with the empty table.
+/// many pages (8 to 4096; not used yet). Its blocks are an image of the empty table.
 ///
-/// Refused by `BadCache`, before any call of the device, and else by `Memory` or `Device`. The device comes back.
+/// Refused by `BadCache`, before any call of the device. On an honest device any other refusal is `Memory` or `Device`.
+/// The device comes back.
 pub fn create_store<D: BlockDevice, A: Allocator + Copy>(
     alloc: A,
     device: D,
@@ -64,8 +66,11 @@ pub fn create_store<D: BlockDevice, A: Allocator + Copy>(
 /// (docs/FORMAT.md, "Opening"), and nothing is written. The store takes its memory from this allocator and caches so
 /// many pages (8 to 4096; not used yet).
 ///
-/// Refused by `BadCache`, before any call of the device. On an honest device any other refusal is `Memory`, `Device`,
-/// or that of the first check that fails. The device comes back, with its blocks as they were.
+/// On an honest device an image of a table is opened as a store of that table, but for `Memory` and `Device`; and blocks
+/// are opened only where no check refuses them.
+///
+/// Refused by `BadCache`, before any call of the device. On an honest device any other refusal is `Memory`, `Device`, or
+/// that of the first check that fails. The device comes back, with its blocks as they were.
 pub fn open_store<D: BlockDevice, A: Allocator + Copy>(
     alloc: A,
     device: D,
@@ -73,6 +78,7 @@ pub fn open_store<D: BlockDevice, A: Allocator + Copy>(
 ) -> Result<Store<D, A>, (Refusal, D)>
     ensures bad_cache { is_cache cache ≡ false → result ≡ Err (refusal.BadCache, device) }
     ensures image { (t : Table) → D.honest device → IsImage (D.shown device) t → IfOk result (λ store. StandsFor store t) }
+    ensures opened { IfOk result (λ store. D.honest device → (f : Fault) → Refuses (D.shown device) f → ⊥) }
     ensures refused { is_cache cache ≡ true → IfErr result (λ e. D.honest device → GivesUp (D.faults device) (D.faults e.1) e.0 ⊎ IsRefusedFor (D.shown device) e.0) }
     ensures blocks { IfOk result (λ store. D.honest device → blocks_in store ≡ D.shown device) }
     ensures refused_blocks { IfErr result (λ e. D.honest device → D.shown e.1 ≡ D.shown device) }
@@ -88,12 +94,13 @@ pub fn open_store<D: BlockDevice, A: Allocator + Copy>(
     }
 }
 
-// Reads the table of a file that was opened.
+// Reads the table of a file that was opened, and makes the store of it. The blocks stay as they were.
 fn read_store<D: BlockDevice, A: Allocator + Copy>(
     alloc: A,
     file: PageFile<D>,
 ) -> Result<Store<D, A>, (Refusal, D)>
     ensures stands { IsPageMap file → IfOk result (λ store. (t : Table) → Holds (given file) (next_of file) t → StandsFor store t) }
+    ensures opened { IfOk result (λ store. IsHonest file → (n : ℕ) → IsDamaged (given file) (next_of file) n → ⊥) }
     ensures refused { IsHonest file → IfErr result (λ e. GivesUp (D.faults (device_of file)) (D.faults e.1) e.0
         ⊎ ((n : ℕ) × (e.0 ≡ refusal.Damaged n) × IsDamaged (given file) (next_of file) n)) }
     ensures later { IfErr result (λ e. D.faults (device_of file) ≤ D.faults e.1) }

@@ -58,7 +58,7 @@ returns-in_err-layer-clause-damaged g c = λ honest.
     inr (
       damaged.0,
       damaged.1,
-      broken_is_damaged pages next c.loop-record.record-index damaged.0 items c.record-item.result spelled good c.loop-record-test.true c.record-item.is
+      broken_is_damaged pages next c.loop-record.record-index damaged.0 items c.record-item.result (map entry_of c.loop-record.layers.items) spelled good (before.holds honest) c.loop-record-test.true c.record-item.is
           (subst (λ (m : PageMap). IsBroken m (record_of c.record-item.result) damaged.0) here damaged.2),
     ))
     (c.in_err-layer.ensures.damaged (before.gate.honest.0 honest)))

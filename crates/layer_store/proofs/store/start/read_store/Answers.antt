@@ -3,7 +3,7 @@ use Rattle.std.proofs.Common.{true, false, refl, subst}
 use Rattle.page_file.specs.File.{given, next_of}
 use Rattle.plain_table.specs.Table.{Table}
 use Rattle.layer_store.specs.Keeping.{IsSound}
-use Rattle.layer_store.specs.Laws.{pages_hold_one_table}
+use Rattle.layer_store.specs.Laws.{pages_hold_one_table, held_pages_are_not_damaged}
 use Rattle.layer_store.specs.Standing.{StandsFor}
 use Rattle.layer_store.proofs.KeepLemmas.{kept_table, live_table}
 use Rattle.layer_store.proofs.StoreLemmas.{alive}
@@ -19,3 +19,6 @@ returns-in-Ok-clause-stands g c = λ map t held.
     } in
     subst (StandsFor (record { kept = record { alloc = c.args.alloc; file = c.read_table.new.file; table = c.in-Ok.table; written = true }; failed = false })) same
     (alive (record { kept = record { alloc = c.args.alloc; file = c.read_table.new.file; table = c.in-Ok.table; written = true }; failed = false }) sound refl)
+
+pub returns-in-Ok-clause-opened : goal.returns-in-Ok-clause-opened
+returns-in-Ok-clause-opened g c = λ honest n damaged. held_pages_are_not_damaged (given c.args.file) (next_of c.args.file) n c.in-Ok.table (c.in-Ok.ensures.holds honest) damaged
