@@ -1,9 +1,9 @@
 -- Layers that pages hold, one more, and what their records say of the table.
-use Rattle.std.proofs.Common.{◌≡◌, ◌∙◌, ◌≤◌, ◌<◌, ◌+◌, ℕ, suc, List, [], ◌∷◌, ◌++◌, length, map, take, get_or, Bool, true, false, ◌&&◌, nat_le, Option, Some, None, refl, sym, ap, arith, subst, T, inl, inr}
-use Rattle.std.specs.Prelude.{IsTrue, cond, sum_by, sum, is_some, option_and_then}
+use Rattle.std.proofs.Common.{◌≡◌, ◌∙◌, ◌≤◌, ◌<◌, ◌+◌, ℕ, suc, List, [], ◌∷◌, ◌++◌, length, map, take, get_or, Bool, true, false, ◌&&◌, nat_le, Option, Some, None, refl, sym, ap, arith, subst, T}
+use Rattle.std.specs.Prelude.{cond, sum, is_some, option_and_then}
 use Rattle.std.specs.List.{list_all}
 use Rattle.std.specs.Cmp.Lexicographic.{slice_cmp}
-use Rattle.std.specs.FinMap.{entries, entries_sorted, is_sorted, len, len-entries, values}
+use Rattle.std.specs.FinMap.{entries, entries_sorted, is_sorted, len, len-entries}
 use Rattle.std.specs.FinMap.Entries.{below_all}
 use Rattle.std.specs.Ordering.{is_lt, nat_cmp}
 use Rattle.std.proofs.lemmas.Bool.Decides.{nat_tests}
@@ -23,7 +23,7 @@ use Rattle.plain_table.specs.Listed.{IsListed, table_from}
 use Rattle.plain_table.specs.declared.layer.Layer.{Layer as KeptLayer}
 use Rattle.plain_table.specs.Table.{Table, Layer, most_objects, object_count}
 use Rattle.layer_store.specs.Catalog.{by_name, is_catalog, is_layer_record, names_ascend, objects_named}
-use Rattle.layer_store.specs.Image.{Holds, HoldsLayer, HoldsLayers, catalog_in}
+use Rattle.layer_store.specs.Image.{Holds, HoldsLayer, HoldsLayers}
 use Rattle.layer_store.specs.Laws.{other_layers}
 
 -- one more

@@ -1,16 +1,13 @@
 -- What the pages hold, layer by layer.
-use Rattle.std.proofs.Common.{◌≡◌, ◌∙◌, ◌≤◌, ℕ, List, [], ◌∷◌, ◌++◌, length, map, Bool, refl, sym, ap, subst, T, inl, inr}
+use Rattle.std.proofs.Common.{◌≡◌, ◌∙◌, ℕ, List, length, refl, sym, ap, subst, T, inr}
 use Rattle.std.specs.Prelude.{IsTrue}
 use Rattle.std.specs.FinMap.{entries, entries-from_sorted, from_sorted, is_sorted}
 use Rattle.std.specs.Ordering.{nat_cmp}
 use Rattle.box_math.specs.Bounds.{Bounds}
-use Rattle.catalog_page.specs.Layout.{Record, record_of}
+use Rattle.catalog_page.specs.Layout.{record_of}
 use Rattle.catalog_page.specs.declared.layer_record.LayerRecord.{LayerRecord as Layer}
 use Rattle.object_chain.specs.Chain.{HoldsObjects, PageMap}
-use Rattle.plain_table.specs.Kept.{entry_of}
-use Rattle.plain_table.specs.Objects.{axes_of, entries_of}
-use Rattle.plain_table.specs.declared.layer.Layer.{Layer as KeptLayer}
-use Rattle.layer_store.specs.Image.{HoldsLayer, IsBroken}
+use Rattle.layer_store.specs.Image.{IsBroken}
 
 -- objects that ascend are the entries of their map
 pub kept_entries : (es : List (ℕ × Bounds)) → IsTrue (is_sorted nat_cmp es) → entries (from_sorted {R = nat_cmp} es) ≡ es

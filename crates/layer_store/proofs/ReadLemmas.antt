@@ -1,13 +1,13 @@
 -- Layers read by the records of a good catalog are a list of layers, and the table that the pages hold.
-use Rattle.std.proofs.Common.{◌≡◌, ◌∙◌, ◌≤◌, ◌<◌, ◌+◌, ◌^◌, ◌⊎◌, ℕ, zero, suc, List, [], ◌∷◌, ◌++◌, length, map, take, get_or, Bool, true, false, ◌&&◌, nat_le, Option, Some, None, refl, sym, ap, arith, subst, T, inl, inr}
+use Rattle.std.proofs.Common.{◌≡◌, ◌∙◌, ◌≤◌, ◌<◌, ◌+◌, ℕ, zero, suc, List, [], ◌∷◌, ◌++◌, length, map, take, get_or, Bool, true, false, ◌&&◌, nat_le, Some, refl, sym, ap, arith, subst, T, inr}
 use Rattle.std.specs.Prelude.{IsTrue, sum_by, sum}
-use Rattle.std.specs.List.{Contains, list_all}
+use Rattle.std.specs.List.{list_all}
 use Rattle.std.specs.Cmp.Lexicographic.{slice_cmp}
 use Rattle.std.specs.FinMap.{entries, entries-from_sorted, from_sorted, is_sorted, len, len-entries}
 use Rattle.std.specs.FinMap.Entries.{below_all}
 use Rattle.std.specs.Ordering.{is_lt, nat_cmp}
 use Rattle.std.proofs.lemmas.Bool.Decides.{nat_tests}
-use Rattle.std.proofs.lemmas.List.{get_or-map, length-map, length-append, map-append, take-map, take_all}
+use Rattle.std.proofs.lemmas.List.{get_or-map, length-map, map-append, take-map, take_all}
 use Rattle.std.proofs.lemmas.List.Sums.{sum-map, sum_by_more, sum_by_more_le}
 use Rattle.std.proofs.Math.Seq.{take-suc}
 use Rattle.block_device.specs.Device.{Blocks}
@@ -22,7 +22,7 @@ use Rattle.plain_table.specs.Objects.{entries_of}
 use Rattle.plain_table.specs.Table.{Table, Layer, is_dims, is_fanout, is_layer_name, most_layers, most_objects, object_count}
 use Rattle.plain_table.specs.declared.layer.Layer.{Layer as KeptLayer}
 use Rattle.layer_store.specs.Catalog.{by_name, has_no_tree, is_catalog, is_layer_record, is_page_or_none, names_ascend, objects_named}
-use Rattle.layer_store.specs.Image.{HasBrokenLayer, Holds, HoldsLayer, HoldsLayers, IsBroken, IsDamaged, catalog_in}
+use Rattle.layer_store.specs.Image.{Holds, HoldsLayer, HoldsLayers, IsBroken, IsDamaged, catalog_in}
 use Rattle.layer_store.proofs.HeldLemmas.{layers_more}
 use Rattle.layer_store.proofs.ImageLemmas.{kept_entries}
 

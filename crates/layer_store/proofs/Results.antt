@@ -1,6 +1,6 @@
 -- What a result says, said more weakly.
-use Rattle.std.proofs.Common.{◌≡◌, ◌∙◌, sym, subst}
-use Rattle.std.specs.Prelude.{Result, Ok, Err, OnOk, OnErr, IfErr, IfOk}
+use Rattle.std.proofs.Common.{◌≡◌, subst}
+use Rattle.std.specs.Prelude.{Result, Ok, Err, OnOk, IfErr, IfOk}
 
 pub on_ok : {T E : Type 0} {P Q : Type 0} (r : Result T E) → (P → Q) → OnOk r P → OnOk r Q
 on_ok (Ok v) f h = f h

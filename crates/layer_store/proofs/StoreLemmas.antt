@@ -1,15 +1,14 @@
 -- The steps of a store: alive, failed, and failing.
-use Rattle.std.proofs.Common.{◌≡◌, ◌∙◌, ◌≤◌, ◌<◌, ◌-◌, ◌^◌, ◌⊎◌, ℕ, Bool, true, false, cond, refl, sym, ap, subst, arith, inl, inr, ⊎_elim}
-use Rattle.std.specs.Prelude.{Result, Ok, Err, min}
+use Rattle.std.proofs.Common.{◌≡◌, ◌∙◌, ◌≤◌, ◌⊎◌, ℕ, Bool, true, false, cond, refl, sym, ap, subst, arith, inl, inr}
 use Rattle.block_device.specs.Device.{HasRisen}
-use Rattle.page_file.specs.Fault.{HasCause, IsOfDevice, number_of}
-use Rattle.page_file.specs.File.{IsHonest, IsPageMap, device_of, next_of, pages}
+use Rattle.page_file.specs.Fault.{IsOfDevice, number_of}
+use Rattle.page_file.specs.File.{IsPageMap, device_of, next_of, pages}
 use Rattle.page_file.specs.declared.fault.Fault.{Fault}
 use Rattle.page_file.specs.declared.fault.Fault.TheVariants as fault
 use Rattle.page_file.specs.declared.file.PageFile.{PageFile}
 use Rattle.plain_table.specs.Commands.{Command}
 use Rattle.plain_table.specs.Commands.Command.{Reopen}
-use Rattle.plain_table.specs.Lawful.{AnsweredInMemory, IsEnd, IsFault, IsSpent, Lawful, LawfulFrom, LawfulStep, MayWrite, RefusedBy, Rose, Standing, State, Takes}
+use Rattle.plain_table.specs.Lawful.{AnsweredInMemory, IsEnd, IsFault, IsSpent, Lawful, LawfulFrom, LawfulStep, MayWrite, Rose, Standing, Takes}
 use Rattle.plain_table.specs.Lawful.Request.{Asks}
 use Rattle.plain_table.specs.Lawful.State.{Alive, Dead}
 use Rattle.plain_table.specs.Laws.{memory_is_lawful}

@@ -1,6 +1,6 @@
 -- What the pages of a file hold of a table, which blocks are an image of one, and why opening refuses others.
 -- The directory of a layer is the first page of the chain of its objects, until layers are trees. Our rule, docs/FORMAT.md.
-use Rattle.std.specs.Prelude.{ℕ, ◌≡◌, ◌⊎◌, IsTrue, true, false, ◌<◌, List, [], ◌∷◌, length, take, slice_index_or, Option, Some, None, option_and_then}
+use Rattle.std.specs.Prelude.{ℕ, ◌≡◌, ◌⊎◌, IsTrue, false, ◌<◌, List, [], ◌∷◌, length, take, slice_index_or, Option, Some, None, option_and_then}
 use Rattle.std.specs.FinMap.{entries}
 use Rattle.block_device.specs.Device.{Blocks}
 use Rattle.box_math.specs.Bounds.{Bounds}

@@ -1,6 +1,6 @@
 -- What follows from pages that hold a table, and from images.
-use Rattle.std.proofs.Common.{◌≡◌, ◌∙◌, ℕ, zero, suc, ◌<◌, ◌≤◌, List, [], ◌∷◌, length, take, get_or, Bool, true, false, ◌&&◌, ◌||◌, ◌==◌, nat_le, nat_lt, Option, Some, None, refl, sym, ap, arith, subst, inl, inr}
-use Rattle.std.specs.Prelude.{IsTrue, option_and_then}
+use Rattle.std.proofs.Common.{◌≡◌, ◌∙◌, ℕ, zero, suc, ◌<◌, ◌≤◌, List, [], ◌∷◌, length, take, get_or, Bool, true, false, ◌&&◌, ◌==◌, nat_le, Option, Some, None, refl, sym, ap, arith, subst, inl, inr}
+use Rattle.std.specs.Prelude.{option_and_then}
 use Rattle.std.specs.List.{Contains, list_all}
 use Rattle.std.specs.FinMap.{entries, same_entries_map}
 use Rattle.std.proofs.lemmas.Bool.Decides.{nat_tests}
@@ -10,12 +10,11 @@ use Rattle.box_math.specs.Bounds.{Bounds}
 use Rattle.catalog_page.specs.Layout.{Record, records_at}
 use Rattle.object_chain.specs.Chain.{PageMap, HoldsObjects, KeepsPages}
 use Rattle.object_chain.specs.Laws.{a_chain_breaks_at_one_page, a_chain_holds_one_list, a_chain_stays, a_whole_chain_breaks_nowhere}
-use Rattle.page_file.specs.Opening.{failed_check}
 use Rattle.page_file.specs.declared.fault.Fault.{Fault}
 use Rattle.page_file.specs.declared.fault.Fault.TheVariants.{Damaged}
 use Rattle.plain_table.specs.Table.{Table, Layer, is_layer_name, is_dims, is_fanout, most_objects}
 use Rattle.layer_store.specs.Catalog.{is_catalog, is_layer_record, is_page_or_none, names_ascend, objects_named}
-use Rattle.layer_store.specs.Image.{HasBrokenLayer, HasNoCatalog, Holds, HoldsLayer, HoldsLayers, IsBroken, IsDamaged, IsImage, Refuses, catalog_in}
+use Rattle.layer_store.specs.Image.{Holds, HoldsLayer, HoldsLayers, IsBroken, IsDamaged, IsImage, Refuses}
 
 -- ---- one table
 

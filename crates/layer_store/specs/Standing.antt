@@ -1,5 +1,5 @@
 -- What a store stands for, and the device and blocks that it has.
-use Rattle.std.specs.Prelude.{ℕ, ◌≡◌, if◌then◌else◌, true, Result, IsOk}
+use Rattle.std.specs.Prelude.{◌≡◌, if◌then◌else◌}
 use Rattle.block_device.specs.Device.{Blocks}
 use Rattle.page_file.specs.File.{blocks_of, device_of, next_of}
 use Rattle.plain_table.specs.Lawful.{Reaches, Standing}

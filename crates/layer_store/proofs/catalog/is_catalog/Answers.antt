@@ -1,5 +1,4 @@
-use Rattle.std.proofs.Common.{◌≡◌, ◌∙◌, ◌&&◌, Bool, true, false, map, nat_le, sym, ap}
-use Rattle.std.specs.List.{list_all}
+use Rattle.std.proofs.Common.{◌∙◌, ◌&&◌, Bool, map, nat_le, sym, ap}
 use Rattle.std.proofs.lemmas.List.Folds.{list_all-map}
 use Rattle.catalog_page.specs.Layout.{record_of}
 use Rattle.plain_table.specs.Table.{most_objects}

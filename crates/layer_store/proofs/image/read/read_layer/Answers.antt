@@ -1,4 +1,4 @@
-use Rattle.std.proofs.Common.{rules, sym}
+use Rattle.std.proofs.Common.{rules}
 use Rattle.page_file.specs.File.{given}
 use Rattle.plain_table.specs.Objects.{entries_of}
 use Rattle.layer_store.proofs.ImageLemmas.{kept_chain, kept_count}

@@ -1,5 +1,5 @@
 -- The catalog was good, so each record may be a layer's, and the layers read are a list of layers.
-use Rattle.std.proofs.Common.{◌≡◌, ◌∙◌, ◌⊎◌, ℕ, Some, List, map, take, length, refl, sym, ap, subst, arith, inl, inr, ⊎_elim}
+use Rattle.std.proofs.Common.{◌≡◌, ◌∙◌, ◌⊎◌, ℕ, Some, List, map, take, length, sym, ap, subst, arith, inl, inr, ⊎_elim}
 use Rattle.std.proofs.lemmas.List.{take_all}
 use Rattle.catalog_page.specs.Layout.{record_of}
 use Rattle.catalog_page.specs.declared.layer_record.LayerRecord.{LayerRecord}
@@ -15,7 +15,7 @@ use Rattle.plain_table.specs.Objects.{entries_of}
 use Rattle.plain_table.specs.declared.layer.Layer.{Layer as KeptLayer}
 use Rattle.layer_store.specs.Catalog.{is_catalog, objects_named}
 use Rattle.layer_store.specs.Image.{HoldsLayer, IsBroken, IsDamaged}
-use Rattle.layer_store.proofs.ReadLemmas.{MayBeLayer, all_read, broken_is_damaged, counted_more, given_same, good_record, one_more_named, one_more_read, read_listed, room_for}
+use Rattle.layer_store.proofs.ReadLemmas.{all_read, broken_is_damaged, counted_more, given_same, good_record, one_more_named, one_more_read, read_listed, room_for}
 use Rattle.layer_store.proofs.image.read.read_table.Goals as goal
 
 pub read_layer-requires-clause-named : goal.read_layer-requires-clause-named

@@ -1,11 +1,9 @@
 -- The layers so far are those of the records so far, and the file is as it was.
 use Rattle.std.proofs.Common.{◌≡◌, ◌≤◌, map, take, length}
 use Rattle.catalog_page.specs.Layout.{record_of}
-use Rattle.catalog_page.specs.declared.layer_record.LayerRecord.{LayerRecord}
 use Rattle.page_file.specs.File.{blocks_of, device_of, given, IsHonest, KeepsGate, KeepsMap}
 use Rattle.plain_table.specs.Kept.{entry_of}
 use Rattle.plain_table.specs.Objects.{entries_of}
-use Rattle.plain_table.specs.declared.layer.Layer.{Layer as KeptLayer}
 use Rattle.layer_store.specs.Catalog.{objects_named}
 use Rattle.layer_store.specs.Image.{HoldsLayers}
 use Rattle.layer_store.proofs.image.read.read_table.Given as goal

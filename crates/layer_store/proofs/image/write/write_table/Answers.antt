@@ -1,14 +1,12 @@
 -- The records name layers whose chains stand in new pages, so the catalog may be written over the old one.
-use Rattle.std.proofs.Common.{◌≡◌, ◌∙◌, ◌⊎◌, List, map, length, true, sym, ap, subst, arith, inl}
+use Rattle.std.proofs.Common.{◌≡◌, ◌∙◌, List, map, true, sym, ap, subst, arith, inl}
 use Rattle.std.proofs.lemmas.List.{map-append}
 use Rattle.std.specs.List.{list_all}
 use Rattle.catalog_page.specs.Layout.{Record, record_of}
 use Rattle.object_chain.specs.Chain.{new_pages}
 use Rattle.object_chain.proofs.Frames.{keeps_in_turn}
-use Rattle.page_file.specs.Fault.{IsOfDevice}
 use Rattle.page_file.specs.File.{next_of, pages}
 use Rattle.page_file.specs.Laws.{the_catalog_is_live, the_gate_is_kept_in_turn}
-use Rattle.page_file.specs.declared.fault.Fault.TheVariants as fault
 use Rattle.layer_store.specs.Catalog.{is_layer_record}
 use Rattle.layer_store.specs.Laws.{more_records}
 use Rattle.layer_store.proofs.HeldLemmas.{all_held, good_more, held, layers_stay, one_more_held, written_aside}

@@ -5,7 +5,6 @@ use Rattle.page_file.specs.File.{blocks_of, device_of, next_of}
 use Rattle.plain_table.specs.Commands.Command.{Reopen}
 use Rattle.plain_table.specs.Lawful.{IsEnd, IsFault, IsSpent, MayWrite, Rose}
 use Rattle.plain_table.specs.Step.Answer.{Done, Refused}
-use Rattle.plain_table.specs.declared.refusal.Refusal.{Refusal}
 use Rattle.plain_table.specs.declared.refusal.Refusal.TheVariants as refusal
 use Rattle.layer_store.specs.Image.{IsImage}
 use Rattle.layer_store.specs.Standing.{HasFailed}

@@ -1,8 +1,7 @@
 -- A new file holds the empty table, and lies in its blocks.
-use Rattle.std.proofs.Common.{◌≡◌, true, false, refl, sym, subst}
+use Rattle.std.proofs.Common.{true, false, refl, sym, subst}
 use Rattle.std.specs.FinMap.{empty}
 use Rattle.page_file.specs.File.{blocks_of, next_of, pages}
-use Rattle.plain_table.specs.Table.{Table}
 use Rattle.layer_store.specs.Image.{Holds}
 use Rattle.layer_store.specs.Standing.{StandsFor}
 use Rattle.layer_store.specs.declared.store.Store.{Store}

@@ -1,7 +1,6 @@
 -- What was read is what the pages hold, and they hold one table.
 use Rattle.std.proofs.Common.{true, false, refl, subst}
 use Rattle.page_file.specs.File.{given, next_of}
-use Rattle.plain_table.specs.Table.{Table}
 use Rattle.layer_store.specs.Keeping.{IsSound}
 use Rattle.layer_store.specs.Laws.{pages_hold_one_table, held_pages_are_not_damaged}
 use Rattle.layer_store.specs.Standing.{StandsFor}
