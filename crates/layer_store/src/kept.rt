@@ -1,6 +1,6 @@
 //! What a store keeps while it has not failed: a file of pages, and the table in memory that it answers from.
 
-ghost use Rattle.std.specs.Prelude.{◌≡◌, ◌≤◌, ◌⊎◌, ◌^◌, ◌↔◌, true, IsErrOf, IfOk, IfErr, OnOk};
+ghost use Rattle.std.specs.Prelude.{◌≡◌, ◌≤◌, ◌⊎◌, ◌^◌, ◌↔◌, true, IsErrOf, IfOk, IfErr, OnErr, OnOk};
 ghost use Rattle.plain_table.specs.Answers.{done_answer};
 ghost use Rattle.plain_table.specs.Commands.Command.{Create, Insert};
 ghost use Rattle.plain_table.specs.Lawful.{AnsweredInMemory};
@@ -37,6 +37,7 @@ impl<D: BlockDevice, A: Allocator + Copy> Kept<D, A> {
         ensures table { AnsweredInMemory self.old.table (Create layer.now dims fanout) (done_answer result) self.new.table }
         ensures file { self.new.file ≡ self.old.file }
         ensures written { self.new.written ≡ true → (self.old.written ≡ true) × (self.new.table ≡ self.old.table) }
+        ensures refused { OnErr result (self.new.written ≡ self.old.written) }
     {
         self.table.create(layer, dims, fanout)?;
         self.written = false;
@@ -48,6 +49,7 @@ impl<D: BlockDevice, A: Allocator + Copy> Kept<D, A> {
         ensures table { AnsweredInMemory self.old.table (Insert layer.now id bounds) (done_answer result) self.new.table }
         ensures file { self.new.file ≡ self.old.file }
         ensures written { self.new.written ≡ true → (self.old.written ≡ true) × (self.new.table ≡ self.old.table) }
+        ensures refused { OnErr result (self.new.written ≡ self.old.written) }
     {
         self.table.insert(layer, id, bounds)?;
         self.written = false;
