@@ -2,6 +2,8 @@
 
 ghost use Rattle.std.specs.Prelude.{◌≡◌, ◌⊎◌, ◌≤◌, ℕ, Err, IfOk, IfErr, true, false, length};
 ghost use Rattle.std.specs.FinMap.{empty};
+ghost use Rattle.block_device.specs.Device.{LeavesOnly};
+ghost use Rattle.page_file.specs.Opening.{IsRefused};
 ghost use Rattle.page_file.specs.Pages.{given_pages, next_in};
 ghost use Rattle.plain_table.specs.Table.{Table};
 ghost use Rattle.plain_table.specs.declared.refusal.Refusal.TheVariants as refusal;
@@ -41,6 +43,10 @@ pub fn create_store<D: BlockDevice, A: Allocator + Copy>(
     ensures bad_cache { is_cache cache ≡ false → result ≡ Err (refusal.BadCache, device) }
     ensures stands { IfOk result (λ store. D.honest device → StandsFor store empty) }
     ensures closed { IfOk result (λ store. D.honest device → IsImage (blocks_in store) empty) }
+
+    // A stop leaves blocks that opening refuses, or an image of the empty table.
+    ensures stops { IfOk result (λ store. D.honest device → LeavesOnly D.moment D.left_since device (device_in store) (λ c. IsRefused c ⊎ IsImage c empty)) }
+
     ensures refused { is_cache cache ≡ true → IfErr result (λ e. D.honest device → GivesUp (D.faults device) (D.faults e.1) e.0) }
     ensures honest { IfOk result (λ store. D.honest device → D.honest (device_in store)) }
     ensures refused_honest { IfErr result (λ e. D.honest device → D.honest e.1) }
