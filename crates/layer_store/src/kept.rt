@@ -4,9 +4,11 @@ ghost use Rattle.std.specs.Prelude.{◌≡◌, ◌≤◌, ◌⊎◌, ◌^◌, �
 ghost use Rattle.plain_table.specs.Answers.{done_answer};
 ghost use Rattle.plain_table.specs.Commands.Command.{Create, Insert};
 ghost use Rattle.plain_table.specs.Lawful.{AnsweredInMemory};
-ghost use Rattle.block_device.specs.Device.{HasRisen};
+ghost use Rattle.block_device.specs.Device.{HasRisen, LeavesOnly};
 ghost use Rattle.page_file.specs.Fault.{HasCause, IsOfDevice};
 ghost use Rattle.page_file.specs.File.{blocks_of, device_of, gate_of, next_of, IsHonest, IsPageMap, LiesIn};
+ghost use Rattle.page_file.specs.Opening.{IsRefused};
+ghost use Rattle.plain_table.specs.Table.{Table};
 ghost use Rattle.page_file.specs.declared.fault.Fault.TheVariants as fault;
 ghost use Rattle.page_file.specs.declared.gate.Gate.TheVariants.{Shut};
 ghost use Rattle.layer_store.specs.Image.{IsImage};
@@ -58,6 +60,10 @@ impl<D: BlockDevice, A: Allocator + Copy> Kept<D, A> {
 
     // Writes the table into the pages, if they do not hold it.
     fn write(&mut self) -> Result<(), Fault>
+        // A stop leaves blocks that opening refuses, or an image of the table that was closed before.
+        ensures stops { (t : Table) → IsSound self.old → IsImage (blocks_of self.old.file) t →
+            LeavesOnly D.moment D.left_since (device_of self.old.file) (device_of self.new.file) (λ c. IsRefused c ⊎ IsImage c t) }
+
         ensures written { OnOk result (self.new.written ≡ true) }
         ensures honest { IsHonest self.old.file ↔ IsHonest self.new.file }
         ensures table { self.new.table ≡ self.old.table }
