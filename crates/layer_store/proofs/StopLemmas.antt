@@ -2,12 +2,12 @@
 use Rattle.std.proofs.Common.{◌≡◌, ◌∙◌, ◌⊎◌, ℕ, ◌≤◌, List, Some, None, true, false, refl, sym, ap, subst, arith, inl, inr, ⊎_elim}
 use Rattle.std.specs.Prelude.{is_some}
 use Rattle.block_device.specs.Device.{Blocks, LeavesOnly, block_at}
-use Rattle.block_device.specs.Moments.{leaves_weaker, started}
+use Rattle.block_device.specs.Moments.{leaves_then, leaves_weaker, started}
 use Rattle.page_file.specs.Aside.{FindsSame, aside_passes}
-use Rattle.page_file.specs.File.{IsHonest, KeepsGate, blocks_of, device_of, gate_of}
+use Rattle.page_file.specs.File.{IsHonest, IsPageMap, KeepsGate, LiesIn, blocks_of, device_of, gate_of, next_of, pages}
 use Rattle.page_file.specs.Given.{given_is, is_given}
 use Rattle.page_file.specs.Kept.{aside_at}
-use Rattle.page_file.specs.Laws.{a_stop_follows_the_gate, stops_of_a_run_go_on}
+use Rattle.page_file.specs.Laws.{a_gate_aside_is_refused_or_the_same, a_stop_follows_the_gate, stops_of_a_run_go_on}
 use Rattle.page_file.specs.Opening.{IsRefused, failed_check}
 use Rattle.page_file.specs.Pages.{given_pages, next_in}
 use Rattle.page_file.specs.Stops.{SameButGate, StopSince}
@@ -15,8 +15,9 @@ use Rattle.page_file.specs.declared.file.PageFile.{PageFile}
 use Rattle.page_file.specs.declared.gate.Gate.{Gate}
 use Rattle.page_file.specs.declared.gate.Gate.TheVariants.{Shut, Open, Unsure}
 use Rattle.plain_table.specs.Table.{Table}
-use Rattle.layer_store.specs.Image.{IsImage}
+use Rattle.layer_store.specs.Image.{Holds, IsImage}
 use Rattle.layer_store.specs.Laws.{a_held_table_stays}
+use Rattle.layer_store.proofs.KeepLemmas.{image_of}
 
 -- of an image but for the gate, opening refuses the blocks, or they are an image of the same table
 pub image_aside : (blocks c : Blocks) (t : Table) → IsImage blocks t → SameButGate c blocks → IsRefused c ⊎ IsImage c t
@@ -64,3 +65,20 @@ module _ {D : Type 0} {m : _} where
       leaves_weaker m.moment m.left_since old.device new.device (λ c. (IsRefused c ⊎ IsImage c t) ⊎ StopSince (gate_of mid) (blocks_of mid) c) (λ c. IsRefused c ⊎ IsImage c t)
       (λ c. ⊎_elim (λ (p : IsRefused c ⊎ IsImage c t). p) (λ stop. inl (subst (λ (gate : Gate). StopSince gate (blocks_of mid) c) opened stop)))
       (stops_of_a_run_go_on old.device mid new (λ c. IsRefused c ⊎ IsImage c t) honest before keeps)
+
+  -- and the gate was shut behind them
+  pub gate_shut : (old : D) (mid new : PageFile D m) (u t : Table) → LeavesImage m.moment m.left_since old mid.device u → LeavesOnly m.moment m.left_since mid.device new.device (λ c. IsRefused c ⊎ SameButGate c (blocks_of new))
+      → IsPageMap new → LiesIn new (blocks_of new) → Holds (pages new) (next_of new) t → LeavesOnly m.moment m.left_since old new.device (λ c. IsRefused c ⊎ (IsImage c u ⊎ IsImage c t))
+  gate_shut old mid new u t before after map lies held =
+      leaves_then m.moment m.left_since old mid.device new.device (λ c. IsRefused c ⊎ (IsImage c u ⊎ IsImage c t))
+      (leaves_weaker m.moment m.left_since old mid.device (λ c. IsRefused c ⊎ IsImage c u) (λ c. IsRefused c ⊎ (IsImage c u ⊎ IsImage c t)) (λ c. ⊎_elim (λ refused. inl refused) (λ image. inr (inl image))) before)
+      (leaves_weaker m.moment m.left_since mid.device new.device (λ c. IsRefused c ⊎ SameButGate c (blocks_of new)) (λ c. IsRefused c ⊎ (IsImage c u ⊎ IsImage c t))
+      (λ c. ⊎_elim (λ refused. inl refused) (λ same. ⊎_elim (λ refused. inl refused) (λ there. inr (inr (image_of new c t map there held))) (a_gate_aside_is_refused_or_the_same new (blocks_of new) c lies same))) after)
+
+  -- a file whose gate is shut was read
+  pub then_read : (old : D) (mid new : PageFile D m) (u t : Table) → IsHonest mid → gate_of mid ≡ Shut → IsImage (blocks_of mid) t → LeavesOnly m.moment m.left_since old mid.device (λ c. IsRefused c ⊎ (IsImage c u ⊎ IsImage c t)) → KeepsGate mid new
+      → LeavesOnly m.moment m.left_since old new.device (λ c. IsRefused c ⊎ (IsImage c u ⊎ IsImage c t))
+  then_read old mid new u t honest shut image before keeps =
+      leaves_weaker m.moment m.left_since old new.device (λ c. (IsRefused c ⊎ (IsImage c u ⊎ IsImage c t)) ⊎ StopSince (gate_of mid) (blocks_of mid) c) (λ c. IsRefused c ⊎ (IsImage c u ⊎ IsImage c t))
+      (λ c. ⊎_elim (λ (p : IsRefused c ⊎ (IsImage c u ⊎ IsImage c t)). p) (λ stop. ⊎_elim (λ refused. inl refused) (λ there. inr (inr there)) (stop_of_image (gate_of mid) (blocks_of mid) c t image stop)))
+      (stops_of_a_run_go_on old mid new (λ c. IsRefused c ⊎ (IsImage c u ⊎ IsImage c t)) honest before keeps)

@@ -6,7 +6,7 @@ ghost use Rattle.plain_table.specs.Commands.Command.{Create, Insert};
 ghost use Rattle.plain_table.specs.Lawful.{AnsweredInMemory};
 ghost use Rattle.block_device.specs.Device.{HasRisen, LeavesOnly};
 ghost use Rattle.page_file.specs.Fault.{HasCause, IsOfDevice};
-ghost use Rattle.page_file.specs.File.{blocks_of, device_of, gate_of, next_of, IsHonest, IsPageMap, LiesIn};
+ghost use Rattle.page_file.specs.File.{blocks_of, device_of, gate_of, next_of, IsHonest, IsPageMap, KeepsGate, LiesIn};
 ghost use Rattle.page_file.specs.Opening.{IsRefused};
 ghost use Rattle.plain_table.specs.Table.{Table};
 ghost use Rattle.page_file.specs.declared.fault.Fault.TheVariants as fault;
@@ -88,6 +88,11 @@ impl<D: BlockDevice, A: Allocator + Copy> Kept<D, A> {
     /// On an honest device with a sound map it is refused by `Memory` or `Device`, or by `NoPages` where all page
     /// numbers were given out. The table in memory stays, and the map stays sound.
     pub fn settle(&mut self) -> Result<(), Fault>
+        // A stop during a closing that is finished leaves blocks that opening refuses, or an image of the table that was
+        // closed before, or of this one.
+        ensures stops { (t : Table) → IsSound self.old → IsImage (blocks_of self.old.file) t → OnOk result
+            (LeavesOnly D.moment D.left_since (device_of self.old.file) (device_of self.new.file) (λ c. IsRefused c ⊎ (IsImage c t ⊎ IsImage c self.old.table))) }
+
         ensures shut { OnOk result (gate_of self.new.file ≡ Shut) }
         ensures written { OnOk result (self.new.written ≡ true) }
         ensures lies { IsPageMap self.old.file → OnOk result (LiesIn self.new.file (blocks_of self.new.file)) }
@@ -107,6 +112,7 @@ impl<D: BlockDevice, A: Allocator + Copy> Kept<D, A> {
     ///
     /// On an honest device with a sound map that holds the table, the table and the blocks are then what they were, and
     /// a refusal is `Memory` or `Device`.
+    #[tactic(auto, using(page_file::specs::Laws::the_gate_is_kept_in_turn))]
     pub fn read_again(&mut self) -> Result<(), Fault>
         requires { gate_of self.old.file ≡ Shut }
         ensures table { IsPageMap self.old.file → HoldsItsTable self.old → self.new.table ≡ self.old.table }
@@ -114,6 +120,7 @@ impl<D: BlockDevice, A: Allocator + Copy> Kept<D, A> {
         ensures sound { IsPageMap self.old.file → HoldsItsTable self.old → IsPageMap self.new.file × HoldsItsTable self.new }
         ensures next { IsPageMap self.old.file → next_of self.new.file ≡ next_of self.old.file }
         ensures blocks { IsPageMap self.old.file → blocks_of self.new.file ≡ blocks_of self.old.file }
+        ensures gate { KeepsGate self.old.file self.new.file }
         ensures faults { IsPageMap self.old.file → HoldsItsTable self.old → IfErr result IsOfDevice }
         ensures cause { HasCause (D.faults (device_of self.old.file)) (D.faults (device_of self.new.file)) result }
     {

@@ -1,17 +1,16 @@
 //! The store: its commands, and its closing.
 
-ghost use Rattle.std.specs.Prelude.{◌≡◌, ◌⊎◌, ℕ, Ok, Err, IsOk, IfOk, IfErr, true, false, length};
-ghost use Rattle.block_device.specs.Device.{HasRisen};
+ghost use Rattle.std.specs.Prelude.{◌≡◌, ◌⊎◌, Err, IsOk, IfOk, IfErr};
+ghost use Rattle.block_device.specs.Device.{LeavesOnly};
 ghost use Rattle.page_file.specs.Opening.{IsRefused};
-ghost use Rattle.page_file.specs.Pages.{given_pages, next_in};
 ghost use Rattle.plain_table.specs.Answers.{done_answer, boxes_answer};
 ghost use Rattle.plain_table.specs.Commands.Command.{Create, Insert, Window, Reopen};
 ghost use Rattle.plain_table.specs.Lawful.{Takes, LawfulStep};
 ghost use Rattle.plain_table.specs.Lawful.Request.{Asks};
 ghost use Rattle.plain_table.specs.Table.{Table};
 ghost use Rattle.plain_table.specs.declared.refusal.Refusal.TheVariants as refusal;
-ghost use Rattle.layer_store.specs.Image.{Holds, IsImage};
-ghost use Rattle.layer_store.specs.Starting.{GivesUp, IsRefusedFor};
+ghost use Rattle.layer_store.specs.Image.{IsImage};
+ghost use Rattle.layer_store.specs.Starting.{GivesUp};
 
 mod start;
 
@@ -88,6 +87,12 @@ impl<D: BlockDevice, A: Allocator + Copy> Store<D, A> {
     pub fn reopen(&mut self) -> Result<(), Refusal>
         ensures step { Takes Stands self.old self.new (λ s s'. LawfulStep s (Asks Reopen) (done_answer result) s') }
         ensures closed { (t : Table) → StandsFor self.old t → IsOk result ⊎ HasFailed self.new → IsImage (blocks_in self.new) t }
+
+        // A stop during a closing that is finished leaves blocks that opening refuses, or an image of the table that was
+        // closed before, or of this one.
+        ensures stops { (t u : Table) → StandsFor self.old t → IsImage (blocks_in self.old) u → IsOk result ⊎ HasFailed self.new →
+            LeavesOnly D.moment D.left_since (device_in self.old) (device_in self.new) (λ c. IsRefused c ⊎ (IsImage c u ⊎ IsImage c t)) }
+
     {
         if self.failed {
             return Err(FAILED);

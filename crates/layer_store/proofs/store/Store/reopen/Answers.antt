@@ -1,6 +1,9 @@
 -- A reopening closes the table, and reads the same table back.
 use Rattle.std.proofs.Common.{◌≡◌, ◌∙◌, ◌⊎◌, Err, true, false, refl, sym, ap, subst, inl, inr}
-use Rattle.block_device.specs.Device.{Blocks}
+use Rattle.block_device.specs.Device.{Blocks, LeavesOnly}
+use Rattle.page_file.specs.Opening.{IsRefused}
+use Rattle.plain_table.specs.Table.{Table}
+use Rattle.layer_store.proofs.StopLemmas.{then_read}
 use Rattle.page_file.specs.File.{blocks_of, device_of, next_of}
 use Rattle.plain_table.specs.Commands.Command.{Reopen}
 use Rattle.plain_table.specs.Lawful.{IsEnd, IsFault, IsSpent, MayWrite, Rose}
@@ -79,3 +82,37 @@ returns-in-Err-read_again-clause-closed g c = λ t stands end.
     let kept = c.settle.new.self in
     subst (IsImage (blocks_of c.read_again.new.self.file)) (settled.table ∙ live.table)
     (subst (λ (blocks : Blocks). IsImage blocks kept.table) (sym (c.in-Err-read_again.ensures.blocks mid.map)) (image_of kept.file (blocks_of kept.file) kept.table mid.map (settled.lies live.sound.map) held))
+
+pub returns-then-self-clause-stops : goal.returns-then-self-clause-stops
+returns-then-self-clause-stops g c = λ t u stands image end. absurd (not_both _ c.if-self.true (alive_with c.args.self.now t stands).going)
+
+pub returns-in-Err-clause-stops : goal.returns-in-Err-clause-stops
+returns-in-Err-clause-stops g c = λ t u stands image end. absurd (case end)
+  where
+    case : (false ≡ true) ⊎ HasFailed (record { kept = c.settle.new.self; failed = c.args.self.now.failed }) → ⊥
+    case (inl ok) = true_false (sym ok)
+    case (inr failed) = not_both _ (failed_so (record { kept = c.settle.new.self; failed = c.args.self.now.failed }) failed) c.if-self.false
+
+pub returns-in-Ok-clause-stops : goal.returns-in-Ok-clause-stops
+returns-in-Ok-clause-stops g c = λ t u stands image end.
+    let live = alive_with c.args.self.now t stands in
+    let settled = c.in_default.ensures in
+    let mid = settled.sound live.sound in
+    let kept = c.settle.new.self in
+    let old = device_of c.args.self.now.kept.file in
+    let d = g.D.BlockDevice in
+    let there = subst (IsImage (blocks_of kept.file)) (settled.table ∙ live.table) (image_of kept.file (blocks_of kept.file) kept.table mid.map (settled.lies live.sound.map) (mid.held settled.written)) in
+    let before = subst (λ (x : Table). LeavesOnly d.moment d.left_since old (device_of kept.file) (λ b. IsRefused b ⊎ (IsImage b u ⊎ IsImage b x))) live.table (settled.stops u live.sound image) in
+    then_read old kept.file c.read_again.new.self.file u t mid.map.honest settled.shut there before c.in-Ok.ensures.gate
+
+pub returns-in-Err-read_again-clause-stops : goal.returns-in-Err-read_again-clause-stops
+returns-in-Err-read_again-clause-stops g c = λ t u stands image end.
+    let live = alive_with c.args.self.now t stands in
+    let settled = c.in_default.ensures in
+    let mid = settled.sound live.sound in
+    let kept = c.settle.new.self in
+    let old = device_of c.args.self.now.kept.file in
+    let d = g.D.BlockDevice in
+    let there = subst (IsImage (blocks_of kept.file)) (settled.table ∙ live.table) (image_of kept.file (blocks_of kept.file) kept.table mid.map (settled.lies live.sound.map) (mid.held settled.written)) in
+    let before = subst (λ (x : Table). LeavesOnly d.moment d.left_since old (device_of kept.file) (λ b. IsRefused b ⊎ (IsImage b u ⊎ IsImage b x))) live.table (settled.stops u live.sound image) in
+    then_read old kept.file c.read_again.new.self.file u t mid.map.honest settled.shut there before c.in-Err-read_again.ensures.gate
