@@ -21,3 +21,7 @@ if_err_given (Err e) h f = λ k. f e k (h k)
 
 pub subst_both : {X Y : Type 0} (P : X → Y → Type 0) {x x' : X} {y y' : Y} → x ≡ x' → y ≡ y' → P x y → P x' y'
 subst_both P {x = x} {y' = y'} e f h = subst (λ x. P x y') e (subst (P x) f h)
+
+pub if_ok_both : {T E : Type 0} {P Q R : T → Type 0} (r : Result T E) → ((v : T) → P v → Q v → R v) → IfOk r P → IfOk r Q → IfOk r R
+if_ok_both (Ok v) f h k = f v h k
+if_ok_both (Err e) f h k = h

@@ -82,3 +82,12 @@ module _ {D : Type 0} {m : _} where
       leaves_weaker m.moment m.left_since old new.device (λ c. (IsRefused c ⊎ (IsImage c u ⊎ IsImage c t)) ⊎ StopSince (gate_of mid) (blocks_of mid) c) (λ c. IsRefused c ⊎ (IsImage c u ⊎ IsImage c t))
       (λ c. ⊎_elim (λ (p : IsRefused c ⊎ (IsImage c u ⊎ IsImage c t)). p) (λ stop. ⊎_elim (λ refused. inl refused) (λ there. inr (inr there)) (stop_of_image (gate_of mid) (blocks_of mid) c t image stop)))
       (stops_of_a_run_go_on old mid new (λ c. IsRefused c ⊎ (IsImage c u ⊎ IsImage c t)) honest before keeps)
+
+  -- a file was closed
+  pub file_closed : (old new : D) (mid : PageFile D m) (u t : Table) → LeavesImage m.moment m.left_since old mid.device u → LeavesOnly m.moment m.left_since mid.device new (λ c. IsRefused c ⊎ SameButGate c (m.shown new))
+      → IsPageMap mid → LiesIn mid (m.shown new) → Holds (pages mid) (next_of mid) t → LeavesOnly m.moment m.left_since old new (λ c. IsRefused c ⊎ (IsImage c u ⊎ IsImage c t))
+  file_closed old new mid u t before after map lies held =
+      leaves_then m.moment m.left_since old mid.device new (λ c. IsRefused c ⊎ (IsImage c u ⊎ IsImage c t))
+      (leaves_weaker m.moment m.left_since old mid.device (λ c. IsRefused c ⊎ IsImage c u) (λ c. IsRefused c ⊎ (IsImage c u ⊎ IsImage c t)) (λ c. ⊎_elim (λ refused. inl refused) (λ image. inr (inl image))) before)
+      (leaves_weaker m.moment m.left_since mid.device new (λ c. IsRefused c ⊎ SameButGate c (m.shown new)) (λ c. IsRefused c ⊎ (IsImage c u ⊎ IsImage c t))
+      (λ c. ⊎_elim (λ refused. inl refused) (λ same. ⊎_elim (λ refused. inl refused) (λ there. inr (inr (image_of mid c t map there held))) (a_gate_aside_is_refused_or_the_same mid (m.shown new) c lies same))) after)

@@ -136,6 +136,12 @@ impl<D: BlockDevice, A: Allocator + Copy> Kept<D, A> {
     /// it.
     pub fn close(self) -> Result<D, (Fault, D)>
         ensures closed { IsSound self → IfOk result (λ device. IsImage (D.shown device) self.table) }
+
+        // A stop during a closing that is finished leaves blocks that opening refuses, or an image of the table that was
+        // closed before, or of this one.
+        ensures stops { (t : Table) → IsSound self → IsImage (blocks_of self.file) t → IfOk result (λ device.
+            LeavesOnly D.moment D.left_since (device_of self.file) device (λ c. IsRefused c ⊎ (IsImage c t ⊎ IsImage c self.table))) }
+
         ensures faults { IsPageMap self.file → IfErr result (λ e. IsOfDevice e.0 ⊎ (e.0 ≡ fault.NoPages)) }
         ensures honest { IfOk result (λ device. IsHonest self.file ↔ D.honest device) }
         ensures refused_honest { IfErr result (λ e. IsHonest self.file ↔ D.honest e.1) }

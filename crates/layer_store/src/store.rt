@@ -92,7 +92,6 @@ impl<D: BlockDevice, A: Allocator + Copy> Store<D, A> {
         // closed before, or of this one.
         ensures stops { (t u : Table) → StandsFor self.old t → IsImage (blocks_in self.old) u → IsOk result ⊎ HasFailed self.new →
             LeavesOnly D.moment D.left_since (device_in self.old) (device_in self.new) (λ c. IsRefused c ⊎ (IsImage c u ⊎ IsImage c t)) }
-
     {
         if self.failed {
             return Err(FAILED);
@@ -116,6 +115,12 @@ impl<D: BlockDevice, A: Allocator + Copy> Store<D, A> {
     /// device comes back as it is.
     pub fn close(self) -> Result<D, (Refusal, D)>
         ensures closed { (t : Table) → StandsFor self t → IfOk result (λ device. IsImage (D.shown device) t) }
+
+        // A stop during a closing that is finished leaves blocks that opening refuses, or an image of the table that was
+        // closed before, or of this one.
+        ensures stops { (t u : Table) → StandsFor self t → IsImage (blocks_in self) u → IfOk result (λ device.
+            LeavesOnly D.moment D.left_since (device_in self) device (λ c. IsRefused c ⊎ (IsImage c u ⊎ IsImage c t))) }
+
         ensures refused { (t : Table) → StandsFor self t → IfErr result (λ e. GivesUp (D.faults (device_in self)) (D.faults e.1) e.0 ⊎ (e.0 ≡ refusal.NoPages)) }
         ensures failed { HasFailed self → result ≡ Err (refusal.StoreFailed 19, device_in self) }
         ensures honest { IfOk result (λ device. D.honest (device_in self) → D.honest device) }

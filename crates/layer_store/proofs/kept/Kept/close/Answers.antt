@@ -4,7 +4,8 @@ use Rattle.block_device.specs.Device.{HasRisen}
 use Rattle.page_file.specs.File.{device_of, next_of, pages}
 use Rattle.layer_store.specs.Image.{Holds}
 use Rattle.layer_store.proofs.KeepLemmas.{image_of}
-use Rattle.layer_store.proofs.Results.{if_err, if_ok}
+use Rattle.layer_store.proofs.Results.{if_err, if_ok, if_ok_both}
+use Rattle.layer_store.proofs.StopLemmas.{file_closed}
 use Rattle.layer_store.proofs.kept.Kept.close.Goals as goal
 
 pub returns-in-Ok-clause-closed : goal.returns-in-Ok-clause-closed
@@ -24,3 +25,11 @@ returns-clause-cause g c =
       subst (λ (device : _). before ≤ faults device) (sym c.abandon.ensures) c.in-Err.ensures.cause.later,
       λ is. subst (λ (device : _). HasRisen before (faults device)) (sym c.abandon.ensures) (c.in-Err.ensures.cause.device (ap Err is)),
     )
+
+pub returns-in-Ok-clause-stops : goal.returns-in-Ok-clause-stops
+returns-in-Ok-clause-stops g c = λ t sound image.
+    let kept = c.write.new.self in
+    let before = c.in-Ok.ensures.sound sound in
+    let held = subst (Holds (pages kept.file) (next_of kept.file)) c.in-Ok.ensures.table (before.held c.in-Ok.ensures.written) in
+    if_ok_both c.close.result (λ device lies stops. file_closed (device_of c.args.self.file) device kept.file t c.args.self.table (c.in-Ok.ensures.stops t sound image) (stops before.map.honest) before.map (lies before.map.honest) held)
+    c.close.ensures.lies c.close.ensures.stops

@@ -25,6 +25,6 @@ returns-clause-stops g c = λ t sound image.
     let before = c.write.ensures.sound sound in
     let new = c.settle.new.self in
     let held = kept_table c.write.new.self.file new c.args.self.now.table before.map.honest c.settle.ensures.map
-        (subst (Holds (pages c.write.new.self.file) (next_of c.write.new.self.file)) c.in_ok-write.ensures.table (before.held c.in_ok-write.ensures.written)) in
+    (subst (Holds (pages c.write.new.self.file) (next_of c.write.new.self.file)) c.in_ok-write.ensures.table (before.held c.in_ok-write.ensures.written)) in
     on_ok c.settle.result (λ lies. gate_shut (device_of c.args.self.now.file) c.write.new.self.file new t c.args.self.now.table (c.write.ensures.stops t sound image) (c.settle.ensures.stops before.map.honest) (c.settle.ensures.map.sound.0 before.map) lies held)
     (c.settle.ensures.lies before.map.honest)

@@ -1,6 +1,9 @@
 -- A live store closes its table, and one that failed answers that alone.
 use Rattle.std.proofs.Common.{◌≡◌, ◌⊎◌, sym, subst}
+use Rattle.block_device.specs.Device.{LeavesOnly}
 use Rattle.page_file.specs.File.{device_of}
+use Rattle.page_file.specs.Opening.{IsRefused}
+use Rattle.plain_table.specs.Table.{Table}
 use Rattle.plain_table.specs.declared.refusal.Refusal.{Refusal}
 use Rattle.plain_table.specs.declared.refusal.Refusal.TheVariants as refusal
 use Rattle.layer_store.specs.Image.{IsImage}
@@ -29,3 +32,9 @@ returns-in-Err-clause-refused g c = λ t stands.
 
 pub returns-in-Err-clause-failed : goal.returns-in-Err-clause-failed
 returns-in-Err-clause-failed g c = λ failed. absurd (not_both _ (failed_so c.args.self failed) c.if-self.false)
+
+pub returns-in-Ok-clause-stops : goal.returns-in-Ok-clause-stops
+returns-in-Ok-clause-stops g c = λ t u stands image.
+    let live = alive_with c.args.self t stands in
+    let d = g.D.BlockDevice in
+    subst (λ (x : Table). LeavesOnly d.moment d.left_since (device_of c.args.self.kept.file) c.in-Ok.device (λ b. IsRefused b ⊎ (IsImage b u ⊎ IsImage b x))) live.table (c.in-Ok.ensures.stops u live.sound image)
