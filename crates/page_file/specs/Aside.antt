@@ -1,14 +1,18 @@
 -- Blocks that differ from those of a settled file in the gate alone.
-use Rattle.std.proofs.Common.{◌≡◌, ◌⊎◌, ◌∙◌, ℕ, ◌≤◌, List, true, Option, Some, None, refl, sym, ap, arith, subst, inl, inr}
+use Rattle.std.proofs.Common.{◌≡◌, ◌⊎◌, ◌∙◌, ℕ, ◌≤◌, List, true, Option, Some, None, refl, sym, ap, arith, subst, inl, inr, ⊎_elim}
 use Rattle.std.specs.Prelude.{is_some, ◌↔◌}
 use Rattle.block_device.specs.Device.{Blocks, block_at}
 use Rattle.page_file.specs.declared.fault.Fault.{Fault}
+use Rattle.page_file.specs.declared.file.PageFile.{PageFile}
+use Rattle.page_file.specs.declared.gate.Gate.TheVariants.{Open}
 use Rattle.page_file.specs.declared.header.Header.{Header}
+use Rattle.page_file.specs.File.{IsHonest, LiesIn, gate_of}
 use Rattle.page_file.specs.Opening.{IsRefused, failed_check, header_of_block}
 use Rattle.page_file.specs.Pages.{HasFreeChain, IsSoundMap, header_in, next_in, page_of, pages_in}
 use Rattle.page_file.specs.Stops.{SameButGate}
 use Rattle.page_file.specs.Kept.{aside_at}
 use Rattle.page_file.specs.Live.{free_same, pages_same}
+use Rattle.page_file.specs.Settled.{header_is}
 
 -- blocks in which opening finds the same as in those
 pub record FindsSame (c blocks : Blocks) : Type 0 where
@@ -41,3 +45,24 @@ aside_passes c blocks same = case (refused_or (failed_check c))
     case : IsRefused c ⊎ (failed_check c ≡ None) → IsRefused c ⊎ FindsSame c blocks
     case (inl refused) = inl refused
     case (inr passes) = inr (finds_same c blocks same passes)
+
+-- a file whose gate is not open lies in what differs from its blocks in the gate alone, unless opening refuses it
+pub aside_lies : {D : Type 0} {m : _} (file : PageFile D m) (c : Blocks) → IsHonest file → ¬ (gate_of file ≡ Open) → SameButGate c (m.shown file.device) → IsRefused c ⊎ LiesIn file c
+aside_lies {m = m} file c h closed same = ⊎_elim
+    (λ (refused : IsRefused c). inl refused)
+    (λ (found : FindsSame c blocks). inr (record {
+      passes = found.passes;
+      next = found.next ∙ ap (λ (x : Header). x.next) header;
+      pages_there = λ k. found.pages_there k ∙ ap (λ (x : Header). page_of blocks x k) header;
+      sound = (
+        λ p. found.sound.1 (subst (λ (x : Header). HasFreeChain blocks x) (sym header) p.free),
+        λ s. record { honest = h; free = subst (λ (x : Header). HasFreeChain blocks x) header (found.sound.0 s) },
+      );
+    }))
+    (aside_passes c blocks same)
+  where
+    blocks : Blocks
+    blocks = m.shown file.device
+
+    header : header_in blocks ≡ file.header
+    header = header_is file.header (block_at 1 blocks) (file.settled h closed)

@@ -1,7 +1,7 @@
 -- What faults there are, what comes from the device below, and what a fault needs for its cause (our
 -- rule, docs/FORMAT.md, "Faults").
-use Rattle.std.specs.Prelude.{◌≡◌, ◌≤◌, ◌⊎◌, ℕ, Result, IsErrOf}
-use Rattle.block_device.specs.Device.{HasRisen}
+use Rattle.std.specs.Prelude.{◌≡◌, ◌⊎◌, ℕ, Result, OnOk, IfErr}
+use Rattle.block_device.specs.Device.{one_more}
 use Rattle.block_device.specs.declared.device.DeviceError.{DeviceError}
 use Rattle.block_device.specs.declared.device.DeviceError.TheVariants.{Failed, Memory}
 use Rattle.page_file.specs.declared.fault.Fault.{Fault}
@@ -30,7 +30,12 @@ IsOfDevice f = (f ≡ fault.Memory) ⊎ (f ≡ fault.Device)
 abbrev pub IsDamage : Fault → Type 0
 IsDamage f = (page : ℕ) × (f ≡ fault.Damaged page)
 
--- the count of the device's faults doesn't fall, and `Device` is answered only where it rose
+-- how often the device has failed after a fault: once more with `Device`, and no more with another
+abbrev pub faults_after : Fault → ℕ → ℕ
+faults_after fault.Device before = one_more before
+faults_after f before = before
+
+-- the count of the device's faults rises by one with `Device`, and with nothing else
 pub record HasCause {T : Type 0} (before now : ℕ) (result : Result T Fault) : Type 0 where
-  pub later : before ≤ now
-  pub device : IsErrOf result fault.Device → HasRisen before now
+  pub ok : OnOk result (now ≡ before)
+  pub refused : IfErr result (λ f. now ≡ faults_after f before)

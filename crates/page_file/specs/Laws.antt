@@ -8,7 +8,7 @@ use Rattle.page_file.specs.declared.gate.Gate.TheVariants.{Shut, Open, Unsure}
 use Rattle.page_file.specs.File.{IsHonest, IsLive, IsPageMap, KeepsGate, KeepsMap, LiesIn, blocks_of, gate_of, given, next_of, pages}
 use Rattle.page_file.specs.Opening.{IsRefused, failed_check}
 use Rattle.page_file.specs.Stops.{SameButGate, StopSince}
-use Rattle.page_file.specs.Aside.{aside_passes}
+use Rattle.page_file.specs.Aside.{aside_lies, aside_passes}
 use Rattle.page_file.specs.Gated.{now_since}
 use Rattle.page_file.specs.Kept as kept
 use Rattle.page_file.specs.Given.{given_is_live, live_is_given}
@@ -42,6 +42,10 @@ a_gate_aside_is_refused_or_the_same file blocks c lies same = ⊎_elim
       sound = (λ p. found.sound.1 (lies.sound.0 p), λ s. lies.sound.1 (found.sound.0 s));
     }))
     (aside_passes c blocks same)
+
+-- so of what differs from the blocks of a file whose gate is not open
+pub a_gate_aside_finds_the_file : {D : Type 0} {m : _} (file : PageFile D m) (c : Blocks) → IsHonest file → ¬ (gate_of file ≡ Open) → SameButGate c (blocks_of file) → IsRefused c ⊎ LiesIn file c
+a_gate_aside_finds_the_file file c h closed same = aside_lies file c h closed same
 
 -- two files that lie in the same blocks have the same map
 pub a_file_opened_again_is_the_same : {D E : Type 0} {m : _} {n : _} (old : PageFile D m) (new : PageFile E n) (blocks : Blocks) → LiesIn old blocks → LiesIn new blocks

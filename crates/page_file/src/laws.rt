@@ -2,7 +2,7 @@
 ghost use Rattle.std.specs.Prelude.{◌≡◌, ◌⊎◌, ◌↔◌, ◌≤◌, ◌<◌, ◌^◌, ℕ, List, Some};
 ghost use Rattle.block_device.specs.Device.{Blocks};
 ghost use Rattle.page_file.specs.declared.file.PageFile.{PageFile};
-ghost use Rattle.page_file.specs.declared.gate.Gate.TheVariants.{Shut};
+ghost use Rattle.page_file.specs.declared.gate.Gate.TheVariants.{Shut, Open};
 ghost use Rattle.page_file.specs.File.{IsHonest, IsLive, IsPageMap, KeepsGate, KeepsMap, LiesIn, blocks_of, device_of, gate_of, given, next_of, pages};
 ghost use Rattle.page_file.specs.Layout.{kind_of};
 ghost use Rattle.page_file.specs.Opening.{IsRefused};
@@ -23,11 +23,12 @@ pub fn a_shut_file_lies_in_its_blocks<D: BlockDevice>()
     ensures { (file : PageFile D ⟦<D as BlockDevice>⟧) → IsHonest file → gate_of file ≡ Shut → LiesIn file (blocks_of file) }
 {}
 
-/// Of blocks that differ from those of a file in the gate alone, opening refuses them or finds the same
-/// file.
-#[tactic(auto, using(crate::specs::Laws::a_gate_aside_is_refused_or_the_same))]
+/// Of blocks that differ in the gate alone from blocks in which a file lies, or from those of a file whose gate is not
+/// open, opening refuses them or finds the same file.
+#[tactic(auto, using(crate::specs::Laws::a_gate_aside_is_refused_or_the_same, crate::specs::Laws::a_gate_aside_finds_the_file))]
 pub fn a_gate_aside_is_refused_or_the_same<D: BlockDevice>()
-    ensures { (file : PageFile D ⟦<D as BlockDevice>⟧) (blocks c : Blocks) → LiesIn file blocks → SameButGate c blocks → IsRefused c ⊎ LiesIn file c }
+    ensures file { (file : PageFile D ⟦<D as BlockDevice>⟧) (c : Blocks) → IsHonest file → ¬ (gate_of file ≡ Open) → SameButGate c (blocks_of file) → IsRefused c ⊎ LiesIn file c }
+    ensures blocks { (file : PageFile D ⟦<D as BlockDevice>⟧) (blocks c : Blocks) → LiesIn file blocks → SameButGate c blocks → IsRefused c ⊎ LiesIn file c }
 {}
 
 /// Two files that lie in the same blocks have the same map: a closed file opened again is the same.

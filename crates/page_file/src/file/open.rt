@@ -1,7 +1,7 @@
 //! The beginning of a file of pages: opened, or made anew.
 ghost use Rattle.std.specs.Prelude.{◌≡◌, ◌⊎◌, ◌↔◌, ◌≤◌, ◌<◌, ℕ, Some, None, length, IfOk, IfErr};
-ghost use Rattle.block_device.specs.Device.{HasRisen, LeavesOnly};
-ghost use Rattle.page_file.specs.Fault.{HasCause, IsOfDevice, IsDamage};
+ghost use Rattle.block_device.specs.Device.{LeavesOnly};
+ghost use Rattle.page_file.specs.Fault.{HasCause, IsOfDevice, IsDamage, faults_after};
 ghost use Rattle.page_file.specs.File.{device_of, blocks_of, gate_of, next_of, pages, IsHonest, IsPageMap, KeepsGate, KeepsMap, LiesIn};
 ghost use Rattle.page_file.specs.Layout.{catalog_block};
 ghost use Rattle.page_file.specs.Opening.{IsRefused, failed_check};
@@ -35,8 +35,8 @@ pub fn open_pages<D: BlockDevice>(device: D) -> Result<PageFile<D>, (Fault, D)>
     ensures honest { IfOk result (λ file. D.honest device ↔ D.honest (device_of file)) }
     ensures refused_honest { IfErr result (λ e. D.honest device ↔ D.honest e.1) }
     ensures never { IfErr result (λ e. ¬ (e.0 ≡ fault.NoPages)) }
-    ensures later { IfOk result (λ file. D.faults device ≤ D.faults (device_of file)) }
-    ensures cause { IfErr result (λ e. (D.faults device ≤ D.faults e.1) × (e.0 ≡ fault.Device → HasRisen (D.faults device) (D.faults e.1))) }
+    ensures no_fault { IfOk result (λ file. D.faults (device_of file) ≡ D.faults device) }
+    ensures cause { IfErr result (λ e. D.faults e.1 ≡ faults_after e.0 (D.faults device)) }
 {
     let mut device = device;
     match check_opening(&mut device) {
@@ -91,8 +91,8 @@ pub fn create_pages<D: BlockDevice>(device: D) -> Result<PageFile<D>, (Fault, D)
     ensures refused_honest { IfErr result (λ e. D.honest device ↔ D.honest e.1) }
     ensures faults { IfErr result (λ e. D.honest device → IsOfDevice e.0) }
     ensures other_faults { IfErr result (λ e. IsOfDevice e.0 ⊎ IsDamage e.0) }
-    ensures later { IfOk result (λ file. D.faults device ≤ D.faults (device_of file)) }
-    ensures cause { IfErr result (λ e. (D.faults device ≤ D.faults e.1) × (e.0 ≡ fault.Device → HasRisen (D.faults device) (D.faults e.1))) }
+    ensures no_fault { IfOk result (λ file. D.faults (device_of file) ≡ D.faults device) }
+    ensures cause { IfErr result (λ e. D.faults e.1 ≡ faults_after e.0 (D.faults device)) }
 {
     let mut device = device;
     match create(&mut device) {

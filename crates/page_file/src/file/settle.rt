@@ -1,7 +1,7 @@
 //! The gate shut behind a change, and a file closed.
 ghost use Rattle.std.specs.Prelude.{◌≡◌, ◌⊎◌, ◌↔◌, ◌≤◌, Ok, IsOk, IfOk, IfErr, OnOk, OnErr};
-ghost use Rattle.block_device.specs.Device.{HasRisen, LeavesOnly, Only};
-ghost use Rattle.page_file.specs.Fault.{HasCause, IsOfDevice};
+ghost use Rattle.block_device.specs.Device.{LeavesOnly, Only};
+ghost use Rattle.page_file.specs.Fault.{HasCause, IsOfDevice, faults_after};
 ghost use Rattle.page_file.specs.File.{device_of, blocks_of, IsHonest, gate_of, KeepsMap, LiesIn};
 ghost use Rattle.page_file.specs.Opening.{IsRefused};
 ghost use Rattle.page_file.specs.Stops.{SameButGate};
@@ -29,9 +29,10 @@ impl<D: BlockDevice> PageFile<D> {
         ensures was_unsure { IsHonest self.old → gate_of self.old ≡ Unsure → SameButGate (blocks_of self.new) (blocks_of self.old) }
         ensures map { KeepsMap self.old self.new }
 
-        // A stop leaves blocks that opening refuses, or those that are read afterwards, the gate aside.
+        // A stop leaves blocks that opening refuses, or those that are read afterwards, the gate aside, in which the file
+        // lies.
         ensures stops { IsHonest self.old →
-            LeavesOnly D.moment D.left_since (device_of self.old) (device_of self.new) (λ c. IsRefused c ⊎ SameButGate c (blocks_of self.new)) }
+            LeavesOnly D.moment D.left_since (device_of self.old) (device_of self.new) (λ c. IsRefused c ⊎ (SameButGate c (blocks_of self.new) × LiesIn self.new c)) }
 
         ensures honest { IsHonest self.old ↔ IsHonest self.new }
         ensures faults { IsHonest self.old → IfErr result IsOfDevice }
@@ -46,23 +47,26 @@ impl<D: BlockDevice> PageFile<D> {
 
     /// Settles the file, and hands its device back. Opened again, it has the same map.
     ///
-    /// After a refusal, which on an honest device is `Memory` or `Device`, the device comes back with its
-    /// gate open or unsure.
+    /// After a refusal, which on an honest device is `Memory` or `Device`, the device comes back; a stop leaves of it
+    /// what one during the call leaves.
     pub fn close(self) -> Result<D, (Fault, D)>
         ensures lies { IfOk result (λ device. IsHonest self → LiesIn self (D.shown device)) }
         ensures durable { IfOk result (λ device. IsHonest self → Only (D.shown device) (D.may_leave device)) }
         ensures was_shut { gate_of self ≡ Shut → result ≡ Ok (device_of self) }
 
-        // A stop leaves blocks that opening refuses, or those that are read afterwards, the gate aside.
-        ensures stops { IfOk result (λ device. IsHonest self → LeavesOnly D.moment D.left_since (device_of self) device (λ c. IsRefused c ⊎ SameButGate c (D.shown device))) }
-        ensures refused_stops { IfErr result (λ e. IsHonest self → LeavesOnly D.moment D.left_since (device_of self) e.1 (λ c. IsRefused c ⊎ SameButGate c (D.shown e.1))) }
+        // A stop leaves blocks that opening refuses, or those that are read afterwards, the gate aside, in which the file
+        // lies.
+        ensures stops { IfOk result (λ device. IsHonest self →
+            LeavesOnly D.moment D.left_since (device_of self) device (λ c. IsRefused c ⊎ (SameButGate c (D.shown device) × LiesIn self c))) }
+        ensures refused_stops { IfErr result (λ e. IsHonest self →
+            LeavesOnly D.moment D.left_since (device_of self) e.1 (λ c. IsRefused c ⊎ (SameButGate c (D.shown e.1) × LiesIn self c))) }
 
         ensures honest { IfOk result (λ device. IsHonest self ↔ D.honest device) }
         ensures refused_honest { IfErr result (λ e. IsHonest self ↔ D.honest e.1) }
         ensures faults { IfErr result (λ e. IsHonest self → IsOfDevice e.0) }
         ensures other_faults { IfErr result (λ e. IsOfDevice e.0 ⊎ (e.0 ≡ fault.Damaged 1)) }
-        ensures later { IfOk result (λ device. D.faults (device_of self) ≤ D.faults device) }
-        ensures cause { IfErr result (λ e. (D.faults (device_of self) ≤ D.faults e.1) × (e.0 ≡ fault.Device → HasRisen (D.faults (device_of self)) (D.faults e.1))) }
+        ensures no_fault { IfOk result (λ device. D.faults device ≡ D.faults (device_of self)) }
+        ensures cause { IfErr result (λ e. D.faults e.1 ≡ faults_after e.0 (D.faults (device_of self))) }
     {
         let mut file = self;
         let settled = file.settle();
@@ -103,6 +107,7 @@ impl<D: BlockDevice> PageFile<D> {
         ensures shut { OnOk result (gate_of self.new ≡ Shut) }
         ensures lies { IsHonest self.old → OnOk result (LiesIn self.new (blocks_of self.new)) }
         ensures refused { OnErr result (gate_of self.new ≡ Unsure) }
+        ensures closed { ¬ (gate_of self.new ≡ Open) }
         ensures was_shut { gate_of self.old ≡ Shut → (self.new ≡ self.old) × IsOk result }
         ensures same { IsHonest self.old → SameButGate (blocks_of self.new) (blocks_of self.old) }
         ensures map { KeepsMap self.old self.new }
