@@ -60,5 +60,5 @@ loop-next-preserved g c =
           one_more_read pages g.row.D c.args.first c.loop-next.next c.next_at-next.result c.loop-next.rows.items c.in_ok-rows.rows.items c.read.new.into more.0
           (before.read honest) (omega (arith, c.loop-next-test.true)) there more.1 more.2 more.3 (c.next_at-next.ensures.of_bucket g.row.D more.0 more.1);
       ascending = c.in_ok-rows.ensures.ascending;
-      later = omega (arith, before.later, read.cause.later);
+      no_fault = read.cause.ok ∙ before.no_fault;
     }

@@ -12,7 +12,7 @@ invariant-loop-next g l = record {
   blocks : IsHonest l.initial.file → blocks_of l.file ≡ blocks_of l.initial.file;
   read : IsHonest l.initial.file → HasRead (given l.initial.file) g.row.D l.first l.next l.rows.items;
   ascending : IsAscending l.rows.items;
-  later : g.B.BlockDevice.faults (device_of l.initial.file) ≤ g.B.BlockDevice.faults (device_of l.file);
+  no_fault : g.B.BlockDevice.faults (device_of l.file) ≡ g.B.BlockDevice.faults (device_of l.initial.file);
 }
 
 abbrev pub decreases-loop-next : goal.decreases-loop-next

@@ -39,7 +39,7 @@ loop-left-preserved g c =
       sound = λ map. done.sound (before.sound map);
       next = omega (arith, before.next, done.next.0);
       few = one_page_more (next_of c.args.file.now) (next_of c.loop-left.file) (next_of c.write_bucket.new.file) (length objects) left from before.few done.next.1 c.loop-left-test.true c.saturating_sub-from.ensures;
-      later = omega (arith, before.later, done.cause.later);
+      no_fault = done.cause.ok ∙ before.no_fault;
     }
 
 pub returns-clause-fresh : goal.returns-clause-fresh

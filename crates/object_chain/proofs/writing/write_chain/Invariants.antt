@@ -15,7 +15,7 @@ invariant-loop-left g l = record {
   sound : IsPageMap l.initial.file → IsPageMap l.file;
   next : next_of l.initial.file ≤ next_of l.file;
   few : HasFewPages (next_of l.initial.file) (next_of l.file) (length l.objects) l.left;
-  later : g.B.BlockDevice.faults (device_of l.initial.file) ≤ g.B.BlockDevice.faults (device_of l.file);
+  no_fault : g.B.BlockDevice.faults (device_of l.file) ≡ g.B.BlockDevice.faults (device_of l.initial.file);
 }
 
 abbrev pub decreases-loop-left : goal.decreases-loop-left
