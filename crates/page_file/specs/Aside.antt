@@ -1,17 +1,19 @@
 -- Blocks that differ from those of a settled file in the gate alone.
-use Rattle.std.proofs.Common.{◌≡◌, ◌⊎◌, ◌∙◌, ℕ, ◌≤◌, List, true, Option, Some, None, refl, sym, ap, arith, subst, inl, inr, ⊎_elim}
+use Rattle.std.proofs.Common.{◌≡◌, ◌⊎◌, ◌∙◌, ℕ, ◌≤◌, List, Bool, true, false, cond, Option, Some, None, refl, sym, ap, arith, subst, inl, inr, ⊎_elim}
 use Rattle.std.specs.Prelude.{is_some, ◌↔◌}
+use Rattle.std.proofs.lemmas.Bool.Decides.{nat_tests}
 use Rattle.block_device.specs.Device.{Blocks, block_at}
 use Rattle.page_file.specs.declared.fault.Fault.{Fault}
 use Rattle.page_file.specs.declared.file.PageFile.{PageFile}
 use Rattle.page_file.specs.declared.gate.Gate.TheVariants.{Open}
 use Rattle.page_file.specs.declared.header.Header.{Header}
-use Rattle.page_file.specs.File.{IsHonest, LiesIn, gate_of}
+use Rattle.page_file.specs.File.{IsHonest, IsNewFile, LiesIn, gate_of}
+use Rattle.page_file.specs.Layout.{IsHeader, catalog_block, new_header}
 use Rattle.page_file.specs.Opening.{IsRefused, failed_check, header_of_block}
-use Rattle.page_file.specs.Pages.{HasFreeChain, IsSoundMap, header_in, next_in, page_of, pages_in}
+use Rattle.page_file.specs.Pages.{HasFreeChain, IsSoundMap, header_in, is_live, next_in, page_of, pages_in}
 use Rattle.page_file.specs.Stops.{SameButGate}
 use Rattle.page_file.specs.Kept.{aside_at}
-use Rattle.page_file.specs.Live.{free_same, pages_same}
+use Rattle.page_file.specs.Live.{free_same, new_free, pages_same}
 use Rattle.page_file.specs.Settled.{header_is}
 
 -- blocks in which opening finds the same as in those
@@ -66,3 +68,22 @@ aside_lies {m = m} file c h closed same = ⊎_elim
 
     header : header_in blocks ≡ file.header
     header = header_is file.header (block_at 1 blocks) (file.settled h closed)
+
+not_live : (blocks : Blocks) (k : ℕ) → ¬ (k ≡ 2) → is_live blocks new_header k ≡ false
+not_live blocks k ne = grind (arith, nat_tests)
+
+-- what differs in the gate alone from a new file's blocks is a new file, unless opening refuses it
+pub new_aside : (blocks c : Blocks) → IsHeader new_header (block_at 1 blocks) → block_at 2 blocks ≡ catalog_block → SameButGate c blocks → IsRefused c ⊎ IsNewFile c
+new_aside blocks c is catalog same = ⊎_elim
+    (λ (refused : IsRefused c). inl refused)
+    (λ (found : FindsSame c blocks). inr (record {
+      passes = found.passes;
+      next = found.next ∙ ap (λ (x : Header). x.next) header;
+      catalog = found.pages_there 2 ∙ ap (λ (x : Header). page_of blocks x 2) header ∙ ap Some catalog;
+      others = λ k ne. found.pages_there k ∙ ap (λ (x : Header). page_of blocks x k) header ∙ ap (λ (t : Bool). cond t (Some (block_at k blocks)) None) (not_live blocks k ne);
+      sound = found.sound.1 (subst (λ (x : Header). HasFreeChain blocks x) (sym header) (new_free blocks));
+    }))
+    (aside_passes c blocks same)
+  where
+    header : header_in blocks ≡ new_header
+    header = header_is new_header (block_at 1 blocks) is

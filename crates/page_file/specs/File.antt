@@ -1,6 +1,7 @@
 -- What a file of pages stands for, and what calls keep of it.
-use Rattle.std.specs.Prelude.{◌≡◌, ◌↔◌, ℕ, List, Option, None, IsSome}
+use Rattle.std.specs.Prelude.{◌≡◌, ◌↔◌, ℕ, List, Option, Some, None, IsSome}
 use Rattle.block_device.specs.Device.{Blocks}
+use Rattle.page_file.specs.Layout.{catalog_block}
 use Rattle.page_file.specs.Opening.{failed_check}
 use Rattle.page_file.specs.Pages.{page_of, given_pages, pages_in, next_in, HasFreeChain, IsSoundMap}
 use Rattle.page_file.specs.Stops.{AddsOnly, StopSince}
@@ -65,3 +66,11 @@ pub record LiesIn {D : Type 0} {m : _} (file : PageFile D m) (blocks : Blocks) :
   pub next : next_in blocks ≡ next_of file
   pub pages_there : (k : ℕ) → pages_in blocks k ≡ pages file k
   pub sound : IsPageMap file ↔ IsSoundMap blocks
+
+-- Blocks of a new file: opening refuses them by no check, and finds one page, the catalog of no layers.
+pub record IsNewFile (blocks : Blocks) : Type 0 where
+  pub passes : failed_check blocks ≡ None
+  pub next : next_in blocks ≡ 3
+  pub catalog : pages_in blocks 2 ≡ Some catalog_block
+  pub others : (k : ℕ) → ¬ (k ≡ 2) → pages_in blocks k ≡ None
+  pub sound : IsSoundMap blocks

@@ -1,5 +1,5 @@
 -- What follows from the facts that the calls on a file promise, for the crates that stand on them.
-use Rattle.std.specs.Prelude.{◌≡◌, ◌⊎◌, ◌↔◌, ◌≤◌, ◌<◌, ◌^◌, ℕ, List, Some, None, refl}
+use Rattle.std.specs.Prelude.{◌≡◌, ◌⊎◌, ◌↔◌, ◌≤◌, ◌<◌, ◌^◌, ℕ, List, length, Some, None, refl}
 use Rattle.std.proofs.Common.{inl, inr, ⊎_elim, sym, ◌∙◌, subst, arith}
 use Rattle.block_device.specs.Device.{Blocks, LeavesOnly}
 use Rattle.page_file.specs.declared.file.PageFile.{PageFile}
@@ -26,6 +26,10 @@ a_shut_file_lies_in_its_blocks file h shut = kept.shut_lies file h shut
 -- the page of a live number is one given out, from the catalog on
 pub a_live_page_was_given_out : {D : Type 0} {m : _} (file : PageFile D m) (n : ℕ) → IsLive file n → (2 ≤ n) × (n < next_of file) × (next_of file ≤ 2 ^ 31)
 a_live_page_was_given_out {m = m} file n live = let l = lives (m.shown file.device) file.header n live in (l.low, l.below, file.few)
+
+-- a page number that was given out has its block
+pub a_number_given_out_has_its_block : {D : Type 0} {m : _} (file : PageFile D m) → IsHonest file → next_of file ≤ length (blocks_of file)
+a_number_given_out_has_its_block file h = file.room h
 
 -- the catalog is live
 pub the_catalog_is_live : {D : Type 0} {m : _} (file : PageFile D m) → IsPageMap file → IsLive file 2

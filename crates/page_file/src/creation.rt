@@ -2,6 +2,7 @@
 ghost use Rattle.std.specs.Prelude.{◌≡◌, ◌≤◌, ◌<◌, ◌^◌, ◌↔◌, ◌⊎◌, length, ℕ, OnOk, IfErr};
 ghost use Rattle.block_device.specs.Device.{Blocks, Only, LeavesOnly, Torn, written, block_at};
 ghost use Rattle.page_file.specs.Fault.{HasCause, IsOfDevice, IsDamage};
+ghost use Rattle.page_file.specs.File.{IsNewFile};
 ghost use Rattle.page_file.specs.Layout.{IsHeader, catalog_block, gate_block, new_header};
 ghost use Rattle.page_file.specs.Opening.{IsRefused};
 ghost use Rattle.page_file.specs.Stops.{IsOpen, AllLeave, SameButGate};
@@ -77,7 +78,7 @@ pub fn create<D: BlockDevice>(device: &mut D) -> Result<(), Fault>
     ensures header { D.honest device.old → OnOk result (IsHeader new_header (block_at 1 (D.shown device.new))) }
     ensures catalog { D.honest device.old → OnOk result (block_at 2 (D.shown device.new) ≡ catalog_block) }
     ensures durable { D.honest device.old → OnOk result (Only (D.shown device.new) (D.may_leave device.new)) }
-    ensures stops { D.honest device.old → LeavesOnly D.moment D.left_since device.old device.new (λ c. IsRefused c ⊎ SameButGate c (D.shown device.new)) }
+    ensures stops { D.honest device.old → LeavesOnly D.moment D.left_since device.old device.new (λ c. IsRefused c ⊎ (SameButGate c (D.shown device.new) × IsNewFile c)) }
     ensures below { D.honest device.old → IfErr result IsOfDevice }
     ensures only { IfErr result (λ f. IsOfDevice f ⊎ IsDamage f) }
     ensures honest { D.honest device.old ↔ D.honest device.new }

@@ -1,5 +1,5 @@
 //! What follows from the promises of the calls, each law the contract of a function that does nothing.
-ghost use Rattle.std.specs.Prelude.{◌≡◌, ◌⊎◌, ◌↔◌, ◌≤◌, ◌<◌, ◌^◌, ℕ, List, Some};
+ghost use Rattle.std.specs.Prelude.{◌≡◌, ◌⊎◌, ◌↔◌, ◌≤◌, ◌<◌, ◌^◌, ℕ, List, Some, length};
 ghost use Rattle.block_device.specs.Device.{Blocks};
 ghost use Rattle.page_file.specs.declared.file.PageFile.{PageFile};
 ghost use Rattle.page_file.specs.declared.gate.Gate.TheVariants.{Shut, Open};
@@ -60,4 +60,10 @@ pub fn gate_and_map_are_kept_in_turn<D: BlockDevice>()
     ensures gate { (old mid new : PageFile D ⟦<D as BlockDevice>⟧) → KeepsGate old mid → KeepsGate mid new → KeepsGate old new }
     ensures no_map { (file : PageFile D ⟦<D as BlockDevice>⟧) → KeepsMap file file }
     ensures map { (old mid new : PageFile D ⟦<D as BlockDevice>⟧) → (IsHonest old → IsHonest mid) → KeepsMap old mid → KeepsMap mid new → KeepsMap old new }
+{}
+
+/// Each page number that was given out has its block on the device.
+#[tactic(auto, using(crate::specs::Laws::a_number_given_out_has_its_block))]
+pub fn a_number_given_out_has_its_block<D: BlockDevice>()
+    ensures { (file : PageFile D ⟦<D as BlockDevice>⟧) → IsHonest file → next_of file ≤ length (blocks_of file) }
 {}

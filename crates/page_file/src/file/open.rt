@@ -2,7 +2,7 @@
 ghost use Rattle.std.specs.Prelude.{◌≡◌, ◌⊎◌, ◌↔◌, ◌≤◌, ◌<◌, ℕ, Some, None, length, IfOk, IfErr};
 ghost use Rattle.block_device.specs.Device.{LeavesOnly};
 ghost use Rattle.page_file.specs.Fault.{HasCause, IsOfDevice, IsDamage, faults_after};
-ghost use Rattle.page_file.specs.File.{device_of, blocks_of, gate_of, next_of, pages, IsHonest, IsPageMap, KeepsGate, KeepsMap, LiesIn};
+ghost use Rattle.page_file.specs.File.{device_of, blocks_of, gate_of, next_of, pages, IsHonest, IsNewFile, IsPageMap, KeepsGate, KeepsMap, LiesIn};
 ghost use Rattle.page_file.specs.Layout.{catalog_block};
 ghost use Rattle.page_file.specs.Opening.{IsRefused, failed_check};
 ghost use Rattle.page_file.specs.Stops.{SameButGate};
@@ -83,9 +83,11 @@ pub fn create_pages<D: BlockDevice>(device: D) -> Result<PageFile<D>, (Fault, D)
     ensures sound { IfOk result (λ file. D.honest device → IsPageMap file) }
     ensures lies { IfOk result (λ file. D.honest device → LiesIn file (blocks_of file)) }
 
-    // A stop leaves blocks that opening refuses, or those that are read afterwards, the gate aside.
-    ensures stops { IfOk result (λ file. D.honest device → LeavesOnly D.moment D.left_since device (device_of file) (λ c. IsRefused c ⊎ SameButGate c (blocks_of file))) }
-    ensures refused_stops { IfErr result (λ e. D.honest device → LeavesOnly D.moment D.left_since device e.1 (λ c. IsRefused c ⊎ SameButGate c (D.shown e.1))) }
+    // A stop leaves blocks that opening refuses, or a new file: what is read afterwards, the gate aside.
+    ensures stops { IfOk result (λ file. D.honest device →
+        LeavesOnly D.moment D.left_since device (device_of file) (λ c. IsRefused c ⊎ (SameButGate c (blocks_of file) × IsNewFile c))) }
+    ensures refused_stops { IfErr result (λ e. D.honest device →
+        LeavesOnly D.moment D.left_since device e.1 (λ c. IsRefused c ⊎ (SameButGate c (D.shown e.1) × IsNewFile c))) }
 
     ensures honest { IfOk result (λ file. D.honest device ↔ D.honest (device_of file)) }
     ensures refused_honest { IfErr result (λ e. D.honest device ↔ D.honest e.1) }
