@@ -4,6 +4,7 @@ use Rattle.std.proofs.Common.{◌≡◌, ℕ, [], ◌∷◌, refl, sym, ap, ◌�
 use Rattle.std.specs.Cmp.Lexicographic.{slice_cmp}
 use Rattle.std.specs.Ordering.{nat_cmp}
 use Rattle.std.specs.FinMap.{entries, entries-from_sorted}
+use Rattle.block_device.specs.Device.{HasRisen}
 use Rattle.plain_table.specs.Commands.{Command}
 use Rattle.plain_table.specs.Commands.Command.{Create, Window, Reopen}
 use Rattle.plain_table.specs.Lawful.{Standing, State, Request, LawfulStep, Session}
@@ -120,23 +121,31 @@ want_of_memory_makes_no_layer s' is h = made_is_another (ap table_of (sym is ∙
 -- ---- faults of the device
 
 a_device_may_fail : LawfulStep (live none 0 3) create (Refused refusal.Device) (live none 1 3)
-a_device_may_fail = inr (inl (omega arith, refl))
+a_device_may_fail = inr (inl (inl (omega arith), refl))
 
 a_device_that_did_not_fail_is_not_blamed : (s' : Standing) → s'.faults ≡ 5 → LawfulStep (live none 5 3) create (Refused refusal.Device) s' → ⊥
 a_device_that_did_not_fail_is_not_blamed s' same (inl h) = let no = h.0 ∙ create_is_done in absurd (cc)
-a_device_that_did_not_fail_is_not_blamed s' same (inr (inl h)) = absurd (omega (arith, same, h.0))
+a_device_that_did_not_fail_is_not_blamed s' same (inr (inl h)) = not_risen h.0
+  where
+    not_risen : HasRisen 5 s'.faults → ⊥
+    not_risen (inl more) = absurd (omega (arith, same, more))
+    not_risen (inr full) = absurd (omega (arith, same, full))
 a_device_that_did_not_fail_is_not_blamed s' same (inr (inr h)) = absurd h.0
 
 -- the count of faults is held at the greatest u64
 the_greatest_count_rises : LawfulStep (live none 18446744073709551615 3) create (Refused refusal.Device) (live none 18446744073709551615 3)
-the_greatest_count_rises = inr (inl (omega arith, refl))
+the_greatest_count_rises = inr (inl (inr (omega arith), refl))
 
 the_count_below_it_rises_to_it : LawfulStep (live none 18446744073709551614 3) create (Refused refusal.Device) (live none 18446744073709551615 3)
-the_count_below_it_rises_to_it = inr (inl (omega arith, refl))
+the_count_below_it_rises_to_it = inr (inl (inl (omega arith), refl))
 
 the_count_below_it_does_not_stay : (s' : Standing) → s'.faults ≡ 18446744073709551614 → LawfulStep (live none 18446744073709551614 3) create (Refused refusal.Device) s' → ⊥
 the_count_below_it_does_not_stay s' same (inl h) = let no = h.0 ∙ create_is_done in absurd (cc)
-the_count_below_it_does_not_stay s' same (inr (inl h)) = absurd (omega (arith, same, h.0))
+the_count_below_it_does_not_stay s' same (inr (inl h)) = not_risen h.0
+  where
+    not_risen : HasRisen 18446744073709551614 s'.faults → ⊥
+    not_risen (inl more) = absurd (omega (arith, same, more))
+    not_risen (inr full) = absurd (omega (arith, same, full))
 the_count_below_it_does_not_stay s' same (inr (inr h)) = absurd h.0
 
 -- ---- want of page numbers
@@ -165,7 +174,7 @@ a_create_may_end_the_store : LawfulStep (live none 0 3) create (Refused (refusal
 a_create_may_end_the_store = inr (inr (inl refl, inr (λ e. made_is_another (sym create_makes_an_empty_layer ∙ e)), refl))
 
 a_fault_of_the_device_may_end_the_store : LawfulStep (live none 0 3) create (Refused (refusal.StoreFailed 17)) (dead 1 3)
-a_fault_of_the_device_may_end_the_store = inr (inr (inr (refl, omega arith), inr (λ e. made_is_another (sym create_makes_an_empty_layer ∙ e)), refl))
+a_fault_of_the_device_may_end_the_store = inr (inr (inr (refl, inl (omega arith)), inr (λ e. made_is_another (sym create_makes_an_empty_layer ∙ e)), refl))
 
 a_reopen_may_end_the_store : (t : Table) → LawfulStep (live t 0 3) (Asks Reopen) (Refused (refusal.StoreFailed 16)) (dead 0 3)
 a_reopen_may_end_the_store t = inr (inr (inl refl, inl refl, refl))

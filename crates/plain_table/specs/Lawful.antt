@@ -1,6 +1,7 @@
 -- One command as a lawful step of a store, and sessions of such steps.
 -- A store answers as the plain table does; only want of memory, a fault of the device or want of page numbers may refuse a command instead. Our rule, docs/COMMANDS.md.
-use Rattle.std.specs.Prelude.{ℕ, ◌≡◌, ◌<◌, ◌-◌, ◌^◌, ◌⊎◌, min, List, [], ◌∷◌}
+use Rattle.std.specs.Prelude.{ℕ, ◌≡◌, ◌^◌, ◌⊎◌, List, [], ◌∷◌}
+use Rattle.block_device.specs.Device.{HasRisen}
 use Rattle.plain_table.specs.Commands.{Command}
 use Rattle.plain_table.specs.Commands.Command.{Reopen}
 use Rattle.plain_table.specs.Table.{Table}
@@ -24,10 +25,6 @@ pub record Standing : Type 0 where
 pub data Request : Type 0 where
   BadCommand : Request
   Asks : Command → Request
-
--- The count of faults rose. It is held at the greatest u64, where it counts as risen.
-abbrev pub Rose : ℕ → ℕ → Type 0
-Rose old new = min old (2 ^ 64 - 2) < new
 
 -- All page numbers were given out: page numbers are below 2^31.
 abbrev pub IsSpent : ℕ → Type 0
@@ -83,7 +80,7 @@ Lawful rose spent Dead (Asks c) a new = (a ≡ Refused (refusal.StoreFailed 19))
 
 -- one request answered lawfully
 abbrev pub LawfulStep : Standing → Request → Answer → Standing → Type 0
-LawfulStep old r a new = Lawful (Rose old.faults new.faults) (IsSpent new.next) old.state r a new.state
+LawfulStep old r a new = Lawful (HasRisen old.faults new.faults) (IsSpent new.next) old.state r a new.state
 
 -- lawful steps, each from what the one before left
 abbrev pub Session : Standing → List Request → List Answer → Standing → Type 0

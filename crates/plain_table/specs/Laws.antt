@@ -1,7 +1,8 @@
 -- What follows from the definitions of the plain table, for the crates that stand on it.
-use Rattle.std.proofs.Common.{◌≡◌, ◌∙◌, ℕ, List, map, Option, Some, None, inl, inr, refl, sym, ap, subst, T}
+use Rattle.std.proofs.Common.{◌≡◌, ◌∙◌, ℕ, List, [], ◌∷◌, map, Bool, true, false, not, ◌&&◌, cond, Option, Some, None, inl, inr, refl, sym, ap, subst, T}
 use Rattle.std.specs.Cmp.Lexicographic.{slice_cmp}
 use Rattle.std.specs.FinMap.{entries, entries-from_sorted}
+use Rattle.std.specs.List.{list_all}
 use Rattle.std.specs.Ordering.{nat_cmp}
 use Rattle.plain_table.specs.Commands.{Command}
 use Rattle.plain_table.specs.Commands.Command.{Create, Insert, Window, Reopen}
@@ -9,11 +10,12 @@ use Rattle.plain_table.specs.Kept.{entry_of}
 use Rattle.plain_table.specs.Lawful.{AnsweredInMemory, IsFault, LawfulFrom, MayWrite, RefusedBy}
 use Rattle.plain_table.specs.Lawful.State.{Alive}
 use Rattle.plain_table.specs.Listed.{table_from, IsListed}
-use Rattle.plain_table.specs.Step.{Answer, answer_of, changed, kept_or, refused_or, refusal_of}
+use Rattle.plain_table.specs.Step.{Answer, answer_of, changed, first_refusal, kept_or, refused_or, refusal_of, refusals_of}
 use Rattle.plain_table.specs.Step.Answer.{Refused}
 use Rattle.plain_table.specs.Table.{Table}
 use Rattle.plain_table.specs.declared.layer.Layer.{Layer as KeptLayer}
 use Rattle.plain_table.specs.declared.refusal.Refusal.{Refusal}
+use Rattle.plain_table.specs.declared.refusal.Refusal.TheVariants as refusal
 
 unchanged : (o : Option Refusal) (t : Table) (c : Command) (r : Refusal) → Refused r ≡ refused_or o (answer_of t c) → kept_or o t (changed t c) ≡ t
 unchanged (Some x) t c r e = refl
@@ -31,6 +33,46 @@ a_refusal_changes_nothing t u c r (inr h) = h.1
 pub memory_is_lawful : (rose spent : Type 0) (t u : Table) (c : Command) (a : Answer) → AnsweredInMemory t c a u → LawfulFrom rose spent t c a (Alive u)
 memory_is_lawful rose spent t u c a (inl h) = inl (h.0, ap Alive h.1)
 memory_is_lawful rose spent t u c a (inr h) = inr (inl (subst (RefusedBy (IsFault rose (spent × MayWrite t c))) (sym h.0) tt, ap Alive h.1))
+
+-- ---- a table in memory has no device that fails
+
+-- a refusal that a device may be the cause of: its own, or the end of a store
+abbrev pub is_of_device : Refusal → Bool
+is_of_device refusal.Device = true
+is_of_device (refusal.StoreFailed n) = true
+is_of_device r = false
+
+-- no check of a list is refused so
+abbrev none_of_device : List (Bool × Refusal) → Bool
+none_of_device cs = list_all (λ c. not (is_of_device c.1)) cs
+
+first_not_of_device : (cs : List (Bool × Refusal)) (r : Refusal) → none_of_device cs ≡ true → first_refusal cs ≡ Some r → is_of_device r ≡ false
+first_not_of_device [] r none e = absurd (cc)
+first_not_of_device (c ∷ cs) r none e = case c.0 (is_of_device c.1) refl none e (λ rest later. first_not_of_device cs r rest later)
+  where
+    case : (holds of_device : Bool) → is_of_device c.1 ≡ of_device → (not of_device && none_of_device cs) ≡ true → cond holds (Some c.1) (first_refusal cs) ≡ Some r
+        → (none_of_device cs ≡ true → first_refusal cs ≡ Some r → is_of_device r ≡ false) → is_of_device r ≡ false
+    case holds true is none e again = absurd (cc)
+    case true false is none e again = ap is_of_device (let same : r ≡ c.1 = cc in same) ∙ is
+    case false false is none e again = again none e
+
+not_of_device : (t : Table) (c : Command) → none_of_device (refusals_of t c) ≡ true
+not_of_device t (Create name dims fanout) = refl
+not_of_device t (Insert name id box) = refl
+not_of_device t (Window name box) = refl
+not_of_device t Reopen = refl
+
+the_refusal : (o : Option Refusal) (t : Table) (c : Command) (r : Refusal) → Refused r ≡ refused_or o (answer_of t c) → o ≡ Some r
+the_refusal (Some x) t c r e = cc
+the_refusal None t (Create name dims fanout) r e = absurd (cc)
+the_refusal None t (Insert name id box) r e = absurd (cc)
+the_refusal None t (Window name box) r e = absurd (cc)
+the_refusal None t Reopen r e = absurd (cc)
+
+-- no device is the cause of its refusals
+pub a_table_in_memory_blames_no_device : (t u : Table) (c : Command) (r : Refusal) → AnsweredInMemory t c (Refused r) u → is_of_device r ≡ false
+a_table_in_memory_blames_no_device t u c r (inl h) = first_not_of_device (refusals_of t c) r (not_of_device t c) (the_refusal (refusal_of t c) t c r h.0)
+a_table_in_memory_blames_no_device t u c r (inr h) = let memory : r ≡ refusal.Memory = let e = h.0 in cc in ap is_of_device memory
 
 -- the layers of a list are the entries of its table
 pub listed_are_entries : {A : Type 0} (layers : List (KeptLayer A)) (count : ℕ) → IsListed layers count → entries (table_from layers) ≡ map entry_of layers

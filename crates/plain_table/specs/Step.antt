@@ -34,13 +34,17 @@ abbrev pub object_refusals : Layer → ℕ → RawBox → Bool → List (Bool ×
 object_refusals layer id box is_full = box_refusals layer box ((map.contains_key layer.objects id, refusal.Duplicate) ∷ (is_full, refusal.TooManyObjects) ∷ [])
 
 -- the refusals of a command, in the order in which they are tried
-abbrev pub refusal_of : Table → Command → Option Refusal
-refusal_of t (Create name dims fanout) = first_refusal (
+abbrev pub refusals_of : Table → Command → List (Bool × Refusal)
+refusals_of t (Create name dims fanout) =
     (not (is_layer_name name), refusal.BadName) ∷ (not (is_dims dims), refusal.BadDims) ∷ (not (is_fanout fanout), refusal.BadFanout)
-    ∷ (map.contains_key t name, refusal.LayerExists) ∷ (nat_le most_layers (map.len t), refusal.TooManyLayers) ∷ [])
-refusal_of t (Insert name id box) = first_refusal (layer_refusals t name (object_refusals (layer_at t name) id box (nat_le most_objects (object_count t))))
-refusal_of t (Window name box) = first_refusal (layer_refusals t name (box_refusals (layer_at t name) box []))
-refusal_of t Reopen = None
+    ∷ (map.contains_key t name, refusal.LayerExists) ∷ (nat_le most_layers (map.len t), refusal.TooManyLayers) ∷ []
+refusals_of t (Insert name id box) = layer_refusals t name (object_refusals (layer_at t name) id box (nat_le most_objects (object_count t)))
+refusals_of t (Window name box) = layer_refusals t name (box_refusals (layer_at t name) box [])
+refusals_of t Reopen = []
+
+-- the refusal of a command, if there is one
+abbrev pub refusal_of : Table → Command → Option Refusal
+refusal_of t c = first_refusal (refusals_of t c)
 
 -- the table after a command that was not refused
 abbrev pub changed : Table → Command → Table
