@@ -4,13 +4,13 @@ use Rattle.std.specs.Prelude.{is_some, option_and_then}
 use Rattle.std.specs.FinMap.{empty, entries, entries-from_sorted}
 use Rattle.std.specs.Cmp.Lexicographic.{slice_cmp}
 use Rattle.std.specs.Ordering.{nat_cmp}
-use Rattle.block_device.specs.Device.{Blocks, HasRisen}
+use Rattle.block_device.specs.Device.{Blocks}
 use Rattle.catalog_page.specs.Layout.{records_at}
 use Rattle.catalog_page.proofs.Named.{begins_empty}
 use Rattle.object_chain.specs.Chain.{PageMap}
 use Rattle.object_chain.specs.Laws.{a_given_chain_is_live}
 use Rattle.page_file.specs.Fault.{IsOfDevice}
-use Rattle.page_file.specs.File.{IsHonest, IsPageMap, KeepsMap, LiesIn, blocks_of, given, next_of, pages}
+use Rattle.page_file.specs.File.{IsHonest, IsNewFile, IsPageMap, KeepsMap, LiesIn, blocks_of, given, next_of, pages}
 use Rattle.page_file.specs.Given.{live_is_given}
 use Rattle.page_file.specs.Laws.{a_live_page_is_given, the_catalog_is_live}
 use Rattle.page_file.specs.Layout.{catalog_block}
@@ -21,8 +21,6 @@ use Rattle.page_file.specs.declared.file.PageFile.{PageFile}
 use Rattle.plain_table.specs.Table.{Table, Layer}
 use Rattle.plain_table.proofs.EntryLemmas.{empty_map}
 use Rattle.layer_store.specs.Image.{Holds, HoldsLayers, IsDamaged, IsImage, catalog_in}
-use Rattle.layer_store.specs.Starting.{GivesUp}
-use Rattle.plain_table.specs.declared.refusal.Refusal.{Refusal}
 use Rattle.layer_store.specs.Laws.{a_held_table_stays, held_pages_are_not_damaged, other_layers, pages_hold_one_table}
 
 module _ {D : Type 0} {m : _} where
@@ -82,11 +80,10 @@ module _ {D : Type 0} {m : _} where
   pub same_blocks : (file : PageFile D m) (blocks : Blocks) → blocks_of file ≡ blocks → next_in blocks ≡ next_of file → given file ≡ given_pages blocks (next_in blocks)
   same_blocks file blocks e f = λ j k. given_pages (e j) (sym f j) k
 
--- a device that failed since failed since earlier
-pub gives_up_since : (before mid now : ℕ) (r : Refusal) → before ≤ mid → GivesUp mid now r → GivesUp before now r
-gives_up_since before mid now r le (inl memory) = inl memory
-gives_up_since before mid now r le (inr device) = inr (device.0, risen device.1)
-  where
-    risen : HasRisen mid now → HasRisen before now
-    risen (inl lt) = inl (omega (arith, le, lt))
-    risen (inr full) = inr full
+-- blocks of a new file are an image of the empty table
+pub new_image : (blocks : Blocks) → IsNewFile blocks → IsImage blocks empty
+new_image blocks new = record {
+  passes = new.passes;
+  free = new.sound;
+  holds = subst (λ (next : ℕ). Holds (given_pages blocks (next_in blocks)) next empty) (sym new.next) (nothing_held (given_pages blocks (next_in blocks)) (live_is_given blocks (header_in blocks) 2 catalog_block new.catalog));
+}

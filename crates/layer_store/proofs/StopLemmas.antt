@@ -1,23 +1,24 @@
 -- What a stop leaves of a store's blocks: a refusal, or an image.
 use Rattle.std.proofs.Common.{◌≡◌, ◌∙◌, ◌⊎◌, ℕ, ◌≤◌, List, Some, None, true, false, refl, sym, ap, subst, arith, inl, inr, ⊎_elim}
 use Rattle.std.specs.Prelude.{is_some}
-use Rattle.block_device.specs.Device.{Blocks, LeavesOnly, block_at}
+use Rattle.std.specs.FinMap.{empty}
+use Rattle.block_device.specs.Device.{Blocks, LeavesOnly, Only, block_at}
 use Rattle.block_device.specs.Moments.{leaves_then, leaves_weaker, started}
 use Rattle.page_file.specs.Aside.{FindsSame, aside_passes}
-use Rattle.page_file.specs.File.{IsHonest, IsPageMap, KeepsGate, LiesIn, blocks_of, device_of, gate_of, next_of, pages}
+use Rattle.page_file.specs.File.{IsHonest, IsNewFile, IsPageMap, KeepsGate, LiesIn, blocks_of, device_of, gate_of, next_of, pages}
 use Rattle.page_file.specs.Given.{given_is, is_given}
 use Rattle.page_file.specs.Kept.{aside_at}
-use Rattle.page_file.specs.Laws.{a_gate_aside_is_refused_or_the_same, a_stop_follows_the_gate, stops_of_a_run_go_on}
+use Rattle.page_file.specs.Laws.{a_run_goes_on, a_stop_follows_the_gate, stops_of_a_run_go_on}
 use Rattle.page_file.specs.Opening.{IsRefused, failed_check}
 use Rattle.page_file.specs.Pages.{given_pages, next_in}
-use Rattle.page_file.specs.Stops.{SameButGate, StopSince}
+use Rattle.page_file.specs.Stops.{AddsOnly, SameButGate, StopSince}
 use Rattle.page_file.specs.declared.file.PageFile.{PageFile}
 use Rattle.page_file.specs.declared.gate.Gate.{Gate}
 use Rattle.page_file.specs.declared.gate.Gate.TheVariants.{Shut, Open, Unsure}
 use Rattle.plain_table.specs.Table.{Table}
 use Rattle.layer_store.specs.Image.{Holds, IsImage}
 use Rattle.layer_store.specs.Laws.{a_held_table_stays}
-use Rattle.layer_store.proofs.KeepLemmas.{image_of}
+use Rattle.layer_store.proofs.KeepLemmas.{image_of, new_image}
 
 -- of an image but for the gate, opening refuses the blocks, or they are an image of the same table
 pub image_aside : (blocks c : Blocks) (t : Table) → IsImage blocks t → SameButGate c blocks → IsRefused c ⊎ IsImage c t
@@ -44,6 +45,25 @@ passed_not_refused blocks passes refused = let no : false ≡ true = sym (ap is_
 abbrev pub LeavesImage : {D : Type 0} → (D → ℕ) → (D → ℕ → Blocks → Type 0) → D → D → Table → Type 0
 LeavesImage moment left_since old new t = LeavesOnly moment left_since old new (λ c. IsRefused c ⊎ IsImage c t)
 
+-- what a stop in a closing leaves: a refusal, an image of the table that was closed before, or of this one
+abbrev pub LeavesEither : {D : Type 0} → (D → ℕ) → (D → ℕ → Blocks → Type 0) → D → D → Table → Table → Type 0
+LeavesEither moment left_since old new u t = LeavesOnly moment left_since old new (λ c. IsRefused c ⊎ (IsImage c u ⊎ IsImage c t))
+
+pub not_closed : {D : Type 0} (moment : D → ℕ) (left_since : D → ℕ → Blocks → Type 0) (old new : D) (u t : Table) → LeavesImage moment left_since old new u → LeavesEither moment left_since old new u t
+not_closed moment left_since old new u t = leaves_weaker moment left_since old new (λ c. IsRefused c ⊎ IsImage c u) (λ c. IsRefused c ⊎ (IsImage c u ⊎ IsImage c t)) (λ c. ⊎_elim (λ refused. inl refused) (λ image. inr (inl image)))
+
+-- what was opened and then only read
+pub only_read : {D : Type 0} (moment : D → ℕ) (left_since : D → ℕ → Blocks → Type 0) (may_leave : D → Blocks → Type 0) (old mid new : D) (gate : Gate) (shown now : Blocks) → may_leave old shown → gate ≡ Shut → now ≡ shown
+    → LeavesOnly moment left_since old mid (may_leave old) → AddsOnly moment left_since mid new (StopSince gate now) → LeavesOnly moment left_since old new (may_leave old)
+only_read moment left_since may_leave old mid new gate shown now there shut same opened more =
+    leaves_weaker moment left_since old new (λ c. may_leave old c ⊎ StopSince gate now c) (may_leave old)
+    (λ c. ⊎_elim (λ left. left) (λ stop. subst (may_leave old) (sym (subst (λ (gate : Gate). StopSince gate now c) shut stop ∙ same)) there))
+    (a_run_goes_on moment left_since old mid new (may_leave old) (StopSince gate now) opened more)
+
+-- a store that was made, or was not
+pub new_left : {D : Type 0} (moment : D → ℕ) (left_since : D → ℕ → Blocks → Type 0) (old new : D) (Q : Blocks → Type 0) → LeavesOnly moment left_since old new (λ c. IsRefused c ⊎ (Q c × IsNewFile c)) → LeavesImage moment left_since old new empty
+new_left moment left_since old new Q = leaves_weaker moment left_since old new (λ c. IsRefused c ⊎ (Q c × IsNewFile c)) (λ c. IsRefused c ⊎ IsImage c empty) (λ c. ⊎_elim (λ refused. inl refused) (λ made. inr (new_image c made.1)))
+
 module _ {D : Type 0} {m : _} where
   -- the blocks of a file whose gate is open are no image
   pub not_open : (file : PageFile D m) (t : Table) → IsHonest file → m.may_leave file.device (blocks_of file) → IsImage (blocks_of file) t → gate_of file ≡ Open → ⊥
@@ -66,28 +86,22 @@ module _ {D : Type 0} {m : _} where
       (λ c. ⊎_elim (λ (p : IsRefused c ⊎ IsImage c t). p) (λ stop. inl (subst (λ (gate : Gate). StopSince gate (blocks_of mid) c) opened stop)))
       (stops_of_a_run_go_on old.device mid new (λ c. IsRefused c ⊎ IsImage c t) honest before keeps)
 
-  -- and the gate was shut behind them
-  pub gate_shut : (old : D) (mid new : PageFile D m) (u t : Table) → LeavesImage m.moment m.left_since old mid.device u → LeavesOnly m.moment m.left_since mid.device new.device (λ c. IsRefused c ⊎ SameButGate c (blocks_of new))
-      → IsPageMap new → LiesIn new (blocks_of new) → Holds (pages new) (next_of new) t → LeavesOnly m.moment m.left_since old new.device (λ c. IsRefused c ⊎ (IsImage c u ⊎ IsImage c t))
-  gate_shut old mid new u t before after map lies held =
-      leaves_then m.moment m.left_since old mid.device new.device (λ c. IsRefused c ⊎ (IsImage c u ⊎ IsImage c t))
-      (leaves_weaker m.moment m.left_since old mid.device (λ c. IsRefused c ⊎ IsImage c u) (λ c. IsRefused c ⊎ (IsImage c u ⊎ IsImage c t)) (λ c. ⊎_elim (λ refused. inl refused) (λ image. inr (inl image))) before)
-      (leaves_weaker m.moment m.left_since mid.device new.device (λ c. IsRefused c ⊎ SameButGate c (blocks_of new)) (λ c. IsRefused c ⊎ (IsImage c u ⊎ IsImage c t))
-      (λ c. ⊎_elim (λ refused. inl refused) (λ same. ⊎_elim (λ refused. inl refused) (λ there. inr (inr (image_of new c t map there held))) (a_gate_aside_is_refused_or_the_same new (blocks_of new) c lies same))) after)
+  -- and the file was settled, or not, and holds another table
+  pub table_closed : (old mid new : D) (file : PageFile D m) (Q : Blocks → Type 0) (u t : Table) → LeavesImage m.moment m.left_since old mid u → LeavesOnly m.moment m.left_since mid new (λ c. IsRefused c ⊎ (Q c × LiesIn file c))
+      → IsPageMap file → Holds (pages file) (next_of file) t → LeavesEither m.moment m.left_since old new u t
+  table_closed old mid new file Q u t before after map held =
+      leaves_then m.moment m.left_since old mid new (λ c. IsRefused c ⊎ (IsImage c u ⊎ IsImage c t))
+      (not_closed m.moment m.left_since old mid u t before)
+      (leaves_weaker m.moment m.left_since mid new (λ c. IsRefused c ⊎ (Q c × LiesIn file c)) (λ c. IsRefused c ⊎ (IsImage c u ⊎ IsImage c t))
+      (λ c. ⊎_elim (λ refused. inl refused) (λ there. inr (inr (image_of file c t map there.1 held)))) after)
+
+  -- nothing else is left where the gate is shut
+  pub shut_is_durable : (file : PageFile D m) → IsHonest file → gate_of file ≡ Shut → Only (blocks_of file) (m.may_leave file.device)
+  shut_is_durable file honest shut = λ c left. subst (λ (gate : Gate). StopSince gate (blocks_of file) c) shut (a_stop_follows_the_gate file c honest left)
 
   -- a file whose gate is shut was read
-  pub then_read : (old : D) (mid new : PageFile D m) (u t : Table) → IsHonest mid → gate_of mid ≡ Shut → IsImage (blocks_of mid) t → LeavesOnly m.moment m.left_since old mid.device (λ c. IsRefused c ⊎ (IsImage c u ⊎ IsImage c t)) → KeepsGate mid new
-      → LeavesOnly m.moment m.left_since old new.device (λ c. IsRefused c ⊎ (IsImage c u ⊎ IsImage c t))
+  pub then_read : (old : D) (mid new : PageFile D m) (u t : Table) → IsHonest mid → gate_of mid ≡ Shut → IsImage (blocks_of mid) t → LeavesEither m.moment m.left_since old mid.device u t → KeepsGate mid new → LeavesEither m.moment m.left_since old new.device u t
   then_read old mid new u t honest shut image before keeps =
       leaves_weaker m.moment m.left_since old new.device (λ c. (IsRefused c ⊎ (IsImage c u ⊎ IsImage c t)) ⊎ StopSince (gate_of mid) (blocks_of mid) c) (λ c. IsRefused c ⊎ (IsImage c u ⊎ IsImage c t))
       (λ c. ⊎_elim (λ (p : IsRefused c ⊎ (IsImage c u ⊎ IsImage c t)). p) (λ stop. ⊎_elim (λ refused. inl refused) (λ there. inr (inr there)) (stop_of_image (gate_of mid) (blocks_of mid) c t image stop)))
       (stops_of_a_run_go_on old mid new (λ c. IsRefused c ⊎ (IsImage c u ⊎ IsImage c t)) honest before keeps)
-
-  -- a file was closed
-  pub file_closed : (old new : D) (mid : PageFile D m) (u t : Table) → LeavesImage m.moment m.left_since old mid.device u → LeavesOnly m.moment m.left_since mid.device new (λ c. IsRefused c ⊎ SameButGate c (m.shown new))
-      → IsPageMap mid → LiesIn mid (m.shown new) → Holds (pages mid) (next_of mid) t → LeavesOnly m.moment m.left_since old new (λ c. IsRefused c ⊎ (IsImage c u ⊎ IsImage c t))
-  file_closed old new mid u t before after map lies held =
-      leaves_then m.moment m.left_since old mid.device new (λ c. IsRefused c ⊎ (IsImage c u ⊎ IsImage c t))
-      (leaves_weaker m.moment m.left_since old mid.device (λ c. IsRefused c ⊎ IsImage c u) (λ c. IsRefused c ⊎ (IsImage c u ⊎ IsImage c t)) (λ c. ⊎_elim (λ refused. inl refused) (λ image. inr (inl image))) before)
-      (leaves_weaker m.moment m.left_since mid.device new (λ c. IsRefused c ⊎ SameButGate c (m.shown new)) (λ c. IsRefused c ⊎ (IsImage c u ⊎ IsImage c t))
-      (λ c. ⊎_elim (λ refused. inl refused) (λ same. ⊎_elim (λ refused. inl refused) (λ there. inr (inr (image_of mid c t map there held))) (a_gate_aside_is_refused_or_the_same mid (m.shown new) c lies same))) after)

@@ -1,41 +1,46 @@
 -- The steps of a store: alive, failed, and failing.
-use Rattle.std.proofs.Common.{◌≡◌, ◌∙◌, ◌≤◌, ◌⊎◌, ℕ, Bool, true, false, cond, refl, sym, ap, subst, arith, inl, inr}
-use Rattle.block_device.specs.Device.{HasRisen}
-use Rattle.page_file.specs.Fault.{IsOfDevice, number_of}
+use Rattle.std.proofs.Common.{◌≡◌, ◌∙◌, ◌≤◌, ◌+◌, ◌-◌, ◌^◌, ◌⊎◌, ℕ, Bool, true, false, cond, refl, sym, ap, subst, arith, inl, inr, ⊎_elim}
+use Rattle.std.specs.Prelude.{Result, Ok, Err}
+use Rattle.std.proofs.Math.Nat.{min-eq_left, min-eq_right}
+use Rattle.std.proofs.lemmas.Bool.{cases_lt}
+use Rattle.block_device.specs.Device.{HasRisen, one_more}
+use Rattle.page_file.specs.Fault.{IsOfDevice, faults_after, number_of}
 use Rattle.page_file.specs.File.{IsPageMap, device_of, next_of, pages}
 use Rattle.page_file.specs.declared.fault.Fault.{Fault}
 use Rattle.page_file.specs.declared.fault.Fault.TheVariants as fault
 use Rattle.page_file.specs.declared.file.PageFile.{PageFile}
 use Rattle.plain_table.specs.Commands.{Command}
 use Rattle.plain_table.specs.Commands.Command.{Reopen}
-use Rattle.plain_table.specs.Lawful.{AnsweredInMemory, IsEnd, IsFault, IsSpent, Lawful, LawfulFrom, LawfulStep, MayWrite, Rose, Standing, Takes}
+use Rattle.plain_table.specs.Lawful.{AnsweredInMemory, blames_device, IsEnd, IsFault, IsSpent, Lawful, LawfulFrom, LawfulStep, MayWrite, Standing, Takes}
 use Rattle.plain_table.specs.Lawful.Request.{Asks}
 use Rattle.plain_table.specs.Lawful.State.{Alive, Dead}
-use Rattle.plain_table.specs.Laws.{memory_is_lawful}
+use Rattle.plain_table.specs.Laws.{a_table_in_memory_blames_no_device, memory_is_lawful}
 use Rattle.plain_table.specs.Step.{Answer}
 use Rattle.plain_table.specs.Step.Answer.{Done, Refused}
 use Rattle.plain_table.specs.Table.{Table}
 use Rattle.plain_table.specs.declared.refusal.Refusal.{Refusal}
 use Rattle.plain_table.specs.declared.refusal.Refusal.TheVariants as refusal
-use Rattle.layer_store.specs.Faults.{refusal_of}
+use Rattle.layer_store.specs.Faults.{GivesUp, refusal_of}
+use Rattle.layer_store.specs.Faults as store
 use Rattle.layer_store.specs.Image.{Holds}
 use Rattle.layer_store.specs.Keeping.{IsSound}
 use Rattle.layer_store.specs.Standing.{HasFailed, Stands, StandsFor, standing_of}
-use Rattle.layer_store.specs.Starting.{GivesUp}
 use Rattle.layer_store.specs.declared.kept.Kept.{Kept}
 use Rattle.layer_store.specs.declared.store.Store.{Store}
 
--- a count that has risen rose
-rose_from : (old new : ℕ) → HasRisen old new → Rose old new
-rose_from old new (inl lt) = omega (arith, lt)
-rose_from old new (inr full) = omega (arith, full)
+-- one more has risen
+one_more_risen : (old new : ℕ) → new ≡ one_more old → HasRisen old new
+one_more_risen old new e = ⊎_elim
+    (λ less. inl (let more = e ∙ min-eq_left (omega (arith, less)) in omega (arith, more)))
+    (λ full. inr (let greatest = e ∙ min-eq_right full in omega (arith, greatest)))
+    (cases_lt (old + 1) (2 ^ 64 - 1))
 
 -- ---- faults of a file as refusals of a command
 
 -- want of memory, of the device or of page numbers is a fault of the command
-pub fault_of_command : (old new : ℕ) (spent : Type 0) (f : Fault) → IsOfDevice f ⊎ (f ≡ fault.NoPages) → (f ≡ fault.Device → HasRisen old new) → (f ≡ fault.NoPages → spent) → IsFault (Rose old new) spent (refusal_of f)
+pub fault_of_command : (old new : ℕ) (spent : Type 0) (f : Fault) → IsOfDevice f ⊎ (f ≡ fault.NoPages) → (f ≡ fault.Device → HasRisen old new) → (f ≡ fault.NoPages → spent) → IsFault (HasRisen old new) spent (refusal_of f)
 fault_of_command old new spent fault.Memory is rose wanting = tt
-fault_of_command old new spent fault.Device is rose wanting = rose_from old new (rose refl)
+fault_of_command old new spent fault.Device is rose wanting = rose refl
 fault_of_command old new spent (fault.Damaged page) is rose wanting = absurd (other is)
   where
     other : IsOfDevice (fault.Damaged page) ⊎ (fault.Damaged page ≡ fault.NoPages) → ⊥
@@ -63,9 +68,33 @@ fault_of_command old new spent fault.WrongVersion is rose wanting = absurd (othe
 fault_of_command old new spent fault.NoPages is rose wanting = wanting refl
 
 -- and half way through, the end of the store
-pub end_of_store : (old new : ℕ) (f : Fault) → IsOfDevice f → (f ≡ fault.Device → HasRisen old new) → IsEnd (Rose old new) (refusal.StoreFailed (number_of f))
+pub end_of_store : (old new : ℕ) (f : Fault) → IsOfDevice f → (f ≡ fault.Device → HasRisen old new) → IsEnd (HasRisen old new) (refusal.StoreFailed (number_of f))
 end_of_store old new f (inl e) rose = inl (ap number_of e)
-end_of_store old new f (inr e) rose = inr (ap number_of e, rose_from old new (rose e))
+end_of_store old new f (inr e) rose = inr (ap number_of e, rose e)
+
+-- as a refusal
+pub gives_up : (f : Fault) → IsOfDevice f → GivesUp (refusal_of f)
+gives_up f (inl e) = inl (ap refusal_of e)
+gives_up f (inr e) = inr (ap refusal_of e)
+
+-- ---- the count of faults
+
+-- a refusal of which no device is the cause
+pub blameless : (r : Refusal) (before : ℕ) → blames_device r ≡ false → store.faults_after r before ≡ before
+blameless r before e = ap (λ (blamed : Bool). cond blamed (one_more before) before) e
+
+-- what is answered from a table in memory
+pub cause_in_memory : {X : Type 0} (before now : ℕ) (result : Result X Refusal) (answer : Result X Refusal → Answer) (t u : Table) (c : Command) → ((r : Refusal) → answer (Err r) ≡ Refused r) → AnsweredInMemory t c (answer result) u → now ≡ before
+    → store.HasCause before now result
+cause_in_memory before now (Ok x) answer t u c refusing answered same = record { ok = same; refused = tt }
+cause_in_memory before now (Err r) answer t u c refusing answered same = record {
+  ok = tt;
+  refused = same ∙ sym (blameless r before (a_table_in_memory_blames_no_device t u c r (subst (λ (a : Answer). AnsweredInMemory t c a u) (refusing r) answered)));
+}
+
+-- the device rose where it was the cause
+pub risen_of : (before now : ℕ) (f : Fault) → now ≡ faults_after f before → f ≡ fault.Device → HasRisen before now
+risen_of before now f e is = one_more_risen before now (e ∙ ap (λ (x : Fault). faults_after x before) is)
 
 -- ---- states
 
@@ -114,7 +143,7 @@ module _ {D A : Type 0} {m : _} where
 
   -- a command of a live store
   pub takes_step : (old new : Store D A m) (c : Command) (a : Answer) → old.failed ≡ false → new.failed ≡ false → (IsSound old.kept → IsSound new.kept)
-      → (IsSound old.kept → LawfulFrom (Rose (m.faults (device_of old.kept.file)) (m.faults (device_of new.kept.file))) (IsSpent (next_of new.kept.file)) old.kept.table c a (Alive new.kept.table))
+      → (IsSound old.kept → LawfulFrom (HasRisen (m.faults (device_of old.kept.file)) (m.faults (device_of new.kept.file))) (IsSpent (next_of new.kept.file)) old.kept.table c a (Alive new.kept.table))
       → Takes Stands old new (λ s s'. LawfulStep s (Asks c) a s')
   unfolding Stands
   takes_step old new c a o n sound lawful = λ s stands. record {
@@ -139,7 +168,7 @@ module _ {D A : Type 0} {m : _} where
 
   -- the last command of a live store
   pub takes_last : (old new : Store D A m) (c : Command) (a : Answer) → old.failed ≡ false → new.failed ≡ true → (IsSound old.kept → IsSound new.kept)
-      → (IsSound old.kept → LawfulFrom (Rose (m.faults (device_of old.kept.file)) (m.faults (device_of new.kept.file))) (IsSpent (next_of new.kept.file)) old.kept.table c a Dead)
+      → (IsSound old.kept → LawfulFrom (HasRisen (m.faults (device_of old.kept.file)) (m.faults (device_of new.kept.file))) (IsSpent (next_of new.kept.file)) old.kept.table c a Dead)
       → Takes Stands old new (λ s s'. LawfulStep s (Asks c) a s')
   unfolding Stands
   takes_last old new c a o n sound lawful = λ s stands. record {
@@ -170,10 +199,9 @@ not_both b e f = cc
 -- ---- a refused closing
 
 -- the fault of a closing, as a refusal of it
-pub refused_closing : (before now : ℕ) (f : Fault) → IsOfDevice f ⊎ (f ≡ fault.NoPages) → (f ≡ fault.Device → HasRisen before now) → GivesUp before now (refusal_of f) ⊎ (refusal_of f ≡ refusal.NoPages)
-refused_closing before now f (inl (inl e)) rose = inl (inl (ap refusal_of e))
-refused_closing before now f (inl (inr e)) rose = inl (inr (ap refusal_of e, rose e))
-refused_closing before now f (inr e) rose = inr (ap refusal_of e)
+pub refused_closing : (blocks : ℕ) (f : Fault) → IsOfDevice f ⊎ ((f ≡ fault.NoPages) × (2 ^ 31 ≤ blocks)) → GivesUp (refusal_of f) ⊎ ((refusal_of f ≡ refusal.NoPages) × (2 ^ 31 ≤ blocks))
+refused_closing blocks f (inl of_device) = inl (gives_up f of_device)
+refused_closing blocks f (inr full) = inr (ap refusal_of full.0, full.1)
 
 -- ---- a reopening
 
@@ -185,7 +213,3 @@ gave_up_lawful rose spent t u c r is e = inr (inl (is, ap Alive e))
 
 pub died_lawful : (rose spent : Type 0) (t : Table) (r : Refusal) → IsEnd rose r → LawfulFrom rose spent t Reopen (Refused r) Dead
 died_lawful rose spent t r is = inr (inr (is, inl refl, refl))
-
-pub risen_since : (before mid now : ℕ) → before ≤ mid → HasRisen mid now → HasRisen before now
-risen_since before mid now le (inl lt) = inl (omega (arith, le, lt))
-risen_since before mid now le (inr full) = inr full

@@ -1,6 +1,9 @@
--- The refusals that faults of a file are.
+-- The refusals that faults of a file are, and what they say of its device.
+use Rattle.std.specs.Prelude.{ℕ, ◌≡◌, ◌⊎◌, if◌then◌else◌, Result, OnOk, IfErr}
+use Rattle.block_device.specs.Device.{one_more}
 use Rattle.page_file.specs.declared.fault.Fault.{Fault}
 use Rattle.page_file.specs.declared.fault.Fault.TheVariants as fault
+use Rattle.plain_table.specs.Lawful.{blames_device}
 use Rattle.plain_table.specs.declared.refusal.Refusal.{Refusal}
 use Rattle.plain_table.specs.declared.refusal.Refusal.TheVariants as refusal
 
@@ -13,3 +16,16 @@ refusal_of fault.NotClosed = refusal.NotClosed
 refusal_of fault.NotAStore = refusal.NotAStore
 refusal_of fault.WrongVersion = refusal.WrongVersion
 refusal_of fault.NoPages = refusal.NoPages
+
+-- how often the device has failed after a refusal: once more with one that says so, and no more with another
+abbrev pub faults_after : Refusal → ℕ → ℕ
+faults_after r before = if blames_device r then one_more before else before
+
+-- the count of the device's faults rises by one with a refusal that says so, and with nothing else
+pub record HasCause {T : Type 0} (before now : ℕ) (result : Result T Refusal) : Type 0 where
+  pub ok : OnOk result (now ≡ before)
+  pub refused : IfErr result (λ r. now ≡ faults_after r before)
+
+-- want of memory, or a device that failed
+abbrev pub GivesUp : Refusal → Type 0
+GivesUp r = (r ≡ refusal.Memory) ⊎ (r ≡ refusal.Device)

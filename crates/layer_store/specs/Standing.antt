@@ -2,6 +2,7 @@
 use Rattle.std.specs.Prelude.{◌≡◌, if◌then◌else◌}
 use Rattle.block_device.specs.Device.{Blocks}
 use Rattle.page_file.specs.File.{blocks_of, device_of, next_of}
+use Rattle.page_file.specs.declared.file.PageFile.{PageFile}
 use Rattle.plain_table.specs.Lawful.{Reaches, Standing}
 use Rattle.plain_table.specs.Lawful.State.{Alive, Dead}
 use Rattle.plain_table.specs.Table.{Table}
@@ -36,3 +37,11 @@ blocks_in store = blocks_of store.kept.file
 -- its device
 abbrev pub device_in : {D A : Type 0} {m : _} → Store D A m → D
 device_in store = device_of store.kept.file
+
+-- the table that it answers from
+abbrev pub table_in : {D A : Type 0} {m : _} → Store D A m → Table
+table_in store = store.kept.table
+
+-- its file of pages
+abbrev pub file_in : {D A : Type 0} {m : _} → Store D A m → PageFile D m
+file_in store = store.kept.file

@@ -1,20 +1,14 @@
--- What refuses the making, the opening and the closing of a store. Our rule, docs/COMMANDS.md and docs/FORMAT.md,
--- "Opening".
-use Rattle.std.specs.Prelude.{ℕ, ◌≡◌, ◌⊎◌, Bool, ◌&&◌, nat_le}
-use Rattle.block_device.specs.Device.{Blocks, HasRisen}
+-- What refuses the opening of a store. Our rule, docs/COMMANDS.md and docs/FORMAT.md, "Opening".
+use Rattle.std.specs.Prelude.{ℕ, ◌≡◌, Bool, ◌&&◌, nat_le}
+use Rattle.block_device.specs.Device.{Blocks}
 use Rattle.page_file.specs.declared.fault.Fault.{Fault}
 use Rattle.plain_table.specs.declared.refusal.Refusal.{Refusal}
-use Rattle.plain_table.specs.declared.refusal.Refusal.TheVariants as refusal
 use Rattle.layer_store.specs.Faults.{refusal_of}
 use Rattle.layer_store.specs.Image.{Refuses}
 
 -- a cache holds 8 to 4096 pages
 abbrev pub is_cache : ℕ → Bool
 is_cache pages = nat_le 8 pages && nat_le pages 4096
-
--- want of memory, or a device that failed between these counts of its faults
-abbrev pub GivesUp : ℕ → ℕ → Refusal → Type 0
-GivesUp before now r = (r ≡ refusal.Memory) ⊎ ((r ≡ refusal.Device) × HasRisen before now)
 
 -- opening refuses the blocks for what they are
 abbrev pub IsRefusedFor : Blocks → Refusal → Type 0

@@ -1,11 +1,11 @@
 //! What a store keeps while it has not failed: a file of pages, and the table in memory that it answers from.
 
-ghost use Rattle.std.specs.Prelude.{◌≡◌, ◌≤◌, ◌⊎◌, ◌^◌, ◌↔◌, true, IsErrOf, IfOk, IfErr, OnErr, OnOk};
+ghost use Rattle.std.specs.Prelude.{◌≡◌, ◌≤◌, ◌⊎◌, ◌^◌, ◌↔◌, true, length, IsErrOf, IfOk, IfErr, OnErr, OnOk};
 ghost use Rattle.plain_table.specs.Answers.{done_answer};
 ghost use Rattle.plain_table.specs.Commands.Command.{Create, Insert};
 ghost use Rattle.plain_table.specs.Lawful.{AnsweredInMemory};
-ghost use Rattle.block_device.specs.Device.{HasRisen, LeavesOnly};
-ghost use Rattle.page_file.specs.Fault.{HasCause, IsOfDevice};
+ghost use Rattle.block_device.specs.Device.{LeavesOnly, Only};
+ghost use Rattle.page_file.specs.Fault.{HasCause, IsOfDevice, faults_after};
 ghost use Rattle.page_file.specs.File.{blocks_of, device_of, gate_of, next_of, IsHonest, IsPageMap, KeepsGate, LiesIn};
 ghost use Rattle.page_file.specs.Opening.{IsRefused};
 ghost use Rattle.plain_table.specs.Table.{Table};
@@ -88,10 +88,9 @@ impl<D: BlockDevice, A: Allocator + Copy> Kept<D, A> {
     /// On an honest device with a sound map it is refused by `Memory` or `Device`, or by `NoPages` where all page
     /// numbers were given out. The table in memory stays, and the map stays sound.
     pub fn settle(&mut self) -> Result<(), Fault>
-        // A stop during a closing that is finished leaves blocks that opening refuses, or an image of the table that was
-        // closed before, or of this one.
-        ensures stops { (t : Table) → IsSound self.old → IsImage (blocks_of self.old.file) t → OnOk result
-            (LeavesOnly D.moment D.left_since (device_of self.old.file) (device_of self.new.file) (λ c. IsRefused c ⊎ (IsImage c t ⊎ IsImage c self.old.table))) }
+        // A stop leaves blocks that opening refuses, or an image of the table that was closed before, or of this one.
+        ensures stops { (t : Table) → IsSound self.old → IsImage (blocks_of self.old.file) t →
+            LeavesOnly D.moment D.left_since (device_of self.old.file) (device_of self.new.file) (λ c. IsRefused c ⊎ (IsImage c t ⊎ IsImage c self.old.table)) }
 
         ensures shut { OnOk result (gate_of self.new.file ≡ Shut) }
         ensures written { OnOk result (self.new.written ≡ true) }
@@ -132,21 +131,24 @@ impl<D: BlockDevice, A: Allocator + Copy> Kept<D, A> {
     /// Writes the table into the pages, if they do not hold it, shuts the gate behind them, and hands the device back:
     /// of a sound store its blocks are an image of the table.
     ///
-    /// On an honest device with a sound map a refusal is `Memory`, `Device` or `NoPages`. The device comes back with
-    /// it.
+    /// On an honest device with a sound map a refusal is `Memory` or `Device`, or `NoPages` where the device has 2^31
+    /// blocks. The device comes back with it.
     pub fn close(self) -> Result<D, (Fault, D)>
         ensures closed { IsSound self → IfOk result (λ device. IsImage (D.shown device) self.table) }
 
-        // A stop during a closing that is finished leaves blocks that opening refuses, or an image of the table that was
-        // closed before, or of this one.
+        // A stop leaves blocks that opening refuses, or an image of the table that was closed before, or of this one; and
+        // after a closing that is finished nothing but what is read.
         ensures stops { (t : Table) → IsSound self → IsImage (blocks_of self.file) t → IfOk result (λ device.
             LeavesOnly D.moment D.left_since (device_of self.file) device (λ c. IsRefused c ⊎ (IsImage c t ⊎ IsImage c self.table))) }
+        ensures refused_stops { (t : Table) → IsSound self → IsImage (blocks_of self.file) t → IfErr result (λ e.
+            LeavesOnly D.moment D.left_since (device_of self.file) e.1 (λ c. IsRefused c ⊎ (IsImage c t ⊎ IsImage c self.table))) }
+        ensures durable { IsPageMap self.file → IfOk result (λ device. Only (D.shown device) (D.may_leave device)) }
 
-        ensures faults { IsPageMap self.file → IfErr result (λ e. IsOfDevice e.0 ⊎ (e.0 ≡ fault.NoPages)) }
+        ensures faults { IsPageMap self.file → IfErr result (λ e. IsOfDevice e.0 ⊎ ((e.0 ≡ fault.NoPages) × (2 ^ 31 ≤ length (D.shown e.1)))) }
         ensures honest { IfOk result (λ device. IsHonest self.file ↔ D.honest device) }
         ensures refused_honest { IfErr result (λ e. IsHonest self.file ↔ D.honest e.1) }
-        ensures later { IfOk result (λ device. D.faults (device_of self.file) ≤ D.faults device) }
-        ensures cause { IfErr result (λ e. (D.faults (device_of self.file) ≤ D.faults e.1) × (e.0 ≡ fault.Device → HasRisen (D.faults (device_of self.file)) (D.faults e.1))) }
+        ensures no_fault { IfOk result (λ device. D.faults device ≡ D.faults (device_of self.file)) }
+        ensures cause { IfErr result (λ e. D.faults e.1 ≡ faults_after e.0 (D.faults (device_of self.file))) }
     {
         let mut kept = self;
         match kept.write() {

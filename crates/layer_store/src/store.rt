@@ -1,7 +1,7 @@
 //! The store: its commands, and its closing.
 
-ghost use Rattle.std.specs.Prelude.{◌≡◌, ◌⊎◌, Err, IsOk, IfOk, IfErr};
-ghost use Rattle.block_device.specs.Device.{LeavesOnly};
+ghost use Rattle.std.specs.Prelude.{◌≡◌, ◌⊎◌, ◌≤◌, ◌^◌, length, Err, IsOk, IfOk, IfErr};
+ghost use Rattle.block_device.specs.Device.{LeavesOnly, Only};
 ghost use Rattle.page_file.specs.Opening.{IsRefused};
 ghost use Rattle.plain_table.specs.Answers.{done_answer, boxes_answer};
 ghost use Rattle.plain_table.specs.Commands.Command.{Create, Insert, Window, Reopen};
@@ -9,8 +9,8 @@ ghost use Rattle.plain_table.specs.Lawful.{Takes, LawfulStep};
 ghost use Rattle.plain_table.specs.Lawful.Request.{Asks};
 ghost use Rattle.plain_table.specs.Table.{Table};
 ghost use Rattle.plain_table.specs.declared.refusal.Refusal.TheVariants as refusal;
+ghost use Rattle.layer_store.specs.Faults.{GivesUp, HasCause, faults_after};
 ghost use Rattle.layer_store.specs.Image.{IsImage};
-ghost use Rattle.layer_store.specs.Starting.{GivesUp};
 
 mod start;
 
@@ -44,8 +44,9 @@ impl<D: BlockDevice, A: Allocator + Copy> Store<D, A> {
     ///
     /// Refused, in this order, by BadName, BadDims, BadFanout, LayerExists and TooManyLayers.
     pub fn create(&mut self, layer: &[u8], dims: u64, fanout: u64) -> Result<(), Refusal>
-        ensures { Takes Stands self.old self.new
+        ensures step { Takes Stands self.old self.new
             (λ s s'. LawfulStep s (Asks (Create layer.now dims fanout)) (done_answer result) s') }
+        ensures cause { HasCause (D.faults (device_in self.old)) (D.faults (device_in self.new)) result }
     {
         if self.failed {
             return Err(FAILED);
@@ -57,8 +58,9 @@ impl<D: BlockDevice, A: Allocator + Copy> Store<D, A> {
     ///
     /// Refused, in this order, by BadName, NoLayer, WrongDims, BadBox, Duplicate and TooManyObjects.
     pub fn insert(&mut self, layer: &[u8], id: u64, bounds: RawBox) -> Result<(), Refusal>
-        ensures { Takes Stands self.old self.new
+        ensures step { Takes Stands self.old self.new
             (λ s s'. LawfulStep s (Asks (Insert layer.now id bounds)) (done_answer result) s') }
+        ensures cause { HasCause (D.faults (device_in self.old)) (D.faults (device_in self.new)) result }
     {
         if self.failed {
             return Err(FAILED);
@@ -70,8 +72,9 @@ impl<D: BlockDevice, A: Allocator + Copy> Store<D, A> {
     ///
     /// Refused, in this order, by BadName, NoLayer, WrongDims and BadBox.
     pub fn window(&mut self, layer: &[u8], bounds: RawBox) -> Result<Vec<(u64, AnyBox), A>, Refusal>
-        ensures { Takes Stands self.old self.new
+        ensures step { Takes Stands self.old self.new
             (λ s s'. LawfulStep s (Asks (Window layer.now bounds)) (boxes_answer result) s') }
+        ensures cause { HasCause (D.faults (device_in self.old)) (D.faults (device_in self.new)) result }
     {
         if self.failed {
             return Err(FAILED);
@@ -88,10 +91,13 @@ impl<D: BlockDevice, A: Allocator + Copy> Store<D, A> {
         ensures step { Takes Stands self.old self.new (λ s s'. LawfulStep s (Asks Reopen) (done_answer result) s') }
         ensures closed { (t : Table) → StandsFor self.old t → IsOk result ⊎ HasFailed self.new → IsImage (blocks_in self.new) t }
 
-        // A stop during a closing that is finished leaves blocks that opening refuses, or an image of the table that was
-        // closed before, or of this one.
-        ensures stops { (t u : Table) → StandsFor self.old t → IsImage (blocks_in self.old) u → IsOk result ⊎ HasFailed self.new →
+        // A stop leaves blocks that opening refuses, or an image of the table that was closed before, or of this one; and
+        // after a closing that is finished nothing but what is read.
+        ensures stops { (t u : Table) → StandsFor self.old t → IsImage (blocks_in self.old) u →
             LeavesOnly D.moment D.left_since (device_in self.old) (device_in self.new) (λ c. IsRefused c ⊎ (IsImage c u ⊎ IsImage c t)) }
+        ensures durable { (t : Table) → StandsFor self.old t → IsOk result ⊎ HasFailed self.new → Only (blocks_in self.new) (D.may_leave (device_in self.new)) }
+
+        ensures cause { HasCause (D.faults (device_in self.old)) (D.faults (device_in self.new)) result }
     {
         if self.failed {
             return Err(FAILED);
@@ -110,19 +116,25 @@ impl<D: BlockDevice, A: Allocator + Copy> Store<D, A> {
 
     /// Closes the table into the file, and hands the device back.
     ///
-    /// Closed, its blocks are an image of the table. Refused it answers `Memory`, `Device` or `NoPages`, and the device
-    /// comes back; of its blocks nothing is promised then. A store that failed answers `StoreFailed(19)`, and the
+    /// Closed, its blocks are an image of the table. Refused it answers `Memory` or `Device`, or `NoPages` where the
+    /// device has 2^31 blocks, and the device comes back: then a stop leaves of it blocks that opening refuses, or an
+    /// image of the table that was closed before, or of this one. A store that failed answers `StoreFailed(19)`, and the
     /// device comes back as it is.
     pub fn close(self) -> Result<D, (Refusal, D)>
         ensures closed { (t : Table) → StandsFor self t → IfOk result (λ device. IsImage (D.shown device) t) }
 
-        // A stop during a closing that is finished leaves blocks that opening refuses, or an image of the table that was
-        // closed before, or of this one.
+        // A stop leaves blocks that opening refuses, or an image of the table that was closed before, or of this one; and
+        // after a closing that is finished nothing but what is read.
         ensures stops { (t u : Table) → StandsFor self t → IsImage (blocks_in self) u → IfOk result (λ device.
             LeavesOnly D.moment D.left_since (device_in self) device (λ c. IsRefused c ⊎ (IsImage c u ⊎ IsImage c t))) }
+        ensures refused_stops { (t u : Table) → StandsFor self t → IsImage (blocks_in self) u → IfErr result (λ e.
+            LeavesOnly D.moment D.left_since (device_in self) e.1 (λ c. IsRefused c ⊎ (IsImage c u ⊎ IsImage c t))) }
+        ensures durable { (t : Table) → StandsFor self t → IfOk result (λ device. Only (D.shown device) (D.may_leave device)) }
 
-        ensures refused { (t : Table) → StandsFor self t → IfErr result (λ e. GivesUp (D.faults (device_in self)) (D.faults e.1) e.0 ⊎ (e.0 ≡ refusal.NoPages)) }
+        ensures refused { (t : Table) → StandsFor self t → IfErr result (λ e. GivesUp e.0 ⊎ ((e.0 ≡ refusal.NoPages) × (2 ^ 31 ≤ length (D.shown e.1)))) }
         ensures failed { HasFailed self → result ≡ Err (refusal.StoreFailed 19, device_in self) }
+        ensures no_fault { IfOk result (λ device. D.faults device ≡ D.faults (device_in self)) }
+        ensures cause { IfErr result (λ e. D.faults e.1 ≡ faults_after e.0 (D.faults (device_in self))) }
         ensures honest { IfOk result (λ device. D.honest (device_in self) → D.honest device) }
         ensures refused_honest { IfErr result (λ e. D.honest (device_in self) → D.honest e.1) }
     {

@@ -7,7 +7,7 @@ use Rattle.page_file.specs.declared.gate.Gate.{Gate}
 use Rattle.page_file.specs.declared.gate.Gate.TheVariants.{Shut, Open, Unsure}
 use Rattle.page_file.specs.File.{IsHonest, IsLive, IsPageMap, KeepsGate, KeepsMap, LiesIn, blocks_of, gate_of, given, next_of, pages}
 use Rattle.page_file.specs.Opening.{IsRefused, failed_check}
-use Rattle.page_file.specs.Stops.{SameButGate, StopSince}
+use Rattle.page_file.specs.Stops.{AddsOnly, SameButGate, StopSince}
 use Rattle.page_file.specs.Aside.{aside_lies, aside_passes}
 use Rattle.page_file.specs.Gated.{now_since}
 use Rattle.page_file.specs.Kept as kept
@@ -118,19 +118,22 @@ the_map_is_kept_in_turn old mid new honest a b = record {
   sound = (λ p. b.sound.0 (a.sound.0 p), λ p. a.sound.1 (b.sound.1 p));
 }
 
+-- a run of calls, and then calls that add nothing but what has Q
+pub a_run_goes_on : {D : Type 0} (moment : D → ℕ) (left_since : D → ℕ → Blocks → Type 0) (old mid new : D) (P Q : Blocks → Type 0) → LeavesOnly moment left_since old mid P → AddsOnly moment left_since mid new Q
+    → LeavesOnly moment left_since old new (λ c. P c ⊎ Q c)
+a_run_goes_on moment left_since old mid new P Q a more = record {
+  later = omega (arith, a.later, more.later);
+  each = λ c left. ⊎_elim (λ was. inl (a.each c was)) (λ p. inr p) (more.before (moment old) c a.later left);
+  before = λ t c le left. ⊎_elim
+      (λ was. ⊎_elim (λ earlier. inl earlier) (λ p. inr (inl p)) (a.before t c le was))
+      (λ p. inr (inr p))
+      (more.before t c (omega (arith, le, a.later)) left);
+}
+
 -- a run of calls, and then calls that keep the gate
 pub stops_of_a_run_go_on : {D : Type 0} {m : _} (old : D) (mid new : PageFile D m) (P : Blocks → Type 0) → IsHonest mid → LeavesOnly m.moment m.left_since old mid.device P → KeepsGate mid new
     → LeavesOnly m.moment m.left_since old new.device (λ c. P c ⊎ StopSince (gate_of mid) (blocks_of mid) c)
-stops_of_a_run_go_on {m = m} old mid new P h a b =
-    let more = b.stops h in
-    record {
-      later = omega (arith, a.later, more.later);
-      each = λ c left. ⊎_elim (λ was. inl (a.each c was)) (λ p. inr p) (more.before (m.moment old) c a.later left);
-      before = λ t c le left. ⊎_elim
-          (λ was. ⊎_elim (λ earlier. inl earlier) (λ p. inr (inl p)) (a.before t c le was))
-          (λ p. inr (inr p))
-          (more.before t c (omega (arith, le, a.later)) left);
-    }
+stops_of_a_run_go_on {m = m} old mid new P h a b = a_run_goes_on m.moment m.left_since old mid.device new.device P (StopSince (gate_of mid) (blocks_of mid)) a (b.stops h)
 
 -- opening refuses a file whose gate is shut by no check
 pub a_shut_file_passes : {D : Type 0} {m : _} (file : PageFile D m) → IsHonest file → gate_of file ≡ Shut → failed_check (blocks_of file) ≡ None

@@ -1,6 +1,6 @@
 -- One command as a lawful step of a store, and sessions of such steps.
 -- A store answers as the plain table does; only want of memory, a fault of the device or want of page numbers may refuse a command instead. Our rule, docs/COMMANDS.md.
-use Rattle.std.specs.Prelude.{ℕ, ◌≡◌, ◌^◌, ◌⊎◌, List, [], ◌∷◌}
+use Rattle.std.specs.Prelude.{ℕ, ◌≡◌, ◌^◌, ◌⊎◌, Bool, true, false, ◌==◌, List, [], ◌∷◌}
 use Rattle.block_device.specs.Device.{HasRisen}
 use Rattle.plain_table.specs.Commands.{Command}
 use Rattle.plain_table.specs.Commands.Command.{Reopen}
@@ -45,6 +45,12 @@ MayWrite t c = (c ≡ Reopen) ⊎ ¬ (after t c ≡ t)
 abbrev pub IsEnd : Type 0 → Refusal → Type 0
 IsEnd rose (refusal.StoreFailed n) = (n ≡ 16) ⊎ ((n ≡ 17) × rose)
 IsEnd rose r = ⊥
+
+-- the refusal says that the device failed: by itself, or as the cause of the end of the store
+abbrev pub blames_device : Refusal → Bool
+blames_device refusal.Device = true
+blames_device (refusal.StoreFailed cause) = cause == 17
+blames_device r = false
 
 -- a refusal for which P holds
 abbrev pub RefusedBy : (Refusal → Type 0) → Answer → Type 0

@@ -7,7 +7,7 @@ use Rattle.std.specs.Ordering.{nat_cmp}
 use Rattle.plain_table.specs.Commands.{Command}
 use Rattle.plain_table.specs.Commands.Command.{Create, Insert, Window, Reopen}
 use Rattle.plain_table.specs.Kept.{entry_of}
-use Rattle.plain_table.specs.Lawful.{AnsweredInMemory, IsFault, LawfulFrom, MayWrite, RefusedBy}
+use Rattle.plain_table.specs.Lawful.{AnsweredInMemory, blames_device, IsFault, LawfulFrom, MayWrite, RefusedBy}
 use Rattle.plain_table.specs.Lawful.State.{Alive}
 use Rattle.plain_table.specs.Listed.{table_from, IsListed}
 use Rattle.plain_table.specs.Step.{Answer, answer_of, changed, first_refusal, kept_or, refused_or, refusal_of, refusals_of}
@@ -34,33 +34,27 @@ pub memory_is_lawful : (rose spent : Type 0) (t u : Table) (c : Command) (a : An
 memory_is_lawful rose spent t u c a (inl h) = inl (h.0, ap Alive h.1)
 memory_is_lawful rose spent t u c a (inr h) = inr (inl (subst (RefusedBy (IsFault rose (spent × MayWrite t c))) (sym h.0) tt, ap Alive h.1))
 
--- ---- a table in memory has no device that fails
+-- ---- a table in memory blames no device
 
--- a refusal that a device may be the cause of: its own, or the end of a store
-abbrev pub is_of_device : Refusal → Bool
-is_of_device refusal.Device = true
-is_of_device (refusal.StoreFailed n) = true
-is_of_device r = false
+-- no refusal of a list blames the device
+abbrev none_blames_device : List (Bool × Refusal) → Bool
+none_blames_device cs = list_all (λ c. not (blames_device c.1)) cs
 
--- no check of a list is refused so
-abbrev none_of_device : List (Bool × Refusal) → Bool
-none_of_device cs = list_all (λ c. not (is_of_device c.1)) cs
-
-first_not_of_device : (cs : List (Bool × Refusal)) (r : Refusal) → none_of_device cs ≡ true → first_refusal cs ≡ Some r → is_of_device r ≡ false
-first_not_of_device [] r none e = absurd (cc)
-first_not_of_device (c ∷ cs) r none e = case c.0 (is_of_device c.1) refl none e (λ rest later. first_not_of_device cs r rest later)
+first_blames_none : (cs : List (Bool × Refusal)) (r : Refusal) → none_blames_device cs ≡ true → first_refusal cs ≡ Some r → blames_device r ≡ false
+first_blames_none [] r none e = absurd (cc)
+first_blames_none (c ∷ cs) r none e = case c.0 (blames_device c.1) refl none e (λ rest later. first_blames_none cs r rest later)
   where
-    case : (holds of_device : Bool) → is_of_device c.1 ≡ of_device → (not of_device && none_of_device cs) ≡ true → cond holds (Some c.1) (first_refusal cs) ≡ Some r
-        → (none_of_device cs ≡ true → first_refusal cs ≡ Some r → is_of_device r ≡ false) → is_of_device r ≡ false
+    case : (holds blamed : Bool) → blames_device c.1 ≡ blamed → (not blamed && none_blames_device cs) ≡ true → cond holds (Some c.1) (first_refusal cs) ≡ Some r
+        → (none_blames_device cs ≡ true → first_refusal cs ≡ Some r → blames_device r ≡ false) → blames_device r ≡ false
     case holds true is none e again = absurd (cc)
-    case true false is none e again = ap is_of_device (let same : r ≡ c.1 = cc in same) ∙ is
+    case true false is none e again = ap blames_device (let same : r ≡ c.1 = cc in same) ∙ is
     case false false is none e again = again none e
 
-not_of_device : (t : Table) (c : Command) → none_of_device (refusals_of t c) ≡ true
-not_of_device t (Create name dims fanout) = refl
-not_of_device t (Insert name id box) = refl
-not_of_device t (Window name box) = refl
-not_of_device t Reopen = refl
+no_check_blames : (t : Table) (c : Command) → none_blames_device (refusals_of t c) ≡ true
+no_check_blames t (Create name dims fanout) = refl
+no_check_blames t (Insert name id box) = refl
+no_check_blames t (Window name box) = refl
+no_check_blames t Reopen = refl
 
 the_refusal : (o : Option Refusal) (t : Table) (c : Command) (r : Refusal) → Refused r ≡ refused_or o (answer_of t c) → o ≡ Some r
 the_refusal (Some x) t c r e = cc
@@ -69,10 +63,10 @@ the_refusal None t (Insert name id box) r e = absurd (cc)
 the_refusal None t (Window name box) r e = absurd (cc)
 the_refusal None t Reopen r e = absurd (cc)
 
--- no device is the cause of its refusals
-pub a_table_in_memory_blames_no_device : (t u : Table) (c : Command) (r : Refusal) → AnsweredInMemory t c (Refused r) u → is_of_device r ≡ false
-a_table_in_memory_blames_no_device t u c r (inl h) = first_not_of_device (refusals_of t c) r (not_of_device t c) (the_refusal (refusal_of t c) t c r h.0)
-a_table_in_memory_blames_no_device t u c r (inr h) = let memory : r ≡ refusal.Memory = let e = h.0 in cc in ap is_of_device memory
+-- its refusals are its own
+pub a_table_in_memory_blames_no_device : (t u : Table) (c : Command) (r : Refusal) → AnsweredInMemory t c (Refused r) u → blames_device r ≡ false
+a_table_in_memory_blames_no_device t u c r (inl h) = first_blames_none (refusals_of t c) r (no_check_blames t c) (the_refusal (refusal_of t c) t c r h.0)
+a_table_in_memory_blames_no_device t u c r (inr h) = let memory : r ≡ refusal.Memory = let e = h.0 in cc in ap blames_device memory
 
 -- the layers of a list are the entries of its table
 pub listed_are_entries : {A : Type 0} (layers : List (KeptLayer A)) (count : ℕ) → IsListed layers count → entries (table_from layers) ≡ map entry_of layers

@@ -1,17 +1,19 @@
 //! How a store begins: made anew on a device without blocks, or opened.
 
-ghost use Rattle.std.specs.Prelude.{◌≡◌, ◌⊎◌, ◌≤◌, ℕ, Err, IfOk, IfErr, true, false, length};
+ghost use Rattle.std.specs.Prelude.{◌≡◌, ◌⊎◌, ℕ, Err, IfOk, IfErr, true, false, length};
 ghost use Rattle.std.specs.FinMap.{empty};
-ghost use Rattle.block_device.specs.Device.{LeavesOnly};
+ghost use Rattle.block_device.specs.Device.{LeavesOnly, Only};
 ghost use Rattle.page_file.specs.Opening.{IsRefused};
 ghost use Rattle.page_file.specs.Pages.{given_pages, next_in};
+ghost use Rattle.page_file.specs.Stops.{AddsOnly, StopSince};
 ghost use Rattle.plain_table.specs.Table.{Table};
 ghost use Rattle.plain_table.specs.declared.refusal.Refusal.TheVariants as refusal;
 ghost use Rattle.page_file.specs.declared.fault.Fault.{Fault};
-ghost use Rattle.page_file.specs.File.{blocks_of, device_of, given, next_of, IsHonest, IsPageMap};
+ghost use Rattle.page_file.specs.File.{blocks_of, device_of, gate_of, given, next_of, IsHonest, IsPageMap, KeepsGate};
 ghost use Rattle.layer_store.specs.Image.{Holds, IsDamaged, IsImage, Refuses};
-ghost use Rattle.layer_store.specs.Standing.{StandsFor, blocks_in, device_in};
-ghost use Rattle.layer_store.specs.Starting.{GivesUp, IsRefusedFor, is_cache};
+ghost use Rattle.layer_store.specs.Standing.{StandsFor, blocks_in, device_in, file_in, table_in};
+ghost use Rattle.layer_store.specs.Faults.{GivesUp, faults_after};
+ghost use Rattle.layer_store.specs.Starting.{IsRefusedFor, is_cache};
 
 use crate::faults::refusal_of;
 use crate::image::read_table;
@@ -44,10 +46,17 @@ pub fn create_store<D: BlockDevice, A: Allocator + Copy>(
     ensures stands { IfOk result (λ store. D.honest device → StandsFor store empty) }
     ensures closed { IfOk result (λ store. D.honest device → IsImage (blocks_in store) empty) }
 
-    // A stop leaves blocks that opening refuses, or an image of the empty table.
-    ensures stops { IfOk result (λ store. D.honest device → LeavesOnly D.moment D.left_since device (device_in store) (λ c. IsRefused c ⊎ IsImage c empty)) }
+    // A stop leaves blocks that opening refuses, or an image of the empty table; and once the store is made nothing but
+    // what is read.
+    ensures stops { IfOk result (λ store. D.honest device →
+        LeavesOnly D.moment D.left_since device (device_in store) (λ c. IsRefused c ⊎ IsImage c empty)) }
+    ensures refused_stops { is_cache cache ≡ true → IfErr result (λ e. D.honest device →
+        LeavesOnly D.moment D.left_since device e.1 (λ c. IsRefused c ⊎ IsImage c empty)) }
+    ensures durable { IfOk result (λ store. D.honest device → Only (blocks_in store) (D.may_leave (device_in store))) }
 
-    ensures refused { is_cache cache ≡ true → IfErr result (λ e. D.honest device → GivesUp (D.faults device) (D.faults e.1) e.0) }
+    ensures refused { is_cache cache ≡ true → IfErr result (λ e. D.honest device → GivesUp e.0) }
+    ensures no_fault { IfOk result (λ store. D.faults (device_in store) ≡ D.faults device) }
+    ensures cause { IfErr result (λ e. D.faults e.1 ≡ faults_after e.0 (D.faults device)) }
     ensures honest { IfOk result (λ store. D.honest device → D.honest (device_in store)) }
     ensures refused_honest { IfErr result (λ e. D.honest device → D.honest e.1) }
 {
@@ -85,9 +94,19 @@ pub fn open_store<D: BlockDevice, A: Allocator + Copy>(
     ensures bad_cache { is_cache cache ≡ false → result ≡ Err (refusal.BadCache, device) }
     ensures image { (t : Table) → D.honest device → IsImage (D.shown device) t → IfOk result (λ store. StandsFor store t) }
     ensures opened { IfOk result (λ store. D.honest device → (f : Fault) → Refuses (D.shown device) f → ⊥) }
-    ensures refused { is_cache cache ≡ true → IfErr result (λ e. D.honest device → GivesUp (D.faults device) (D.faults e.1) e.0 ⊎ IsRefusedFor (D.shown device) e.0) }
+    ensures table { IfOk result (λ store. D.honest device → Holds (given_pages (D.shown device) (next_in (D.shown device))) (next_in (D.shown device)) (table_in store)) }
+    ensures refused { is_cache cache ≡ true → IfErr result (λ e. D.honest device → GivesUp e.0 ⊎ IsRefusedFor (D.shown device) e.0) }
+
+    // A stop leaves nothing but what one before the call might have left; and once the store is opened nothing but what
+    // is read.
+    ensures stops { IfOk result (λ store. D.honest device → LeavesOnly D.moment D.left_since device (device_in store) (D.may_leave device)) }
+    ensures refused_stops { is_cache cache ≡ true → IfErr result (λ e. D.honest device → LeavesOnly D.moment D.left_since device e.1 (D.may_leave device)) }
+    ensures durable { IfOk result (λ store. D.honest device → Only (blocks_in store) (D.may_leave (device_in store))) }
+
     ensures blocks { IfOk result (λ store. D.honest device → blocks_in store ≡ D.shown device) }
     ensures refused_blocks { IfErr result (λ e. D.honest device → D.shown e.1 ≡ D.shown device) }
+    ensures no_fault { IfOk result (λ store. D.faults (device_in store) ≡ D.faults device) }
+    ensures cause { IfErr result (λ e. D.faults e.1 ≡ faults_after e.0 (D.faults device)) }
     ensures honest { IfOk result (λ store. D.honest device → D.honest (device_in store)) }
     ensures refused_honest { IfErr result (λ e. D.honest device → D.honest e.1) }
 {
@@ -107,9 +126,12 @@ fn read_store<D: BlockDevice, A: Allocator + Copy>(
 ) -> Result<Store<D, A>, (Refusal, D)>
     ensures stands { IsPageMap file → IfOk result (λ store. (t : Table) → Holds (given file) (next_of file) t → StandsFor store t) }
     ensures opened { IfOk result (λ store. IsHonest file → (n : ℕ) → IsDamaged (given file) (next_of file) n → ⊥) }
-    ensures refused { IsHonest file → IfErr result (λ e. GivesUp (D.faults (device_of file)) (D.faults e.1) e.0
-        ⊎ ((n : ℕ) × (e.0 ≡ refusal.Damaged n) × IsDamaged (given file) (next_of file) n)) }
-    ensures later { IfErr result (λ e. D.faults (device_of file) ≤ D.faults e.1) }
+    ensures table { IfOk result (λ store. IsHonest file → Holds (given file) (next_of file) (table_in store)) }
+    ensures refused { IsHonest file → IfErr result (λ e. GivesUp e.0 ⊎ ((n : ℕ) × (e.0 ≡ refusal.Damaged n) × IsDamaged (given file) (next_of file) n)) }
+    ensures gate { IfOk result (λ store. KeepsGate file (file_in store)) }
+    ensures refused_stops { IfErr result (λ e. IsHonest file → AddsOnly D.moment D.left_since (device_of file) e.1 (StopSince (gate_of file) (blocks_of file))) }
+    ensures no_fault { IfOk result (λ store. D.faults (device_in store) ≡ D.faults (device_of file)) }
+    ensures cause { IfErr result (λ e. D.faults e.1 ≡ faults_after e.0 (D.faults (device_of file))) }
     ensures blocks { IfOk result (λ store. IsHonest file → blocks_in store ≡ blocks_of file) }
     ensures refused_blocks { IfErr result (λ e. IsHonest file → D.shown e.1 ≡ blocks_of file) }
     ensures honest { IfOk result (λ store. IsHonest file → D.honest (device_in store)) }

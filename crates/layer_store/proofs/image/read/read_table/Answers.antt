@@ -82,7 +82,7 @@ loop-record-preserved g c =
       gate = the_gate_is_kept_in_turn c.args.file.now c.loop-record.file c.read_layer.new.file before.gate read.gate;
       same_map = the_map_is_kept_in_turn c.args.file.now c.loop-record.file c.read_layer.new.file before.gate.honest.0 before.same_map read.map;
       blocks = λ honest. read.blocks (before.gate.honest.0 honest) ∙ before.blocks honest;
-      later = omega (arith, before.later, read.cause.later);
+      no_fault = read.cause.ok ∙ before.no_fault;
       holds = λ honest.
           let here = given_same (blocks_of c.args.file.now) (blocks_of c.loop-record.file) (next_of c.args.file.now) (next_of c.loop-record.file) (before.blocks honest) before.same_map.next in
           one_more_read (given c.args.file.now) items ls c.push.new.self.items i r layer more c.loop-record-test.true c.record-item.is (before.holds honest)

@@ -13,7 +13,7 @@ invariant-loop-record g l = record {
   gate : KeepsGate l.fn.file l.file;
   same_map : KeepsMap l.fn.file l.file;
   blocks : IsHonest l.fn.file → blocks_of l.file ≡ blocks_of l.fn.file;
-  later : g.D.BlockDevice.faults (device_of l.fn.file) ≤ g.D.BlockDevice.faults (device_of l.file);
+  no_fault : g.D.BlockDevice.faults (device_of l.file) ≡ g.D.BlockDevice.faults (device_of l.fn.file);
   holds : IsHonest l.fn.file → HoldsLayers (given l.fn.file) (map record_of (take l.record-index l.record-items)) (map entry_of l.layers.items);
   names : map (λ layer. layer.name.items) l.layers.items ≡ map (λ layer. layer.name.items) (take l.record-index l.record-items);
   counts : map (λ layer. length (entries_of layer.objects)) l.layers.items ≡ map (λ layer. layer.count) (take l.record-index l.record-items);

@@ -31,7 +31,7 @@ loop-layer-preserved g c =
           (good_more (next_of c.loop-layer.file) (next_of c.write_layer.new.file) (map record_of records) (record_of c.in_ok-record.record) before.good (more_records (next_of c.loop-layer.file) (next_of c.write_layer.new.file) (map record_of records) done.next) done.good);
       count = omega (arith, before.count, c.push.ensures.len);
       next = omega (arith, before.next, done.next);
-      later = omega (arith, before.later, done.cause.later);
+      no_fault = done.cause.ok ∙ before.no_fault;
     }
 
 pub returns-clause-holds : goal.returns-clause-holds

@@ -18,5 +18,5 @@ invariant-loop-layer g l = record {
   good : list_all (is_layer_record (next_of l.file)) (map record_of l.records.items) ≡ true;
   count : length l.records.items ≡ l.layer-index;
   next : next_of l.initial.file ≤ next_of l.file;
-  later : g.D.BlockDevice.faults (device_of l.initial.file) ≤ g.D.BlockDevice.faults (device_of l.file);
+  no_fault : g.D.BlockDevice.faults (device_of l.file) ≡ g.D.BlockDevice.faults (device_of l.initial.file);
 }

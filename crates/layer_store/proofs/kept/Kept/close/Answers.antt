@@ -1,11 +1,12 @@
 -- The table is in the pages, and the pages are in the blocks.
-use Rattle.std.proofs.Common.{◌≤◌, Err, ap, subst, sym, inl}
-use Rattle.block_device.specs.Device.{HasRisen}
+use Rattle.std.proofs.Common.{◌≡◌, ◌≤◌, ◌^◌, Err, length, ap, subst, sym, arith, inl, inr, ⊎_elim}
 use Rattle.page_file.specs.File.{device_of, next_of, pages}
+use Rattle.page_file.specs.Laws.{a_number_given_out_has_its_block}
+use Rattle.page_file.specs.Stops.{SameButGate}
 use Rattle.layer_store.specs.Image.{Holds}
 use Rattle.layer_store.proofs.KeepLemmas.{image_of}
-use Rattle.layer_store.proofs.Results.{if_err, if_ok, if_ok_both}
-use Rattle.layer_store.proofs.StopLemmas.{file_closed}
+use Rattle.layer_store.proofs.Results.{if_err, if_ok}
+use Rattle.layer_store.proofs.StopLemmas.{LeavesEither, not_closed, table_closed}
 use Rattle.layer_store.proofs.kept.Kept.close.Goals as goal
 
 pub returns-in-Ok-clause-closed : goal.returns-in-Ok-clause-closed
@@ -18,18 +19,40 @@ returns-in-Ok-clause-closed g c = λ sound.
 pub returns-in-Ok-clause-faults : goal.returns-in-Ok-clause-faults
 returns-in-Ok-clause-faults g c = λ map. if_err c.close.result (λ e h. inl (h (c.in-Ok.ensures.map map).honest)) c.close.ensures.faults
 
-pub returns-clause-cause : goal.returns-clause-cause
-returns-clause-cause g c =
-    let faults = g.D.BlockDevice.faults in
-    let before = faults (device_of c.args.self.file) in (
-      subst (λ (device : _). before ≤ faults device) (sym c.abandon.ensures) c.in-Err.ensures.cause.later,
-      λ is. subst (λ (device : _). HasRisen before (faults device)) (sym c.abandon.ensures) (c.in-Err.ensures.cause.device (ap Err is)),
-    )
+pub returns-in-Ok-clause-durable : goal.returns-in-Ok-clause-durable
+returns-in-Ok-clause-durable g c = λ map. if_ok c.close.result (λ device durable. durable (c.in-Ok.ensures.map map).honest) c.close.ensures.durable
 
 pub returns-in-Ok-clause-stops : goal.returns-in-Ok-clause-stops
 returns-in-Ok-clause-stops g c = λ t sound image.
     let kept = c.write.new.self in
     let before = c.in-Ok.ensures.sound sound in
     let held = subst (Holds (pages kept.file) (next_of kept.file)) c.in-Ok.ensures.table (before.held c.in-Ok.ensures.written) in
-    if_ok_both c.close.result (λ device lies stops. file_closed (device_of c.args.self.file) device kept.file t c.args.self.table (c.in-Ok.ensures.stops t sound image) (stops before.map.honest) before.map (lies before.map.honest) held)
-    c.close.ensures.lies c.close.ensures.stops
+    if_ok c.close.result (λ device stops. table_closed (device_of c.args.self.file) (device_of kept.file) device kept.file (λ b. SameButGate b (g.D.BlockDevice.shown device)) t c.args.self.table
+    (c.in-Ok.ensures.stops t sound image) (stops before.map.honest) before.map held) c.close.ensures.stops
+
+pub returns-in-Ok-clause-refused_stops : goal.returns-in-Ok-clause-refused_stops
+returns-in-Ok-clause-refused_stops g c = λ t sound image.
+    let kept = c.write.new.self in
+    let before = c.in-Ok.ensures.sound sound in
+    let held = subst (Holds (pages kept.file) (next_of kept.file)) c.in-Ok.ensures.table (before.held c.in-Ok.ensures.written) in
+    if_err c.close.result (λ e stops. table_closed (device_of c.args.self.file) (device_of kept.file) e.1 kept.file (λ b. SameButGate b (g.D.BlockDevice.shown e.1)) t c.args.self.table
+    (c.in-Ok.ensures.stops t sound image) (stops before.map.honest) before.map held) c.close.ensures.refused_stops
+
+pub returns-clause-refused_stops : goal.returns-clause-refused_stops
+returns-clause-refused_stops g c = λ t sound image.
+    let d = g.D.BlockDevice in
+    let old = device_of c.args.self.file in
+    subst (λ (device : _). LeavesEither d.moment d.left_since old device t c.args.self.table) (sym c.abandon.ensures)
+    (not_closed d.moment d.left_since old (device_of c.write.new.self.file) t c.args.self.table (c.in-Err.ensures.stops t sound image))
+
+pub returns-clause-faults : goal.returns-clause-faults
+returns-clause-faults g c = λ map. ⊎_elim
+    (λ of_device. inl of_device)
+    (λ none. inr (
+      none,
+      let file = c.write.new.self.file in
+          let full : next_of file ≡ 2 ^ 31 = c.in-Err.ensures.no_pages (ap Err none) in
+          let room = a_number_given_out_has_its_block file (c.in-Err.ensures.map map).honest in
+          subst (λ (device : _). 2 ^ 31 ≤ length (g.D.BlockDevice.shown device)) (sym c.abandon.ensures) (omega (arith, full, room)),
+    ))
+    (c.in-Err.ensures.faults map)

@@ -1,9 +1,10 @@
 use Rattle.std.proofs.Common.{inl, subst}
 use Rattle.layer_store.proofs.KeepLemmas.{kept_table}
-use Rattle.layer_store.proofs.Results.{if_err, on_ok}
-use Rattle.layer_store.proofs.StopLemmas.{gate_shut}
+use Rattle.layer_store.proofs.Results.{if_err}
+use Rattle.layer_store.proofs.StopLemmas.{not_closed, table_closed}
 use Rattle.layer_store.specs.Image.{Holds}
-use Rattle.page_file.specs.File.{device_of, next_of, pages}
+use Rattle.page_file.specs.File.{blocks_of, device_of, next_of, pages}
+use Rattle.page_file.specs.Stops.{SameButGate}
 use Rattle.layer_store.proofs.kept.Kept.settle.Goals as goal
 
 pub returns-clause-lies : goal.returns-clause-lies
@@ -20,11 +21,16 @@ returns-clause-sound g c = λ sound.
 pub returns-clause-faults : goal.returns-clause-faults
 returns-clause-faults g c = λ map. if_err c.settle.result (λ f h. inl h) (c.settle.ensures.faults (c.write.ensures.map map).honest)
 
+pub returns-in_err-write-clause-stops : goal.returns-in_err-write-clause-stops
+returns-in_err-write-clause-stops g c = λ t sound image.
+    let d = g.D.BlockDevice in
+    not_closed d.moment d.left_since (device_of c.args.self.now.file) (device_of c.write.new.self.file) t c.args.self.now.table (c.write.ensures.stops t sound image)
+
 pub returns-clause-stops : goal.returns-clause-stops
 returns-clause-stops g c = λ t sound image.
     let before = c.write.ensures.sound sound in
     let new = c.settle.new.self in
     let held = kept_table c.write.new.self.file new c.args.self.now.table before.map.honest c.settle.ensures.map
     (subst (Holds (pages c.write.new.self.file) (next_of c.write.new.self.file)) c.in_ok-write.ensures.table (before.held c.in_ok-write.ensures.written)) in
-    on_ok c.settle.result (λ lies. gate_shut (device_of c.args.self.now.file) c.write.new.self.file new t c.args.self.now.table (c.write.ensures.stops t sound image) (c.settle.ensures.stops before.map.honest) (c.settle.ensures.map.sound.0 before.map) lies held)
-    (c.settle.ensures.lies before.map.honest)
+    table_closed (device_of c.args.self.now.file) (device_of c.write.new.self.file) (device_of new) new (λ b. SameButGate b (blocks_of new)) t c.args.self.now.table
+    (c.write.ensures.stops t sound image) (c.settle.ensures.stops before.map.honest) (c.settle.ensures.map.sound.0 before.map) held

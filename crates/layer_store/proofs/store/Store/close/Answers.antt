@@ -1,13 +1,12 @@
 -- A live store closes its table, and one that failed answers that alone.
-use Rattle.std.proofs.Common.{◌≡◌, ◌⊎◌, sym, subst}
-use Rattle.block_device.specs.Device.{LeavesOnly}
+use Rattle.std.proofs.Common.{◌≡◌, ◌⊎◌, ◌≤◌, ◌^◌, length, sym, subst}
 use Rattle.page_file.specs.File.{device_of}
-use Rattle.page_file.specs.Opening.{IsRefused}
 use Rattle.plain_table.specs.Table.{Table}
 use Rattle.plain_table.specs.declared.refusal.Refusal.{Refusal}
 use Rattle.plain_table.specs.declared.refusal.Refusal.TheVariants as refusal
+use Rattle.layer_store.specs.Faults.{GivesUp}
 use Rattle.layer_store.specs.Image.{IsImage}
-use Rattle.layer_store.specs.Starting.{GivesUp}
+use Rattle.layer_store.proofs.StopLemmas.{LeavesEither}
 use Rattle.layer_store.proofs.StoreLemmas.{alive_with, failed_so, not_both, refused_closing}
 use Rattle.layer_store.proofs.store.Store.close.Goals as goal
 
@@ -24,11 +23,9 @@ returns-in-Ok-clause-failed g c = λ failed. absurd (not_both _ (failed_so c.arg
 
 pub returns-in-Err-clause-refused : goal.returns-in-Err-clause-refused
 returns-in-Err-clause-refused g c = λ t stands.
-    let live = alive_with c.args.self t stands in
-    let before = g.D.BlockDevice.faults (device_of c.args.self.kept.file) in
-    let now = g.D.BlockDevice.faults c.in-Err.device in
-    subst (λ (r : Refusal). GivesUp before now r ⊎ (r ≡ refusal.NoPages)) (sym c.refusal_of.ensures)
-    (refused_closing before now c.in-Err.fault (c.in-Err.ensures.faults live.sound.map) c.in-Err.ensures.cause.1)
+    let blocks = length (g.D.BlockDevice.shown c.in-Err.device) in
+    subst (λ (r : Refusal). GivesUp r ⊎ ((r ≡ refusal.NoPages) × (2 ^ 31 ≤ blocks))) (sym c.refusal_of.ensures)
+    (refused_closing blocks c.in-Err.fault (c.in-Err.ensures.faults (alive_with c.args.self t stands).sound.map))
 
 pub returns-in-Err-clause-failed : goal.returns-in-Err-clause-failed
 returns-in-Err-clause-failed g c = λ failed. absurd (not_both _ (failed_so c.args.self failed) c.if-self.false)
@@ -37,4 +34,16 @@ pub returns-in-Ok-clause-stops : goal.returns-in-Ok-clause-stops
 returns-in-Ok-clause-stops g c = λ t u stands image.
     let live = alive_with c.args.self t stands in
     let d = g.D.BlockDevice in
-    subst (λ (x : Table). LeavesOnly d.moment d.left_since (device_of c.args.self.kept.file) c.in-Ok.device (λ b. IsRefused b ⊎ (IsImage b u ⊎ IsImage b x))) live.table (c.in-Ok.ensures.stops u live.sound image)
+    subst (λ (x : Table). LeavesEither d.moment d.left_since (device_of c.args.self.kept.file) c.in-Ok.device u x) live.table (c.in-Ok.ensures.stops u live.sound image)
+
+pub returns-then-self-clause-refused_stops : goal.returns-then-self-clause-refused_stops
+returns-then-self-clause-refused_stops g c = λ t u stands image. absurd (not_both _ c.if-self.true (alive_with c.args.self t stands).going)
+
+pub returns-in-Err-clause-refused_stops : goal.returns-in-Err-clause-refused_stops
+returns-in-Err-clause-refused_stops g c = λ t u stands image.
+    let live = alive_with c.args.self t stands in
+    let d = g.D.BlockDevice in
+    subst (λ (x : Table). LeavesEither d.moment d.left_since (device_of c.args.self.kept.file) c.in-Err.device u x) live.table (c.in-Err.ensures.refused_stops u live.sound image)
+
+pub returns-in-Ok-clause-durable : goal.returns-in-Ok-clause-durable
+returns-in-Ok-clause-durable g c = λ t stands. c.in-Ok.ensures.durable (alive_with c.args.self t stands).sound.map

@@ -1,10 +1,16 @@
+use Rattle.std.proofs.Common.{refl, ap}
+use Rattle.page_file.specs.File.{device_of}
+use Rattle.page_file.specs.declared.file.PageFile.{PageFile}
 use Rattle.plain_table.specs.Answers.{done_answer}
 use Rattle.plain_table.specs.Commands.Command.{Create}
-use Rattle.layer_store.proofs.StoreLemmas.{takes_in_memory, takes_nothing}
+use Rattle.layer_store.proofs.StoreLemmas.{cause_in_memory, takes_in_memory, takes_nothing}
 use Rattle.layer_store.proofs.store.Store.create.Goals as goal
 
-pub returns-then-self : goal.returns-then-self
-returns-then-self g c = takes_nothing c.args.self.now (Create c.args.layer.now c.args.dims c.args.fanout) c.if-self.true
+pub returns-then-self-clause-step : goal.returns-then-self-clause-step
+returns-then-self-clause-step g c = takes_nothing c.args.self.now (Create c.args.layer.now c.args.dims c.args.fanout) c.if-self.true
 
-pub returns : goal.returns
-returns g c = takes_in_memory c.args.self.now (record { kept = c.create.new.self; failed = c.args.self.now.failed }) (Create c.args.layer.now c.args.dims c.args.fanout) (done_answer c.create.result) c.if-self.false c.if-self.false c.create.ensures.table c.create.ensures.file c.create.ensures.written
+pub returns-clause-step : goal.returns-clause-step
+returns-clause-step g c = takes_in_memory c.args.self.now (record { kept = c.create.new.self; failed = c.args.self.now.failed }) (Create c.args.layer.now c.args.dims c.args.fanout) (done_answer c.create.result) c.if-self.false c.if-self.false c.create.ensures.table c.create.ensures.file c.create.ensures.written
+
+pub returns-clause-cause : goal.returns-clause-cause
+returns-clause-cause g c = cause_in_memory _ _ c.create.result done_answer c.args.self.now.kept.table c.create.new.self.table (Create c.args.layer.now c.args.dims c.args.fanout) (λ r. refl) c.create.ensures.table (ap (λ (file : PageFile _ _). g.D.BlockDevice.faults (device_of file)) c.create.ensures.file)

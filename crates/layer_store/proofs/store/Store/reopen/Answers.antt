@@ -1,22 +1,28 @@
 -- A reopening closes the table, and reads the same table back.
 use Rattle.std.proofs.Common.{◌≡◌, ◌∙◌, ◌⊎◌, Err, true, false, refl, sym, ap, subst, inl, inr}
-use Rattle.block_device.specs.Device.{Blocks, LeavesOnly}
-use Rattle.page_file.specs.Opening.{IsRefused}
+use Rattle.block_device.specs.Device.{Blocks, HasRisen, Only}
 use Rattle.plain_table.specs.Table.{Table}
-use Rattle.layer_store.proofs.StopLemmas.{then_read}
+use Rattle.layer_store.proofs.StopLemmas.{LeavesEither, shut_is_durable, then_read}
+use Rattle.page_file.specs.Fault.{faults_after}
 use Rattle.page_file.specs.File.{blocks_of, device_of, next_of}
 use Rattle.plain_table.specs.Commands.Command.{Reopen}
-use Rattle.plain_table.specs.Lawful.{IsEnd, IsFault, IsSpent, MayWrite, Rose}
+use Rattle.plain_table.specs.Lawful.{IsEnd, IsFault, IsSpent, MayWrite}
 use Rattle.plain_table.specs.Step.Answer.{Done, Refused}
 use Rattle.plain_table.specs.declared.refusal.Refusal.TheVariants as refusal
 use Rattle.layer_store.specs.Image.{IsImage}
 use Rattle.layer_store.specs.Standing.{HasFailed}
+use Rattle.layer_store.specs.declared.store.Store.{Store}
 use Rattle.layer_store.proofs.KeepLemmas.{image_of}
-use Rattle.layer_store.proofs.StoreLemmas.{alive_with, died_lawful, done_lawful, end_of_store, failed_so, fault_of_command, gave_up_lawful, not_both, risen_since, takes_last, takes_nothing, takes_step}
+use Rattle.layer_store.proofs.StoreLemmas.{alive_with, died_lawful, done_lawful, end_of_store, failed_so, fault_of_command, gave_up_lawful, not_both, risen_of, takes_last, takes_nothing, takes_step}
 use Rattle.layer_store.proofs.store.Store.reopen.Goals as goal
 
 true_false : true ≡ false → ⊥
 true_false e = absurd (cc)
+
+-- a refused closing has ended nothing
+goes_on : {D A : Type 0} {m : _} (store : Store D A m) → store.failed ≡ false → (false ≡ true) ⊎ HasFailed store → ⊥
+goes_on store going (inl ok) = true_false (sym ok)
+goes_on store going (inr failed) = not_both _ (failed_so store failed) going
 
 pub returns-then-self-clause-step : goal.returns-then-self-clause-step
 returns-then-self-clause-step g c = takes_nothing c.args.self.now Reopen c.if-self.true
@@ -30,17 +36,13 @@ returns-in-Err-clause-step g c =
     let now = g.D.BlockDevice.faults (device_of c.settle.new.self.file) in
     let settled = c.in-Err.ensures in
     takes_step c.args.self.now (record { kept = c.settle.new.self; failed = c.args.self.now.failed }) Reopen (Refused c.refusal_of.result) c.if-self.false c.if-self.false settled.sound
-    (λ sound. gave_up_lawful (Rose before now) (IsSpent (next_of c.settle.new.self.file)) c.args.self.now.kept.table c.settle.new.self.table Reopen c.refusal_of.result
-    (subst (IsFault (Rose before now) (IsSpent (next_of c.settle.new.self.file) × MayWrite c.args.self.now.kept.table Reopen)) (sym c.refusal_of.ensures)
-    (fault_of_command before now (IsSpent (next_of c.settle.new.self.file) × MayWrite c.args.self.now.kept.table Reopen) c.in-Err.fault (settled.faults sound.map) (λ is. settled.cause.device (ap Err is)) (λ is. (settled.no_pages (ap Err is), inl refl))))
+    (λ sound. gave_up_lawful (HasRisen before now) (IsSpent (next_of c.settle.new.self.file)) c.args.self.now.kept.table c.settle.new.self.table Reopen c.refusal_of.result
+    (subst (IsFault (HasRisen before now) (IsSpent (next_of c.settle.new.self.file) × MayWrite c.args.self.now.kept.table Reopen)) (sym c.refusal_of.ensures)
+    (fault_of_command before now (IsSpent (next_of c.settle.new.self.file) × MayWrite c.args.self.now.kept.table Reopen) c.in-Err.fault (settled.faults sound.map) (risen_of before now c.in-Err.fault settled.cause.refused) (λ is. (settled.no_pages (ap Err is), inl refl))))
     settled.table)
 
 pub returns-in-Err-clause-closed : goal.returns-in-Err-clause-closed
-returns-in-Err-clause-closed g c = λ t stands end. absurd (case end)
-  where
-    case : (false ≡ true) ⊎ HasFailed (record { kept = c.settle.new.self; failed = c.args.self.now.failed }) → ⊥
-    case (inl ok) = true_false (sym ok)
-    case (inr failed) = not_both _ (failed_so (record { kept = c.settle.new.self; failed = c.args.self.now.failed }) failed) c.if-self.false
+returns-in-Err-clause-closed g c = λ t stands end. absurd (goes_on (record { kept = c.settle.new.self; failed = c.args.self.now.failed }) c.if-self.false end)
 
 pub returns-in-Ok-clause-step : goal.returns-in-Ok-clause-step
 returns-in-Ok-clause-step g c =
@@ -48,7 +50,7 @@ returns-in-Ok-clause-step g c =
     let again = c.in-Ok.ensures in
     takes_step c.args.self.now (record { kept = c.read_again.new.self; failed = c.args.self.now.failed }) Reopen Done c.if-self.false c.if-self.false
     (λ sound. let mid = settled.sound sound in let now = again.sound mid.map (mid.held settled.written) in record { map = now.0; held = λ written. now.1 })
-    (λ sound. let mid = settled.sound sound in done_lawful (Rose (g.D.BlockDevice.faults (device_of c.args.self.now.kept.file)) (g.D.BlockDevice.faults (device_of c.read_again.new.self.file))) (IsSpent (next_of c.read_again.new.self.file)) c.args.self.now.kept.table c.read_again.new.self.table (again.table mid.map (mid.held settled.written) ∙ settled.table))
+    (λ sound. let mid = settled.sound sound in done_lawful (HasRisen (g.D.BlockDevice.faults (device_of c.args.self.now.kept.file)) (g.D.BlockDevice.faults (device_of c.read_again.new.self.file))) (IsSpent (next_of c.read_again.new.self.file)) c.args.self.now.kept.table c.read_again.new.self.table (again.table mid.map (mid.held settled.written) ∙ settled.table))
 
 pub returns-in-Ok-clause-closed : goal.returns-in-Ok-clause-closed
 returns-in-Ok-clause-closed g c = λ t stands end.
@@ -63,15 +65,14 @@ returns-in-Ok-clause-closed g c = λ t stands end.
 pub returns-in-Err-read_again-clause-step : goal.returns-in-Err-read_again-clause-step
 returns-in-Err-read_again-clause-step g c =
     let before = g.D.BlockDevice.faults (device_of c.args.self.now.kept.file) in
-    let between = g.D.BlockDevice.faults (device_of c.settle.new.self.file) in
     let now = g.D.BlockDevice.faults (device_of c.read_again.new.self.file) in
     let settled = c.in_default.ensures in
     let again = c.in-Err-read_again.ensures in
     takes_last c.args.self.now (record { kept = c.read_again.new.self; failed = true }) Reopen (Refused (refusal.StoreFailed c.number.result)) c.if-self.false refl
     (λ sound. let mid = settled.sound sound in let after = again.sound mid.map (mid.held settled.written) in record { map = after.0; held = λ written. after.1 })
-    (λ sound. let mid = settled.sound sound in died_lawful (Rose before now) (IsSpent (next_of c.read_again.new.self.file)) c.args.self.now.kept.table (refusal.StoreFailed c.number.result)
-    (subst (λ n. IsEnd (Rose before now) (refusal.StoreFailed n)) (sym c.number.ensures)
-    (end_of_store before now c.in-Err-read_again.fault (again.faults mid.map (mid.held settled.written)) (λ is. risen_since before between now settled.cause.later (again.cause.device (ap Err is))))))
+    (λ sound. let mid = settled.sound sound in died_lawful (HasRisen before now) (IsSpent (next_of c.read_again.new.self.file)) c.args.self.now.kept.table (refusal.StoreFailed c.number.result)
+    (subst (λ n. IsEnd (HasRisen before now) (refusal.StoreFailed n)) (sym c.number.ensures)
+    (end_of_store before now c.in-Err-read_again.fault (again.faults mid.map (mid.held settled.written)) (risen_of before now c.in-Err-read_again.fault (again.cause.refused ∙ ap (faults_after c.in-Err-read_again.fault) settled.cause.ok)))))
 
 pub returns-in-Err-read_again-clause-closed : goal.returns-in-Err-read_again-clause-closed
 returns-in-Err-read_again-clause-closed g c = λ t stands end.
@@ -84,17 +85,16 @@ returns-in-Err-read_again-clause-closed g c = λ t stands end.
     (subst (λ (blocks : Blocks). IsImage blocks kept.table) (sym (c.in-Err-read_again.ensures.blocks mid.map)) (image_of kept.file (blocks_of kept.file) kept.table mid.map (settled.lies live.sound.map) held))
 
 pub returns-then-self-clause-stops : goal.returns-then-self-clause-stops
-returns-then-self-clause-stops g c = λ t u stands image end. absurd (not_both _ c.if-self.true (alive_with c.args.self.now t stands).going)
+returns-then-self-clause-stops g c = λ t u stands image. absurd (not_both _ c.if-self.true (alive_with c.args.self.now t stands).going)
 
 pub returns-in-Err-clause-stops : goal.returns-in-Err-clause-stops
-returns-in-Err-clause-stops g c = λ t u stands image end. absurd (case end)
-  where
-    case : (false ≡ true) ⊎ HasFailed (record { kept = c.settle.new.self; failed = c.args.self.now.failed }) → ⊥
-    case (inl ok) = true_false (sym ok)
-    case (inr failed) = not_both _ (failed_so (record { kept = c.settle.new.self; failed = c.args.self.now.failed }) failed) c.if-self.false
+returns-in-Err-clause-stops g c = λ t u stands image.
+    let live = alive_with c.args.self.now t stands in
+    let d = g.D.BlockDevice in
+    subst (λ (x : Table). LeavesEither d.moment d.left_since (device_of c.args.self.now.kept.file) (device_of c.settle.new.self.file) u x) live.table (c.in-Err.ensures.stops u live.sound image)
 
 pub returns-in-Ok-clause-stops : goal.returns-in-Ok-clause-stops
-returns-in-Ok-clause-stops g c = λ t u stands image end.
+returns-in-Ok-clause-stops g c = λ t u stands image.
     let live = alive_with c.args.self.now t stands in
     let settled = c.in_default.ensures in
     let mid = settled.sound live.sound in
@@ -102,11 +102,11 @@ returns-in-Ok-clause-stops g c = λ t u stands image end.
     let old = device_of c.args.self.now.kept.file in
     let d = g.D.BlockDevice in
     let there = subst (IsImage (blocks_of kept.file)) (settled.table ∙ live.table) (image_of kept.file (blocks_of kept.file) kept.table mid.map (settled.lies live.sound.map) (mid.held settled.written)) in
-    let before = subst (λ (x : Table). LeavesOnly d.moment d.left_since old (device_of kept.file) (λ b. IsRefused b ⊎ (IsImage b u ⊎ IsImage b x))) live.table (settled.stops u live.sound image) in
+    let before = subst (λ (x : Table). LeavesEither d.moment d.left_since old (device_of kept.file) u x) live.table (settled.stops u live.sound image) in
     then_read old kept.file c.read_again.new.self.file u t mid.map.honest settled.shut there before c.in-Ok.ensures.gate
 
 pub returns-in-Err-read_again-clause-stops : goal.returns-in-Err-read_again-clause-stops
-returns-in-Err-read_again-clause-stops g c = λ t u stands image end.
+returns-in-Err-read_again-clause-stops g c = λ t u stands image.
     let live = alive_with c.args.self.now t stands in
     let settled = c.in_default.ensures in
     let mid = settled.sound live.sound in
@@ -114,5 +114,23 @@ returns-in-Err-read_again-clause-stops g c = λ t u stands image end.
     let old = device_of c.args.self.now.kept.file in
     let d = g.D.BlockDevice in
     let there = subst (IsImage (blocks_of kept.file)) (settled.table ∙ live.table) (image_of kept.file (blocks_of kept.file) kept.table mid.map (settled.lies live.sound.map) (mid.held settled.written)) in
-    let before = subst (λ (x : Table). LeavesOnly d.moment d.left_since old (device_of kept.file) (λ b. IsRefused b ⊎ (IsImage b u ⊎ IsImage b x))) live.table (settled.stops u live.sound image) in
+    let before = subst (λ (x : Table). LeavesEither d.moment d.left_since old (device_of kept.file) u x) live.table (settled.stops u live.sound image) in
     then_read old kept.file c.read_again.new.self.file u t mid.map.honest settled.shut there before c.in-Err-read_again.ensures.gate
+
+pub returns-then-self-clause-durable : goal.returns-then-self-clause-durable
+returns-then-self-clause-durable g c = λ t stands end. absurd (not_both _ c.if-self.true (alive_with c.args.self.now t stands).going)
+
+pub returns-in-Err-clause-durable : goal.returns-in-Err-clause-durable
+returns-in-Err-clause-durable g c = λ t stands end. absurd (goes_on (record { kept = c.settle.new.self; failed = c.args.self.now.failed }) c.if-self.false end)
+
+pub returns-in-Ok-clause-durable : goal.returns-in-Ok-clause-durable
+returns-in-Ok-clause-durable g c = λ t stands end.
+    let settled = c.in_default.ensures in
+    let gate = c.in-Ok.ensures.gate in
+    shut_is_durable c.read_again.new.self.file (gate.honest.0 (settled.map (alive_with c.args.self.now t stands).sound.map).honest) (gate.gate ∙ settled.shut)
+
+pub returns-in-Err-read_again-clause-durable : goal.returns-in-Err-read_again-clause-durable
+returns-in-Err-read_again-clause-durable g c = λ t stands end.
+    let settled = c.in_default.ensures in
+    let gate = c.in-Err-read_again.ensures.gate in
+    shut_is_durable c.read_again.new.self.file (gate.honest.0 (settled.map (alive_with c.args.self.now t stands).sound.map).honest) (gate.gate ∙ settled.shut)

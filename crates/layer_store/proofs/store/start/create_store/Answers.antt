@@ -1,15 +1,12 @@
 -- A new file holds the empty table, and lies in its blocks.
-use Rattle.std.proofs.Common.{true, false, refl, sym, subst, ◌⊎◌, ⊎_elim, inl, inr}
+use Rattle.std.proofs.Common.{true, false, refl, sym, subst}
 use Rattle.std.specs.FinMap.{empty}
-use Rattle.page_file.specs.File.{blocks_of, next_of, pages, device_of}
-use Rattle.block_device.specs.Moments.{leaves_weaker}
-use Rattle.page_file.specs.Laws.{a_gate_aside_is_refused_or_the_same}
-use Rattle.page_file.specs.Opening.{IsRefused}
-use Rattle.page_file.specs.Stops.{SameButGate}
-use Rattle.layer_store.specs.Image.{Holds, IsImage}
+use Rattle.page_file.specs.File.{blocks_of, next_of, pages}
+use Rattle.layer_store.specs.Image.{Holds}
 use Rattle.layer_store.specs.Standing.{StandsFor}
 use Rattle.layer_store.specs.declared.store.Store.{Store}
 use Rattle.layer_store.proofs.KeepLemmas.{image_of, nothing_held}
+use Rattle.layer_store.proofs.StopLemmas.{new_left, shut_is_durable}
 use Rattle.layer_store.proofs.StoreLemmas.{alive}
 use Rattle.layer_store.proofs.store.start.create_store.Goals as goal
 
@@ -28,12 +25,10 @@ returns-in-Ok-clause-closed g c = λ honest.
     image_of c.in-Ok.file (blocks_of c.in-Ok.file) empty (made.sound honest) (made.lies honest) held
 
 pub returns-in-Ok-clause-stops : goal.returns-in-Ok-clause-stops
-returns-in-Ok-clause-stops g c = λ honest.
-    let made = c.in-Ok.ensures in
-    let file = c.in-Ok.file in
-    let d = g.D.BlockDevice in
-    let held = subst (λ next. Holds (pages file) next empty) (sym made.next) (nothing_held (pages file) (made.catalog honest)) in
-    leaves_weaker d.moment d.left_since c.args.device (device_of file) (λ b. IsRefused b ⊎ SameButGate b (blocks_of file)) (λ b. IsRefused b ⊎ IsImage b empty)
-    (λ b. ⊎_elim (λ refused. inl refused) (λ same. ⊎_elim (λ refused. inl refused) (λ lies. inr (image_of file b empty (made.sound honest) lies held))
-    (a_gate_aside_is_refused_or_the_same file (blocks_of file) b (made.lies honest) same)))
-    (made.stops honest)
+returns-in-Ok-clause-stops g c = λ honest. new_left _ _ _ _ _ (c.in-Ok.ensures.stops honest)
+
+pub returns-in-Ok-clause-durable : goal.returns-in-Ok-clause-durable
+returns-in-Ok-clause-durable g c = λ honest. shut_is_durable c.in-Ok.file (c.in-Ok.ensures.honest.0 honest) c.in-Ok.ensures.shut
+
+pub returns-in-Err-clause-refused_stops : goal.returns-in-Err-clause-refused_stops
+returns-in-Err-clause-refused_stops g c = λ cache honest. new_left _ _ _ _ _ (c.in-Err.ensures.refused_stops honest)

@@ -1,10 +1,12 @@
 -- The pages given out are those of the blocks that were opened.
 use Rattle.std.proofs.Common.{◌≡◌, ◌∙◌, Some, None, refl, sym, inl, inr, ⊎_elim}
-use Rattle.page_file.specs.File.{device_of}
+use Rattle.page_file.specs.File.{blocks_of, device_of, gate_of}
 use Rattle.page_file.specs.declared.fault.Fault.TheVariants as fault
 use Rattle.layer_store.specs.Image.{Holds, IsDamaged}
-use Rattle.layer_store.proofs.KeepLemmas.{gives_up_since, same_blocks}
-use Rattle.layer_store.proofs.Results.{if_err_given, if_ok, subst_both}
+use Rattle.layer_store.proofs.KeepLemmas.{same_blocks}
+use Rattle.layer_store.proofs.Results.{if_err, if_err_given, if_ok, subst_both}
+use Rattle.layer_store.proofs.StopLemmas.{only_read, shut_is_durable}
+use Rattle.layer_store.specs.Standing.{device_in, file_in, table_in}
 use Rattle.layer_store.proofs.store.start.open_store.Goals as goal
 
 some_is_not_none : {X : Type 0} {a : X} → None ≡ Some a → ⊥
@@ -32,7 +34,7 @@ returns-in-Ok-clause-refused g c = λ cache.
     let blocks = g.D.BlockDevice.shown c.args.device in
     if_err_given c.read_store.result (λ honest. c.read_store.ensures.refused (opened.honest.0 honest))
     (λ e honest refused. ⊎_elim
-    (λ gave_up. inl (gives_up_since (g.D.BlockDevice.faults c.args.device) (g.D.BlockDevice.faults (device_of c.in-Ok.file)) (g.D.BlockDevice.faults e.1) e.0 opened.later gave_up))
+    (λ gave_up. inl gave_up)
     (λ damaged. inr (
       fault.Damaged damaged.0,
       damaged.1,
@@ -44,3 +46,30 @@ returns-in-Ok-clause-refused g c = λ cache.
       ),
     ))
     refused)
+
+pub returns-in-Ok-clause-table : goal.returns-in-Ok-clause-table
+returns-in-Ok-clause-table g c =
+    let opened = c.in-Ok.ensures in
+    let blocks = g.D.BlockDevice.shown c.args.device in
+    if_ok c.read_store.result (λ store holds honest. subst_both (λ pages next. Holds pages next (table_in store)) (same_blocks c.in-Ok.file blocks (opened.blocks honest) (opened.lies honest).next) (sym (opened.lies honest).next) (holds (opened.honest.0 honest))) c.read_store.ensures.table
+
+pub returns-in-Ok-clause-stops : goal.returns-in-Ok-clause-stops
+returns-in-Ok-clause-stops g c =
+    let opened = c.in-Ok.ensures in
+    let d = g.D.BlockDevice in
+    let device = c.args.device in
+    if_ok c.read_store.result (λ store gate honest. only_read d.moment d.left_since d.may_leave device (device_of c.in-Ok.file) (device_in store) (gate_of c.in-Ok.file) (d.shown device) (blocks_of c.in-Ok.file)
+    (g.met.D.BlockDevice.shown_counts device honest) opened.shut (opened.blocks honest) (opened.stops honest) (gate.stops (opened.honest.0 honest))) c.read_store.ensures.gate
+
+pub returns-in-Ok-clause-refused_stops : goal.returns-in-Ok-clause-refused_stops
+returns-in-Ok-clause-refused_stops g c = λ cache.
+    let opened = c.in-Ok.ensures in
+    let d = g.D.BlockDevice in
+    let device = c.args.device in
+    if_err c.read_store.result (λ e more honest. only_read d.moment d.left_since d.may_leave device (device_of c.in-Ok.file) e.1 (gate_of c.in-Ok.file) (d.shown device) (blocks_of c.in-Ok.file)
+    (g.met.D.BlockDevice.shown_counts device honest) opened.shut (opened.blocks honest) (opened.stops honest) (more (opened.honest.0 honest))) c.read_store.ensures.refused_stops
+
+pub returns-in-Ok-clause-durable : goal.returns-in-Ok-clause-durable
+returns-in-Ok-clause-durable g c =
+    let opened = c.in-Ok.ensures in
+    if_ok c.read_store.result (λ store gate honest. shut_is_durable (file_in store) (gate.honest.0 (opened.honest.0 honest)) (gate.gate ∙ opened.shut)) c.read_store.ensures.gate
