@@ -2,6 +2,7 @@
 use Rattle.std.proofs.Common.{◌≡◌, ◌∙◌, ◌≤◌, ◌<◌, ◌+◌, ℕ, zero, suc, List, [], ◌∷◌, ◌++◌, length, map, take, get_or, Bool, true, false, ◌&&◌, nat_le, Some, refl, sym, ap, arith, subst, T, inr}
 use Rattle.std.specs.Prelude.{IsTrue, sum_by, sum}
 use Rattle.std.specs.List.{list_all}
+use Rattle.std.specs.Cmp.{first_so, second_so}
 use Rattle.std.specs.Cmp.Lexicographic.{slice_cmp}
 use Rattle.std.specs.FinMap.{entries, entries-from_sorted, from_sorted, is_sorted, len, len-entries}
 use Rattle.std.specs.FinMap.Entries.{below_all}
@@ -32,18 +33,10 @@ given_same a b n m e f = λ j k. given_pages (e j) (f j) k
 
 -- ---- what a good catalog says of one record
 
-and_left : (a b : Bool) → (a && b) ≡ true → a ≡ true
-and_left true b e = refl
-and_left false b e = e
-
-and_right : (a b : Bool) → (a && b) ≡ true → b ≡ true
-and_right true b e = e
-and_right false b e = absurd (cc)
-
 all_at : (p : Record → Bool) (rs : List Record) (i : ℕ) (d : Record) → list_all p rs ≡ true → i < length rs → p (get_or rs i d) ≡ true
 all_at p [] i d h lt = absurd (omega (arith, lt))
-all_at p (r ∷ rs) zero d h lt = and_left (p r) (list_all p rs) h
-all_at p (r ∷ rs) (suc i) d h lt = all_at p rs i d (and_right (p r) (list_all p rs) h) (omega (arith, lt))
+all_at p (r ∷ rs) zero d h lt = first_so (p r) (list_all p rs) h
+all_at p (r ∷ rs) (suc i) d h lt = all_at p rs i d (second_so (p r) (list_all p rs) h) (omega (arith, lt))
 
 -- the record may be a layer's
 pub record MayBeLayer (r : LayerRecord) : Type 0 where
@@ -53,17 +46,17 @@ pub record MayBeLayer (r : LayerRecord) : Type 0 where
 
 pub good_record : (next : ℕ) (rs : List LayerRecord) (i : ℕ) (r : LayerRecord) → is_catalog next (map record_of rs) ≡ true → i < length rs → r ≡ get_or rs i r → MayBeLayer r
 good_record next rs i r good lt is =
-    let all = and_left (list_all (is_layer_record next) (map record_of rs)) (names_ascend (map record_of rs) && nat_le (objects_named (map record_of rs)) most_objects) good in
+    let all = first_so (list_all (is_layer_record next) (map record_of rs)) (names_ascend (map record_of rs) && nat_le (objects_named (map record_of rs)) most_objects) good in
     let this : is_layer_record next (record_of r) ≡ true = ap (λ (x : LayerRecord). is_layer_record next (record_of x)) is ∙ ap (is_layer_record next) (sym (get_or-map record_of rs i r (record_of r) lt))
     ∙ all_at (is_layer_record next) (map record_of rs) i (record_of r) all (omega (arith, lt, length-map rs record_of)) in
     let n = is_layer_name r.name.items in let d = is_dims r.dims in let f = is_fanout r.fanout in let t = has_no_tree (record_of r) in
-    let four = and_left (n && d && f && t) (is_page_or_none next r.directory) this in
-    let three = and_left (n && d && f) t four in
-    record { named = and_left n d (and_left (n && d) f three); dims_are = and_right n d (and_left (n && d) f three); sized = and_right (n && d) f three }
+    let four = first_so (n && d && f && t) (is_page_or_none next r.directory) this in
+    let three = first_so (n && d && f) t four in
+    record { named = first_so n d (first_so (n && d) f three); dims_are = second_so n d (first_so (n && d) f three); sized = second_so (n && d) f three }
 
 room_of : (next : ℕ) (rs : List Record) → is_catalog next rs ≡ true → objects_named rs ≤ most_objects
 room_of next rs good =
-    let room = and_right (names_ascend rs) (nat_le (objects_named rs) most_objects) (and_right (list_all (is_layer_record next) rs) (names_ascend rs && nat_le (objects_named rs) most_objects) good) in
+    let room = second_so (names_ascend rs) (nat_le (objects_named rs) most_objects) (second_so (list_all (is_layer_record next) rs) (names_ascend rs && nat_le (objects_named rs) most_objects) good) in
     grind (arith, nat_tests)
 
 -- the objects of one more layer are among those of all
@@ -125,7 +118,7 @@ module _ {A : Type 0} where
       → map (λ (l : KeptLayer A). l.name.items) ls ≡ map (λ (r : LayerRecord). r.name.items) rs → map (λ (l : KeptLayer A). length (entries_of l.objects)) ls ≡ map (λ (r : LayerRecord). r.count) rs
       → count ≡ objects_named (map record_of rs) → IsListed ls count
   read_listed next rs ls count good few names counts so =
-      let order = and_left (names_ascend (map record_of rs)) (nat_le (objects_named (map record_of rs)) most_objects) (and_right (list_all (is_layer_record next) (map record_of rs)) (names_ascend (map record_of rs) && nat_le (objects_named (map record_of rs)) most_objects) good) in
+      let order = first_so (names_ascend (map record_of rs)) (nat_le (objects_named (map record_of rs)) most_objects) (second_so (list_all (is_layer_record next) (map record_of rs)) (names_ascend (map record_of rs) && nat_le (objects_named (map record_of rs)) most_objects) good) in
       let ascend : is_sorted (slice_cmp nat_cmp) (map entry_of ls) ≡ true =
       sorted_by_keys (map entry_of ls) ∙ ap sorted_keys (entry_names ls ∙ names ∙ sym (record_names rs)) ∙ sym (sorted_by_keys (by_name (map record_of rs))) ∙ order in
       let all : entries (table_from ls) ≡ map entry_of ls = entries-from_sorted (slice_cmp nat_cmp) (map entry_of ls) (subst T (sym ascend) tt) in

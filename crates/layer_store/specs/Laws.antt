@@ -1,5 +1,7 @@
 -- What follows from pages that hold a table, and from images.
 use Rattle.std.proofs.Common.{◌≡◌, ◌∙◌, ℕ, zero, suc, ◌<◌, ◌≤◌, List, [], ◌∷◌, length, take, get_or, Bool, true, false, ◌&&◌, ◌==◌, nat_le, Option, Some, None, refl, sym, ap, arith, subst, inl, inr}
+use Rattle.std.specs.Cmp.{first_so, second_so}
+use Rattle.std.specs.Cmp.Derive.{both_true}
 use Rattle.std.specs.Prelude.{option_and_then}
 use Rattle.std.specs.List.{Contains, list_all}
 use Rattle.std.specs.FinMap.{entries, same_entries_map}
@@ -143,31 +145,19 @@ blocks_are_refused_in_one_way blocks f g (inr a) (inr b) = a.2 ∙ ap Damaged (o
 
 -- ---- tables stay where their pages stay
 
-and_left : (a b : Bool) → (a && b) ≡ true → a ≡ true
-and_left true b e = refl
-and_left false b e = e
-
-and_right : (a b : Bool) → (a && b) ≡ true → b ≡ true
-and_right true b e = e
-and_right false b e = absurd (cc)
-
-and_both : (a b : Bool) → a ≡ true → b ≡ true → (a && b) ≡ true
-and_both true b p q = q
-and_both false b p q = absurd (cc)
-
 more_pages : (next next' n : ℕ) → next ≤ next' → is_page_or_none next n ≡ true → is_page_or_none next' n ≡ true
 more_pages next next' n le e = grind (arith, nat_tests)
 
 more_record : (next next' : ℕ) (r : Record) → next ≤ next' → is_layer_record next r ≡ true → is_layer_record next' r ≡ true
 more_record next next' r le e =
     let rest = is_layer_name r.name && is_dims r.dims && is_fanout r.fanout && (r.level == 0 && r.root == 0) in
-    and_both rest (is_page_or_none next' r.directory) (and_left rest (is_page_or_none next r.directory) e) (more_pages next next' r.directory le (and_right rest (is_page_or_none next r.directory) e))
+    both_true {s = rest} {t = is_page_or_none next' r.directory} (first_so rest (is_page_or_none next r.directory) e) (more_pages next next' r.directory le (second_so rest (is_page_or_none next r.directory) e))
 
 pub more_records : (next next' : ℕ) (rs : List Record) → next ≤ next' → list_all (is_layer_record next) rs ≡ true → list_all (is_layer_record next') rs ≡ true
 more_records next next' [] le e = refl
-more_records next next' (r ∷ rs) le e = and_both (is_layer_record next' r) (list_all (is_layer_record next') rs)
-    (more_record next next' r le (and_left (is_layer_record next r) (list_all (is_layer_record next) rs) e))
-    (more_records next next' rs le (and_right (is_layer_record next r) (list_all (is_layer_record next) rs) e))
+more_records next next' (r ∷ rs) le e = both_true {s = is_layer_record next' r} {t = list_all (is_layer_record next') rs}
+    (more_record next next' r le (first_so (is_layer_record next r) (list_all (is_layer_record next) rs) e))
+    (more_records next next' rs le (second_so (is_layer_record next r) (list_all (is_layer_record next) rs) e))
 
 -- a good catalog is good where more pages were given out
 pub more_given : (next next' : ℕ) (rs : List Record) → next ≤ next' → is_catalog next rs ≡ true → is_catalog next' rs ≡ true

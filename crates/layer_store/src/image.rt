@@ -5,3 +5,6 @@ mod write;
 
 pub use read::read_table;
 pub use write::write_table;
+
+// The page of the catalog.
+pub(crate) const CATALOG: u32 = 2;

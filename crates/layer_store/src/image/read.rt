@@ -15,6 +15,7 @@ ghost use Rattle.layer_store.specs.Catalog as catalog;
 ghost use Rattle.layer_store.specs.Image.{Holds, HoldsLayer, HasNoCatalog, IsBroken, IsDamaged, catalog_in};
 
 use crate::catalog::is_catalog;
+use crate::image::CATALOG;
 use arrayvec::ArrayVec;
 use block_bytes::zero_block;
 use block_device::BlockDevice;
@@ -23,9 +24,6 @@ use object_chain::read_chain;
 use page_file::{Fault, PageFile};
 use plain_table::{Layer, ListTable, Objects};
 use std::alloc::Allocator;
-
-// The page of the catalog.
-const CATALOG: u32 = 2;
 
 /// Reads the table that the pages given out hold. A page that is not what it must be is `Damaged` with its number;
 /// any other refusal is `Memory` or `Device`. The file stays as it is.

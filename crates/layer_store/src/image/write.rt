@@ -14,6 +14,7 @@ ghost use Rattle.plain_table.specs.Objects.{axes_of, entries_of};
 ghost use Rattle.layer_store.specs.Catalog.{is_layer_record, is_page_or_none};
 ghost use Rattle.layer_store.specs.Image.{Holds, HoldsLayer};
 
+use crate::image::CATALOG;
 use arrayvec::ArrayVec;
 use block_bytes::zero_block;
 use block_device::BlockDevice;
@@ -22,9 +23,6 @@ use object_chain::write_chain;
 use page_file::{Fault, PageFile};
 use plain_table::{Layer, ListTable, Objects};
 use std::alloc::Allocator;
-
-// The page of the catalog.
-const CATALOG: u32 = 2;
 
 /// Writes the table into newly allocated pages, and the catalog that names them. The gate has to be open.
 ///
