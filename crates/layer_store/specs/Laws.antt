@@ -58,7 +58,7 @@ held_layer pages rs es r h c = at rs es c.0 h c.1 c.2
     at (x ∷ rs) (e ∷ es) zero h lt is = (e, subst (λ (y : Record). HoldsLayer pages y e) is h.0)
     at (x ∷ rs) (e ∷ es) (suc k) h lt is = at rs es k h.1 (omega (arith, lt)) is
 
-some_is_not_none : {X : Type 0} {a : X} → None ≡ Some a → ⊥
+pub some_is_not_none : {X : Type 0} {a : X} → None ≡ Some a → ⊥
 some_is_not_none e = absurd (cc)
 
 true_is_not_false : true ≡ false → ⊥

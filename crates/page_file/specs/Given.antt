@@ -6,15 +6,12 @@ use Rattle.std.proofs.lemmas.Bool.{cases_eq}
 use Rattle.block_device.specs.Device.{Blocks, block_at}
 use Rattle.page_file.specs.Layout.{kind_of, link_of}
 use Rattle.std.specs.Prelude.{is_some}
-use Rattle.page_file.specs.Live.{page_live, lives}
+use Rattle.page_file.specs.Live.{eq_other, page_live, lives}
 use Rattle.page_file.specs.Pages.{chain, free_pages_of, given_pages, page_of, IsChain, HasFreeChain}
 use Rattle.page_file.specs.declared.header.Header.{Header}
 
 low_not : (n : ℕ) → 3 ≤ n → nat_lt n 3 ≡ false
 low_not n low = grind (arith, nat_tests)
-
-eq_other : (k n : ℕ) → ¬ (k ≡ n) → eqb k n ≡ false
-eq_other k n ne = grind (arith, nat_tests)
 
 -- each free page is of its kind
 pub free_kinds : (blocks : Blocks) (next count first : ℕ) → IsChain blocks next count first → (k : ℕ) → is_member eqb (chain blocks count first) k ≡ true → kind_of (block_at k blocks) ≡ 5

@@ -4,7 +4,7 @@ use Rattle.std.specs.Prelude.{IsSome}
 use Rattle.std.specs.List.{IsDistinct, AllByRecursion, list_any}
 use Rattle.std.specs.Set.{is_member}
 use Rattle.std.proofs.lemmas.Bool.Decides.{nat_tests}
-use Rattle.std.proofs.lemmas.Bool.{cases_eq, cases_lt}
+use Rattle.std.proofs.lemmas.Bool.{and_parts, cases_eq, cases_lt}
 use Rattle.std.proofs.lemmas.Map.Keys.{IsDistinct-cons}
 use Rattle.std.proofs.lemmas.Map.Steps.{length-le_from_distinct_below}
 use Rattle.block_device.specs.Device.{Blocks, Torn, block_at}
@@ -13,10 +13,6 @@ use Rattle.page_file.specs.Layout.{kind_of, link_of, new_header}
 use Rattle.page_file.specs.Opening.{is_sound}
 use Rattle.page_file.specs.Pages.{chain, free_pages_of, is_live, page_of, IsChain, HasFreeChain, SameBut}
 use Rattle.page_file.specs.declared.header.Header.{Header}
-
-and_true : (a b : Bool) → (a && b) ≡ true → (a ≡ true) × (b ≡ true)
-and_true true b e = (refl, e)
-and_true false b e = absurd (cc)
 
 and_false_right : (a : Bool) → (a && false) ≡ false
 and_false_right true = refl
@@ -40,7 +36,7 @@ or_false false b e = (refl, e)
 eq_self : (n : ℕ) → eqb n n ≡ true
 eq_self n = grind (arith, nat_tests)
 
-eq_other : (k n : ℕ) → ¬ (k ≡ n) → eqb k n ≡ false
+pub eq_other : (k n : ℕ) → ¬ (k ≡ n) → eqb k n ≡ false
 eq_other k n ne = grind (arith, nat_tests)
 
 low_not : (n : ℕ) → 3 ≤ n → nat_lt n 3 ≡ false
@@ -118,8 +114,8 @@ live_some false b some = some
 pub lives : (blocks : Blocks) (h : Header) (n : ℕ) → IsSome (page_of blocks h n) → Lives blocks h n
 lives blocks h n some =
     let e = live_some (is_live blocks h n) (block_at n blocks) some in
-    let a = and_true (nat_le 2 n) (nat_lt n h.next && not (is_member eqb (free_pages_of blocks h) n)) e in
-    let b = and_true (nat_lt n h.next) (not (is_member eqb (free_pages_of blocks h) n)) a.1 in
+    let a = and_parts (nat_le 2 n) (nat_lt n h.next && not (is_member eqb (free_pages_of blocks h) n)) e in
+    let b = and_parts (nat_lt n h.next) (not (is_member eqb (free_pages_of blocks h) n)) a.1 in
     let low : 2 ≤ n = let t = a.0 in grind (arith, nat_tests) in
     let below : n < h.next = let t = b.0 in grind (arith, nat_tests) in
     record { low = low; below = below; not_free = not_true _ b.1 }
