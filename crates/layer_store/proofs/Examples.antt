@@ -14,8 +14,8 @@ use Rattle.page_file.specs.declared.fault.Fault.TheVariants as fault
 use Rattle.plain_table.specs.Table.{Layer}
 use Rattle.plain_table.specs.declared.refusal.Refusal.TheVariants as refusal
 use Rattle.plain_table.proofs.Examples.{layer, table}
-use Rattle.layer_store.specs.Catalog.{has_no_tree, is_catalog, is_layer_record, is_page_or_none, names_ascend, objects_named}
-use Rattle.layer_store.specs.Faults.{GivesUp, HasCause, faults_after, refusal_of}
+use Rattle.layer_store.specs.Catalog.{has_no_tree, is_good_catalog, is_layer_record, is_page_or_none, names_ascend, objects_named}
+use Rattle.layer_store.specs.Faults.{GivesUp, HasCause, faults_after, as_refusal}
 use Rattle.layer_store.specs.Image.{Holds, HoldsLayer, HoldsLayers, IsBroken, IsDamaged, Refuses}
 use Rattle.layer_store.specs.Laws.{blocks_are_refused_in_one_way}
 use Rattle.layer_store.specs.Starting.{is_cache}
@@ -36,7 +36,7 @@ one_page_more_is_none = refl
 
 -- ---- refusals and the device
 
-damage_keeps_its_page : refusal_of (fault.Damaged 7) ≡ refusal.Damaged 7
+damage_keeps_its_page : as_refusal (fault.Damaged 7) ≡ refusal.Damaged 7
 damage_keeps_its_page = refl
 
 a_refusal_of_the_device_counts : faults_after refusal.Device 4 ≡ 5
@@ -103,10 +103,10 @@ a_level_is_a_tree = refl
 a_root_is_a_tree : has_no_tree (record a { root = 3 }) ≡ false
 a_root_is_a_tree = refl
 
-an_empty_layer_is_good : is_catalog 9 (a ∷ []) ≡ true
+an_empty_layer_is_good : is_good_catalog 9 (a ∷ []) ≡ true
 an_empty_layer_is_good = refl
 
-no_layers_are_good : is_catalog 3 [] ≡ true
+no_layers_are_good : is_good_catalog 3 [] ≡ true
 no_layers_are_good = refl
 
 a_name_is_checked : is_layer_record 9 (named (65 ∷ [])) ≡ false
@@ -133,10 +133,10 @@ names_may_not_be_the_same = refl
 counts_add_up : objects_named (record a { count = 5 } ∷ record a { count = 7 } ∷ []) ≡ 12
 counts_add_up = refl
 
-the_most_objects_are_good : is_catalog 9 (record a { count = 1073741823 } ∷ record (named (98 ∷ [])) { count = 1 } ∷ []) ≡ true
+the_most_objects_are_good : is_good_catalog 9 (record a { count = 1073741823 } ∷ record (named (98 ∷ [])) { count = 1 } ∷ []) ≡ true
 the_most_objects_are_good = refl
 
-one_object_more_is_not : is_catalog 9 (record a { count = 1073741823 } ∷ record (named (98 ∷ [])) { count = 2 } ∷ []) ≡ false
+one_object_more_is_not : is_good_catalog 9 (record a { count = 1073741823 } ∷ record (named (98 ∷ [])) { count = 2 } ∷ []) ≡ false
 one_object_more_is_not = refl
 
 -- ---- what pages hold

@@ -22,7 +22,7 @@ use Rattle.plain_table.specs.Laws.{listed_are_entries}
 use Rattle.plain_table.specs.Listed.{IsListed, table_from}
 use Rattle.plain_table.specs.declared.layer.Layer.{Layer as KeptLayer}
 use Rattle.plain_table.specs.Table.{Table, Layer, most_objects, object_count}
-use Rattle.layer_store.specs.Catalog.{by_name, is_catalog, is_layer_record, names_ascend, objects_named}
+use Rattle.layer_store.specs.Catalog.{by_name, is_good_catalog, is_layer_record, names_ascend, objects_named}
 use Rattle.layer_store.specs.Image.{Holds, HoldsLayer, HoldsLayers}
 use Rattle.layer_store.specs.Laws.{other_layers}
 
@@ -84,7 +84,7 @@ is_true true h = refl
 is_true false h = absurd h
 
 -- records of good layers that the pages hold are a good catalog of the table
-pub good_catalog : (pages : PageMap) (next : ℕ) (rs : List Record) (t : Table) → list_all (is_layer_record next) rs ≡ true → HoldsLayers pages rs (entries t) → object_count t ≤ most_objects → is_catalog next rs ≡ true
+pub good_catalog : (pages : PageMap) (next : ℕ) (rs : List Record) (t : Table) → list_all (is_layer_record next) rs ≡ true → HoldsLayers pages rs (entries t) → object_count t ≤ most_objects → is_good_catalog next rs ≡ true
 good_catalog pages next rs t good h few =
     let room : nat_le (objects_named rs) most_objects ≡ true = let total = same_total pages rs t h in grind (arith, nat_tests) in
     λ j. good j && ((same_order pages rs (entries t) h ∙ is_true _ (entries_sorted t)) j && room j)

@@ -22,7 +22,7 @@ use Rattle.plain_table.specs.Listed.{IsListed, table_from}
 use Rattle.plain_table.specs.Objects.{entries_of}
 use Rattle.plain_table.specs.Table.{Table, Layer, is_dims, is_fanout, is_layer_name, most_layers, most_objects, object_count}
 use Rattle.plain_table.specs.declared.layer.Layer.{Layer as KeptLayer}
-use Rattle.layer_store.specs.Catalog.{by_name, has_no_tree, is_catalog, is_layer_record, is_page_or_none, names_ascend, objects_named}
+use Rattle.layer_store.specs.Catalog.{by_name, has_no_tree, is_good_catalog, is_layer_record, is_page_or_none, names_ascend, objects_named}
 use Rattle.layer_store.specs.Image.{Holds, HoldsLayer, HoldsLayers, IsBroken, IsDamaged, catalog_in}
 use Rattle.layer_store.proofs.HeldLemmas.{layers_more}
 use Rattle.layer_store.proofs.ImageLemmas.{kept_entries}
@@ -44,7 +44,7 @@ pub record MayBeLayer (r : LayerRecord) : Type 0 where
   pub dims_are : IsTrue (is_dims r.dims)
   pub sized : IsTrue (is_fanout r.fanout)
 
-pub good_record : (next : ℕ) (rs : List LayerRecord) (i : ℕ) (r : LayerRecord) → is_catalog next (map record_of rs) ≡ true → i < length rs → r ≡ get_or rs i r → MayBeLayer r
+pub good_record : (next : ℕ) (rs : List LayerRecord) (i : ℕ) (r : LayerRecord) → is_good_catalog next (map record_of rs) ≡ true → i < length rs → r ≡ get_or rs i r → MayBeLayer r
 good_record next rs i r good lt is =
     let all = first_so (list_all (is_layer_record next) (map record_of rs)) (names_ascend (map record_of rs) && nat_le (objects_named (map record_of rs)) most_objects) good in
     let this : is_layer_record next (record_of r) ≡ true = ap (λ (x : LayerRecord). is_layer_record next (record_of x)) is ∙ ap (is_layer_record next) (sym (get_or-map record_of rs i r (record_of r) lt))
@@ -54,13 +54,13 @@ good_record next rs i r good lt is =
     let three = first_so (n && d && f) t four in
     record { named = first_so n d (first_so (n && d) f three); dims_are = second_so n d (first_so (n && d) f three); sized = second_so (n && d) f three }
 
-room_of : (next : ℕ) (rs : List Record) → is_catalog next rs ≡ true → objects_named rs ≤ most_objects
+room_of : (next : ℕ) (rs : List Record) → is_good_catalog next rs ≡ true → objects_named rs ≤ most_objects
 room_of next rs good =
     let room = second_so (names_ascend rs) (nat_le (objects_named rs) most_objects) (second_so (list_all (is_layer_record next) rs) (names_ascend rs && nat_le (objects_named rs) most_objects) good) in
     grind (arith, nat_tests)
 
 -- the objects of one more layer are among those of all
-pub room_for : (next : ℕ) (rs : List LayerRecord) (i count : ℕ) (r : LayerRecord) → is_catalog next (map record_of rs) ≡ true → i < length rs → r ≡ get_or rs i r → count ≡ objects_named (map record_of (take i rs)) → count + r.count ≤ most_objects
+pub room_for : (next : ℕ) (rs : List LayerRecord) (i count : ℕ) (r : LayerRecord) → is_good_catalog next (map record_of rs) ≡ true → i < length rs → r ≡ get_or rs i r → count ≡ objects_named (map record_of (take i rs)) → count + r.count ≤ most_objects
 room_for next rs i count r good lt is so =
     let all = sum_by_more_le (λ (x : Record). x.count) (map record_of rs) i (record_of r) (omega (arith, lt, length-map rs record_of)) in
     let this : get_or (map record_of rs) i (record_of r) ≡ record_of r = get_or-map record_of rs i r (record_of r) lt ∙ ap record_of (sym is) in
@@ -114,7 +114,7 @@ module _ {A : Type 0} where
   entry_counts (l ∷ ls) = λ j. (len-entries (from_sorted {R = nat_cmp} (entries_of l.objects)) ∙ ap length (kept_entries (entries_of l.objects) l.ascending)) j ∷ entry_counts ls j
 
   -- layers with the names and counts of a good catalog are a list of layers
-  pub read_listed : (next : ℕ) (rs : List LayerRecord) (ls : List (KeptLayer A)) (count : ℕ) → is_catalog next (map record_of rs) ≡ true → length rs ≤ most_layers
+  pub read_listed : (next : ℕ) (rs : List LayerRecord) (ls : List (KeptLayer A)) (count : ℕ) → is_good_catalog next (map record_of rs) ≡ true → length rs ≤ most_layers
       → map (λ (l : KeptLayer A). l.name.items) ls ≡ map (λ (r : LayerRecord). r.name.items) rs → map (λ (l : KeptLayer A). length (entries_of l.objects)) ls ≡ map (λ (r : LayerRecord). r.count) rs
       → count ≡ objects_named (map record_of rs) → IsListed ls count
   read_listed next rs ls count good few names counts so =
@@ -150,7 +150,7 @@ module _ {A : Type 0} where
       ap (map f) more ∙ map-append f ls (l ∷ []) ∙ (λ j. before j ++ this j ∷ []) ∙ sym (map-append h (take i rs) (r ∷ [])) ∙ ap (map h) (sym (taken_more rs i r lt is))
 
   -- all layers read are the table that the pages hold
-  pub all_read : (pages : PageMap) (next i count : ℕ) (rs : List LayerRecord) (ls : List (KeptLayer A)) (t : Table) → catalog_in pages ≡ Some (map record_of rs) → is_catalog next (map record_of rs) ≡ true → length rs ≤ i
+  pub all_read : (pages : PageMap) (next i count : ℕ) (rs : List LayerRecord) (ls : List (KeptLayer A)) (t : Table) → catalog_in pages ≡ Some (map record_of rs) → is_good_catalog next (map record_of rs) ≡ true → length rs ≤ i
       → IsListed ls count → t ≡ table_from ls → HoldsLayers pages (map record_of (take i rs)) (map entry_of ls) → Holds pages next t
   all_read pages next i count rs ls t spelled good le listed is h = record {
     records = map record_of rs;
@@ -161,7 +161,7 @@ module _ {A : Type 0} where
   }
 
 -- the first layer that is broken damages a page
-pub broken_is_damaged : (pages : PageMap) (next i n : ℕ) (rs : List LayerRecord) (r : LayerRecord) (before : List (List ℕ × Layer)) → catalog_in pages ≡ Some (map record_of rs) → is_catalog next (map record_of rs) ≡ true → HoldsLayers pages (map record_of (take i rs)) before → i < length rs → r ≡ get_or rs i r → IsBroken pages (record_of r) n → IsDamaged pages next n
+pub broken_is_damaged : (pages : PageMap) (next i n : ℕ) (rs : List LayerRecord) (r : LayerRecord) (before : List (List ℕ × Layer)) → catalog_in pages ≡ Some (map record_of rs) → is_good_catalog next (map record_of rs) ≡ true → HoldsLayers pages (map record_of (take i rs)) before → i < length rs → r ≡ get_or rs i r → IsBroken pages (record_of r) n → IsDamaged pages next n
 broken_is_damaged pages next i n rs r before spelled good whole lt is broken = inr (record {
   records = map record_of rs;
   spelled = spelled;

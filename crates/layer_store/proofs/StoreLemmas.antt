@@ -20,7 +20,7 @@ use Rattle.plain_table.specs.Step.Answer.{Done, Refused}
 use Rattle.plain_table.specs.Table.{Table}
 use Rattle.plain_table.specs.declared.refusal.Refusal.{Refusal}
 use Rattle.plain_table.specs.declared.refusal.Refusal.TheVariants as refusal
-use Rattle.layer_store.specs.Faults.{GivesUp, refusal_of}
+use Rattle.layer_store.specs.Faults.{GivesUp, as_refusal}
 use Rattle.layer_store.specs.Faults as store
 use Rattle.layer_store.specs.Image.{Holds}
 use Rattle.layer_store.specs.Keeping.{IsSound}
@@ -38,7 +38,7 @@ one_more_risen old new e = ⊎_elim
 -- ---- faults of a file as refusals of a command
 
 -- want of memory, of the device or of page numbers is a fault of the command
-pub fault_of_command : (old new : ℕ) (spent : Type 0) (f : Fault) → IsOfDevice f ⊎ (f ≡ fault.NoPages) → (f ≡ fault.Device → HasRisen old new) → (f ≡ fault.NoPages → spent) → IsFault (HasRisen old new) spent (refusal_of f)
+pub fault_of_command : (old new : ℕ) (spent : Type 0) (f : Fault) → IsOfDevice f ⊎ (f ≡ fault.NoPages) → (f ≡ fault.Device → HasRisen old new) → (f ≡ fault.NoPages → spent) → IsFault (HasRisen old new) spent (as_refusal f)
 fault_of_command old new spent fault.Memory is rose wanting = tt
 fault_of_command old new spent fault.Device is rose wanting = rose refl
 fault_of_command old new spent (fault.Damaged page) is rose wanting = absurd (other is)
@@ -73,9 +73,9 @@ end_of_store old new f (inl e) rose = inl (ap number_of e)
 end_of_store old new f (inr e) rose = inr (ap number_of e, rose e)
 
 -- as a refusal
-pub gives_up : (f : Fault) → IsOfDevice f → GivesUp (refusal_of f)
-gives_up f (inl e) = inl (ap refusal_of e)
-gives_up f (inr e) = inr (ap refusal_of e)
+pub gives_up : (f : Fault) → IsOfDevice f → GivesUp (as_refusal f)
+gives_up f (inl e) = inl (ap as_refusal e)
+gives_up f (inr e) = inr (ap as_refusal e)
 
 -- ---- the count of faults
 
@@ -199,9 +199,9 @@ not_both b e f = cc
 -- ---- a refused closing
 
 -- the fault of a closing, as a refusal of it
-pub refused_closing : (blocks : ℕ) (f : Fault) → IsOfDevice f ⊎ ((f ≡ fault.NoPages) × (2 ^ 31 ≤ blocks)) → GivesUp (refusal_of f) ⊎ ((refusal_of f ≡ refusal.NoPages) × (2 ^ 31 ≤ blocks))
+pub refused_closing : (blocks : ℕ) (f : Fault) → IsOfDevice f ⊎ ((f ≡ fault.NoPages) × (2 ^ 31 ≤ blocks)) → GivesUp (as_refusal f) ⊎ ((as_refusal f ≡ refusal.NoPages) × (2 ^ 31 ≤ blocks))
 refused_closing blocks f (inl of_device) = inl (gives_up f of_device)
-refused_closing blocks f (inr full) = inr (ap refusal_of full.0, full.1)
+refused_closing blocks f (inr full) = inr (ap as_refusal full.0, full.1)
 
 -- ---- a reopening
 

@@ -32,5 +32,5 @@ abbrev pub objects_named : List Record → ℕ
 objects_named records = sum_by (λ r. r.count) records
 
 -- a good catalog of a file of which `next` is one more than the greatest page number given out
-abbrev pub is_catalog : ℕ → List Record → Bool
-is_catalog next records = list_all (is_layer_record next) records && (names_ascend records && nat_le (objects_named records) most_objects)
+abbrev pub is_good_catalog : ℕ → List Record → Bool
+is_good_catalog next records = list_all (is_layer_record next) records && (names_ascend records && nat_le (objects_named records) most_objects)

@@ -8,14 +8,14 @@ use Rattle.plain_table.specs.declared.refusal.Refusal.{Refusal}
 use Rattle.plain_table.specs.declared.refusal.Refusal.TheVariants as refusal
 
 -- of the same name
-abbrev pub refusal_of : Fault → Refusal
-refusal_of fault.Memory = refusal.Memory
-refusal_of fault.Device = refusal.Device
-refusal_of (fault.Damaged page) = refusal.Damaged page
-refusal_of fault.NotClosed = refusal.NotClosed
-refusal_of fault.NotAStore = refusal.NotAStore
-refusal_of fault.WrongVersion = refusal.WrongVersion
-refusal_of fault.NoPages = refusal.NoPages
+abbrev pub as_refusal : Fault → Refusal
+as_refusal fault.Memory = refusal.Memory
+as_refusal fault.Device = refusal.Device
+as_refusal (fault.Damaged page) = refusal.Damaged page
+as_refusal fault.NotClosed = refusal.NotClosed
+as_refusal fault.NotAStore = refusal.NotAStore
+as_refusal fault.WrongVersion = refusal.WrongVersion
+as_refusal fault.NoPages = refusal.NoPages
 
 -- how often the device has failed after a refusal: once more with one that says so, and no more with another
 abbrev pub faults_after : Refusal → ℕ → ℕ

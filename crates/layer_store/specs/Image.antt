@@ -11,7 +11,7 @@ use Rattle.page_file.specs.Pages.{IsSoundMap, given_pages, next_in}
 use Rattle.page_file.specs.declared.fault.Fault.{Fault}
 use Rattle.page_file.specs.declared.fault.Fault.TheVariants.{Damaged}
 use Rattle.plain_table.specs.Table.{Table, Layer}
-use Rattle.layer_store.specs.Catalog.{is_catalog}
+use Rattle.layer_store.specs.Catalog.{is_good_catalog}
 
 -- the layers that the catalog names, if page 2 spells any
 abbrev pub catalog_in : PageMap → Option (List Record)
@@ -36,7 +36,7 @@ HoldsLayers pages (r ∷ rs) [] = ⊥
 pub record Holds (pages : PageMap) (next : ℕ) (t : Table) : Type 0 where
   pub records : List Record
   pub spelled : catalog_in pages ≡ Some records
-  pub good : IsTrue (is_catalog next records)
+  pub good : IsTrue (is_good_catalog next records)
   pub layers : HoldsLayers pages records (entries t)
 
 -- Blocks are an image of the table: their gate is shut, gate and header pass the checks of opening, the free pages are a
@@ -50,7 +50,7 @@ pub record IsImage (blocks : Blocks) (t : Table) : Type 0 where
 
 -- no good catalog stands in page 2
 abbrev pub HasNoCatalog : PageMap → ℕ → Type 0
-HasNoCatalog pages next = (records : List Record) → catalog_in pages ≡ Some records → is_catalog next records ≡ false
+HasNoCatalog pages next = (records : List Record) → catalog_in pages ≡ Some records → is_good_catalog next records ≡ false
 
 -- the chain of a record holds another number of objects than the record says
 abbrev pub Miscounts : PageMap → Record → Type 0
@@ -64,7 +64,7 @@ IsBroken pages r n = BreaksAt pages r.dims r.directory n ⊎ ((n ≡ 2) × Misco
 pub record HasBrokenLayer (pages : PageMap) (next n : ℕ) : Type 0 where
   pub records : List Record
   pub spelled : catalog_in pages ≡ Some records
-  pub good : IsTrue (is_catalog next records)
+  pub good : IsTrue (is_good_catalog next records)
   pub place : ℕ
   pub before : List (List ℕ × Layer)
   pub whole : HoldsLayers pages (take place records) before

@@ -15,7 +15,7 @@ use Rattle.object_chain.specs.Laws.{a_chain_breaks_at_one_page, a_chain_holds_on
 use Rattle.page_file.specs.declared.fault.Fault.{Fault}
 use Rattle.page_file.specs.declared.fault.Fault.TheVariants.{Damaged}
 use Rattle.plain_table.specs.Table.{Table, Layer, is_layer_name, is_dims, is_fanout, most_objects}
-use Rattle.layer_store.specs.Catalog.{is_catalog, is_layer_record, is_page_or_none, names_ascend, objects_named}
+use Rattle.layer_store.specs.Catalog.{is_good_catalog, is_layer_record, is_page_or_none, names_ascend, objects_named}
 use Rattle.layer_store.specs.Image.{Holds, HoldsLayer, HoldsLayers, IsBroken, IsDamaged, IsImage, Refuses}
 
 -- ---- one table
@@ -160,7 +160,7 @@ more_records next next' (r ∷ rs) le e = both_true {s = is_layer_record next' r
     (more_records next next' rs le (second_so (is_layer_record next r) (list_all (is_layer_record next) rs) e))
 
 -- a good catalog is good where more pages were given out
-pub more_given : (next next' : ℕ) (rs : List Record) → next ≤ next' → is_catalog next rs ≡ true → is_catalog next' rs ≡ true
+pub more_given : (next next' : ℕ) (rs : List Record) → next ≤ next' → is_good_catalog next rs ≡ true → is_good_catalog next' rs ≡ true
 more_given next next' rs le e = case (list_all (is_layer_record next) rs) (list_all (is_layer_record next') rs) (names_ascend rs) (nat_le (objects_named rs) most_objects) e (more_records next next' rs le)
   where
     case : (a a' b c : Bool) → (a && (b && c)) ≡ true → (a ≡ true → a' ≡ true) → (a' && (b && c)) ≡ true

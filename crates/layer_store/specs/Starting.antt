@@ -3,7 +3,7 @@ use Rattle.std.specs.Prelude.{ℕ, ◌≡◌, Bool, ◌&&◌, nat_le}
 use Rattle.block_device.specs.Device.{Blocks}
 use Rattle.page_file.specs.declared.fault.Fault.{Fault}
 use Rattle.plain_table.specs.declared.refusal.Refusal.{Refusal}
-use Rattle.layer_store.specs.Faults.{refusal_of}
+use Rattle.layer_store.specs.Faults.{as_refusal}
 use Rattle.layer_store.specs.Image.{Refuses}
 
 -- a cache holds 8 to 4096 pages
@@ -12,4 +12,4 @@ is_cache pages = nat_le 8 pages && nat_le pages 4096
 
 -- opening refuses the blocks for what they are
 abbrev pub IsRefusedFor : Blocks → Refusal → Type 0
-IsRefusedFor blocks r = (f : Fault) × (r ≡ refusal_of f) × Refuses blocks f
+IsRefusedFor blocks r = (f : Fault) × (r ≡ as_refusal f) × Refuses blocks f

@@ -16,8 +16,8 @@ use plain_table::{is_dims, is_fanout, is_layer_name};
 const MOST_OBJECTS: u64 = 1 << 30;
 
 /// Whether the catalog is good in a file of which `next` is one more than the greatest page number given out.
-pub fn is_catalog(records: &[LayerRecord], next: u32) -> bool
-    ensures { result ≡ catalog.is_catalog next (each record_of records.now) }
+pub fn is_good_catalog(records: &[LayerRecord], next: u32) -> bool
+    ensures { result ≡ catalog.is_good_catalog next (each record_of records.now) }
 {
     if !are_layer_records(records, next) {
         return false;

@@ -7,8 +7,8 @@ use page_file::Fault;
 use plain_table::Refusal;
 
 /// The refusal that this fault of a file is: the one of the same name.
-pub fn refusal_of(fault: Fault) -> Refusal
-    ensures { result ≡ faults.refusal_of fault }
+pub fn as_refusal(fault: Fault) -> Refusal
+    ensures { result ≡ faults.as_refusal fault }
 {
     match fault {
         Fault::Memory => Refusal::Memory,

@@ -14,7 +14,7 @@ ghost use Rattle.layer_store.specs.Image.{IsImage};
 
 mod start;
 
-use crate::faults::refusal_of;
+use crate::faults::as_refusal;
 use crate::kept::Kept;
 use block_device::BlockDevice;
 use plain_table::{AnyBox, RawBox, Refusal};
@@ -103,7 +103,7 @@ impl<D: BlockDevice, A: Allocator + Copy> Store<D, A> {
             return Err(FAILED);
         }
         if let Err(fault) = self.kept.settle() {
-            return Err(refusal_of(fault));
+            return Err(as_refusal(fault));
         }
         match self.kept.read_again() {
             Ok(()) => Ok(()),
@@ -143,7 +143,7 @@ impl<D: BlockDevice, A: Allocator + Copy> Store<D, A> {
         }
         match self.kept.close() {
             Ok(device) => Ok(device),
-            Err((fault, device)) => Err((refusal_of(fault), device)),
+            Err((fault, device)) => Err((as_refusal(fault), device)),
         }
     }
 }

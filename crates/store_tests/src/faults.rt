@@ -30,24 +30,22 @@ fn a_making_that_fails_leaves_no_wrong_table(rt: HostRuntime) -> Result<(), Fail
     let mut faults = 0;
     for passes in 0..30 {
         let device = FuseDevice::new(MemoryDevice::new(rt.alloc()), passes, FuseMode::Once);
-        match create_store(rt.alloc(), device, CACHE) {
+        let made = match create_store(rt.alloc(), device, CACHE) {
+            Ok(store) => Ok(store),
+            Err((refusal, device)) => {
+                assert_eq!(rt; (refusal, passes), (Refusal::Device, faults));
+                faults = passes + 1;
+                opened(rt.alloc(), device, CACHE)
+            }
+        };
+        match made {
             Ok(store) => {
                 let mut store = store;
                 assert!(rt; stands_for(&mut store, &table));
             }
-            Err((refusal, device)) => {
-                assert_eq!(rt; (refusal, passes), (Refusal::Device, faults));
-                faults = passes + 1;
-                match opened(rt.alloc(), device, CACHE) {
-                    Ok(store) => {
-                        let mut store = store;
-                        assert!(rt; stands_for(&mut store, &table));
-                    }
-                    Err(refusal) => assert!(rt;
-                        refusal == Refusal::NotClosed || refusal == Refusal::NotAStore
-                    ),
-                }
-            }
+            Err(refusal) => assert!(rt;
+                refusal == Refusal::NotClosed || refusal == Refusal::NotAStore
+            ),
         }
     }
     // the gate, header and catalog, the gate again, and three syncs

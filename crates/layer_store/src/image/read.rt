@@ -14,7 +14,7 @@ ghost use Rattle.plain_table.specs.Table.{is_dims, is_fanout, is_layer_name};
 ghost use Rattle.layer_store.specs.Catalog as catalog;
 ghost use Rattle.layer_store.specs.Image.{Holds, HoldsLayer, HasNoCatalog, IsBroken, IsDamaged, catalog_in};
 
-use crate::catalog::is_catalog;
+use crate::catalog::is_good_catalog;
 use crate::image::CATALOG;
 use arrayvec::ArrayVec;
 use block_bytes::zero_block;
@@ -57,7 +57,7 @@ fn read_catalog<D: BlockDevice>(file: &mut PageFile<D>) -> Result<ArrayVec<Layer
     ensures map { KeepsMap file.old file.new }
     ensures blocks { IsHonest file.old → blocks_of file.new ≡ blocks_of file.old }
     ensures catalog { IsHonest file.old → IfOk result (λ records. catalog_in (given file.old) ≡ Some (records_of records)) }
-    ensures good { IfOk result (λ records. IsTrue (catalog.is_catalog (next_of file.old) (records_of records))) }
+    ensures good { IfOk result (λ records. IsTrue (catalog.is_good_catalog (next_of file.old) (records_of records))) }
     ensures damaged { IsHonest file.old → IfErr result (λ f. IsOfDevice f ⊎ ((f ≡ fault.Damaged 2) × HasNoCatalog (given file.old) (next_of file.old))) }
     ensures only { IfErr result (λ f. IsOfDevice f ⊎ IsDamage f) }
     ensures cause { HasCause (D.faults (device_of file.old)) (D.faults (device_of file.new)) result }
@@ -65,7 +65,7 @@ fn read_catalog<D: BlockDevice>(file: &mut PageFile<D>) -> Result<ArrayVec<Layer
     let mut page = zero_block();
     file.read(CATALOG, &mut page)?;
     match decode(&page) {
-        Some(records) if is_catalog(&records, file.next_number()) => Ok(records),
+        Some(records) if is_good_catalog(&records, file.next_number()) => Ok(records),
         _ => Err(Fault::Damaged(CATALOG)),
     }
 }

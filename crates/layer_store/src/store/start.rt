@@ -15,7 +15,7 @@ ghost use Rattle.layer_store.specs.Standing.{StandsFor, blocks_in, device_in, fi
 ghost use Rattle.layer_store.specs.Faults.{GivesUp, faults_after};
 ghost use Rattle.layer_store.specs.Starting.{IsRefusedFor, is_cache};
 
-use crate::faults::refusal_of;
+use crate::faults::as_refusal;
 use crate::image::read_table;
 use crate::kept::Kept;
 use crate::store::Store;
@@ -73,7 +73,7 @@ pub fn create_store<D: BlockDevice, A: Allocator + Copy>(
             },
             failed: false,
         }),
-        Err((fault, device)) => Err((refusal_of(fault), device)),
+        Err((fault, device)) => Err((as_refusal(fault), device)),
     }
 }
 
@@ -115,7 +115,7 @@ pub fn open_store<D: BlockDevice, A: Allocator + Copy>(
     }
     match open_pages(device) {
         Ok(file) => read_store(alloc, file),
-        Err((fault, device)) => Err((refusal_of(fault), device)),
+        Err((fault, device)) => Err((as_refusal(fault), device)),
     }
 }
 
@@ -148,6 +148,6 @@ fn read_store<D: BlockDevice, A: Allocator + Copy>(
             },
             failed: false,
         }),
-        Err(fault) => Err((refusal_of(fault), file.abandon())),
+        Err(fault) => Err((as_refusal(fault), file.abandon())),
     }
 }

@@ -13,24 +13,24 @@ use Rattle.page_file.specs.declared.fault.Fault.TheVariants as fault
 use Rattle.plain_table.specs.Kept.{entry_of}
 use Rattle.plain_table.specs.Objects.{entries_of}
 use Rattle.plain_table.specs.declared.layer.Layer.{Layer as KeptLayer}
-use Rattle.layer_store.specs.Catalog.{is_catalog, objects_named}
+use Rattle.layer_store.specs.Catalog.{is_good_catalog, objects_named}
 use Rattle.layer_store.specs.Image.{HoldsLayer, IsBroken, IsDamaged}
 use Rattle.layer_store.proofs.ReadLemmas.{all_read, broken_is_damaged, counted_more, given_same, good_record, one_more_named, one_more_read, read_listed, room_for}
 use Rattle.layer_store.proofs.image.read.read_table.Goals as goal
 
 pub read_layer-requires-clause-named : goal.read_layer-requires-clause-named
 read_layer-requires-clause-named g c =
-    let good = ap (λ (rs : List LayerRecord). is_catalog (next_of c.args.file.now) (map record_of rs)) c.as_slice-record-items.ensures.value ∙ c.in_ok-records.ensures.good in
+    let good = ap (λ (rs : List LayerRecord). is_good_catalog (next_of c.args.file.now) (map record_of rs)) c.as_slice-record-items.ensures.value ∙ c.in_ok-records.ensures.good in
     (good_record (next_of c.args.file.now) c.as_slice-record-items.result.now c.loop-record.record-index c.record-item.result good c.loop-record-test.true c.record-item.is).named
 
 pub read_layer-requires-clause-dims_are : goal.read_layer-requires-clause-dims_are
 read_layer-requires-clause-dims_are g c =
-    let good = ap (λ (rs : List LayerRecord). is_catalog (next_of c.args.file.now) (map record_of rs)) c.as_slice-record-items.ensures.value ∙ c.in_ok-records.ensures.good in
+    let good = ap (λ (rs : List LayerRecord). is_good_catalog (next_of c.args.file.now) (map record_of rs)) c.as_slice-record-items.ensures.value ∙ c.in_ok-records.ensures.good in
     (good_record (next_of c.args.file.now) c.as_slice-record-items.result.now c.loop-record.record-index c.record-item.result good c.loop-record-test.true c.record-item.is).dims_are
 
 pub read_layer-requires-clause-sized : goal.read_layer-requires-clause-sized
 read_layer-requires-clause-sized g c =
-    let good = ap (λ (rs : List LayerRecord). is_catalog (next_of c.args.file.now) (map record_of rs)) c.as_slice-record-items.ensures.value ∙ c.in_ok-records.ensures.good in
+    let good = ap (λ (rs : List LayerRecord). is_good_catalog (next_of c.args.file.now) (map record_of rs)) c.as_slice-record-items.ensures.value ∙ c.in_ok-records.ensures.good in
     (good_record (next_of c.args.file.now) c.as_slice-record-items.result.now c.loop-record.record-index c.record-item.result good c.loop-record-test.true c.record-item.is).sized
 
 pub returns-in_err-layer-clause-map : goal.returns-in_err-layer-clause-map
@@ -48,7 +48,7 @@ returns-in_err-layer-clause-damaged g c = λ honest.
     let pages = given c.args.file.now in
     let here = given_same (blocks_of c.args.file.now) (blocks_of c.loop-record.file) next (next_of c.loop-record.file) (before.blocks honest) before.same_map.next in
     let items = c.as_slice-record-items.result.now in
-    let good = ap (λ (rs : List LayerRecord). is_catalog next (map record_of rs)) c.as_slice-record-items.ensures.value ∙ c.in_ok-records.ensures.good in
+    let good = ap (λ (rs : List LayerRecord). is_good_catalog next (map record_of rs)) c.as_slice-record-items.ensures.value ∙ c.in_ok-records.ensures.good in
     let spelled = c.in_ok-records.ensures.catalog honest ∙ ap (λ (rs : List LayerRecord). Some (map record_of rs)) (sym c.as_slice-record-items.ensures.value) in
     let f = c.in_err-layer.field-0.0 in
     let P : Fault → Type 0 = λ e. IsOfDevice e ⊎ ((n : ℕ) × (e ≡ fault.Damaged n) × IsDamaged pages next n) in
@@ -65,7 +65,7 @@ returns-in_err-layer-clause-damaged g c = λ honest.
 
 pub overflow_add-object_count : goal.overflow_add-object_count
 overflow_add-object_count g c =
-    let good = ap (λ (rs : List LayerRecord). is_catalog (next_of c.args.file.now) (map record_of rs)) c.as_slice-record-items.ensures.value ∙ c.in_ok-records.ensures.good in
+    let good = ap (λ (rs : List LayerRecord). is_good_catalog (next_of c.args.file.now) (map record_of rs)) c.as_slice-record-items.ensures.value ∙ c.in_ok-records.ensures.good in
     omega (arith, room_for (next_of c.args.file.now) c.as_slice-record-items.result.now c.loop-record.record-index c.loop-record.object_count c.record-item.result good c.loop-record-test.true c.record-item.is c.loop-record.invariant.counted)
 
 pub loop-record-preserved : goal.loop-record-preserved
@@ -96,7 +96,7 @@ pub from_layers-requires : goal.from_layers-requires
 from_layers-requires g c =
     let before = c.loop-record.invariant in
     let items = c.as_slice-record-items.result.now in
-    let good = ap (λ (rs : List LayerRecord). is_catalog (next_of c.args.file.now) (map record_of rs)) c.as_slice-record-items.ensures.value ∙ c.in_ok-records.ensures.good in
+    let good = ap (λ (rs : List LayerRecord). is_good_catalog (next_of c.args.file.now) (map record_of rs)) c.as_slice-record-items.ensures.value ∙ c.in_ok-records.ensures.good in
     let all : take c.loop-record.record-index items ≡ items = take_all c.loop-record.record-index items (omega (arith, c.loop-record-test.false)) in
     read_listed (next_of c.args.file.now) items c.loop-record.layers.items c.loop-record.object_count good (omega (arith, c.as_slice-record-items.ensures.fits))
     (before.names ∙ ap (map (λ (l : LayerRecord). l.name.items)) all) (before.counts ∙ ap (map (λ (l : LayerRecord). l.count)) all) (before.counted ∙ ap (λ (rs : List LayerRecord). objects_named (map record_of rs)) all)
@@ -105,7 +105,7 @@ pub returns-clause-holds : goal.returns-clause-holds
 returns-clause-holds g c = λ honest.
     let before = c.loop-record.invariant in
     let items = c.as_slice-record-items.result.now in
-    let good = ap (λ (rs : List LayerRecord). is_catalog (next_of c.args.file.now) (map record_of rs)) c.as_slice-record-items.ensures.value ∙ c.in_ok-records.ensures.good in
+    let good = ap (λ (rs : List LayerRecord). is_good_catalog (next_of c.args.file.now) (map record_of rs)) c.as_slice-record-items.ensures.value ∙ c.in_ok-records.ensures.good in
     let spelled = c.in_ok-records.ensures.catalog honest ∙ ap (λ (rs : List LayerRecord). Some (map record_of rs)) (sym c.as_slice-record-items.ensures.value) in
     let all : take c.loop-record.record-index items ≡ items = take_all c.loop-record.record-index items (omega (arith, c.loop-record-test.false)) in
     let listed = read_listed (next_of c.args.file.now) items c.loop-record.layers.items c.loop-record.object_count good (omega (arith, c.as_slice-record-items.ensures.fits))

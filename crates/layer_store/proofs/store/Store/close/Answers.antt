@@ -24,7 +24,7 @@ returns-in-Ok-clause-failed g c = λ failed. absurd (not_both _ (failed_so c.arg
 pub returns-in-Err-clause-refused : goal.returns-in-Err-clause-refused
 returns-in-Err-clause-refused g c = λ t stands.
     let blocks = length (g.D.BlockDevice.shown c.in-Err.device) in
-    subst (λ (r : Refusal). GivesUp r ⊎ ((r ≡ refusal.NoPages) × (2 ^ 31 ≤ blocks))) (sym c.refusal_of.ensures)
+    subst (λ (r : Refusal). GivesUp r ⊎ ((r ≡ refusal.NoPages) × (2 ^ 31 ≤ blocks))) (sym c.as_refusal.ensures)
     (refused_closing blocks c.in-Err.fault (c.in-Err.ensures.faults (alive_with c.args.self t stands).sound.map))
 
 pub returns-in-Err-clause-failed : goal.returns-in-Err-clause-failed

@@ -35,9 +35,9 @@ returns-in-Err-clause-step g c =
     let before = g.D.BlockDevice.faults (device_of c.args.self.now.kept.file) in
     let now = g.D.BlockDevice.faults (device_of c.settle.new.self.file) in
     let settled = c.in-Err.ensures in
-    takes_step c.args.self.now (record { kept = c.settle.new.self; failed = c.args.self.now.failed }) Reopen (Refused c.refusal_of.result) c.if-self.false c.if-self.false settled.sound
-    (λ sound. gave_up_lawful (HasRisen before now) (IsSpent (next_of c.settle.new.self.file)) c.args.self.now.kept.table c.settle.new.self.table Reopen c.refusal_of.result
-    (subst (IsFault (HasRisen before now) (IsSpent (next_of c.settle.new.self.file) × MayWrite c.args.self.now.kept.table Reopen)) (sym c.refusal_of.ensures)
+    takes_step c.args.self.now (record { kept = c.settle.new.self; failed = c.args.self.now.failed }) Reopen (Refused c.as_refusal.result) c.if-self.false c.if-self.false settled.sound
+    (λ sound. gave_up_lawful (HasRisen before now) (IsSpent (next_of c.settle.new.self.file)) c.args.self.now.kept.table c.settle.new.self.table Reopen c.as_refusal.result
+    (subst (IsFault (HasRisen before now) (IsSpent (next_of c.settle.new.self.file) × MayWrite c.args.self.now.kept.table Reopen)) (sym c.as_refusal.ensures)
     (fault_of_command before now (IsSpent (next_of c.settle.new.self.file) × MayWrite c.args.self.now.kept.table Reopen) c.in-Err.fault (settled.faults sound.map) (risen_of before now c.in-Err.fault settled.cause.refused) (λ is. (settled.no_pages (ap Err is), inl refl))))
     settled.table)
 

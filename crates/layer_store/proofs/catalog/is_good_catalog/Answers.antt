@@ -3,7 +3,7 @@ use Rattle.std.proofs.lemmas.List.Folds.{list_all-map}
 use Rattle.catalog_page.specs.Layout.{record_of}
 use Rattle.plain_table.specs.Table.{most_objects}
 use Rattle.layer_store.specs.Catalog.{is_layer_record, names_ascend, objects_named}
-use Rattle.layer_store.proofs.catalog.is_catalog.Goals as goal
+use Rattle.layer_store.proofs.catalog.is_good_catalog.Goals as goal
 
 pub returns-then-not-are_layer_records : goal.returns-then-not-are_layer_records
 returns-then-not-are_layer_records c = ap (λ (b : Bool). b && (names_ascend (map record_of c.args.records.now) && nat_le (objects_named (map record_of c.args.records.now)) most_objects))
