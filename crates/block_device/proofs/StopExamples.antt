@@ -131,6 +131,18 @@ since_the_sync_a_stop_left_nothing_else : LeftSince (one 2) synced 2 (one 9) →
 since_the_sync_a_stop_left_nothing_else (inl now) = after_a_sync_a_stop_leaves_nothing_else now
 since_the_sync_a_stop_left_nothing_else (inr past) = absurd (omega (arith, past.0))
 
+-- block 0 was written and synced, and then block 1
+abbrev in_turn : List Event
+in_turn = Synced ∷ Wrote 1 (Some (block 4)) ∷ Synced ∷ Wrote 0 (Some (block 9)) ∷ []
+
+at_an_earlier_moment_a_stop_left_the_blocks_of_that_moment : LeftSince (both 1 5) in_turn 1 (both 7 4)
+at_an_earlier_moment_a_stop_left_the_blocks_of_that_moment = inr (omega arith, inr (omega arith, inr (omega arith, inl (record { no_shorter = omega arith; no_longer = omega arith; whole = all_both 7 4; others = same }))))
+  where
+    same : (k : ℕ) → ¬ Contains (0 ∷ []) k → k < 2 → block_at k (both 7 4) ≡ block_at k (both 1 4)
+    same zero none lt = absurd (none (0, omega arith, refl))
+    same (suc zero) none lt = refl
+    same (suc (suc k)) none lt = absurd (omega (arith, lt))
+
 -- ---- the stops that can be tried
 
 a_filled_block : IsFilled (tiny 9) (1 ∷ []) two (tiny 1 ∷ tiny 9 ∷ [])
