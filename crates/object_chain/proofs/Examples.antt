@@ -73,8 +73,8 @@ no_bucket_goes_on_with_the_last_identifier h = let no = h.ascending in absurd (c
 abbrev pages : List ℕ → List ℕ → PageMap
 pages a b n = if eqb n 3 then Some a else if eqb n 4 then Some b else if eqb n 5 then Some (5 ∷ []) else None
 
-a_page_is_read_as_its_bucket : (a b : List ℕ) (c : Content) → bucket_at 2 b ≡ Some c → bucket_in (pages a b) 2 4 ≡ Some c
-a_page_is_read_as_its_bucket a b c is = is
+a_page_is_read_as_its_bucket : (dims : ℕ) (a b : List ℕ) (c : Content) → bucket_at dims b ≡ Some c → bucket_in (pages a b) dims 4 ≡ Some c
+a_page_is_read_as_its_bucket dims a b c is = is
 
 no_page_is_no_bucket : (a b : List ℕ) → bucket_in (pages a b) 2 6 ≡ None
 no_page_is_no_bucket a b = refl

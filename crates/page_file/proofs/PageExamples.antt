@@ -121,11 +121,14 @@ page_torn = gate ∷ header 0 3 0 0 ∷ (8 ∷ []) ∷ []
 behind_a_shut_gate_a_stop_leaves_what_is_read : (StopNow Shut closed closed) × (StopSince Shut closed closed)
 behind_a_shut_gate_a_stop_leaves_what_is_read = (refl, refl)
 
-since_a_shut_gate_a_stop_leaves_no_torn_page : StopSince Shut closed page_torn → ⊥
-since_a_shut_gate_a_stop_leaves_no_torn_page h = absurd (cc)
-
 behind_a_shut_gate_a_stop_leaves_no_torn_gate : StopNow Shut closed gate_torn → ⊥
 behind_a_shut_gate_a_stop_leaves_no_torn_gate h = absurd (cc)
+
+since_a_shut_gate_a_stop_leaves_no_torn_gate : StopSince Shut closed gate_torn → ⊥
+since_a_shut_gate_a_stop_leaves_no_torn_gate h = absurd (cc)
+
+since_a_shut_gate_a_stop_leaves_no_torn_page : StopSince Shut closed page_torn → ⊥
+since_a_shut_gate_a_stop_leaves_no_torn_page h = absurd (cc)
 
 behind_an_open_gate_a_stop_leaves_the_gate : (shown pages : Blocks) → StopNow Open shown (gate_block 0 ∷ pages)
 behind_an_open_gate_a_stop_leaves_the_gate shown pages = refl
