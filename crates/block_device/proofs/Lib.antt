@@ -1,4 +1,7 @@
 -- The files of lemmas.
+pub mod Examples
+pub mod StopExamples
+mod MemoryExamples
 pub mod Done
 pub mod Filling
 pub mod Keeping

@@ -1,4 +1,5 @@
 -- The files of lemmas.
+mod Examples
 pub mod Frames
 pub mod Linking
 pub mod Appending

@@ -1,3 +1,5 @@
 -- The files of lemmas.
+pub mod Examples
+mod PageExamples
 pub mod Results
 pub mod Moments
