@@ -1,10 +1,10 @@
 -- Worked examples of the blocks of a file as docs/FORMAT.md has them, which of them opening refuses and why, and of
 -- its faults. No other proof rests on them. A definition that says another thing than that document is refused here.
-use Rattle.std.proofs.Common.{◌≡◌, ◌∙◌, ℕ, List, [], ◌∷◌, ◌++◌, Some, None, true, false, refl, sym, ap, arith, inl, inr, codes, map, replicate}
+use Rattle.std.proofs.Common.{◌≡◌, ◌∙◌, ℕ, List, [], ◌∷◌, ◌++◌, Some, None, Ok, Err, true, false, refl, sym, ap, arith, inl, inr, codes, map, replicate}
 use Rattle.block_bytes.specs.Numbers.{zeros, number_at, put_number}
 use Rattle.block_device.specs.Device.{Blocks}
 use Rattle.block_device.specs.declared.device.DeviceError.TheVariants as error
-use Rattle.page_file.specs.Fault.{number_of, fault_of, IsOfDevice, IsDamage}
+use Rattle.page_file.specs.Fault.{number_of, fault_of, faults_after, HasCause, IsOfDevice, IsDamage}
 use Rattle.page_file.specs.Layout.{gate_block, header_block, catalog_block, new_header, free_block, IsShutGate, IsHeader, kind_of, link_of}
 use Rattle.page_file.specs.Opening.{is_sound, gate_checks, header_checks, first_fault, failed_check, IsRefused}
 use Rattle.page_file.specs.declared.fault.Fault.TheVariants.{Memory, Device, Damaged, NotClosed, NotAStore, WrongVersion, NoPages}
@@ -179,3 +179,24 @@ any_page_may_be_damaged page = (page, refl)
 
 no_other_fault_is_damage : IsDamage NotAStore → ⊥
 no_other_fault_is_damage h = let no = h.1 in absurd (cc)
+
+a_fault_of_the_device_counts : map (λ f. faults_after f 4) (Memory ∷ Device ∷ Damaged 7 ∷ NotClosed ∷ NotAStore ∷ WrongVersion ∷ NoPages ∷ []) ≡ 4 ∷ 5 ∷ 4 ∷ 4 ∷ 4 ∷ 4 ∷ 4 ∷ []
+a_fault_of_the_device_counts = refl
+
+the_greatest_count_stays : faults_after Device 18446744073709551615 ≡ 18446744073709551615
+the_greatest_count_stays = refl
+
+success_has_no_fault : HasCause {T = ℕ} 4 4 (Ok 0)
+success_has_no_fault = record { ok = refl; refused = tt }
+
+success_hides_no_fault : HasCause {T = ℕ} 4 5 (Ok 0) → ⊥
+success_hides_no_fault h = absurd (omega (arith, h.ok))
+
+a_failed_device_is_named : HasCause {T = ℕ} 4 5 (Err Device)
+a_failed_device_is_named = record { ok = tt; refused = refl }
+
+want_of_memory_hides_no_fault : HasCause {T = ℕ} 4 5 (Err Memory) → ⊥
+want_of_memory_hides_no_fault h = absurd (omega (arith, h.refused))
+
+the_device_is_not_named_without_a_fault : HasCause {T = ℕ} 4 4 (Err Device) → ⊥
+the_device_is_not_named_without_a_fault h = absurd (omega (arith, h.refused))
