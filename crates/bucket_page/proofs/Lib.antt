@@ -5,3 +5,4 @@ pub mod HeadWritten
 pub mod Writing
 pub mod Named
 pub mod Examples
+pub mod OnePage
