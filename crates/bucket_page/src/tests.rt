@@ -124,21 +124,30 @@ fn two_objects_in_three_dimensions_are_their_bytes(rt: HostRuntime) {
     assert_eq!(rt; entry_at::<3>(&spelled, 1), Some((9, point)));
 }
 
-// 100 objects whose numbers are 0, but for the identifier and one high of the last.
+// 100 objects whose numbers are 0, but for one identifier, which the last two have, and one high of the last.
 #[test]
 fn the_last_of_100_entries_ends_at_2416_in_the_plane(rt: HostRuntime) {
     let mut page = [0; 4096];
     page[..4].copy_from_slice(&[4, 2, 0, 100]);
+    page[2375] = 7;
     page[2399] = 7;
     page[2415] = 9;
     let last = BBox::try_new([0, 0], [0, 9]).expect(&rt, "a box");
-    assert_eq!(rt; (id_at::<2>(&page, 98), id_at::<2>(&page, 99)), (0, 7));
+    assert_eq!(rt;
+        (
+            id_at::<2>(&page, 97),
+            id_at::<2>(&page, 98),
+            id_at::<2>(&page, 99)
+        ),
+        (0, 7, 7)
+    );
     assert_eq!(rt; entry_at::<2>(&page, 99), Some((7, last)));
     let bucket = decode::<2>(&page).expect(&rt, "a bucket");
     assert_eq!(rt; bucket.entries.len(), 100);
     assert!(rt; page_of(&bucket) == page);
 }
 
+// The same, with one identifier of the last alone.
 #[test]
 fn the_last_of_100_entries_ends_at_3216_in_space(rt: HostRuntime) {
     let mut page = [0; 4096];
