@@ -1,12 +1,13 @@
 -- What is read from a block in which a number was written.
-use Rattle.std.specs.Prelude.{◌≡◌, ℕ, zero, suc, ◌+◌, ◌-◌, ◌*◌, ◌^◌, ◌<◌, ◌≤◌, ℤ, FitsSigned, List, ◌++◌, length, take, drop, get_or, slice_index, replicate, refl}
+use Rattle.std.specs.Prelude.{◌≡◌, ℕ, zero, suc, ◌+◌, ◌-◌, ◌*◌, ◌/◌, ◌^◌, ◌<◌, ◌≤◌, ℤ, FitsSigned, List, ◌++◌, length, take, drop, get_or, replicate, refl}
 use Rattle.std.specs.Int.{w32, cast_signed, cast_unsigned}
 use Rattle.std.proofs.Common.{sym, ◌∙◌, ap, subst, arith, length-append, length-drop, append_assoc, ⊎_elim}
 use Rattle.std.proofs.lemmas.List.{drop_at, get_or-take, get_or-drop, get_or_append_left, get_or-append-add, length-take-le, length-replicate}
-use Rattle.std.proofs.lemmas.Int.{ints, to_z-of_z}
+use Rattle.std.proofs.lemmas.Int.{ints, to_z-of_z, of_z-to_z}
+use Rattle.std.proofs.lemmas.Nat.{div-mul-add}
 use Rattle.byteorder.specs.Endian.{big_from, big_bytes}
 use Rattle.byteorder.specs.Numbers.{big_number-reads_back, length-bytes_high_first, big_from-lt}
-use Rattle.block_bytes.specs.Numbers.{zeros, number_at, put_number, signed_at, put_signed, IsApart}
+use Rattle.block_bytes.specs.Numbers.{zeros, number_at, put_number, signed_at, put_signed, IsApart, AreBytes}
 
 pub length-zeros : length zeros ≡ 4096
 unfolding zeros
@@ -94,7 +95,7 @@ unfolding number_at zeros
 number_at-zeros n at = zero_from 0 n 0 (drop at (replicate 4096 0)) (λ k. get_or-drop at (replicate 4096 0) k 0 ∙ get_or-replicate 4096 (at + k))
 
 -- no number of n bytes reaches 256 ^ n
-pub number_at-lt : (n at : ℕ) (block : List ℕ) → ((k : ℕ) → slice_index block k < 256) → number_at n at block < 256 ^ n
+pub number_at-lt : (n at : ℕ) (block : List ℕ) → AreBytes block → number_at n at block < 256 ^ n
 unfolding number_at
 number_at-lt n at block bytes = big_from-lt 0 n (drop at block) (λ k. subst (λ (b : ℕ). b < 256) (sym (get_or-drop at block k 0)) (bytes (at + k)))
 
@@ -119,8 +120,52 @@ pub signed_at-same : (at : ℕ) (a b : List ℕ) → number_at 4 at a ≡ number
 unfolding signed_at
 signed_at-same at a b same = ap (cast_signed w32) same
 
+-- the first of two digits
+high_same : (m a b r s : ℕ) → a * m + r ≡ b * m + s → r < m → s < m → a ≡ b
+high_same m a b r s e rl sl = sym (div-mul-add a m r rl) ∙ ap (λ (x : ℕ). x / m) e ∙ div-mul-add b m s sl
+
+next_from : (i n : ℕ) (xs ys : List ℕ) → get_or xs i 0 ≡ get_or ys i 0 → ((k : ℕ) → k < n → get_or xs (suc i + k) 0 ≡ get_or ys (suc i + k) 0) → (k : ℕ) → k < suc n → get_or xs (i + k) 0 ≡ get_or ys (i + k) 0
+next_from i n xs ys first rest zero lt = ap (λ (j : ℕ). get_or xs j 0) (let e : i + 0 ≡ i = omega arith in e) ∙ first ∙ ap (λ (j : ℕ). get_or ys j 0) (let e : i ≡ i + 0 = omega arith in e)
+next_from i n xs ys first rest (suc k) lt =
+    ap (λ (j : ℕ). get_or xs j 0) (let e : i + suc k ≡ suc i + k = omega arith in e) ∙ rest k (omega arith) ∙ ap (λ (j : ℕ). get_or ys j 0) (let e : suc i + k ≡ i + suc k = omega arith in e)
+
+bytes_from : (i n : ℕ) (xs ys : List ℕ) → ((k : ℕ) → get_or xs k 0 < 256) → ((k : ℕ) → get_or ys k 0 < 256) → big_from i n xs ≡ big_from i n ys
+    → (k : ℕ) → k < n → get_or xs (i + k) 0 ≡ get_or ys (i + k) 0
+bytes_from i zero xs ys bx by e k lt = absurd (omega arith)
+bytes_from i (suc n) xs ys bx by e k lt =
+    let x = get_or xs i 0 in
+    let y = get_or ys i 0 in
+    let first : x ≡ y = high_same (256 ^ n) x y (big_from (suc i) n xs) (big_from (suc i) n ys) e (big_from-lt (suc i) n xs bx) (big_from-lt (suc i) n ys by) in
+    let scaled : x * 256 ^ n ≡ y * 256 ^ n = ap (λ (b : ℕ). b * 256 ^ n) first in
+    let rest : big_from (suc i) n xs ≡ big_from (suc i) n ys = omega (arith, e) in
+    next_from i n xs ys first (bytes_from (suc i) n xs ys bx by rest) k lt
+
+dropped_bytes : (at : ℕ) (page : List ℕ) → AreBytes page → (k : ℕ) → get_or (drop at page) k 0 < 256
+dropped_bytes at page bytes k = subst (λ (b : ℕ). b < 256) (sym (get_or-drop at page k 0)) (bytes (at + k))
+
+-- a number fixes its bytes
+pub number_at-fixes : (n at : ℕ) (a b : List ℕ) → AreBytes a → AreBytes b → number_at n at a ≡ number_at n at b → (k : ℕ) → at ≤ k → k < at + n → number_at 1 k a ≡ number_at 1 k b
+unfolding number_at
+number_at-fixes n at a b ba bb e k le lt =
+    let j : ℕ = k - at in
+    let there : at + (0 + j) ≡ k = omega arith in
+    let one : get_or a (at + (0 + j)) 0 ≡ get_or b (at + (0 + j)) 0 =
+    sym (get_or-drop at a (0 + j) 0) ∙ bytes_from 0 n (drop at a) (drop at b) (dropped_bytes at a ba) (dropped_bytes at b bb) e j (omega arith) ∙ get_or-drop at b (0 + j) 0 in
+    sym (byte_at k a) ∙ ap (λ (i : ℕ). get_or a i 0) (sym there) ∙ one ∙ ap (λ (i : ℕ). get_or b i 0) there ∙ byte_at k b
+
+-- and a signed number fixes its number without a sign
+pub signed_at-fixes : (at : ℕ) (a b : List ℕ) → AreBytes a → AreBytes b → signed_at at a ≡ signed_at at b → number_at 4 at a ≡ number_at 4 at b
+unfolding signed_at
+signed_at-fixes at a b ba bb e =
+    let la : number_at 4 at a < 256 ^ 4 = number_at-lt 4 at a ba in
+    let lb : number_at 4 at b < 256 ^ 4 = number_at-lt 4 at b bb in
+    sym (of_z-to_z w32 (number_at 4 at a) (omega arith)) ∙ ap (cast_unsigned w32) e ∙ of_z-to_z w32 (number_at 4 at b) (omega arith)
+
 -- what the laws of a block of bytes are proved by
 pub ruleset laws = (length-put, number_at-put, signed_at-put, number_at-put_other, number_at-same, length-put_signed, number_at-put_signed_other, signed_at-same, length-zeros, number_at-zeros, number_at-lt)
+
+-- and the laws of what a number says of its bytes
+pub ruleset fixing = (number_at-fixes, signed_at-fixes)
 
 -- what is passed and read of a signed number is that number
 pub ruleset signed_values = (to_z-of_z)

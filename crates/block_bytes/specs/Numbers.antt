@@ -1,6 +1,6 @@
 -- Numbers at places of a block, the highest byte first, signed ones in two's complement (our format,
 -- docs/FORMAT.md). A block is the list of its bytes.
-use Rattle.std.specs.Prelude.{ℕ, ◌+◌, ◌≤◌, ◌⊎◌, ℤ, List, ◌++◌, take, drop, replicate}
+use Rattle.std.specs.Prelude.{ℕ, ◌+◌, ◌<◌, ◌≤◌, ◌⊎◌, ℤ, List, ◌++◌, take, drop, replicate, slice_index}
 use Rattle.std.specs.Int.{w32, cast_signed, cast_unsigned}
 use Rattle.byteorder.specs.Endian.{big_number, big_bytes}
 
@@ -27,3 +27,7 @@ put_signed at z block = put_number 4 at (cast_unsigned w32 z) block
 -- the n bytes from one place and the m bytes from the other have none in common
 abbrev pub IsApart : ℕ → ℕ → ℕ → ℕ → Type 0
 IsApart n at m to = (at + n ≤ to) ⊎ (to + m ≤ at)
+
+-- each of them is a byte
+abbrev pub AreBytes : List ℕ → Type 0
+AreBytes block = (k : ℕ) → slice_index block k < 256

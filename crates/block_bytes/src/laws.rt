@@ -1,7 +1,7 @@
 //! What a write leaves to be read, each law the contract of a function that does nothing.
-ghost use Rattle.std.specs.Prelude.{◌≡◌, ◌≤◌, ◌<◌, ◌+◌, ◌^◌, ℕ, ℤ, FitsSigned, List, length, slice_index};
+ghost use Rattle.std.specs.Prelude.{◌≡◌, ◌≤◌, ◌<◌, ◌+◌, ◌^◌, ℕ, ℤ, FitsSigned, List, length};
 ghost use Rattle.std.specs.Int.{w32};
-ghost use Rattle.block_bytes.specs.Numbers.{zeros, number_at, signed_at, put_number, put_signed, IsApart};
+ghost use Rattle.block_bytes.specs.Numbers.{zeros, number_at, signed_at, put_number, put_signed, IsApart, AreBytes};
 
 /// What was written is read back.
 #[tactic(auto, using(crate::specs::Laws::laws))]
@@ -38,6 +38,16 @@ pub fn own_bytes_are_read()
     ensures signed { (at : ℕ) (a b : List ℕ) → number_at 4 at a ≡ number_at 4 at b → signed_at at a ≡ signed_at at b }
 {}
 
+/// Two blocks of bytes with the same number at a place have the same bytes there, and a signed number is that of one
+/// number without a sign.
+#[tactic(auto, using(crate::specs::Laws::fixing))]
+pub fn a_number_fixes_its_bytes()
+    ensures number { (n at : ℕ) (a b : List ℕ) → AreBytes a → AreBytes b → number_at n at a ≡ number_at n at b → (k : ℕ)
+        → at ≤ k → k < at + n → number_at 1 k a ≡ number_at 1 k b }
+    ensures signed { (at : ℕ) (a b : List ℕ) → AreBytes a → AreBytes b → signed_at at a ≡ signed_at at b
+        → number_at 4 at a ≡ number_at 4 at b }
+{}
+
 /// A block of zeros is 4096 bytes long and has the number 0 everywhere.
 #[tactic(auto, using(crate::specs::Laws::laws))]
 pub fn zeros_are_read()
@@ -48,5 +58,5 @@ pub fn zeros_are_read()
 /// A number of n bytes is below 256^n.
 #[tactic(auto, using(crate::specs::Laws::laws))]
 pub fn a_number_fits()
-    ensures { (n at : ℕ) (block : List ℕ) → ((k : ℕ) → slice_index block k < 256) → number_at n at block < 256 ^ n }
+    ensures { (n at : ℕ) (block : List ℕ) → AreBytes block → number_at n at block < 256 ^ n }
 {}

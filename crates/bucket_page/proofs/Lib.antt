@@ -4,3 +4,5 @@ pub mod Reading
 pub mod HeadWritten
 pub mod Writing
 pub mod Named
+pub mod Examples
+pub mod OnePage

@@ -1,6 +1,6 @@
 -- The laws of what pages spell.
-use Rattle.std.specs.Prelude.{◌≡◌, ℕ, ◌<◌, ◌↔◌, List, Some, slice_index}
-use Rattle.block_bytes.specs.Numbers.{number_at}
+use Rattle.std.specs.Prelude.{◌≡◌, ℕ, ◌↔◌, List, length, Some}
+use Rattle.block_bytes.specs.Numbers.{number_at, AreBytes}
 use Rattle.bucket_page.specs.Layout.{Content, IsBucket, Spells, bucket_at, IsNamed}
 
 -- reading gives exactly what is spelled
@@ -13,4 +13,14 @@ ReadsNamedBytes = (dims : ℕ) (a b : List ℕ) → ((k : ℕ) → IsNamed dims 
 
 -- what a page of bytes spells is a bucket
 abbrev pub SpellsBuckets : Type 0
-SpellsBuckets = (dims : ℕ) (page : List ℕ) (c : Content) → ((k : ℕ) → slice_index page k < 256) → Spells dims page c → IsBucket dims c
+SpellsBuckets = (dims : ℕ) (page : List ℕ) (c : Content) → AreBytes page → Spells dims page c → IsBucket dims c
+
+-- the page of this bucket: it spells the bucket, and each byte that is not named is zero
+pub record IsPageOf (dims : ℕ) (page : List ℕ) (c : Content) : Type 0 where
+  pub spelled : Spells dims page c
+  pub rest : (k : ℕ) → (IsNamed dims (length c.entries) k → ⊥) → number_at 1 k page ≡ 0
+
+-- a bucket has one page
+abbrev pub HasOnePage : Type 0
+HasOnePage = (dims : ℕ) (a b : List ℕ) (c : Content) → AreBytes a → AreBytes b → IsPageOf dims a c → IsPageOf dims b c
+    → (k : ℕ) → number_at 1 k a ≡ number_at 1 k b

@@ -4,7 +4,7 @@
 ghost use Rattle.std.specs.Prelude.{◌≡◌, ◌<◌, Some, length, option_map};
 ghost use Rattle.box_math.specs.Bounds.{IsDims};
 ghost use Rattle.bucket_page.specs.Layout.{content_of};
-ghost use Rattle.bucket_page.specs.PageLaws.{ReadsWhatIsSpelled, ReadsNamedBytes, SpellsBuckets};
+ghost use Rattle.bucket_page.specs.PageLaws.{ReadsWhatIsSpelled, ReadsNamedBytes, SpellsBuckets, HasOnePage};
 
 use crate::bucket::Bucket;
 use crate::page::{decode, encode};
@@ -22,6 +22,12 @@ pub fn named_bytes_are_read()
 /// What a page spells has 1 to 100 objects, each with a box of 32-bit coordinates, its lows at most its highs.
 pub fn what_is_spelled_is_a_bucket()
     ensures { SpellsBuckets }
+{}
+
+/// A bucket has one page: two that spell it, with zeros in all bytes that it does not name, have the same bytes.
+/// So `encode` leaves nothing open.
+pub fn a_bucket_has_one_page()
+    ensures { HasOnePage }
 {}
 
 /// A bucket that is encoded is decoded again.

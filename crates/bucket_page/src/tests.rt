@@ -22,6 +22,19 @@ fn page_of_one() -> [u8; 4096] {
     page
 }
 
+// A page of two objects in three dimensions, and the next page, written out by hand. The identifiers descend.
+fn page_of_two_in_space() -> [u8; 4096] {
+    let mut page = [0; 4096];
+    page[..8].copy_from_slice(&[4, 3, 0, 2, 10, 11, 12, 13]);
+    page[16..24].copy_from_slice(&[1, 2, 3, 4, 5, 6, 7, 8]);
+    page[24..36].copy_from_slice(&[255, 255, 255, 254, 0, 0, 1, 0, 128, 0, 0, 0]);
+    page[36..48].copy_from_slice(&[0, 0, 0, 5, 1, 2, 3, 4, 127, 255, 255, 255]);
+    page[48..56].copy_from_slice(&[0, 0, 0, 0, 0, 0, 0, 9]);
+    page[56..68].copy_from_slice(&[0, 0, 0, 1, 255, 255, 255, 255, 0, 0, 0, 3]);
+    page[68..80].copy_from_slice(&[0, 0, 0, 1, 255, 255, 255, 255, 0, 0, 0, 3]);
+    page
+}
+
 // A bucket of so many objects, with identifiers and coordinates at the ends of their ranges.
 fn bucket_of<const D: usize>(count: u8) -> Bucket<D> {
     let mut entries = ArrayVec::new();
@@ -83,6 +96,70 @@ fn the_next_page_stands_at_4(rt: HostRuntime) {
     page[7] = 2;
     assert_eq!(rt; next_at(&page), 0x0100_0002);
     assert!(rt; decode::<2>(&page).is_some_and(|bucket| bucket.next == 0x0100_0002));
+}
+
+#[test]
+fn two_objects_in_three_dimensions_are_their_bytes(rt: HostRuntime) {
+    let spelled = page_of_two_in_space();
+    let mut entries = ArrayVec::new();
+    let high = [5, 0x0102_0304, i32::MAX];
+    let first = BBox::try_new([-2, 256, i32::MIN], high).expect(&rt, "a box");
+    let point = BBox::try_new([1, -1, 3], [1, -1, 3]).expect(&rt, "a point");
+    entries.push((0x0102_0304_0506_0708, first));
+    entries.push((9, point));
+    let bucket = Bucket::<3> {
+        next: 0x0a0b_0c0d,
+        entries,
+    };
+    let mut page = [9; 4096];
+    encode(&bucket, &mut page);
+    assert!(rt; page == spelled);
+    assert!(rt; decode::<3>(&spelled) == Some(bucket));
+    assert!(rt; decode::<2>(&spelled).is_none());
+    assert_eq!(rt; (count_at(&spelled), next_at(&spelled)), (2, 0x0a0b_0c0d));
+    assert_eq!(rt;
+        (id_at::<3>(&spelled, 0), id_at::<3>(&spelled, 1)),
+        (0x0102_0304_0506_0708, 9)
+    );
+    assert_eq!(rt; entry_at::<3>(&spelled, 1), Some((9, point)));
+}
+
+// 100 objects whose numbers are 0, but for one identifier, which the last two have, and one high of the last.
+#[test]
+fn the_last_of_100_entries_ends_at_2416_in_the_plane(rt: HostRuntime) {
+    let mut page = [0; 4096];
+    page[..4].copy_from_slice(&[4, 2, 0, 100]);
+    page[2375] = 7;
+    page[2399] = 7;
+    page[2415] = 9;
+    let last = BBox::try_new([0, 0], [0, 9]).expect(&rt, "a box");
+    assert_eq!(rt;
+        (
+            id_at::<2>(&page, 97),
+            id_at::<2>(&page, 98),
+            id_at::<2>(&page, 99)
+        ),
+        (0, 7, 7)
+    );
+    assert_eq!(rt; entry_at::<2>(&page, 99), Some((7, last)));
+    let bucket = decode::<2>(&page).expect(&rt, "a bucket");
+    assert_eq!(rt; bucket.entries.len(), 100);
+    assert!(rt; page_of(&bucket) == page);
+}
+
+// The same, with one identifier of the last alone.
+#[test]
+fn the_last_of_100_entries_ends_at_3216_in_space(rt: HostRuntime) {
+    let mut page = [0; 4096];
+    page[..4].copy_from_slice(&[4, 3, 0, 100]);
+    page[3191] = 7;
+    page[3215] = 9;
+    let last = BBox::try_new([0, 0, 0], [0, 0, 9]).expect(&rt, "a box");
+    assert_eq!(rt; (id_at::<3>(&page, 98), id_at::<3>(&page, 99)), (0, 7));
+    assert_eq!(rt; entry_at::<3>(&page, 99), Some((7, last)));
+    let bucket = decode::<3>(&page).expect(&rt, "a bucket");
+    assert_eq!(rt; bucket.entries.len(), 100);
+    assert!(rt; page_of(&bucket) == page);
 }
 
 #[test]

@@ -4,3 +4,5 @@ pub mod NumbersWritten
 pub mod Reading
 pub mod Writing
 pub mod Named
+pub mod Examples
+pub mod OnePage

@@ -3,7 +3,7 @@
 
 ghost use Rattle.std.specs.Prelude.{◌≡◌, ◌<◌, All, Some, length, option_map};
 ghost use Rattle.catalog_page.specs.Layout.{records_of};
-ghost use Rattle.catalog_page.specs.PageLaws.{ReadsWhatIsSpelled, ReadsNamedBytes, SpellsCatalogs, BeginsEmpty};
+ghost use Rattle.catalog_page.specs.PageLaws.{ReadsWhatIsSpelled, ReadsNamedBytes, SpellsCatalogs, BeginsEmpty, HasOnePage};
 
 use crate::layer_record::LayerRecord;
 use crate::page::{decode, encode};
@@ -27,6 +27,12 @@ pub fn what_is_spelled_is_a_catalog()
 /// Zeros behind a first byte of 1, the catalog of a new file, spell no layers.
 pub fn a_new_catalog_has_no_layers()
     ensures { BeginsEmpty }
+{}
+
+/// A list of layers has one page: two that spell it, with zeros in all bytes that it does not name, have the same
+/// bytes. So `encode` leaves nothing open.
+pub fn a_catalog_has_one_page()
+    ensures { HasOnePage }
 {}
 
 /// Layers that are encoded are decoded again.

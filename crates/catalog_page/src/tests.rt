@@ -59,6 +59,51 @@ fn two_layers_are_their_bytes(rt: HostRuntime) {
 }
 
 #[test]
+fn each_number_stands_at_its_bytes(rt: HostRuntime) {
+    let mut page = [0; 4096];
+    page[..2].copy_from_slice(&[1, 1]);
+    page[256..259].copy_from_slice(&[2, 255, 0]);
+    page[281..284].copy_from_slice(&[128, 129, 130]);
+    page[284..292].copy_from_slice(&[1, 2, 3, 4, 5, 6, 7, 8]);
+    page[292..300].copy_from_slice(&[9, 10, 11, 12, 13, 14, 15, 16]);
+    let layers = decode(&page).expect(&rt, "a catalog");
+    let [layer] = layers.as_slice() else {
+        panic!(rt; "one layer");
+    };
+    assert_eq!(rt; layer.name.as_slice(), [255, 0].as_slice());
+    assert_eq!(rt;
+        numbers_of(layer),
+        (
+            128,
+            129,
+            130,
+            0x0102_0304,
+            0x0506_0708,
+            0x090a_0b0c_0d0e_0f10
+        )
+    );
+    assert!(rt; again(&page) == Some(page));
+}
+
+#[test]
+fn names_may_descend_and_be_equal(rt: HostRuntime) {
+    let mut page = [0; 4096];
+    page[..2].copy_from_slice(&[1, 3]);
+    for (at, name) in [(256, b"b"), (320, b"a"), (384, b"a")] {
+        page[at] = 1;
+        page[at + 1..at + 2].copy_from_slice(name);
+    }
+    let layers = decode(&page).expect(&rt, "a catalog");
+    let [b, a, again_a] = layers.as_slice() else {
+        panic!(rt; "three layers");
+    };
+    assert_eq!(rt; b.name.as_slice(), b"b".as_slice());
+    assert_eq!(rt; a.name.as_slice(), b"a".as_slice());
+    assert!(rt; a == again_a);
+    assert!(rt; again(&page) == Some(page));
+}
+
+#[test]
 fn sixty_layers_come_back(rt: HostRuntime) {
     let mut page = [0; 4096];
     page[..2].copy_from_slice(&[1, 60]);

@@ -1,0 +1,87 @@
+-- A bucket has one page: what a page spells fixes each byte that it names, and the others are zero.
+use Rattle.std.proofs.Common.{◌≡◌, ℕ, ◌+◌, ◌-◌, ◌*◌, ◌/◌, ◌<◌, ◌≤◌, ℤ, List, length, get_or, sym, ◌∙◌, ap, arith, inl, inr, ⊎_elim}
+use Rattle.std.proofs.Math.Nat.{lt-mul-div-succ, div-lt_iff_lt-mul, mul-div-le}
+use Rattle.std.proofs.lemmas.Bool.{cases_lt}
+use Rattle.block_bytes.specs.Numbers.{number_at, signed_at, AreBytes}
+use Rattle.block_bytes.specs.Laws.{number_at-fixes, signed_at-fixes}
+use Rattle.box_math.specs.Bounds.{Bounds, on_axis}
+use Rattle.box_bytes.specs.Corners.{corner_at}
+use Rattle.box_bytes.specs.Laws.{on_axis-corner_at}
+use Rattle.bucket_page.specs.Layout.{Content, Spells, IsNamed, entry_place, object_at, objects_at}
+use Rattle.bucket_page.specs.PageLaws.{HasOnePage}
+use Rattle.bucket_page.proofs.Reading.{size_of, get_or-objects_at}
+
+-- ---- an object fixes its bytes
+
+-- the row that a place is in, of rows of one width
+row_of : (w n from k : ℕ) → 0 < w → from ≤ k → k < from + w * n → (row : ℕ) × (row < n) × (from + w * row ≤ k) × (k < from + w * row + w)
+row_of w n from k pos_w le lt =
+    let j : ℕ = k - from in
+    let row : ℕ = j / w in
+    let below : row < n = (div-lt_iff_lt-mul {k = w} {x = j} {y = n} pos_w).1 (let e : n * w ≡ w * n = grind arith in omega arith) in
+    let high : j < w * (row + 1) = lt-mul-div-succ j pos_w in
+    let more : w * (row + 1) ≡ w * row + w = grind arith in
+    let low : w * row ≤ j = mul-div-le j w in
+    (row, below, omega arith, omega arith)
+
+corner_bytes : (dims at : ℕ) (a b : List ℕ) → AreBytes a → AreBytes b → corner_at dims a at 4 ≡ corner_at dims b at 4 → (k : ℕ) → at ≤ k → k < at + 4 * dims → number_at 1 k a ≡ number_at 1 k b
+corner_bytes dims at a b ba bb e k le lt =
+    let row = row_of 4 dims at k (omega arith) le lt in
+    let axis = row.0 in
+    let below = row.1 in
+    let signed : signed_at (at + 4 * axis) a ≡ signed_at (at + 4 * axis) b =
+    sym (on_axis-corner_at dims a at 4 axis below) ∙ ap (λ (p : List ℤ). on_axis p axis) e ∙ on_axis-corner_at dims b at 4 axis below in
+    number_at-fixes 4 (at + 4 * axis) a b ba bb (signed_at-fixes (at + 4 * axis) a b ba bb signed) k row.2 row.3
+
+pub object_bytes : (dims place : ℕ) (a b : List ℕ) → AreBytes a → AreBytes b → object_at dims a place ≡ object_at dims b place
+    → (k : ℕ) → entry_place dims place ≤ k → k < entry_place dims place + (8 + 8 * dims) → number_at 1 k a ≡ number_at 1 k b
+unfolding object_at
+object_bytes dims place a b ba bb e k le lt =
+    let at = entry_place dims place in
+    let id : number_at 8 at a ≡ number_at 8 at b = ap (λ (o : ℕ × Bounds). o.0) e in
+    let lows : corner_at dims a (at + 8) 4 ≡ corner_at dims b (at + 8) 4 = ap (λ (o : ℕ × Bounds). o.1.low) e in
+    let highs : corner_at dims a (at + 8 + 4 * dims) 4 ≡ corner_at dims b (at + 8 + 4 * dims) 4 = ap (λ (o : ℕ × Bounds). o.1.high) e in
+    ⊎_elim (λ (h : k < at + 8). number_at-fixes 8 at a b ba bb id k le h)
+    (λ (h : at + 8 ≤ k). ⊎_elim (λ (l : k < at + 8 + 4 * dims). corner_bytes dims (at + 8) a b ba bb lows k h l)
+    (λ (l : at + 8 + 4 * dims ≤ k). corner_bytes dims (at + 8 + 4 * dims) a b ba bb highs k l (omega arith)) (cases_lt k (at + 8 + 4 * dims)))
+    (cases_lt k (at + 8))
+
+-- ---- a bucket fixes its page
+
+entry_bytes : (dims : ℕ) (a b : List ℕ) (c : Content) → AreBytes a → AreBytes b → Spells dims a c → Spells dims b c
+    → (k : ℕ) → 16 ≤ k → k < entry_place dims (length c.entries) → number_at 1 k a ≡ number_at 1 k b
+unfolding entry_place
+entry_bytes dims a b c ba bb sa sb k le lt =
+    let row = row_of (8 + 8 * dims) (length c.entries) 16 k (omega arith) le lt in
+    let place = row.0 in
+    let below : place < length c.entries = row.1 in
+    let in_a : place < number_at 2 2 a = omega (arith, size_of dims a c sa) in
+    let in_b : place < number_at 2 2 b = omega (arith, size_of dims b c sb) in
+    let same : objects_at dims a (number_at 2 2 a) ≡ objects_at dims b (number_at 2 2 b) = sym sa.entries ∙ sb.entries in
+    let none = object_at dims a place in
+    let object : object_at dims a place ≡ object_at dims b place =
+    sym (get_or-objects_at dims a (number_at 2 2 a) place none in_a) ∙ ap (λ (os : List (ℕ × Bounds)). get_or os place none) same ∙ get_or-objects_at dims b (number_at 2 2 b) place none in_b in
+    object_bytes dims place a b ba bb object k row.2 (omega (arith, row.3))
+
+head_bytes : (dims : ℕ) (a b : List ℕ) (c : Content) → AreBytes a → AreBytes b → Spells dims a c → Spells dims b c → (k : ℕ) → k < 8 → number_at 1 k a ≡ number_at 1 k b
+head_bytes dims a b c ba bb sa sb k lt =
+    ⊎_elim (λ (h : k < 1). number_at-fixes 1 0 a b ba bb (sa.head.kind ∙ sym sb.head.kind) k (omega arith) h)
+    (λ (h : 1 ≤ k). ⊎_elim (λ (l : k < 2). number_at-fixes 1 1 a b ba bb (sa.head.dims_is ∙ sym sb.head.dims_is) k h l)
+    (λ (l : 2 ≤ k). ⊎_elim (λ (m : k < 4). number_at-fixes 2 2 a b ba bb (size_of dims a c sa ∙ sym (size_of dims b c sb)) k l m)
+    (λ (m : 4 ≤ k). number_at-fixes 4 4 a b ba bb (sa.next ∙ sym sb.next) k m lt) (cases_lt k 4)) (cases_lt k 2)) (cases_lt k 1)
+
+reserved : (dims count k : ℕ) → 8 ≤ k → k < 16 → IsNamed dims count k → ⊥
+reserved dims count k ge lt (inl h) = absurd (omega arith)
+reserved dims count k ge lt (inr h) = let from = h.0 in absurd (omega arith)
+
+behind : (dims count k : ℕ) → 16 ≤ k → entry_place dims count ≤ k → IsNamed dims count k → ⊥
+behind dims count k ge le (inl h) = absurd (omega arith)
+behind dims count k ge le (inr h) = let to = h.1 in absurd (omega arith)
+
+pub one_page : HasOnePage
+one_page dims a b c ba bb pa pb k =
+    ⊎_elim (λ (h : k < 8). head_bytes dims a b c ba bb pa.spelled pb.spelled k h)
+    (λ (h : 8 ≤ k). ⊎_elim (λ (l : k < 16). pa.rest k (reserved dims (length c.entries) k h l) ∙ sym (pb.rest k (reserved dims (length c.entries) k h l)))
+    (λ (l : 16 ≤ k). ⊎_elim (λ (m : k < entry_place dims (length c.entries)). entry_bytes dims a b c ba bb pa.spelled pb.spelled k l m)
+    (λ (m : entry_place dims (length c.entries) ≤ k). pa.rest k (behind dims (length c.entries) k l m) ∙ sym (pb.rest k (behind dims (length c.entries) k l m)))
+    (cases_lt k (entry_place dims (length c.entries)))) (cases_lt k 16)) (cases_lt k 8)

@@ -1,0 +1,6 @@
+-- The law is the lemma of its name.
+use Rattle.bucket_page.proofs.OnePage.{one_page}
+use Rattle.bucket_page.proofs.laws.a_bucket_has_one_page.Goals as goal
+
+pub returns : goal.returns
+returns c = one_page
