@@ -1,9 +1,8 @@
 -- Worked examples of a store's definitions: which catalogs are good, what pages hold, which blocks are refused and why,
 -- and what refusals say of the device. No other proof rests on them. A definition that says another thing than
 -- docs/FORMAT.md is refused here.
-use Rattle.std.proofs.Common.{◌≡◌, ◌∙◌, ◌<◌, ℕ, List, [], ◌∷◌, ◌++◌, length, get_or, true, false, Option, Some, None, Ok, Err, refl, sym, ap, subst, arith, inl, inr}
-use Rattle.std.specs.Cmp.Lexicographic.{slice_cmp}
-use Rattle.std.specs.FinMap.{entries, entries-from_sorted, from_sorted}
+use Rattle.std.proofs.Common.{◌≡◌, ◌∙◌, ℕ, List, [], ◌∷◌, length, get_or, true, false, None, Ok, Err, refl, sym, ap, subst, arith, inl, inr}
+use Rattle.std.specs.FinMap.{entries, entries-from_sorted}
 use Rattle.std.specs.Ordering.{nat_cmp}
 use Rattle.box_math.specs.Bounds.{Bounds}
 use Rattle.catalog_page.specs.Layout.{Record}
@@ -13,7 +12,7 @@ use Rattle.page_file.specs.Opening.{failed_check}
 use Rattle.page_file.specs.declared.fault.Fault.TheVariants as fault
 use Rattle.plain_table.specs.Table.{Layer}
 use Rattle.plain_table.specs.declared.refusal.Refusal.TheVariants as refusal
-use Rattle.plain_table.proofs.Examples.{layer, table}
+use Rattle.plain_table.proofs.Examples.{layer}
 use Rattle.layer_store.specs.Catalog.{has_no_tree, is_good_catalog, is_layer_record, is_page_or_none, names_ascend, objects_named}
 use Rattle.layer_store.specs.Faults.{GivesUp, HasCause, faults_after, as_refusal}
 use Rattle.layer_store.specs.Image.{Holds, HoldsLayer, HoldsLayers, IsBroken, IsDamaged, Refuses}

@@ -1,5 +1,5 @@
 -- Layers read by the records of a good catalog are a list of layers, and the table that the pages hold.
-use Rattle.std.proofs.Common.{◌≡◌, ◌∙◌, ◌≤◌, ◌<◌, ◌+◌, ℕ, zero, suc, List, [], ◌∷◌, ◌++◌, length, map, take, get_or, Bool, true, false, ◌&&◌, nat_le, Some, refl, sym, ap, arith, subst, T, inr}
+use Rattle.std.proofs.Common.{◌≡◌, ◌∙◌, ◌≤◌, ◌<◌, ◌+◌, ℕ, zero, suc, List, [], ◌∷◌, ◌++◌, length, map, take, get_or, Bool, true, ◌&&◌, nat_le, Some, refl, sym, ap, arith, subst, T, inr}
 use Rattle.std.specs.Prelude.{IsTrue, sum_by, sum}
 use Rattle.std.specs.List.{list_all}
 use Rattle.std.specs.Cmp.{first_so, second_so}

@@ -1,11 +1,11 @@
 -- What a stop leaves of a store's blocks: a refusal, or an image.
-use Rattle.std.proofs.Common.{◌≡◌, ◌∙◌, ◌⊎◌, ℕ, ◌≤◌, List, Some, None, true, false, refl, sym, ap, subst, arith, inl, inr, ⊎_elim}
+use Rattle.std.proofs.Common.{◌≡◌, ◌∙◌, ◌⊎◌, ℕ, Some, None, true, false, sym, ap, subst, arith, inl, inr, ⊎_elim}
 use Rattle.std.specs.Prelude.{is_some}
 use Rattle.std.specs.FinMap.{empty}
-use Rattle.block_device.specs.Device.{Blocks, LeavesOnly, Only, block_at}
+use Rattle.block_device.specs.Device.{Blocks, LeavesOnly, Only}
 use Rattle.block_device.specs.Moments.{leaves_then, leaves_weaker, started}
 use Rattle.page_file.specs.Aside.{FindsSame, aside_passes}
-use Rattle.page_file.specs.File.{IsHonest, IsNewFile, IsPageMap, KeepsGate, LiesIn, blocks_of, device_of, gate_of, next_of, pages}
+use Rattle.page_file.specs.File.{IsHonest, IsNewFile, IsPageMap, KeepsGate, LiesIn, blocks_of, gate_of, next_of, pages}
 use Rattle.page_file.specs.Given.{given_is, is_given}
 use Rattle.page_file.specs.Kept.{aside_at}
 use Rattle.page_file.specs.Laws.{a_run_goes_on, a_stop_follows_the_gate, stops_of_a_run_go_on}

@@ -1,5 +1,5 @@
 -- The layers so far are those of the records so far, and the file is as it was.
-use Rattle.std.proofs.Common.{◌≡◌, ◌≤◌, map, take, length}
+use Rattle.std.proofs.Common.{◌≡◌, map, take, length}
 use Rattle.catalog_page.specs.Layout.{record_of}
 use Rattle.page_file.specs.File.{blocks_of, device_of, given, IsHonest, KeepsGate, KeepsMap}
 use Rattle.plain_table.specs.Kept.{entry_of}

@@ -1,5 +1,5 @@
 -- A stop before the gate is open leaves what was there, one behind it a refusal.
-use Rattle.page_file.specs.File.{blocks_of, device_of}
+use Rattle.page_file.specs.File.{device_of}
 use Rattle.layer_store.proofs.StopLemmas.{gate_opened, none_made, not_open, pages_written}
 use Rattle.layer_store.proofs.kept.Kept.write.Goals as goal
 

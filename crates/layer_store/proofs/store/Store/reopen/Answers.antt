@@ -1,6 +1,6 @@
 -- A reopening closes the table, and reads the same table back.
 use Rattle.std.proofs.Common.{◌≡◌, ◌∙◌, ◌⊎◌, Err, true, false, refl, sym, ap, subst, inl, inr}
-use Rattle.block_device.specs.Device.{Blocks, HasRisen, Only}
+use Rattle.block_device.specs.Device.{Blocks, HasRisen}
 use Rattle.plain_table.specs.Table.{Table}
 use Rattle.layer_store.proofs.StopLemmas.{LeavesEither, shut_is_durable, then_read}
 use Rattle.page_file.specs.Fault.{faults_after}

@@ -1,5 +1,5 @@
 -- The pages given out are those of the blocks that were opened.
-use Rattle.std.proofs.Common.{◌≡◌, ◌∙◌, Some, None, refl, sym, inl, inr, ⊎_elim}
+use Rattle.std.proofs.Common.{◌∙◌, refl, sym, inl, inr, ⊎_elim}
 use Rattle.page_file.specs.File.{blocks_of, device_of, gate_of}
 use Rattle.page_file.specs.declared.fault.Fault.TheVariants as fault
 use Rattle.layer_store.specs.Image.{Holds, IsDamaged}
