@@ -7,8 +7,6 @@ mod list_table;
 mod names;
 mod objects;
 mod refusal;
-#[cfg(test)]
-mod tests;
 
 pub use boxes::{AnyBox, RawBox, RawPoint};
 pub use layer::Layer;

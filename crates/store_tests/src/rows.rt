@@ -5,6 +5,7 @@ use crate::fixture::{
 };
 use block_device::{BlockDevice, MemoryDevice};
 use layer_store::{RawBox, Refusal, Store};
+use plain_table::ListTable;
 use std::alloc::Global;
 use std::test::Fail;
 
@@ -101,5 +102,19 @@ fn a_new_store_is_closed_with_no_layers(rt: HostRuntime) -> Result<(), Fail> {
     assert_eq!(rt; device.blocks(), 3);
     let mut store = opened(rt.alloc(), device, CACHE)?;
     assert_eq!(rt; store.window(b"a", POINT).err(), Some(Refusal::NoLayer));
+    Ok(())
+}
+
+#[test]
+fn a_table_in_a_list_answers_by_itself(rt: HostRuntime) -> Result<(), Fail> {
+    let mut table = ListTable::new(rt.alloc());
+    table.create(b"c", 3, 100)?;
+    table.insert(b"c", u64::MAX, RawBox::Three([i32::MIN; 3], [i32::MAX; 3]))?;
+    let rows = table.window(b"c", RawBox::Three([i32::MIN; 3], [i32::MIN; 3]))?;
+    assert_eq!(rt; rows.len(), 1);
+    assert_eq!(rt; rows.first().map(|row| row.0), Some(u64::MAX));
+    assert_eq!(rt; table.window(b"c", POINT).is_err(), true);
+    assert_eq!(rt; table.insert(b"c", 1, POINT), Err(Refusal::WrongDims));
+    assert_eq!(rt; table.layers().len(), 1);
     Ok(())
 }

@@ -1,5 +1,5 @@
 -- What was read so far, and what stays. A list of rows has fewer than 2^64, so it does not grow forever.
-use Rattle.std.proofs.Common.{◌≡◌, ◌-◌, ◌^◌, ◌≤◌, length}
+use Rattle.std.proofs.Common.{◌≡◌, ◌-◌, ◌^◌, length}
 use Rattle.page_file.specs.File.{blocks_of, device_of, given, IsHonest, KeepsGate, KeepsMap}
 use Rattle.object_chain.specs.Ascending.{IsAscending}
 use Rattle.object_chain.proofs.PagesRead.{HasRead}

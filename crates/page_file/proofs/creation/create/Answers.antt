@@ -1,5 +1,5 @@
 -- The gate is shut over blocks that are synced.
-use Rattle.std.proofs.Common.{◌≡◌, ◌∙◌, ◌⊎◌, drop, sym, ap, inl, inr, ⊎_elim}
+use Rattle.std.proofs.Common.{◌∙◌, ◌⊎◌, drop, sym, ap, inl, inr, ⊎_elim}
 use Rattle.block_device.specs.Device.{Blocks}
 use Rattle.block_device.specs.Moments.{leaves_then, leaves_weaker}
 use Rattle.page_file.specs.Aside.{new_aside}

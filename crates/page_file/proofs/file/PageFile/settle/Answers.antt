@@ -1,4 +1,4 @@
-use Rattle.std.proofs.Common.{◌≡◌, ◌∙◌, ◌⊎◌, ◌≤◌, sym, subst, inl, inr, ⊎_elim, refl}
+use Rattle.std.proofs.Common.{◌≡◌, ◌∙◌, ◌⊎◌, sym, subst, inl, inr, ⊎_elim}
 use Rattle.block_device.specs.Device.{Blocks, LeavesOnly}
 use Rattle.block_device.specs.Moments.{leaves_then, leaves_weaker}
 use Rattle.page_file.specs.Aside.{aside_lies}
