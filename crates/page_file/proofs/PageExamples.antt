@@ -1,12 +1,13 @@
 -- Worked examples of the pages of a file: which are live, which chains of free pages are sound, what a stop may leave,
 -- and what calls keep. No other proof rests on them. A definition that says another thing than docs/FORMAT.md is
 -- refused here.
-use Rattle.std.proofs.Common.{◌≡◌, ◌∙◌, ℕ, List, [], ◌∷◌, Option, Some, None, true, false, eqb, if◌then◌else◌, refl, sym, ap, subst, arith, inl, inr, lit<, ⊎_elim, drop, map}
+use Rattle.std.proofs.Common.{◌≡◌, ◌∙◌, ℕ, zero, suc, List, [], ◌∷◌, Option, Some, None, true, false, eqb, if◌then◌else◌, refl, sym, ap, subst, arith, inl, inr, lit<, ⊎_elim, drop, map}
 use Rattle.std.specs.List.{IsDistinct}
 use Rattle.std.proofs.lemmas.Bool.Decides.{nat_tests}
 use Rattle.block_bytes.specs.Numbers.{zeros, number_at}
 use Rattle.block_bytes.specs.Laws.{length-zeros}
 use Rattle.block_device.specs.Device.{Blocks, block_at, written}
+use Rattle.page_file.specs.Chains.{a_chain_is_distinct}
 use Rattle.page_file.specs.File.{IsHonest, IsPageMap, KeepsGate, KeepsMap, LiesIn, blocks_of, gate_of, next_of, pages}
 use Rattle.page_file.specs.Layout.{gate_block}
 use Rattle.page_file.specs.Opening.{gate_checks, header_checks, failed_check, IsRefused}
@@ -80,16 +81,23 @@ unfolding number_at
 a_page_of_another_kind_is_not_free h = absurd (omega (arith, h.2))
 
 a_sound_map : IsSoundMap blocks
-unfolding number_at IsDistinct
-a_sound_map = record { whole = two_free_pages_in_a_row; distinct = ((refl, tt), (tt, tt)) }
-
-no_cycle_is_sound : HasFreeChain (gate ∷ [] ∷ [] ∷ free 3 ∷ []) (numbers 6 3 2) → ⊥
 unfolding number_at
-no_cycle_is_sound h = absurd (omega (arith, h.whole.3.3))
+a_sound_map = two_free_pages_in_a_row
+
+-- page 3 names itself
+a_cycle_is_no_chain : (next count : ℕ) → IsChain (gate ∷ [] ∷ [] ∷ free 3 ∷ []) next count 3 → ⊥
+unfolding number_at
+a_cycle_is_no_chain next zero h = absurd (omega (arith, h))
+a_cycle_is_no_chain next (suc count) h = a_cycle_is_no_chain next count h.3
+
+no_cycle_is_sound : (next count : ℕ) → HasFreeChain (gate ∷ [] ∷ [] ∷ free 3 ∷ []) (numbers next 3 count) → ⊥
+no_cycle_is_sound next count h = a_cycle_is_no_chain next count h
 
 no_page_is_free_twice : (bs : Blocks) (h : Header) → free_pages_of bs h ≡ 3 ∷ 3 ∷ [] → HasFreeChain bs h → ⊥
 unfolding IsDistinct
-no_page_is_free_twice bs h twice f = let d = subst (IsDistinct eqb) twice f.distinct in let no = d.0.0 in absurd (cc)
+no_page_is_free_twice bs h twice f =
+    let d = subst (IsDistinct eqb) twice (a_chain_is_distinct bs h.next h.count h.first f) in
+    let no = d.0.0 in absurd (cc)
 
 abbrev page_3_alone : List ℕ → ℕ → Option (List ℕ)
 page_3_alone page n = if eqb n 3 then Some page else None

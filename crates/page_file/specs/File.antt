@@ -39,8 +39,7 @@ given file n = given_pages (blocks_of file) (next_of file) n
 abbrev pub IsLive : {D : Type 0} {m : _} → PageFile D m → ℕ → Type 0
 IsLive file n = IsSome (pages file n)
 
--- A sound page map of an honest device: the free pages are a chain within the pages given out, and none
--- is in it twice.
+-- A sound page map of an honest device: the free pages are a chain within the pages given out.
 pub record IsPageMap {D : Type 0} {m : _} (file : PageFile D m) : Type 0 where
   pub honest : IsHonest file
   pub free : HasFreeChain (m.shown file.device) file.header

@@ -8,6 +8,7 @@ pub mod File
 pub mod Reading
 pub mod Written
 pub mod Gated
+pub mod Chains
 pub mod Live
 pub mod Given
 pub mod Settled

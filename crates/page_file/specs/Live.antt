@@ -1,7 +1,7 @@
 -- The map of live pages, where a block was written, a page given out or freed.
-use Rattle.std.proofs.Common.{◌≡◌, ◌∙◌, ℕ, zero, suc, ◌<◌, ◌≤◌, ◌+◌, ◌-◌, Bool, true, false, ◌&&◌, ◌||◌, not, nat_le, nat_lt, eqb, List, [], ◌∷◌, length, Option, Some, None, refl, sym, ap, arith, ⊎_elim, subst, cond}
+use Rattle.std.proofs.Common.{◌≡◌, ◌∙◌, ℕ, zero, suc, ◌<◌, ◌≤◌, ◌+◌, ◌-◌, Bool, true, false, ◌&&◌, ◌||◌, not, nat_le, nat_lt, eqb, List, ◌∷◌, length, Option, Some, None, refl, sym, ap, arith, ⊎_elim, subst, cond}
 use Rattle.std.specs.Prelude.{IsSome}
-use Rattle.std.specs.List.{IsDistinct, AllByRecursion, list_any}
+use Rattle.std.specs.List.{IsDistinct, list_any}
 use Rattle.std.specs.Set.{is_member}
 use Rattle.std.proofs.lemmas.Bool.Decides.{nat_tests}
 use Rattle.std.proofs.lemmas.Bool.{and_parts, cases_eq, cases_lt}
@@ -9,6 +9,7 @@ use Rattle.std.proofs.lemmas.Map.Keys.{IsDistinct-cons}
 use Rattle.std.proofs.lemmas.Map.Steps.{length-le_from_distinct_below}
 use Rattle.block_device.specs.Device.{Blocks, Torn, block_at}
 use Rattle.block_device.specs.Written.{torn_other}
+use Rattle.page_file.specs.Chains.{a_chain_is_distinct, apart_all, chain_count, chain_opened, chain_same, chain_within, eq_other, eq_self, whole_same}
 use Rattle.page_file.specs.Layout.{kind_of, link_of, new_header}
 use Rattle.page_file.specs.Opening.{is_sound}
 use Rattle.page_file.specs.Pages.{chain, free_pages_of, is_live, page_of, IsChain, HasFreeChain, SameBut}
@@ -21,82 +22,6 @@ and_false_right false = refl
 not_true : (a : Bool) → not a ≡ true → a ≡ false
 not_true true e = sym e
 not_true false e = refl
-
-or_left : (a b : Bool) → a ≡ true → (a || b) ≡ true
-or_left a b e = ap (λ (t : Bool). t || b) e
-
-or_right : (a b : Bool) → b ≡ true → (a || b) ≡ true
-or_right true b e = refl
-or_right false b e = e
-
-or_false : (a b : Bool) → (a || b) ≡ false → (a ≡ false) × (b ≡ false)
-or_false true b e = absurd (cc)
-or_false false b e = (refl, e)
-
-eq_self : (n : ℕ) → eqb n n ≡ true
-eq_self n = grind (arith, nat_tests)
-
-pub eq_other : (k n : ℕ) → ¬ (k ≡ n) → eqb k n ≡ false
-eq_other k n ne = grind (arith, nat_tests)
-
-low_not : (n : ℕ) → 3 ≤ n → nat_lt n 3 ≡ false
-low_not n low = grind (arith, nat_tests)
-
-not_low : (n : ℕ) → nat_lt n 3 ≡ false → 3 ≤ n
-not_low n e = grind (arith, nat_tests)
-
--- the free pages are the same, where those blocks are
-pub chain_same : (old new : Blocks) (count first : ℕ) → ((k : ℕ) → 3 ≤ k → is_member eqb (chain old count first) k ≡ true → block_at k new ≡ block_at k old) → chain new count first ≡ chain old count first
-chain_same old new zero first same = refl
-chain_same old new (suc count) first same = case (nat_lt first 3) refl (λ within. chain_same old new count (link_of (block_at first old)) within)
-  where
-    case : (t : Bool) → nat_lt first 3 ≡ t
-        → (((k : ℕ) → 3 ≤ k → is_member eqb (chain old count (link_of (block_at first old))) k ≡ true → block_at k new ≡ block_at k old)
-        → chain new count (link_of (block_at first old)) ≡ chain old count (link_of (block_at first old)))
-        → chain new (suc count) first ≡ chain old (suc count) first
-    case true e again =
-        ap (λ (t : Bool). cond t [] (first ∷ chain new count (link_of (block_at first new)))) e
-        ∙ sym (ap (λ (t : Bool). cond t [] (first ∷ chain old count (link_of (block_at first old)))) e)
-    case false e again =
-        let rest_old = chain old count (link_of (block_at first old)) in
-        let opened : chain old (suc count) first ≡ first ∷ rest_old = ap (λ (t : Bool). cond t [] (first ∷ rest_old)) e in
-        let within : (k : ℕ) → 3 ≤ k → is_member eqb (first ∷ rest_old) k ≡ true → block_at k new ≡ block_at k old
-        = λ k low member. same k low (ap (λ (l : List ℕ). is_member eqb l k) opened ∙ member) in
-        let head : block_at first new ≡ block_at first old = within first (not_low first e) (or_left (eqb first first) _ (eq_self first)) in
-        ap (λ (t : Bool). cond t [] (first ∷ chain new count (link_of (block_at first new)))) e
-        ∙ ap (λ (b : List ℕ). first ∷ chain new count (link_of b)) head
-        ∙ ap (λ (l : List ℕ). first ∷ l) (again (λ k low member. within k low (or_right (eqb k first) _ member)))
-        ∙ sym opened
-
-pub whole_same : (old new : Blocks) (next count first : ℕ) → IsChain old next count first → ((k : ℕ) → 3 ≤ k → is_member eqb (chain old count first) k ≡ true → block_at k new ≡ block_at k old) → IsChain new next count first
-whole_same old new next zero first whole same = whole
-whole_same old new next (suc count) first whole same =
-    let rest_old = chain old count (link_of (block_at first old)) in
-    let opened : chain old (suc count) first ≡ first ∷ rest_old = ap (λ (t : Bool). cond t [] (first ∷ rest_old)) (low_not first whole.0) in
-    let within : (k : ℕ) → 3 ≤ k → is_member eqb (first ∷ rest_old) k ≡ true → block_at k new ≡ block_at k old
-    = λ k low member. same k low (ap (λ (l : List ℕ). is_member eqb l k) opened ∙ member) in
-    let head : block_at first new ≡ block_at first old = within first whole.0 (or_left (eqb first first) _ (eq_self first)) in
-    let rest : IsChain new next count (link_of (block_at first old)) = whole_same old new next count (link_of (block_at first old)) whole.3 (λ k low member. within k low (or_right (eqb k first) _ member)) in
-    (whole.0, whole.1, ap kind_of head ∙ whole.2, subst (λ (b : List ℕ). IsChain new next count (link_of b)) (sym head) rest)
-
--- each free page is one given out behind the catalog
-pub chain_within : (blocks : Blocks) (next count first : ℕ) → IsChain blocks next count first → (k : ℕ) → is_member eqb (chain blocks count first) k ≡ true → (3 ≤ k) × (k < next)
-chain_within blocks next zero first whole k member = absurd (cc)
-chain_within blocks next (suc count) first whole k member =
-    let rest = chain blocks count (link_of (block_at first blocks)) in
-    let opened : chain blocks (suc count) first ≡ first ∷ rest = ap (λ (t : Bool). cond t [] (first ∷ rest)) (low_not first whole.0) in
-    ⊎_elim
-    (λ (e : k ≡ first). (omega (arith, e, whole.0), omega (arith, e, whole.1)))
-    (λ (ne : ¬ (k ≡ first)).
-    let later : is_member eqb rest k ≡ true = sym (ap (λ (t : Bool). t || is_member eqb rest k) (eq_other k first ne)) ∙ sym (ap (λ (l : List ℕ). is_member eqb l k) opened) ∙ member in
-    chain_within blocks next count (link_of (block_at first blocks)) whole.3 k later)
-    (cases_eq k first)
-
-pub chain_count : (blocks : Blocks) (next count first : ℕ) → IsChain blocks next count first → length (chain blocks count first) ≡ count
-chain_count blocks next zero first whole = refl
-chain_count blocks next (suc count) first whole =
-    ap (λ (t : Bool). length (cond t [] (first ∷ chain blocks count (link_of (block_at first blocks))))) (low_not first whole.0)
-    ∙ ap suc (chain_count blocks next count (link_of (block_at first blocks)) whole.3)
 
 -- a page outside the free ones may be torn
 outside : (n : ℕ) (old new : Blocks) (ns : List ℕ) → Torn n old new → n ≤ length old → is_member eqb ns n ≡ false → (k : ℕ) → is_member eqb ns k ≡ true → block_at k new ≡ block_at k old
@@ -153,10 +78,7 @@ pages_same old new h same n =
     case true r e = ap (λ (b : List ℕ). cond r (Some b) None) (same n (let low : 2 ≤ n = grind (arith, nat_tests) in low))
 
 pub free_same : (old new : Blocks) (h : Header) → ((k : ℕ) → 2 ≤ k → block_at k new ≡ block_at k old) → HasFreeChain old h → HasFreeChain new h
-free_same old new h same f = record {
-  whole = whole_same old new h.next h.count h.first f.whole (λ k low member. same k (omega (arith, low)));
-  distinct = subst (λ (l : List ℕ). IsDistinct eqb l) (sym (chain_same old new h.count h.first (λ k low member. same k (omega (arith, low))))) f.distinct;
-}
+free_same old new h same f = whole_same old new h.next h.count h.first f (λ k low member. same k (omega (arith, low)))
 
 -- a page that is not free is torn
 module _ (n : ℕ) (old new : Blocks) (h : Header) (torn : Torn n old new) (le : n ≤ length old) (apart : is_member eqb (free_pages_of old h) n ≡ false) where
@@ -169,10 +91,8 @@ module _ (n : ℕ) (old new : Blocks) (h : Header) (torn : Torn n old new) (le :
       ∙ ap (λ (b : List ℕ). cond (is_live old h k) (Some b) None) (torn_other n k old new torn le ne)
 
   pub free_torn : HasFreeChain old h → HasFreeChain new h
-  free_torn f = record {
-    whole = whole_same old new h.next h.count h.first f.whole (λ k low member. outside n old new (free_pages_of old h) torn le apart k member);
-    distinct = subst (λ (l : List ℕ). IsDistinct eqb l) (sym chain_torn) f.distinct;
-  }
+  free_torn f =
+      whole_same old new h.next h.count h.first f (λ k low. outside n old new (free_pages_of old h) torn le apart k)
 
   pub torn_lives : 2 ≤ n → n < h.next → Lives new h n
   torn_lives low below = record { low = low; below = below; not_free = ap (λ (l : List ℕ). is_member eqb l n) chain_torn ∙ apart }
@@ -193,7 +113,7 @@ module _ (old new : Blocks) (h : Header) (start : 3 ≤ h.next) (room : h.next �
     where
       case : (t : Bool) → is_member eqb (free_pages_of old h) h.next ≡ t → t ≡ false
       case false e = refl
-      case true e = absurd (omega (arith, (chain_within old h.next h.count h.first free.whole h.next e).1))
+      case true e = absurd (omega (arith, (chain_within old h.next h.count h.first free h.next e).1))
 
   same_chain : chain new h.count h.first ≡ chain old h.count h.first
   same_chain = chain_torn h.next old new h torn room not_free
@@ -223,12 +143,7 @@ module _ (old new : Blocks) (h : Header) (start : 3 ≤ h.next) (room : h.next �
   wider (suc count) first whole = (whole.0, omega (arith, whole.1), whole.2, wider count (link_of (block_at first new)) whole.3)
 
   pub fresh_free : HasFreeChain new one_page_more
-  fresh_free = record { whole = wider h.count h.first refused_free.whole; distinct = refused_free.distinct }
-
--- numbers in a list without n are not n
-apart_all : (n : ℕ) (ns : List ℕ) → is_member eqb ns n ≡ false → AllByRecursion (λ (y : ℕ). eqb n y ≡ false) ns
-apart_all n [] e = tt
-apart_all n (m ∷ ns) e = let p = or_false (eqb n m) (is_member eqb ns n) e in (p.0, apart_all n ns p.1)
+  fresh_free = wider h.count h.first refused_free
 
 -- a page is freed: it is linked in front
 module _ (n : ℕ) (old new : Blocks) (h : Header) (torn : Torn n old new) (le : n ≤ length old) (apart : is_member eqb (free_pages_of old h) n ≡ false) (low : 3 ≤ n) (linked : link_of (block_at n new) ≡ h.first) where
@@ -237,7 +152,7 @@ module _ (n : ℕ) (old new : Blocks) (h : Header) (torn : Torn n old new) (le :
 
   freed_chain : chain new (h.count + 1) n ≡ n ∷ chain old h.count h.first
   freed_chain = ap (λ (c : ℕ). chain new c n) (let e : h.count + 1 ≡ suc h.count = omega arith in e)
-      ∙ ap (λ (t : Bool). cond t [] (n ∷ chain new h.count (link_of (block_at n new)))) (low_not n low)
+      ∙ chain_opened new h.count n low
       ∙ ap (λ (m : ℕ). n ∷ chain new h.count m) linked
       ∙ ap (λ (l : List ℕ). n ∷ l) (chain_torn n old new h torn le apart)
 
@@ -255,12 +170,9 @@ module _ (n : ℕ) (old new : Blocks) (h : Header) (torn : Torn n old new) (le :
 
   pub freed_free : n < h.next → kind_of (block_at n new) ≡ 5 → HasFreeChain old h → HasFreeChain new one_more_free
   freed_free below kind f =
-      let rest : IsChain new h.next h.count h.first = (free_torn n old new h torn le apart f).whole in
+      let rest : IsChain new h.next h.count h.first = free_torn n old new h torn le apart f in
       let all : IsChain new h.next (suc h.count) n = (low, below, kind, subst (λ (m : ℕ). IsChain new h.next h.count m) (sym linked) rest) in
-      record {
-        whole = subst (λ (c : ℕ). IsChain new h.next c n) (let e : suc h.count ≡ h.count + 1 = omega arith in e) all;
-        distinct = subst (λ (l : List ℕ). IsDistinct eqb l) (sym freed_chain) (IsDistinct-cons eqb n (chain old h.count h.first) (apart_all n (chain old h.count h.first) apart) f.distinct);
-      }
+      subst (λ (c : ℕ). IsChain new h.next c n) (let e : suc h.count ≡ h.count + 1 = omega arith in e) all
 
 -- there is room for one more free page, as long as a page behind the catalog is live
 pub room_for_one : (blocks : Blocks) (h : Header) (n : ℕ) → HasFreeChain blocks h → 3 ≤ n → Lives blocks h n → h.count < h.next - 3
@@ -269,17 +181,18 @@ room_for_one blocks h n f low l =
     let below3 : (m : ℕ) → m < 3 → is_member eqb (n ∷ ns) m ≡ false
     = λ m small. no_member m small (is_member eqb (n ∷ ns) m) refl in
     let all : List ℕ = 0 ∷ (1 ∷ (2 ∷ (n ∷ ns))) in
-    let one_more : IsDistinct eqb (n ∷ ns) = IsDistinct-cons eqb n ns (apart_all n ns l.not_free) f.distinct in
+    let free_once : IsDistinct eqb ns = a_chain_is_distinct blocks h.next h.count h.first f in
+    let one_more : IsDistinct eqb (n ∷ ns) = IsDistinct-cons eqb n ns (apart_all n ns l.not_free) free_once in
     let with_2 : IsDistinct eqb (2 ∷ (n ∷ ns)) = IsDistinct-cons eqb 2 (n ∷ ns) (apart_all 2 (n ∷ ns) (below3 2 (omega arith))) one_more in
     let with_1 : IsDistinct eqb (1 ∷ (2 ∷ (n ∷ ns))) = IsDistinct-cons eqb 1 (2 ∷ (n ∷ ns)) (refl, apart_all 1 (n ∷ ns) (below3 1 (omega arith))) with_2 in
     let d : IsDistinct eqb all = IsDistinct-cons eqb 0 (1 ∷ (2 ∷ (n ∷ ns))) (refl, (refl, apart_all 0 (n ∷ ns) (below3 0 (omega arith)))) with_1 in
     let fits : length all ≤ h.next = length-le_from_distinct_below all h.next d (λ q member. within q member) in
-    omega (arith, fits, chain_count blocks h.next h.count h.first f.whole, l.below, low)
+    omega (arith, fits, chain_count blocks h.next h.count h.first f, l.below, low)
   where
     member_case : (q : ℕ) → is_member eqb (n ∷ free_pages_of blocks h) q ≡ true → (3 ≤ q) × (q < h.next)
     member_case q member = ⊎_elim
         (λ (e : q ≡ n). (omega (arith, e, low), omega (arith, e, l.below)))
-        (λ (ne : ¬ (q ≡ n)). chain_within blocks h.next h.count h.first f.whole q (sym (ap (λ (t : Bool). t || is_member eqb (free_pages_of blocks h) q) (eq_other q n ne)) ∙ member))
+        (λ (ne : ¬ (q ≡ n)). chain_within blocks h.next h.count h.first f q (sym (ap (λ (t : Bool). t || is_member eqb (free_pages_of blocks h) q) (eq_other q n ne)) ∙ member))
         (cases_eq q n)
 
     no_member : (m : ℕ) → m < 3 → (t : Bool) → is_member eqb (n ∷ free_pages_of blocks h) m ≡ t → t ≡ false
@@ -301,13 +214,9 @@ room_for_one blocks h n f low l =
         (member_case q rest).1)
         (cases_lt q 3)
 
-none_distinct : IsDistinct eqb []
-unfolding IsDistinct
-none_distinct = tt
-
 -- of no free pages
 pub new_free : (blocks : Blocks) → HasFreeChain blocks new_header
-new_free blocks = record { whole = refl; distinct = none_distinct }
+new_free blocks = refl
 
 -- the catalog is not free
 pub catalog_lives : (blocks : Blocks) (h : Header) → is_sound h ≡ true → HasFreeChain blocks h → IsSome (page_of blocks h 2)
@@ -315,4 +224,4 @@ catalog_lives blocks h sound f = lives_some blocks h 2 (record { low = omega ari
   where
     not_in : (t : Bool) → is_member eqb (free_pages_of blocks h) 2 ≡ t → t ≡ false
     not_in false e = refl
-    not_in true e = absurd (omega (arith, (chain_within blocks h.next h.count h.first f.whole 2 e).0))
+    not_in true e = absurd (omega (arith, (chain_within blocks h.next h.count h.first f 2 e).0))

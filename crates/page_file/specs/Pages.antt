@@ -1,6 +1,5 @@
 -- The map of live pages that blocks and a header stand for (our rule, docs/FORMAT.md, "Pages").
 use Rattle.std.specs.Prelude.{◌≡◌, ◌≤◌, ◌<◌, ℕ, zero, suc, List, [], ◌∷◌, Option, Some, None, Bool, ◌&&◌, not, nat_le, nat_lt, eqb, if◌then◌else◌}
-use Rattle.std.specs.List.{IsDistinct}
 use Rattle.std.specs.Set.{is_member}
 use Rattle.block_device.specs.Device.{Blocks, block_at}
 use Rattle.page_file.specs.Layout.{kind_of, link_of}
@@ -35,10 +34,9 @@ IsChain blocks next zero n = n ≡ 0
 IsChain blocks next (suc count) n =
     (3 ≤ n) × (n < next) × (kind_of (block_at n blocks) ≡ 5) × IsChain blocks next count (link_of (block_at n blocks))
 
--- the free pages are such a chain, and none is in it twice
-pub record HasFreeChain (blocks : Blocks) (h : Header) : Type 0 where
-  pub whole : IsChain blocks h.next h.count h.first
-  pub distinct : IsDistinct eqb (free_pages_of blocks h)
+-- the free pages are such a chain; no page is in it twice, since each names one next page
+abbrev pub HasFreeChain : Blocks → Header → Type 0
+HasFreeChain blocks h = IsChain blocks h.next h.count h.first
 
 -- what the blocks of a settled file stand for
 abbrev pub header_in : Blocks → Header

@@ -1,7 +1,6 @@
 use Rattle.std.proofs.Common.{sym, subst, refl, arith}
 use Rattle.page_file.specs.Layout.{IsShutGate}
 use Rattle.page_file.specs.Kept.{shut_lies}
-use Rattle.page_file.specs.Live.{new_free}
 use Rattle.page_file.specs.Reading.{shut_gate}
 use Rattle.page_file.proofs.file.open.create_pages.Goals as goal
 
@@ -16,7 +15,7 @@ invariant_of-result g c = let was = c.create.ensures.honest.1 in record {
 }
 
 pub returns-in-Ok-clause-sound : goal.returns-in-Ok-clause-sound
-returns-in-Ok-clause-sound g c = λ h. record { honest = c.create.ensures.honest.0 h; free = new_free _ }
+returns-in-Ok-clause-sound g c = λ h. record { honest = c.create.ensures.honest.0 h; free = refl }
 
 pub returns-in-Ok-clause-lies : goal.returns-in-Ok-clause-lies
 returns-in-Ok-clause-lies g c = λ h. shut_lies _ (c.create.ensures.honest.0 h) refl
