@@ -2,6 +2,7 @@
 use Rattle.std.proofs.Common.{◌≡◌, ℕ, List, [], ◌∷◌, Option, Result, Ok, Err, refl, sym, subst}
 use Rattle.plain_table.specs.Commands.{Command}
 use Rattle.plain_table.specs.Lawful.{Standing, LawfulStep, Takes}
+use Rattle.plain_table.specs.Laws.{a_bad_line_is_lawful}
 use Rattle.plain_table.specs.Lawful.Request.{BadCommand, Asks}
 use Rattle.plain_table.specs.Step.{Answer}
 use Rattle.plain_table.specs.Step.Answer.{Refused}
@@ -23,7 +24,7 @@ replied m c a b h e t = takes_on t (λ s s' k. record { requests = Asks c ∷ []
 
 -- a bad line was answered, and asked nothing of the store
 pub replied_bad : {S : Type 0} {Stands : S → Standing → Type 0} {old : S} (m : Meaning) → m ≡ Bad → Takes Stands old old (λ s s'. Replies m s s' (Refused refusal.BadLine ∷ []))
-replied_bad m e = takes_none _ (λ s. record { requests = BadCommand ∷ []; asked = subst (λ x. AsksAlone x (BadCommand ∷ [])) (sym e) refl; lawful = (s, (refl, refl), refl) })
+replied_bad m e = takes_none _ (λ s. record { requests = BadCommand ∷ []; asked = subst (λ x. AsksAlone x (BadCommand ∷ [])) (sym e) refl; lawful = (s, a_bad_line_is_lawful s, refl) })
 
 -- a blank line asked nothing
 pub replied_blank : {S : Type 0} {Stands : S → Standing → Type 0} {old : S} (m : Meaning) → m ≡ Blank → Takes Stands old old (λ s s'. Replies m s s' [])

@@ -4,6 +4,7 @@ use Rattle.std.proofs.Common.{◌≡◌, ℕ, List, [], ◌∷◌, ◌++◌, tru
 use Rattle.std.specs.Fmt.{digits}
 use Rattle.std.specs.FinMap.{empty}
 use Rattle.plain_table.specs.Lawful.{Standing, Request, Session}
+use Rattle.plain_table.specs.Laws.{a_bad_line_is_lawful}
 use Rattle.plain_table.specs.Lawful.Request.{BadCommand}
 use Rattle.plain_table.specs.Lawful.State.{Alive}
 use Rattle.plain_table.specs.Step.{Answer}
@@ -44,7 +45,7 @@ a_run_on_two_bad_lines = record {
   answers = Refused refusal.BadLine ∷ Refused refusal.BadLine ∷ [];
   reads = record { stops = (refl, refl); read = record { more = codes "x\n# y\nz"; read = refl; so = refl } };
   asked = one (BadCommand ∷ []) refl (one [] refl (one (BadCommand ∷ []) refl none));
-  lawful = (fresh, (refl, refl), (fresh, (refl, refl), refl));
+  lawful = (fresh, a_bad_line_is_lawful fresh, (fresh, a_bad_line_is_lawful fresh, refl));
   written = refl;
 }
 
@@ -60,7 +61,7 @@ a_run_that_a_read_ended = (
     answers = Refused refusal.BadLine ∷ [];
     reads = record { stops = ends (codes "x"); read = record { more = codes "x\ny"; read = refl; so = refl } };
     asked = one (BadCommand ∷ []) refl none;
-    lawful = (fresh, (refl, refl), refl);
+    lawful = (fresh, a_bad_line_is_lawful fresh, refl);
     written = refl;
   },
 )
@@ -77,7 +78,7 @@ a_run_that_a_write_ended = (
     answers = Refused refusal.BadLine ∷ [];
     reads = record { stops = ends (codes "x"); read = record { more = codes "x\n"; read = refl; so = refl } };
     asked = one (BadCommand ∷ []) refl none;
-    lawful = (fresh, (refl, refl), refl);
+    lawful = (fresh, a_bad_line_is_lawful fresh, refl);
     written = record { before = []; last = Refused refusal.BadLine; are = refl; shown = 4; is_part = omega arith; written = refl };
   },
 )
@@ -104,7 +105,7 @@ a_run_on_no_text_does_nothing s s' left written run =
 -- a bad line has one answer, and changes nothing
 one_bad_line : (s s' : Standing) (answers : List Answer) → Session s (BadCommand ∷ []) answers s' → answers ≡ Refused refusal.BadLine ∷ []
 one_bad_line s s' [] h = absurd h
-one_bad_line s s' (a ∷ []) h = ap (λ x. x ∷ []) h.1.0
+one_bad_line s s' (a ∷ []) h = ap (λ x. x ∷ []) h.1.answer.0
 one_bad_line s s' (a ∷ b ∷ as') h = absurd h.2
 
 -- a last line without its newline is answered

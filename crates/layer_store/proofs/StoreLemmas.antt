@@ -1,7 +1,7 @@
 -- The steps of a store: alive, failed, and failing.
-use Rattle.std.proofs.Common.{◌≡◌, ◌∙◌, ◌≤◌, ◌+◌, ◌-◌, ◌^◌, ◌⊎◌, ℕ, Bool, true, false, cond, refl, sym, ap, subst, arith, inl, inr, ⊎_elim}
+use Rattle.std.proofs.Common.{◌≡◌, ◌∙◌, ◌≤◌, ◌<◌, ◌+◌, ◌-◌, ◌^◌, ◌⊎◌, ℕ, Bool, true, false, cond, refl, sym, ap, subst, arith, inl, inr, ⊎_elim}
 use Rattle.std.specs.Prelude.{Result, Ok, Err}
-use Rattle.std.proofs.Math.Nat.{min-eq_left, min-eq_right}
+use Rattle.std.proofs.Math.Nat.{le-min, min-eq_left, min-eq_right}
 use Rattle.std.proofs.lemmas.Bool.{cases_lt}
 use Rattle.block_device.specs.Device.{HasRisen, one_more}
 use Rattle.page_file.specs.Fault.{IsOfDevice, faults_after, number_of}
@@ -92,6 +92,19 @@ cause_in_memory before now (Err r) answer t u c refusing answered same = record 
   refused = same ∙ sym (blameless r before (a_table_in_memory_blames_no_device t u c r (subst (λ (a : Answer). AnsweredInMemory t c a u) (refusing r) answered)));
 }
 
+-- the count does not fall
+grown : (f : Fault) (before : ℕ) → before < 2 ^ 64 → before ≤ faults_after f before
+grown fault.Memory before fits = omega arith
+grown fault.Device before fits = le-min (omega arith) (omega (arith, fits))
+grown (fault.Damaged page) before fits = omega arith
+grown fault.NotClosed before fits = omega arith
+grown fault.NotAStore before fits = omega arith
+grown fault.WrongVersion before fits = omega arith
+grown fault.NoPages before fits = omega arith
+
+pub no_fewer : (f : Fault) (before now : ℕ) → before < 2 ^ 64 → now ≡ faults_after f before → before ≤ now
+no_fewer f before now fits e = let more = grown f before fits in omega (arith, more, e)
+
 -- the device rose where it was the cause
 pub risen_of : (before now : ℕ) (f : Fault) → now ≡ faults_after f before → f ≡ fault.Device → HasRisen before now
 risen_of before now f e is = one_more_risen before now (e ∙ ap (λ (x : Fault). faults_after x before) is)
@@ -141,21 +154,27 @@ module _ {D A : Type 0} {m : _} where
     so = ap (λ (b : Bool). cond b Dead (Alive store.kept.table)) failed;
   }
 
+  -- neither the count of faults nor that of page numbers fell
+  abbrev NoFewer : Store D A m → Store D A m → Type 0
+  NoFewer old new = (m.faults (device_of old.kept.file) ≤ m.faults (device_of new.kept.file)) × (next_of old.kept.file ≤ next_of new.kept.file)
+
   -- a command of a live store
-  pub takes_step : (old new : Store D A m) (c : Command) (a : Answer) → old.failed ≡ false → new.failed ≡ false → (IsSound old.kept → IsSound new.kept)
+  pub takes_step : (old new : Store D A m) (c : Command) (a : Answer) → old.failed ≡ false → new.failed ≡ false → (IsSound old.kept → IsSound new.kept) → (IsSound old.kept → NoFewer old new)
       → (IsSound old.kept → LawfulFrom (HasRisen (m.faults (device_of old.kept.file)) (m.faults (device_of new.kept.file))) (IsSpent (next_of new.kept.file)) old.kept.table c a (Alive new.kept.table))
       → Takes Stands old new (λ s s'. LawfulStep s (Asks c) a s')
   unfolding Stands
-  takes_step old new c a o n sound lawful = λ s stands. record {
+  takes_step old new c a o n sound more lawful = λ s stands. record {
     next = standing_of new;
     stands = (refl, sound stands.1);
-    so = subst (λ (z : Standing). LawfulStep z (Asks c) a (standing_of new)) (sym stands.0) (alive_step _ _ old.failed new.failed old.kept.table new.kept.table c a o n (lawful stands.1));
+    so = subst (λ (z : Standing). LawfulStep z (Asks c) a (standing_of new)) (sym stands.0) (record { answer = alive_step _ _ old.failed new.failed old.kept.table new.kept.table c a o n (lawful stands.1); faults = (more stands.1).0; next = (more stands.1).1 });
   }
 
   -- one answered from the table in memory
   pub takes_in_memory : (old new : Store D A m) (c : Command) (a : Answer) → old.failed ≡ false → new.failed ≡ false → AnsweredInMemory old.kept.table c a new.kept.table → new.kept.file ≡ old.kept.file
       → (new.kept.written ≡ true → (old.kept.written ≡ true) × (new.kept.table ≡ old.kept.table)) → Takes Stands old new (λ s s'. LawfulStep s (Asks c) a s')
-  takes_in_memory old new c a o n answered file written = takes_step old new c a o n (sound_after old.kept new.kept file written) (λ sound. memory_is_lawful _ _ old.kept.table new.kept.table c a answered)
+  takes_in_memory old new c a o n answered file written = takes_step old new c a o n (sound_after old.kept new.kept file written)
+      (λ sound. (let same = ap (λ (f : PageFile D m). m.faults (device_of f)) file in omega (arith, same), let same = ap (λ (f : PageFile D m). next_of f) file in omega (arith, same)))
+      (λ sound. memory_is_lawful _ _ old.kept.table new.kept.table c a answered)
 
   -- a command of a store that failed
   pub takes_nothing : (store : Store D A m) (c : Command) → store.failed ≡ true → Takes Stands store store (λ s s'. LawfulStep s (Asks c) (Refused (refusal.StoreFailed 19)) s')
@@ -163,18 +182,18 @@ module _ {D A : Type 0} {m : _} where
   takes_nothing store c failed = λ s stands. record {
     next = standing_of store;
     stands = (refl, stands.1);
-    so = subst (λ (z : Standing). LawfulStep z (Asks c) (Refused (refusal.StoreFailed 19)) (standing_of store)) (sym stands.0) (dead_step _ _ store.failed store.kept.table c failed);
+    so = subst (λ (z : Standing). LawfulStep z (Asks c) (Refused (refusal.StoreFailed 19)) (standing_of store)) (sym stands.0) (record { answer = dead_step _ _ store.failed store.kept.table c failed; faults = omega arith; next = omega arith });
   }
 
   -- the last command of a live store
-  pub takes_last : (old new : Store D A m) (c : Command) (a : Answer) → old.failed ≡ false → new.failed ≡ true → (IsSound old.kept → IsSound new.kept)
+  pub takes_last : (old new : Store D A m) (c : Command) (a : Answer) → old.failed ≡ false → new.failed ≡ true → (IsSound old.kept → IsSound new.kept) → (IsSound old.kept → NoFewer old new)
       → (IsSound old.kept → LawfulFrom (HasRisen (m.faults (device_of old.kept.file)) (m.faults (device_of new.kept.file))) (IsSpent (next_of new.kept.file)) old.kept.table c a Dead)
       → Takes Stands old new (λ s s'. LawfulStep s (Asks c) a s')
   unfolding Stands
-  takes_last old new c a o n sound lawful = λ s stands. record {
+  takes_last old new c a o n sound more lawful = λ s stands. record {
     next = standing_of new;
     stands = (refl, sound stands.1);
-    so = subst (λ (z : Standing). LawfulStep z (Asks c) a (standing_of new)) (sym stands.0) (last_step _ _ old.failed new.failed old.kept.table new.kept.table c a o n (lawful stands.1));
+    so = subst (λ (z : Standing). LawfulStep z (Asks c) a (standing_of new)) (sym stands.0) (record { answer = last_step _ _ old.failed new.failed old.kept.table new.kept.table c a o n (lawful stands.1); faults = (more stands.1).0; next = (more stands.1).1 });
   }
 
   -- what a live store that stands for a table is

@@ -6,8 +6,9 @@ use Rattle.block_device.specs.Device.{Blocks}
 use Rattle.box_math.specs.Bounds.{Bounds}
 use Rattle.catalog_page.specs.Layout.{Record, records_at}
 use Rattle.object_chain.specs.Chain.{PageMap, HoldsObjects, BreaksAt}
-use Rattle.page_file.specs.Opening.{failed_check}
+use Rattle.page_file.specs.Opening.{IsRefused, failed_check}
 use Rattle.page_file.specs.Pages.{IsSoundMap, given_pages, next_in}
+use Rattle.page_file.specs.Stops.{GateAside}
 use Rattle.page_file.specs.declared.fault.Fault.{Fault}
 use Rattle.page_file.specs.declared.fault.Fault.TheVariants.{Damaged}
 use Rattle.plain_table.specs.Table.{Table, Layer}
@@ -39,12 +40,27 @@ pub record Holds (pages : PageMap) (next : ℕ) (t : Table) : Type 0 where
   pub good : IsTrue (is_good_catalog next records)
   pub layers : HoldsLayers pages records (entries t)
 
+-- the pages given out of a settled file's blocks hold the table
+abbrev pub HoldsIn : Blocks → Table → Type 0
+HoldsIn blocks t = Holds (given_pages blocks (next_in blocks)) (next_in blocks) t
+
 -- Blocks are an image of the table: their gate is shut, gate and header pass the checks of opening, the free pages are a
 -- chain, and the pages given out hold the table. Pages in no chain are allowed.
 pub record IsImage (blocks : Blocks) (t : Table) : Type 0 where
   pub passes : failed_check blocks ≡ None
   pub free : IsSoundMap blocks
-  pub holds : Holds (given_pages blocks (next_in blocks)) (next_in blocks) t
+  pub holds : HoldsIn blocks t
+
+-- ---- what a stop may leave
+
+-- of a closing of table t: what one before it might have left but for the gate, blocks that opening refuses, or an image
+-- of the table
+abbrev pub LeftByClosing : (Blocks → Type 0) → Table → Blocks → Type 0
+LeftByClosing before t c = GateAside before c ⊎ (IsRefused c ⊎ IsImage c t)
+
+-- of one that began with an image of table u: blocks that opening refuses, or an image of u or t
+abbrev pub LeftFromImage : Table → Table → Blocks → Type 0
+LeftFromImage u t c = IsRefused c ⊎ (IsImage c u ⊎ IsImage c t)
 
 -- ---- what is no image
 

@@ -8,10 +8,10 @@ ghost use Rattle.block_device.specs.Device.{LeavesOnly, Only};
 ghost use Rattle.page_file.specs.Fault.{HasCause, IsOfDevice, faults_after};
 ghost use Rattle.page_file.specs.File.{blocks_of, device_of, gate_of, next_of, IsHonest, IsPageMap, KeepsGate, LiesIn};
 ghost use Rattle.page_file.specs.Opening.{IsRefused};
-ghost use Rattle.plain_table.specs.Table.{Table};
+ghost use Rattle.page_file.specs.Stops.{GateAside};
 ghost use Rattle.page_file.specs.declared.fault.Fault.TheVariants as fault;
 ghost use Rattle.page_file.specs.declared.gate.Gate.TheVariants.{Shut};
-ghost use Rattle.layer_store.specs.Image.{IsImage};
+ghost use Rattle.layer_store.specs.Image.{IsImage, LeftByClosing};
 ghost use Rattle.layer_store.specs.Keeping.{HoldsItsTable, IsSound};
 
 use crate::image::{read_table, write_table};
@@ -29,7 +29,7 @@ pub struct Kept<D: BlockDevice, A: Allocator> {
     pub file: PageFile<D>,
     /// The table.
     pub table: ListTable<A>,
-    /// Whether the pages of the file hold the table.
+    /// True only where the pages of the file hold the table.
     pub written: bool,
 }
 
@@ -60,9 +60,9 @@ impl<D: BlockDevice, A: Allocator + Copy> Kept<D, A> {
 
     // Writes the table into the pages, if they do not hold it.
     fn write(&mut self) -> Result<(), Fault>
-        // A stop leaves blocks that opening refuses, or an image of the table that was closed before.
-        ensures stops { (t : Table) → IsSound self.old → IsImage (blocks_of self.old.file) t →
-            LeavesOnly D.moment D.left_since (device_of self.old.file) (device_of self.new.file) (λ c. IsRefused c ⊎ IsImage c t) }
+        // A stop leaves what one before the call might have left but for the gate, or blocks that opening refuses.
+        ensures stops { IsHonest self.old.file → LeavesOnly D.moment D.left_since (device_of self.old.file) (device_of self.new.file)
+            (λ c. GateAside (D.may_leave (device_of self.old.file)) c ⊎ IsRefused c) }
 
         ensures written { OnOk result (self.new.written ≡ true) }
         ensures honest { IsHonest self.old.file ↔ IsHonest self.new.file }
@@ -88,9 +88,10 @@ impl<D: BlockDevice, A: Allocator + Copy> Kept<D, A> {
     /// On an honest device with a sound map it is refused by `Memory` or `Device`, or by `NoPages` where all page
     /// numbers were given out. The table in memory stays, and the map stays sound.
     pub fn settle(&mut self) -> Result<(), Fault>
-        // A stop leaves blocks that opening refuses, or an image of the table that was closed before, or of this one.
-        ensures stops { (t : Table) → IsSound self.old → IsImage (blocks_of self.old.file) t →
-            LeavesOnly D.moment D.left_since (device_of self.old.file) (device_of self.new.file) (λ c. IsRefused c ⊎ (IsImage c t ⊎ IsImage c self.old.table)) }
+        // A stop leaves what one before the call might have left but for the gate, blocks that opening refuses, or an
+        // image of the table.
+        ensures stops { IsSound self.old → LeavesOnly D.moment D.left_since (device_of self.old.file) (device_of self.new.file)
+            (LeftByClosing (D.may_leave (device_of self.old.file)) self.old.table) }
 
         ensures shut { OnOk result (gate_of self.new.file ≡ Shut) }
         ensures written { OnOk result (self.new.written ≡ true) }
@@ -136,12 +137,12 @@ impl<D: BlockDevice, A: Allocator + Copy> Kept<D, A> {
     pub fn close(self) -> Result<D, (Fault, D)>
         ensures closed { IsSound self → IfOk result (λ device. IsImage (D.shown device) self.table) }
 
-        // A stop leaves blocks that opening refuses, or an image of the table that was closed before, or of this one; and
-        // after a closing that is finished nothing but what is read.
-        ensures stops { (t : Table) → IsSound self → IsImage (blocks_of self.file) t → IfOk result (λ device.
-            LeavesOnly D.moment D.left_since (device_of self.file) device (λ c. IsRefused c ⊎ (IsImage c t ⊎ IsImage c self.table))) }
-        ensures refused_stops { (t : Table) → IsSound self → IsImage (blocks_of self.file) t → IfErr result (λ e.
-            LeavesOnly D.moment D.left_since (device_of self.file) e.1 (λ c. IsRefused c ⊎ (IsImage c t ⊎ IsImage c self.table))) }
+        // A stop leaves what one before the call might have left but for the gate, blocks that opening refuses, or an
+        // image of the table; and after a closing that is finished nothing but what is read.
+        ensures stops { IsSound self → IfOk result (λ device.
+            LeavesOnly D.moment D.left_since (device_of self.file) device (LeftByClosing (D.may_leave (device_of self.file)) self.table)) }
+        ensures refused_stops { IsSound self → IfErr result (λ e.
+            LeavesOnly D.moment D.left_since (device_of self.file) e.1 (LeftByClosing (D.may_leave (device_of self.file)) self.table)) }
         ensures durable { IsPageMap self.file → IfOk result (λ device. Only (D.shown device) (D.may_leave device)) }
 
         ensures faults { IsPageMap self.file → IfErr result (λ e. IsOfDevice e.0 ⊎ ((e.0 ≡ fault.NoPages) × (2 ^ 31 ≤ length (D.shown e.1)))) }

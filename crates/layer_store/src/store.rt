@@ -2,7 +2,6 @@
 
 ghost use Rattle.std.specs.Prelude.{◌≡◌, ◌⊎◌, ◌≤◌, ◌^◌, length, Err, IsOk, IfOk, IfErr};
 ghost use Rattle.block_device.specs.Device.{LeavesOnly, Only};
-ghost use Rattle.page_file.specs.Opening.{IsRefused};
 ghost use Rattle.plain_table.specs.Answers.{done_answer, boxes_answer};
 ghost use Rattle.plain_table.specs.Commands.Command.{Create, Insert, Window, Reopen};
 ghost use Rattle.plain_table.specs.Lawful.{Takes, LawfulStep};
@@ -10,7 +9,7 @@ ghost use Rattle.plain_table.specs.Lawful.Request.{Asks};
 ghost use Rattle.plain_table.specs.Table.{Table};
 ghost use Rattle.plain_table.specs.declared.refusal.Refusal.TheVariants as refusal;
 ghost use Rattle.layer_store.specs.Faults.{GivesUp, HasCause, faults_after};
-ghost use Rattle.layer_store.specs.Image.{IsImage};
+ghost use Rattle.layer_store.specs.Image.{IsImage, LeftByClosing, LeftFromImage};
 
 mod start;
 
@@ -29,8 +28,8 @@ const FAILED: Refusal = Refusal::StoreFailed(19);
 /// was; or, half way through, it answers `StoreFailed` with the number of the fault, and the store answers
 /// `StoreFailed(19)` from then on.
 ///
-/// It answers from a table in memory. Only a closing writes: [`Store::reopen`] and [`Store::close`], where the table
-/// has changed since the last one.
+/// It answers from a table in memory. Only a closing makes calls of the device: [`Store::reopen`] and [`Store::close`],
+/// which write where the table has changed since the last one.
 #[derive(Drop)]
 pub struct Store<D: BlockDevice, A: Allocator = Global> {
     kept: Kept<D, A>,
@@ -46,6 +45,7 @@ impl<D: BlockDevice, A: Allocator + Copy> Store<D, A> {
     pub fn create(&mut self, layer: &[u8], dims: u64, fanout: u64) -> Result<(), Refusal>
         ensures step { Takes Stands self.old self.new
             (λ s s'. LawfulStep s (Asks (Create layer.now dims fanout)) (done_answer result) s') }
+        ensures device { device_in self.new ≡ device_in self.old }
         ensures cause { HasCause (D.faults (device_in self.old)) (D.faults (device_in self.new)) result }
     {
         if self.failed {
@@ -60,6 +60,7 @@ impl<D: BlockDevice, A: Allocator + Copy> Store<D, A> {
     pub fn insert(&mut self, layer: &[u8], id: u64, bounds: RawBox) -> Result<(), Refusal>
         ensures step { Takes Stands self.old self.new
             (λ s s'. LawfulStep s (Asks (Insert layer.now id bounds)) (done_answer result) s') }
+        ensures device { device_in self.new ≡ device_in self.old }
         ensures cause { HasCause (D.faults (device_in self.old)) (D.faults (device_in self.new)) result }
     {
         if self.failed {
@@ -74,6 +75,7 @@ impl<D: BlockDevice, A: Allocator + Copy> Store<D, A> {
     pub fn window(&mut self, layer: &[u8], bounds: RawBox) -> Result<Vec<(u64, AnyBox), A>, Refusal>
         ensures step { Takes Stands self.old self.new
             (λ s s'. LawfulStep s (Asks (Window layer.now bounds)) (boxes_answer result) s') }
+        ensures device { device_in self.new ≡ device_in self.old }
         ensures cause { HasCause (D.faults (device_in self.old)) (D.faults (device_in self.new)) result }
     {
         if self.failed {
@@ -91,10 +93,13 @@ impl<D: BlockDevice, A: Allocator + Copy> Store<D, A> {
         ensures step { Takes Stands self.old self.new (λ s s'. LawfulStep s (Asks Reopen) (done_answer result) s') }
         ensures closed { (t : Table) → StandsFor self.old t → IsOk result ⊎ HasFailed self.new → IsImage (blocks_in self.new) t }
 
-        // A stop leaves blocks that opening refuses, or an image of the table that was closed before, or of this one; and
-        // after a closing that is finished nothing but what is read.
-        ensures stops { (t u : Table) → StandsFor self.old t → IsImage (blocks_in self.old) u →
-            LeavesOnly D.moment D.left_since (device_in self.old) (device_in self.new) (λ c. IsRefused c ⊎ (IsImage c u ⊎ IsImage c t)) }
+        // A stop leaves what one before the call might have left but for the gate, blocks that opening refuses, or an
+        // image of the table. Where the blocks were an image, that is such blocks, or an image of the table that was
+        // closed before or of this one. After a closing that is finished it leaves nothing but what is read.
+        ensures stops { (t : Table) → StandsFor self.old t →
+            LeavesOnly D.moment D.left_since (device_in self.old) (device_in self.new) (LeftByClosing (D.may_leave (device_in self.old)) t) }
+        ensures image_stops { (t u : Table) → StandsFor self.old t → IsImage (blocks_in self.old) u →
+            LeavesOnly D.moment D.left_since (device_in self.old) (device_in self.new) (LeftFromImage u t) }
         ensures durable { (t : Table) → StandsFor self.old t → IsOk result ⊎ HasFailed self.new → Only (blocks_in self.new) (D.may_leave (device_in self.new)) }
 
         ensures cause { HasCause (D.faults (device_in self.old)) (D.faults (device_in self.new)) result }
@@ -117,18 +122,23 @@ impl<D: BlockDevice, A: Allocator + Copy> Store<D, A> {
     /// Closes the table into the file, and hands the device back.
     ///
     /// Closed, its blocks are an image of the table. Refused it answers `Memory` or `Device`, or `NoPages` where the
-    /// device has 2^31 blocks, and the device comes back: then a stop leaves of it blocks that opening refuses, or an
-    /// image of the table that was closed before, or of this one. A store that failed answers `StoreFailed(19)`, and the
-    /// device comes back as it is.
+    /// device has 2^31 blocks, and the device comes back: if its blocks were an image, a stop then leaves blocks that
+    /// opening refuses, or an image of the table that was closed before, or of this one. A store that failed answers
+    /// `StoreFailed(19)`, and the device comes back as it is.
     pub fn close(self) -> Result<D, (Refusal, D)>
         ensures closed { (t : Table) → StandsFor self t → IfOk result (λ device. IsImage (D.shown device) t) }
 
-        // A stop leaves blocks that opening refuses, or an image of the table that was closed before, or of this one; and
-        // after a closing that is finished nothing but what is read.
-        ensures stops { (t u : Table) → StandsFor self t → IsImage (blocks_in self) u → IfOk result (λ device.
-            LeavesOnly D.moment D.left_since (device_in self) device (λ c. IsRefused c ⊎ (IsImage c u ⊎ IsImage c t))) }
-        ensures refused_stops { (t u : Table) → StandsFor self t → IsImage (blocks_in self) u → IfErr result (λ e.
-            LeavesOnly D.moment D.left_since (device_in self) e.1 (λ c. IsRefused c ⊎ (IsImage c u ⊎ IsImage c t))) }
+        // A stop leaves what one before the call might have left but for the gate, blocks that opening refuses, or an
+        // image of the table. Where the blocks were an image, that is such blocks, or an image of the table that was
+        // closed before or of this one. After a closing that is finished it leaves nothing but what is read.
+        ensures stops { (t : Table) → StandsFor self t → IfOk result (λ device.
+            LeavesOnly D.moment D.left_since (device_in self) device (LeftByClosing (D.may_leave (device_in self)) t)) }
+        ensures refused_stops { (t : Table) → StandsFor self t → IfErr result (λ e.
+            LeavesOnly D.moment D.left_since (device_in self) e.1 (LeftByClosing (D.may_leave (device_in self)) t)) }
+        ensures image_stops { (t u : Table) → StandsFor self t → IsImage (blocks_in self) u → IfOk result (λ device.
+            LeavesOnly D.moment D.left_since (device_in self) device (LeftFromImage u t)) }
+        ensures refused_image_stops { (t u : Table) → StandsFor self t → IsImage (blocks_in self) u → IfErr result (λ e.
+            LeavesOnly D.moment D.left_since (device_in self) e.1 (LeftFromImage u t)) }
         ensures durable { (t : Table) → StandsFor self t → IfOk result (λ device. Only (D.shown device) (D.may_leave device)) }
 
         ensures refused { (t : Table) → StandsFor self t → IfErr result (λ e. GivesUp e.0 ⊎ ((e.0 ≡ refusal.NoPages) × (2 ^ 31 ≤ length (D.shown e.1)))) }

@@ -22,7 +22,7 @@ abbrev pub fault_of : DeviceError → Fault
 fault_of Failed = fault.Device
 fault_of Memory = fault.Memory
 
--- a fault that the device answered
+-- want of memory, or a device that failed
 abbrev pub IsOfDevice : Fault → Type 0
 IsOfDevice f = (f ≡ fault.Memory) ⊎ (f ≡ fault.Device)
 

@@ -1,13 +1,13 @@
 -- What follows from the facts that the calls on a file promise, for the crates that stand on them.
 use Rattle.std.specs.Prelude.{◌≡◌, ◌⊎◌, ◌↔◌, ◌≤◌, ◌<◌, ◌^◌, ℕ, List, length, Some, None, refl}
-use Rattle.std.proofs.Common.{inl, inr, ⊎_elim, sym, ◌∙◌, subst, arith}
+use Rattle.std.proofs.Common.{drop, ap, inl, inr, ⊎_elim, sym, ◌∙◌, subst, arith}
 use Rattle.block_device.specs.Device.{Blocks, LeavesOnly}
 use Rattle.page_file.specs.declared.file.PageFile.{PageFile}
 use Rattle.page_file.specs.declared.gate.Gate.{Gate}
 use Rattle.page_file.specs.declared.gate.Gate.TheVariants.{Shut, Open, Unsure}
 use Rattle.page_file.specs.File.{IsHonest, IsLive, IsPageMap, KeepsGate, KeepsMap, LiesIn, blocks_of, gate_of, given, next_of, pages}
 use Rattle.page_file.specs.Opening.{IsRefused, failed_check}
-use Rattle.page_file.specs.Stops.{AddsOnly, SameButGate, StopSince}
+use Rattle.page_file.specs.Stops.{AddsOnly, SameButGate, StopNow, StopSince}
 use Rattle.page_file.specs.Aside.{aside_lies, aside_passes}
 use Rattle.page_file.specs.Gated.{now_since}
 use Rattle.page_file.specs.Kept as kept
@@ -18,6 +18,15 @@ use Rattle.page_file.specs.Live.{catalog_lives, lives}
 -- a stop now leaves what the gate allows
 pub a_stop_follows_the_gate : {D : Type 0} {m : _} (file : PageFile D m) (c : Blocks) → IsHonest file → m.may_leave file.device c → StopSince (gate_of file) (blocks_of file) c
 a_stop_follows_the_gate {m = m} file c h left = now_since file.gate (m.shown file.device) c (file.stop_now h c left)
+
+-- and all of the blocks but the gate, unless that is open
+pub a_stop_now_leaves_all_but_the_gate : {D : Type 0} {m : _} (file : PageFile D m) (c : Blocks) → IsHonest file → ¬ (gate_of file ≡ Open) → m.may_leave file.device c → SameButGate c (blocks_of file)
+a_stop_now_leaves_all_but_the_gate {m = m} file c h closed left = case file.gate closed (file.stop_now h c left)
+  where
+    case : (gate : Gate) → ¬ (gate ≡ Open) → StopNow gate (m.shown file.device) c → SameButGate c (m.shown file.device)
+    case Shut ne e = ap (drop 1) e
+    case Open ne e = absurd (ne refl)
+    case Unsure ne e = e
 
 -- a file whose gate is shut lies in its blocks
 pub a_shut_file_lies_in_its_blocks : {D : Type 0} {m : _} (file : PageFile D m) → IsHonest file → gate_of file ≡ Shut → LiesIn file (blocks_of file)
@@ -86,7 +95,8 @@ of_open_any : (gate : Gate) (a b c : Blocks) → (gate ≡ Open) ⊎ (a ≡ b) �
 of_open_any gate a b c (inl e) left = subst (λ (x : Gate). StopSince x b c) (sym e) (subst (λ (x : Gate). StopSince x a c) e left)
 of_open_any gate a b c (inr e) left = subst (λ (x : Blocks). StopSince gate x c) e left
 
-is_open : (gate : Gate) → (gate ≡ Open) ⊎ ¬ (gate ≡ Open)
+-- a gate is open or not
+pub is_open : (gate : Gate) → (gate ≡ Open) ⊎ ¬ (gate ≡ Open)
 is_open Shut = inr (λ e. cc)
 is_open Open = inl refl
 is_open Unsure = inr (λ e. cc)

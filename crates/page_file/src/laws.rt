@@ -11,10 +11,12 @@ ghost use Rattle.page_file.specs.Stops.{SameButGate, StopSince};
 use block_device::BlockDevice;
 
 /// A stop now leaves what the gate allows: the blocks as read where it is shut, blocks that opening
-/// refuses where it is open, and the blocks as read but for the gate where it is unsure.
-#[tactic(auto, using(crate::specs::Laws::a_stop_follows_the_gate))]
+/// refuses where it is open, and the blocks as read but for the gate where it is unsure. Where it is not open, all of the
+/// blocks but the gate are left.
+#[tactic(auto, using(crate::specs::Laws::a_stop_follows_the_gate, crate::specs::Laws::a_stop_now_leaves_all_but_the_gate))]
 pub fn a_stop_follows_the_gate<D: BlockDevice>()
-    ensures { (file : PageFile D ⟦<D as BlockDevice>⟧) (c : Blocks) → IsHonest file → D.may_leave (device_of file) c → StopSince (gate_of file) (blocks_of file) c }
+    ensures gate { (file : PageFile D ⟦<D as BlockDevice>⟧) (c : Blocks) → IsHonest file → D.may_leave (device_of file) c → StopSince (gate_of file) (blocks_of file) c }
+    ensures others { (file : PageFile D ⟦<D as BlockDevice>⟧) (c : Blocks) → IsHonest file → ¬ (gate_of file ≡ Open) → D.may_leave (device_of file) c → SameButGate c (blocks_of file) }
 {}
 
 /// A file whose gate is shut lies in its blocks, and opening finds it there.

@@ -1,6 +1,6 @@
 -- One command as a lawful step of a store, and sessions of such steps.
 -- A store answers as the plain table does; only want of memory, a fault of the device or want of page numbers may refuse a command instead. Our rule, docs/COMMANDS.md.
-use Rattle.std.specs.Prelude.{ℕ, ◌≡◌, ◌^◌, ◌⊎◌, Bool, true, false, ◌==◌, List, [], ◌∷◌}
+use Rattle.std.specs.Prelude.{ℕ, ◌≡◌, ◌≤◌, ◌^◌, ◌⊎◌, Bool, true, false, ◌==◌, List, [], ◌∷◌}
 use Rattle.block_device.specs.Device.{HasRisen}
 use Rattle.plain_table.specs.Commands.{Command}
 use Rattle.plain_table.specs.Commands.Command.{Reopen}
@@ -84,9 +84,15 @@ Lawful rose spent old BadCommand a new = (a ≡ Refused refusal.BadLine) × (new
 Lawful rose spent (Alive t) (Asks c) a new = LawfulFrom rose spent t c a new
 Lawful rose spent Dead (Asks c) a new = (a ≡ Refused (refusal.StoreFailed 19)) × (new ≡ Dead)
 
--- one request answered lawfully
-abbrev pub LawfulStep : Standing → Request → Answer → Standing → Type 0
-LawfulStep old r a new = Lawful (HasRisen old.faults new.faults) (IsSpent new.next) old.state r a new.state
+-- the answer to a request, and the state that it leaves
+abbrev pub LawfulAnswer : Standing → Request → Answer → Standing → Type 0
+LawfulAnswer old r a new = Lawful (HasRisen old.faults new.faults) (IsSpent new.next) old.state r a new.state
+
+-- One request answered lawfully. How often the device has failed does not fall, nor how many page numbers were given out.
+pub record LawfulStep (old : Standing) (r : Request) (a : Answer) (new : Standing) : Type 0 where
+  pub answer : LawfulAnswer old r a new
+  pub faults : old.faults ≤ new.faults
+  pub next : old.next ≤ new.next
 
 -- lawful steps, each from what the one before left
 abbrev pub Session : Standing → List Request → List Answer → Standing → Type 0

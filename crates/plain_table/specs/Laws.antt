@@ -1,5 +1,5 @@
 -- What follows from the definitions of the plain table, for the crates that stand on it.
-use Rattle.std.proofs.Common.{◌≡◌, ◌∙◌, ℕ, List, [], ◌∷◌, map, Bool, true, false, not, ◌&&◌, cond, Option, Some, None, inl, inr, refl, sym, ap, subst, T}
+use Rattle.std.proofs.Common.{◌≡◌, ◌∙◌, ℕ, List, [], ◌∷◌, map, Bool, true, false, not, ◌&&◌, cond, Option, Some, None, inl, inr, refl, sym, ap, subst, arith, T}
 use Rattle.std.specs.Cmp.Lexicographic.{slice_cmp}
 use Rattle.std.specs.FinMap.{entries, entries-from_sorted}
 use Rattle.std.specs.List.{list_all}
@@ -7,7 +7,8 @@ use Rattle.std.specs.Ordering.{nat_cmp}
 use Rattle.plain_table.specs.Commands.{Command}
 use Rattle.plain_table.specs.Commands.Command.{Create, Insert, Window, Reopen}
 use Rattle.plain_table.specs.Kept.{entry_of}
-use Rattle.plain_table.specs.Lawful.{AnsweredInMemory, blames_device, IsFault, LawfulFrom, MayWrite, RefusedBy}
+use Rattle.plain_table.specs.Lawful.{AnsweredInMemory, blames_device, IsFault, LawfulFrom, LawfulStep, MayWrite, RefusedBy, Standing}
+use Rattle.plain_table.specs.Lawful.Request.{BadCommand}
 use Rattle.plain_table.specs.Lawful.State.{Alive}
 use Rattle.plain_table.specs.Listed.{table_from, IsListed}
 use Rattle.plain_table.specs.Step.{Answer, answer_of, changed, first_refusal, kept_or, refused_or, refusal_of, refusals_of}
@@ -28,6 +29,10 @@ unchanged None t Reopen r e = refl
 pub a_refusal_changes_nothing : (t u : Table) (c : Command) (r : Refusal) → AnsweredInMemory t c (Refused r) u → u ≡ t
 a_refusal_changes_nothing t u c r (inl h) = h.1 ∙ unchanged (refusal_of t c) t c r h.0
 a_refusal_changes_nothing t u c r (inr h) = h.1
+
+-- a bad line is answered so, whatever the store stands for
+pub a_bad_line_is_lawful : (s : Standing) → LawfulStep s BadCommand (Refused refusal.BadLine) s
+a_bad_line_is_lawful s = record { answer = (refl, refl); faults = omega arith; next = omega arith }
 
 -- what a table in memory does is lawful
 pub memory_is_lawful : (rose spent : Type 0) (t u : Table) (c : Command) (a : Answer) → AnsweredInMemory t c a u → LawfulFrom rose spent t c a (Alive u)

@@ -29,7 +29,7 @@ layer_refusals t name more = (not (is_layer_name name), refusal.BadName) ∷ (no
 abbrev pub box_refusals : Layer → RawBox → List (Bool × Refusal) → List (Bool × Refusal)
 box_refusals layer box more = (not (dims_of box == layer.dims), refusal.WrongDims) ∷ (not (is_ordered (dims_of box) (given_bounds box)), refusal.BadBox) ∷ more
 
--- an object that is none of the layer's dimension, that is there, or for which there is no room
+-- an object whose box is refused, that is there, or for which there is no room
 abbrev pub object_refusals : Layer → ℕ → RawBox → Bool → List (Bool × Refusal)
 object_refusals layer id box is_full = box_refusals layer box ((map.contains_key layer.objects id, refusal.Duplicate) ∷ (is_full, refusal.TooManyObjects) ∷ [])
 

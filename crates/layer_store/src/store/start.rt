@@ -4,13 +4,12 @@ ghost use Rattle.std.specs.Prelude.{◌≡◌, ◌⊎◌, ℕ, Err, IfOk, IfErr,
 ghost use Rattle.std.specs.FinMap.{empty};
 ghost use Rattle.block_device.specs.Device.{LeavesOnly, Only};
 ghost use Rattle.page_file.specs.Opening.{IsRefused};
-ghost use Rattle.page_file.specs.Pages.{given_pages, next_in};
 ghost use Rattle.page_file.specs.Stops.{AddsOnly, StopSince};
 ghost use Rattle.plain_table.specs.Table.{Table};
 ghost use Rattle.plain_table.specs.declared.refusal.Refusal.TheVariants as refusal;
 ghost use Rattle.page_file.specs.declared.fault.Fault.{Fault};
 ghost use Rattle.page_file.specs.File.{blocks_of, device_of, gate_of, given, next_of, IsHonest, IsPageMap, KeepsGate};
-ghost use Rattle.layer_store.specs.Image.{Holds, IsDamaged, IsImage, Refuses};
+ghost use Rattle.layer_store.specs.Image.{Holds, HoldsIn, IsDamaged, IsImage, Refuses};
 ghost use Rattle.layer_store.specs.Standing.{StandsFor, blocks_in, device_in, file_in, table_in};
 ghost use Rattle.layer_store.specs.Faults.{GivesUp, faults_after};
 ghost use Rattle.layer_store.specs.Starting.{IsRefusedFor, is_cache};
@@ -94,7 +93,7 @@ pub fn open_store<D: BlockDevice, A: Allocator + Copy>(
     ensures bad_cache { is_cache cache ≡ false → result ≡ Err (refusal.BadCache, device) }
     ensures image { (t : Table) → D.honest device → IsImage (D.shown device) t → IfOk result (λ store. StandsFor store t) }
     ensures opened { IfOk result (λ store. D.honest device → (f : Fault) → Refuses (D.shown device) f → ⊥) }
-    ensures table { IfOk result (λ store. D.honest device → Holds (given_pages (D.shown device) (next_in (D.shown device))) (next_in (D.shown device)) (table_in store)) }
+    ensures table { IfOk result (λ store. D.honest device → HoldsIn (D.shown device) (table_in store)) }
     ensures refused { is_cache cache ≡ true → IfErr result (λ e. D.honest device → GivesUp e.0 ⊎ IsRefusedFor (D.shown device) e.0) }
 
     // A stop leaves nothing but what one before the call might have left; and once the store is opened nothing but what

@@ -22,15 +22,17 @@ pub returns-clause-faults : goal.returns-clause-faults
 returns-clause-faults g c = λ map. if_err c.settle.result (λ f h. inl h) (c.settle.ensures.faults (c.write.ensures.map map).honest)
 
 pub returns-in_err-write-clause-stops : goal.returns-in_err-write-clause-stops
-returns-in_err-write-clause-stops g c = λ t sound image.
+returns-in_err-write-clause-stops g c = λ sound.
     let d = g.D.BlockDevice in
-    not_closed d.moment d.left_since (device_of c.args.self.now.file) (device_of c.write.new.self.file) t c.args.self.now.table (c.write.ensures.stops t sound image)
+    let old = device_of c.args.self.now.file in
+    not_closed d.moment d.left_since old (device_of c.write.new.self.file) (d.may_leave old) c.args.self.now.table (c.write.ensures.stops sound.map.honest)
 
 pub returns-clause-stops : goal.returns-clause-stops
-returns-clause-stops g c = λ t sound image.
+returns-clause-stops g c = λ sound.
     let before = c.write.ensures.sound sound in
+    let old = device_of c.args.self.now.file in
     let new = c.settle.new.self in
     let held = kept_table c.write.new.self.file new c.args.self.now.table before.map.honest c.settle.ensures.map
     (subst (Holds (pages c.write.new.self.file) (next_of c.write.new.self.file)) c.in_ok-write.ensures.table (before.held c.in_ok-write.ensures.written)) in
-    table_closed (device_of c.args.self.now.file) (device_of c.write.new.self.file) (device_of new) new (λ b. SameButGate b (blocks_of new)) t c.args.self.now.table
-    (c.write.ensures.stops t sound image) (c.settle.ensures.stops before.map.honest) (c.settle.ensures.map.sound.0 before.map) held
+    table_closed old (device_of c.write.new.self.file) (device_of new) new (λ b. SameButGate b (blocks_of new)) (g.D.BlockDevice.may_leave old) c.args.self.now.table
+    (c.write.ensures.stops sound.map.honest) (c.settle.ensures.stops before.map.honest) (c.settle.ensures.map.sound.0 before.map) held

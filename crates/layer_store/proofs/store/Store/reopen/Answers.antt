@@ -1,19 +1,19 @@
 -- A reopening closes the table, and reads the same table back.
-use Rattle.std.proofs.Common.{◌≡◌, ◌∙◌, ◌⊎◌, Err, true, false, refl, sym, ap, subst, inl, inr}
-use Rattle.block_device.specs.Device.{Blocks, HasRisen}
+use Rattle.std.proofs.Common.{◌≡◌, ◌∙◌, ◌⊎◌, Err, true, false, refl, sym, ap, subst, arith, inl, inr}
+use Rattle.block_device.specs.Device.{Blocks, HasRisen, LeavesOnly}
 use Rattle.plain_table.specs.Table.{Table}
-use Rattle.layer_store.proofs.StopLemmas.{LeavesEither, shut_is_durable, then_read}
+use Rattle.layer_store.proofs.StopLemmas.{from_image, shut_is_durable, then_read}
 use Rattle.page_file.specs.Fault.{faults_after}
 use Rattle.page_file.specs.File.{blocks_of, device_of, next_of}
 use Rattle.plain_table.specs.Commands.Command.{Reopen}
 use Rattle.plain_table.specs.Lawful.{IsEnd, IsFault, IsSpent, MayWrite}
 use Rattle.plain_table.specs.Step.Answer.{Done, Refused}
 use Rattle.plain_table.specs.declared.refusal.Refusal.TheVariants as refusal
-use Rattle.layer_store.specs.Image.{IsImage}
+use Rattle.layer_store.specs.Image.{IsImage, LeftByClosing}
 use Rattle.layer_store.specs.Standing.{HasFailed}
 use Rattle.layer_store.specs.declared.store.Store.{Store}
 use Rattle.layer_store.proofs.KeepLemmas.{image_of}
-use Rattle.layer_store.proofs.StoreLemmas.{alive_with, died_lawful, done_lawful, end_of_store, failed_so, fault_of_command, gave_up_lawful, not_both, risen_of, takes_last, takes_nothing, takes_step}
+use Rattle.layer_store.proofs.StoreLemmas.{alive_with, died_lawful, done_lawful, end_of_store, failed_so, fault_of_command, gave_up_lawful, no_fewer, not_both, risen_of, takes_last, takes_nothing, takes_step}
 use Rattle.layer_store.proofs.store.Store.reopen.Goals as goal
 
 true_false : true ≡ false → ⊥
@@ -35,7 +35,7 @@ returns-in-Err-clause-step g c =
     let before = g.D.BlockDevice.faults (device_of c.args.self.now.kept.file) in
     let now = g.D.BlockDevice.faults (device_of c.settle.new.self.file) in
     let settled = c.in-Err.ensures in
-    takes_step c.args.self.now (record { kept = c.settle.new.self; failed = c.args.self.now.failed }) Reopen (Refused c.as_refusal.result) c.if-self.false c.if-self.false settled.sound
+    takes_step c.args.self.now (record { kept = c.settle.new.self; failed = c.args.self.now.failed }) Reopen (Refused c.as_refusal.result) c.if-self.false c.if-self.false settled.sound (λ sound. (no_fewer c.in-Err.fault before now (g.met.D.BlockDevice.faults_fit (device_of c.args.self.now.kept.file)) settled.cause.refused, settled.next))
     (λ sound. gave_up_lawful (HasRisen before now) (IsSpent (next_of c.settle.new.self.file)) c.args.self.now.kept.table c.settle.new.self.table Reopen c.as_refusal.result
     (subst (IsFault (HasRisen before now) (IsSpent (next_of c.settle.new.self.file) × MayWrite c.args.self.now.kept.table Reopen)) (sym c.as_refusal.ensures)
     (fault_of_command before now (IsSpent (next_of c.settle.new.self.file) × MayWrite c.args.self.now.kept.table Reopen) c.in-Err.fault (settled.faults sound.map) (risen_of before now c.in-Err.fault settled.cause.refused) (λ is. (settled.no_pages (ap Err is), inl refl))))
@@ -50,6 +50,7 @@ returns-in-Ok-clause-step g c =
     let again = c.in-Ok.ensures in
     takes_step c.args.self.now (record { kept = c.read_again.new.self; failed = c.args.self.now.failed }) Reopen Done c.if-self.false c.if-self.false
     (λ sound. let mid = settled.sound sound in let now = again.sound mid.map (mid.held settled.written) in record { map = now.0; held = λ written. now.1 })
+    (λ sound. (let same = again.cause.ok ∙ settled.cause.ok in omega (arith, same), let next = again.next (settled.sound sound).map in omega (arith, next, settled.next)))
     (λ sound. let mid = settled.sound sound in done_lawful (HasRisen (g.D.BlockDevice.faults (device_of c.args.self.now.kept.file)) (g.D.BlockDevice.faults (device_of c.read_again.new.self.file))) (IsSpent (next_of c.read_again.new.self.file)) c.args.self.now.kept.table c.read_again.new.self.table (again.table mid.map (mid.held settled.written) ∙ settled.table))
 
 pub returns-in-Ok-clause-closed : goal.returns-in-Ok-clause-closed
@@ -70,6 +71,7 @@ returns-in-Err-read_again-clause-step g c =
     let again = c.in-Err-read_again.ensures in
     takes_last c.args.self.now (record { kept = c.read_again.new.self; failed = true }) Reopen (Refused (refusal.StoreFailed c.number.result)) c.if-self.false refl
     (λ sound. let mid = settled.sound sound in let after = again.sound mid.map (mid.held settled.written) in record { map = after.0; held = λ written. after.1 })
+    (λ sound. (no_fewer c.in-Err-read_again.fault before now (g.met.D.BlockDevice.faults_fit (device_of c.args.self.now.kept.file)) (again.cause.refused ∙ ap (faults_after c.in-Err-read_again.fault) settled.cause.ok), let next = again.next (settled.sound sound).map in omega (arith, next, settled.next)))
     (λ sound. let mid = settled.sound sound in died_lawful (HasRisen before now) (IsSpent (next_of c.read_again.new.self.file)) c.args.self.now.kept.table (refusal.StoreFailed c.number.result)
     (subst (λ n. IsEnd (HasRisen before now) (refusal.StoreFailed n)) (sym c.number.ensures)
     (end_of_store before now c.in-Err-read_again.fault (again.faults mid.map (mid.held settled.written)) (risen_of before now c.in-Err-read_again.fault (again.cause.refused ∙ ap (faults_after c.in-Err-read_again.fault) settled.cause.ok)))))
@@ -85,16 +87,26 @@ returns-in-Err-read_again-clause-closed g c = λ t stands end.
     (subst (λ (blocks : Blocks). IsImage blocks kept.table) (sym (c.in-Err-read_again.ensures.blocks mid.map)) (image_of kept.file (blocks_of kept.file) kept.table mid.map (settled.lies live.sound.map) held))
 
 pub returns-then-self-clause-stops : goal.returns-then-self-clause-stops
-returns-then-self-clause-stops g c = λ t u stands image. absurd (not_both _ c.if-self.true (alive_with c.args.self.now t stands).going)
+returns-then-self-clause-stops g c = λ t stands. absurd (not_both _ c.if-self.true (alive_with c.args.self.now t stands).going)
+
+pub returns-then-self-clause-image_stops : goal.returns-then-self-clause-image_stops
+returns-then-self-clause-image_stops g c = λ t u stands image. absurd (not_both _ c.if-self.true (alive_with c.args.self.now t stands).going)
 
 pub returns-in-Err-clause-stops : goal.returns-in-Err-clause-stops
-returns-in-Err-clause-stops g c = λ t u stands image.
+returns-in-Err-clause-stops g c = λ t stands.
     let live = alive_with c.args.self.now t stands in
     let d = g.D.BlockDevice in
-    subst (λ (x : Table). LeavesEither d.moment d.left_since (device_of c.args.self.now.kept.file) (device_of c.settle.new.self.file) u x) live.table (c.in-Err.ensures.stops u live.sound image)
+    let old = device_of c.args.self.now.kept.file in
+    subst (λ (x : Table). LeavesOnly d.moment d.left_since old (device_of c.settle.new.self.file) (LeftByClosing (d.may_leave old) x)) live.table (c.in-Err.ensures.stops live.sound)
+
+pub returns-in-Err-clause-image_stops : goal.returns-in-Err-clause-image_stops
+returns-in-Err-clause-image_stops g c = λ t u stands image.
+    let file = c.args.self.now.kept.file in
+    let honest = (alive_with c.args.self.now t stands).sound.map.honest in
+    from_image file (device_of c.settle.new.self.file) u t honest (g.met.D.BlockDevice.shown_counts (device_of file) honest) image (returns-in-Err-clause-stops g c t stands)
 
 pub returns-in-Ok-clause-stops : goal.returns-in-Ok-clause-stops
-returns-in-Ok-clause-stops g c = λ t u stands image.
+returns-in-Ok-clause-stops g c = λ t stands.
     let live = alive_with c.args.self.now t stands in
     let settled = c.in_default.ensures in
     let mid = settled.sound live.sound in
@@ -102,11 +114,17 @@ returns-in-Ok-clause-stops g c = λ t u stands image.
     let old = device_of c.args.self.now.kept.file in
     let d = g.D.BlockDevice in
     let there = subst (IsImage (blocks_of kept.file)) (settled.table ∙ live.table) (image_of kept.file (blocks_of kept.file) kept.table mid.map (settled.lies live.sound.map) (mid.held settled.written)) in
-    let before = subst (λ (x : Table). LeavesEither d.moment d.left_since old (device_of kept.file) u x) live.table (settled.stops u live.sound image) in
-    then_read old kept.file c.read_again.new.self.file u t mid.map.honest settled.shut there before c.in-Ok.ensures.gate
+    let before = subst (λ (x : Table). LeavesOnly d.moment d.left_since old (device_of kept.file) (LeftByClosing (d.may_leave old) x)) live.table (settled.stops live.sound) in
+    then_read old kept.file c.read_again.new.self.file (d.may_leave old) t mid.map.honest settled.shut there before c.in-Ok.ensures.gate
+
+pub returns-in-Ok-clause-image_stops : goal.returns-in-Ok-clause-image_stops
+returns-in-Ok-clause-image_stops g c = λ t u stands image.
+    let file = c.args.self.now.kept.file in
+    let honest = (alive_with c.args.self.now t stands).sound.map.honest in
+    from_image file (device_of c.read_again.new.self.file) u t honest (g.met.D.BlockDevice.shown_counts (device_of file) honest) image (returns-in-Ok-clause-stops g c t stands)
 
 pub returns-in-Err-read_again-clause-stops : goal.returns-in-Err-read_again-clause-stops
-returns-in-Err-read_again-clause-stops g c = λ t u stands image.
+returns-in-Err-read_again-clause-stops g c = λ t stands.
     let live = alive_with c.args.self.now t stands in
     let settled = c.in_default.ensures in
     let mid = settled.sound live.sound in
@@ -114,8 +132,14 @@ returns-in-Err-read_again-clause-stops g c = λ t u stands image.
     let old = device_of c.args.self.now.kept.file in
     let d = g.D.BlockDevice in
     let there = subst (IsImage (blocks_of kept.file)) (settled.table ∙ live.table) (image_of kept.file (blocks_of kept.file) kept.table mid.map (settled.lies live.sound.map) (mid.held settled.written)) in
-    let before = subst (λ (x : Table). LeavesEither d.moment d.left_since old (device_of kept.file) u x) live.table (settled.stops u live.sound image) in
-    then_read old kept.file c.read_again.new.self.file u t mid.map.honest settled.shut there before c.in-Err-read_again.ensures.gate
+    let before = subst (λ (x : Table). LeavesOnly d.moment d.left_since old (device_of kept.file) (LeftByClosing (d.may_leave old) x)) live.table (settled.stops live.sound) in
+    then_read old kept.file c.read_again.new.self.file (d.may_leave old) t mid.map.honest settled.shut there before c.in-Err-read_again.ensures.gate
+
+pub returns-in-Err-read_again-clause-image_stops : goal.returns-in-Err-read_again-clause-image_stops
+returns-in-Err-read_again-clause-image_stops g c = λ t u stands image.
+    let file = c.args.self.now.kept.file in
+    let honest = (alive_with c.args.self.now t stands).sound.map.honest in
+    from_image file (device_of c.read_again.new.self.file) u t honest (g.met.D.BlockDevice.shown_counts (device_of file) honest) image (returns-in-Err-read_again-clause-stops g c t stands)
 
 pub returns-then-self-clause-durable : goal.returns-then-self-clause-durable
 returns-then-self-clause-durable g c = λ t stands end. absurd (not_both _ c.if-self.true (alive_with c.args.self.now t stands).going)
