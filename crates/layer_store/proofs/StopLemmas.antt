@@ -14,7 +14,7 @@ use Rattle.page_file.specs.Pages.{given_pages, next_in}
 use Rattle.page_file.specs.Stops.{AddsOnly, GateAside, SameButGate, StopSince}
 use Rattle.page_file.specs.declared.file.PageFile.{PageFile}
 use Rattle.page_file.specs.declared.gate.Gate.{Gate}
-use Rattle.page_file.specs.declared.gate.Gate.TheVariants.{Shut, Open, Unsure}
+use Rattle.page_file.specs.declared.gate.Gate.TheVariants.{Shut, Open}
 use Rattle.plain_table.specs.Table.{Table}
 use Rattle.layer_store.specs.Image.{Holds, IsImage, LeftByClosing, LeftFromImage}
 use Rattle.layer_store.specs.Laws.{a_held_table_stays}
