@@ -102,6 +102,8 @@ impl<D: BlockDevice, A: Allocator + Copy> Store<D, A> {
             LeavesOnly D.moment D.left_since (device_in self.old) (device_in self.new) (LeftFromImage u t) }
         ensures durable { (t : Table) → StandsFor self.old t → IsOk result ⊎ HasFailed self.new → Only (blocks_in self.new) (D.may_leave (device_in self.new)) }
 
+        // One that failed leaves the device as it is.
+        ensures failed { HasFailed self.old → device_in self.new ≡ device_in self.old }
         ensures cause { HasCause (D.faults (device_in self.old)) (D.faults (device_in self.new)) result }
     {
         if self.failed {

@@ -158,3 +158,12 @@ returns-in-Err-read_again-clause-durable g c = λ t stands end.
     let settled = c.in_default.ensures in
     let gate = c.in-Err-read_again.ensures.gate in
     shut_is_durable c.read_again.new.self.file (gate.honest.0 (settled.map (alive_with c.args.self.now t stands).sound.map).honest) (gate.gate ∙ settled.shut)
+
+pub returns-in-Err-clause-failed : goal.returns-in-Err-clause-failed
+returns-in-Err-clause-failed g c = λ failed. absurd (not_both _ (failed_so c.args.self.now failed) c.if-self.false)
+
+pub returns-in-Ok-clause-failed : goal.returns-in-Ok-clause-failed
+returns-in-Ok-clause-failed g c = λ failed. absurd (not_both _ (failed_so c.args.self.now failed) c.if-self.false)
+
+pub returns-in-Err-read_again-clause-failed : goal.returns-in-Err-read_again-clause-failed
+returns-in-Err-read_again-clause-failed g c = λ failed. absurd (not_both _ (failed_so c.args.self.now failed) c.if-self.false)
