@@ -105,6 +105,15 @@ module _ {D : Type 0} {m : _} where
       (λ stop. inr (inr (subst (λ (blocks : Blocks). IsImage blocks t) (sym (subst (λ (gate : Gate). StopSince gate (blocks_of mid) c) shut stop)) image))))
       (stops_of_a_run_go_on old mid new (LeftByClosing before t) honest closed keeps)
 
+  -- and nothing else was done
+  pub read_alone : (old new : PageFile D m) → IsHonest old → ((c : Blocks) → m.left_since old.device (m.moment old.device) c → m.may_leave old.device c) → gate_of old ≡ Shut → KeepsGate old new
+      → LeavesOnly m.moment m.left_since old.device new.device (λ c. c ≡ blocks_of old)
+  read_alone old new honest now shut keeps =
+      leaves_weaker m.moment m.left_since old.device new.device (λ c. (c ≡ blocks_of old) ⊎ StopSince (gate_of old) (blocks_of old) c) (λ c. c ≡ blocks_of old)
+      (λ c. ⊎_elim (λ same. same) (λ stop. subst (λ (gate : Gate). StopSince gate (blocks_of old) c) shut stop))
+      (stops_of_a_run_go_on old.device old new (λ c. c ≡ blocks_of old) honest
+      (started m.moment m.left_since old.device (λ c. c ≡ blocks_of old) (λ c left. shut_is_durable old honest shut c (now c left))) keeps)
+
   -- where the blocks were an image
   pub from_image : (old : PageFile D m) (new : D) (u t : Table) → IsHonest old → m.may_leave old.device (blocks_of old) → IsImage (blocks_of old) u → LeavesOnly m.moment m.left_since old.device new (LeftByClosing (m.may_leave old.device) t)
       → LeavesOnly m.moment m.left_since old.device new (LeftFromImage u t)

@@ -1,14 +1,15 @@
 -- The steps of a store: alive, failed, and failing.
 use Rattle.std.proofs.Common.{◌≡◌, ◌∙◌, ◌≤◌, ◌<◌, ◌+◌, ◌-◌, ◌^◌, ◌⊎◌, ℕ, Bool, true, false, cond, refl, sym, ap, subst, arith, inl, inr, ⊎_elim}
-use Rattle.std.specs.Prelude.{Result, Ok, Err}
+use Rattle.std.specs.Prelude.{Result, Ok, Err, OnErr}
 use Rattle.std.proofs.Math.Nat.{le-min, min-eq_left, min-eq_right}
 use Rattle.std.proofs.lemmas.Bool.{cases_lt}
 use Rattle.block_device.specs.Device.{HasRisen, one_more}
 use Rattle.page_file.specs.Fault.{IsOfDevice, faults_after, number_of}
-use Rattle.page_file.specs.File.{IsPageMap, device_of, next_of, pages}
+use Rattle.page_file.specs.File.{IsPageMap, device_of, gate_of, next_of, pages}
 use Rattle.page_file.specs.declared.fault.Fault.{Fault}
 use Rattle.page_file.specs.declared.fault.Fault.TheVariants as fault
 use Rattle.page_file.specs.declared.file.PageFile.{PageFile}
+use Rattle.page_file.specs.declared.gate.Gate.TheVariants.{Shut}
 use Rattle.plain_table.specs.Commands.{Command}
 use Rattle.plain_table.specs.Commands.Command.{Reopen}
 use Rattle.plain_table.specs.Lawful.{AnsweredInMemory, blames_device, IsEnd, IsFault, IsSpent, Lawful, LawfulFrom, LawfulStep, MayWrite, Standing, Takes}
@@ -24,7 +25,7 @@ use Rattle.layer_store.specs.Faults.{GivesUp, as_refusal}
 use Rattle.layer_store.specs.Faults as store
 use Rattle.layer_store.specs.Image.{Holds}
 use Rattle.layer_store.specs.Keeping.{IsSound}
-use Rattle.layer_store.specs.Standing.{HasFailed, Stands, StandsFor, standing_of}
+use Rattle.layer_store.specs.Standing.{HasFailed, IsClosed, Stands, StandsFor, standing_of}
 use Rattle.layer_store.specs.declared.kept.Kept.{Kept}
 use Rattle.layer_store.specs.declared.store.Store.{Store}
 
@@ -207,6 +208,20 @@ module _ {D A : Type 0} {m : _} where
   alive_with store t r =
       let state = state_alive store.failed store.kept.table t (ap (λ (s : Standing). s.state) (sym r.stands.0) ∙ r.so) in
       record { going = state.0; table = state.1; sound = r.stands.1 }
+
+  -- where nothing is to be written
+  pub closed_so : (store : Store D A m) → gate_of store.kept.file ≡ Shut → store.kept.written ≡ true → IsClosed store
+  unfolding IsClosed
+  closed_so store shut written = (shut, written)
+
+  pub is_closed : (store : Store D A m) → IsClosed store → (gate_of store.kept.file ≡ Shut) × (store.kept.written ≡ true)
+  unfolding IsClosed
+  is_closed store closed = closed
+
+  pub still_closed : {X E : Type 0} (old new : Store D A m) (result : Result X E) → new.kept.file ≡ old.kept.file → OnErr result (new.kept.written ≡ old.kept.written) → IsClosed old → OnErr result (IsClosed new)
+  still_closed old new (Ok x) file written closed = tt
+  still_closed old new (Err e) file written closed =
+      let was = is_closed old closed in closed_so new (ap (λ (f : PageFile D m). gate_of f) file ∙ was.0) (written ∙ was.1)
 
   pub failed_so : (store : Store D A m) → HasFailed store → store.failed ≡ true
   unfolding Stands

@@ -1,8 +1,9 @@
 -- What a store stands for, and the device and blocks that it has.
-use Rattle.std.specs.Prelude.{◌≡◌, if◌then◌else◌}
+use Rattle.std.specs.Prelude.{◌≡◌, true, if◌then◌else◌}
 use Rattle.block_device.specs.Device.{Blocks}
-use Rattle.page_file.specs.File.{blocks_of, device_of, next_of}
+use Rattle.page_file.specs.File.{blocks_of, device_of, gate_of, next_of}
 use Rattle.page_file.specs.declared.file.PageFile.{PageFile}
+use Rattle.page_file.specs.declared.gate.Gate.TheVariants.{Shut}
 use Rattle.plain_table.specs.Lawful.{Reaches, Standing}
 use Rattle.plain_table.specs.Lawful.State.{Alive, Dead}
 use Rattle.plain_table.specs.Table.{Table}
@@ -45,3 +46,7 @@ table_in store = store.kept.table
 -- its file of pages
 abbrev pub file_in : {D A : Type 0} {m : _} → Store D A m → PageFile D m
 file_in store = store.kept.file
+
+-- Nothing is to be written: its gate is shut behind pages that hold its table.
+unfoldable pub IsClosed : {D A : Type 0} {m : _} → Store D A m → Type 0
+IsClosed store = (gate_of store.kept.file ≡ Shut) × (store.kept.written ≡ true)

@@ -1,6 +1,6 @@
 //! What a store keeps while it has not failed: a file of pages, and the table in memory that it answers from.
 
-ghost use Rattle.std.specs.Prelude.{◌≡◌, ◌≤◌, ◌⊎◌, ◌^◌, ◌↔◌, true, length, IsErrOf, IfOk, IfErr, OnErr, OnOk};
+ghost use Rattle.std.specs.Prelude.{◌≡◌, ◌≤◌, ◌⊎◌, ◌^◌, ◌↔◌, true, length, Ok, IsOk, IsErrOf, IfOk, IfErr, OnErr, OnOk};
 ghost use Rattle.plain_table.specs.Answers.{done_answer};
 ghost use Rattle.plain_table.specs.Commands.Command.{Create, Insert};
 ghost use Rattle.plain_table.specs.Lawful.{AnsweredInMemory};
@@ -65,6 +65,7 @@ impl<D: BlockDevice, A: Allocator + Copy> Kept<D, A> {
             (λ c. GateAside (D.may_leave (device_of self.old.file)) c ⊎ IsRefused c) }
 
         ensures written { OnOk result (self.new.written ≡ true) }
+        ensures was_written { self.old.written ≡ true → (self.new ≡ self.old) × IsOk result }
         ensures honest { IsHonest self.old.file ↔ IsHonest self.new.file }
         ensures table { self.new.table ≡ self.old.table }
         ensures map { IsPageMap self.old.file → IsPageMap self.new.file }
@@ -95,6 +96,7 @@ impl<D: BlockDevice, A: Allocator + Copy> Kept<D, A> {
 
         ensures shut { OnOk result (gate_of self.new.file ≡ Shut) }
         ensures written { OnOk result (self.new.written ≡ true) }
+        ensures was_closed { gate_of self.old.file ≡ Shut → self.old.written ≡ true → (self.new ≡ self.old) × IsOk result }
         ensures lies { IsPageMap self.old.file → OnOk result (LiesIn self.new.file (blocks_of self.new.file)) }
         ensures table { self.new.table ≡ self.old.table }
         ensures map { IsPageMap self.old.file → IsPageMap self.new.file }
@@ -136,6 +138,7 @@ impl<D: BlockDevice, A: Allocator + Copy> Kept<D, A> {
     /// blocks. The device comes back with it.
     pub fn close(self) -> Result<D, (Fault, D)>
         ensures closed { IsSound self → IfOk result (λ device. IsImage (D.shown device) self.table) }
+        ensures was_closed { gate_of self.file ≡ Shut → self.written ≡ true → result ≡ Ok (device_of self.file) }
 
         // A stop leaves what one before the call might have left but for the gate, blocks that opening refuses, or an
         // image of the table; and after a closing that is finished nothing but what is read.

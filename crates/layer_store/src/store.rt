@@ -1,6 +1,6 @@
 //! The store: its commands, and its closing.
 
-ghost use Rattle.std.specs.Prelude.{◌≡◌, ◌⊎◌, ◌≤◌, ◌^◌, length, Err, IsOk, IfOk, IfErr};
+ghost use Rattle.std.specs.Prelude.{◌≡◌, ◌⊎◌, ◌≤◌, ◌^◌, length, Ok, Err, IsOk, IfOk, IfErr, OnErr};
 ghost use Rattle.block_device.specs.Device.{LeavesOnly, Only};
 ghost use Rattle.plain_table.specs.Answers.{done_answer, boxes_answer};
 ghost use Rattle.plain_table.specs.Commands.Command.{Create, Insert, Window, Reopen};
@@ -37,7 +37,7 @@ pub struct Store<D: BlockDevice, A: Allocator = Global> {
 }
 
 impl<D: BlockDevice, A: Allocator + Copy> Store<D, A> {
-    ghost use Rattle.layer_store.specs.Standing.{Stands, StandsFor, HasFailed, blocks_in, device_in};
+    ghost use Rattle.layer_store.specs.Standing.{Stands, StandsFor, HasFailed, IsClosed, blocks_in, device_in};
 
     /// Makes an empty layer of that name with 2 or 3 axes, whose nodes may have 4 to 100 entries.
     ///
@@ -46,6 +46,7 @@ impl<D: BlockDevice, A: Allocator + Copy> Store<D, A> {
         ensures step { Takes Stands self.old self.new
             (λ s s'. LawfulStep s (Asks (Create layer.now dims fanout)) (done_answer result) s') }
         ensures device { device_in self.new ≡ device_in self.old }
+        ensures still_closed { IsClosed self.old → OnErr result (IsClosed self.new) }
         ensures cause { HasCause (D.faults (device_in self.old)) (D.faults (device_in self.new)) result }
     {
         if self.failed {
@@ -61,6 +62,7 @@ impl<D: BlockDevice, A: Allocator + Copy> Store<D, A> {
         ensures step { Takes Stands self.old self.new
             (λ s s'. LawfulStep s (Asks (Insert layer.now id bounds)) (done_answer result) s') }
         ensures device { device_in self.new ≡ device_in self.old }
+        ensures still_closed { IsClosed self.old → OnErr result (IsClosed self.new) }
         ensures cause { HasCause (D.faults (device_in self.old)) (D.faults (device_in self.new)) result }
     {
         if self.failed {
@@ -76,6 +78,7 @@ impl<D: BlockDevice, A: Allocator + Copy> Store<D, A> {
         ensures step { Takes Stands self.old self.new
             (λ s s'. LawfulStep s (Asks (Window layer.now bounds)) (boxes_answer result) s') }
         ensures device { device_in self.new ≡ device_in self.old }
+        ensures still_closed { IsClosed self.old → IsClosed self.new }
         ensures cause { HasCause (D.faults (device_in self.old)) (D.faults (device_in self.new)) result }
     {
         if self.failed {
@@ -101,6 +104,11 @@ impl<D: BlockDevice, A: Allocator + Copy> Store<D, A> {
         ensures image_stops { (t u : Table) → StandsFor self.old t → IsImage (blocks_in self.old) u →
             LeavesOnly D.moment D.left_since (device_in self.old) (device_in self.new) (LeftFromImage u t) }
         ensures durable { (t : Table) → StandsFor self.old t → IsOk result ⊎ HasFailed self.new → Only (blocks_in self.new) (D.may_leave (device_in self.new)) }
+
+        // One that is closed is only read: a stop leaves the blocks as they are.
+        ensures now_closed { IsOk result → IsClosed self.new }
+        ensures quiet { (t : Table) → StandsFor self.old t → IsClosed self.old →
+            LeavesOnly D.moment D.left_since (device_in self.old) (device_in self.new) (λ c. c ≡ blocks_in self.old) }
 
         // One that failed leaves the device as it is.
         ensures failed { HasFailed self.old → device_in self.new ≡ device_in self.old }
@@ -142,6 +150,9 @@ impl<D: BlockDevice, A: Allocator + Copy> Store<D, A> {
         ensures refused_image_stops { (t u : Table) → StandsFor self t → IsImage (blocks_in self) u → IfErr result (λ e.
             LeavesOnly D.moment D.left_since (device_in self) e.1 (LeftFromImage u t)) }
         ensures durable { (t : Table) → StandsFor self t → IfOk result (λ device. Only (D.shown device) (D.may_leave device)) }
+
+        // Of one that is closed already the device comes back as it is.
+        ensures quiet { (t : Table) → StandsFor self t → IsClosed self → result ≡ Ok (device_in self) }
 
         ensures refused { (t : Table) → StandsFor self t → IfErr result (λ e. GivesUp e.0 ⊎ ((e.0 ≡ refusal.NoPages) × (2 ^ 31 ≤ length (D.shown e.1)))) }
         ensures failed { HasFailed self → result ≡ Err (refusal.StoreFailed 19, device_in self) }

@@ -8,9 +8,10 @@ ghost use Rattle.page_file.specs.Stops.{AddsOnly, StopSince};
 ghost use Rattle.plain_table.specs.Table.{Table};
 ghost use Rattle.plain_table.specs.declared.refusal.Refusal.TheVariants as refusal;
 ghost use Rattle.page_file.specs.declared.fault.Fault.{Fault};
+ghost use Rattle.page_file.specs.declared.gate.Gate.TheVariants.{Shut};
 ghost use Rattle.page_file.specs.File.{blocks_of, device_of, gate_of, given, next_of, IsHonest, IsPageMap, KeepsGate};
 ghost use Rattle.layer_store.specs.Image.{Holds, HoldsIn, IsDamaged, IsImage, Refuses};
-ghost use Rattle.layer_store.specs.Standing.{StandsFor, blocks_in, device_in, file_in, table_in};
+ghost use Rattle.layer_store.specs.Standing.{StandsFor, IsClosed, blocks_in, device_in, file_in, table_in};
 ghost use Rattle.layer_store.specs.Faults.{GivesUp, faults_after};
 ghost use Rattle.layer_store.specs.Starting.{IsRefusedFor, is_cache};
 
@@ -44,6 +45,7 @@ pub fn create_store<D: BlockDevice, A: Allocator + Copy>(
     ensures bad_cache { is_cache cache ≡ false → result ≡ Err (refusal.BadCache, device) }
     ensures stands { IfOk result (λ store. D.honest device → StandsFor store empty) }
     ensures closed { IfOk result (λ store. D.honest device → IsImage (blocks_in store) empty) }
+    ensures now_closed { IfOk result IsClosed }
 
     // A stop leaves blocks that opening refuses, or an image of the empty table; and once the store is made nothing but
     // what is read.
@@ -102,6 +104,7 @@ pub fn open_store<D: BlockDevice, A: Allocator + Copy>(
     ensures refused_stops { is_cache cache ≡ true → IfErr result (λ e. D.honest device → LeavesOnly D.moment D.left_since device e.1 (D.may_leave device)) }
     ensures durable { IfOk result (λ store. D.honest device → Only (blocks_in store) (D.may_leave (device_in store))) }
 
+    ensures now_closed { IfOk result IsClosed }
     ensures blocks { IfOk result (λ store. D.honest device → blocks_in store ≡ D.shown device) }
     ensures refused_blocks { IfErr result (λ e. D.honest device → D.shown e.1 ≡ D.shown device) }
     ensures no_fault { IfOk result (λ store. D.faults (device_in store) ≡ D.faults device) }
@@ -128,6 +131,7 @@ fn read_store<D: BlockDevice, A: Allocator + Copy>(
     ensures table { IfOk result (λ store. IsHonest file → Holds (given file) (next_of file) (table_in store)) }
     ensures refused { IsHonest file → IfErr result (λ e. GivesUp e.0 ⊎ ((n : ℕ) × (e.0 ≡ refusal.Damaged n) × IsDamaged (given file) (next_of file) n)) }
     ensures gate { IfOk result (λ store. KeepsGate file (file_in store)) }
+    ensures now_closed { gate_of file ≡ Shut → IfOk result IsClosed }
     ensures refused_stops { IfErr result (λ e. IsHonest file → AddsOnly D.moment D.left_since (device_of file) e.1 (StopSince (gate_of file) (blocks_of file))) }
     ensures no_fault { IfOk result (λ store. D.faults (device_in store) ≡ D.faults (device_of file)) }
     ensures cause { IfErr result (λ e. D.faults e.1 ≡ faults_after e.0 (D.faults (device_of file))) }

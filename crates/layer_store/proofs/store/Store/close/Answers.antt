@@ -1,5 +1,5 @@
 -- A live store closes its table, and one that failed answers that alone.
-use Rattle.std.proofs.Common.{◌≡◌, ◌⊎◌, ◌≤◌, ◌^◌, length, sym, subst}
+use Rattle.std.proofs.Common.{◌≡◌, ◌⊎◌, ◌≤◌, ◌^◌, Ok, length, sym, ap, subst}
 use Rattle.block_device.specs.Device.{LeavesOnly}
 use Rattle.page_file.specs.File.{device_of}
 use Rattle.plain_table.specs.Table.{Table}
@@ -8,7 +8,7 @@ use Rattle.plain_table.specs.declared.refusal.Refusal.TheVariants as refusal
 use Rattle.layer_store.specs.Faults.{GivesUp}
 use Rattle.layer_store.specs.Image.{IsImage, LeftByClosing}
 use Rattle.layer_store.proofs.StopLemmas.{from_image}
-use Rattle.layer_store.proofs.StoreLemmas.{alive_with, failed_so, not_both, refused_closing}
+use Rattle.layer_store.proofs.StoreLemmas.{alive_with, failed_so, is_closed, not_both, refused_closing}
 use Rattle.layer_store.proofs.store.Store.close.Goals as goal
 
 pub returns-then-self-clause-refused : goal.returns-then-self-clause-refused
@@ -65,3 +65,12 @@ returns-in-Err-clause-refused_image_stops g c = λ t u stands image.
 
 pub returns-in-Ok-clause-durable : goal.returns-in-Ok-clause-durable
 returns-in-Ok-clause-durable g c = λ t stands. c.in-Ok.ensures.durable (alive_with c.args.self t stands).sound.map
+
+pub returns-then-self-clause-quiet : goal.returns-then-self-clause-quiet
+returns-then-self-clause-quiet g c = λ t stands closed. absurd (not_both _ c.if-self.true (alive_with c.args.self t stands).going)
+
+pub returns-in-Ok-clause-quiet : goal.returns-in-Ok-clause-quiet
+returns-in-Ok-clause-quiet g c = λ t stands closed. let was = is_closed c.args.self closed in ap Ok (let e = c.in-Ok.ensures.was_closed was.0 was.1 in cc)
+
+pub returns-in-Err-clause-quiet : goal.returns-in-Err-clause-quiet
+returns-in-Err-clause-quiet g c = λ t stands closed. let was = is_closed c.args.self closed in let no = c.in-Err.ensures.was_closed was.0 was.1 in absurd (cc)

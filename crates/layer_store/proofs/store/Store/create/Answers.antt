@@ -3,7 +3,7 @@ use Rattle.page_file.specs.File.{device_of}
 use Rattle.page_file.specs.declared.file.PageFile.{PageFile}
 use Rattle.plain_table.specs.Answers.{done_answer}
 use Rattle.plain_table.specs.Commands.Command.{Create}
-use Rattle.layer_store.proofs.StoreLemmas.{cause_in_memory, takes_in_memory, takes_nothing}
+use Rattle.layer_store.proofs.StoreLemmas.{cause_in_memory, still_closed, takes_in_memory, takes_nothing}
 use Rattle.layer_store.proofs.store.Store.create.Goals as goal
 
 pub returns-then-self-clause-step : goal.returns-then-self-clause-step
@@ -14,3 +14,6 @@ returns-clause-step g c = takes_in_memory c.args.self.now (record { kept = c.cre
 
 pub returns-clause-cause : goal.returns-clause-cause
 returns-clause-cause g c = cause_in_memory _ _ c.create.result done_answer c.args.self.now.kept.table c.create.new.self.table (Create c.args.layer.now c.args.dims c.args.fanout) (λ r. refl) c.create.ensures.table (ap (λ (file : PageFile _ _). g.D.BlockDevice.faults (device_of file)) c.create.ensures.file)
+
+pub returns-clause-still_closed : goal.returns-clause-still_closed
+returns-clause-still_closed g c = still_closed c.args.self.now (record { kept = c.create.new.self; failed = c.args.self.now.failed }) c.create.result c.create.ensures.file c.create.ensures.refused

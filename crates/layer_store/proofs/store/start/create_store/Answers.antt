@@ -7,7 +7,7 @@ use Rattle.layer_store.specs.Standing.{StandsFor}
 use Rattle.layer_store.specs.declared.store.Store.{Store}
 use Rattle.layer_store.proofs.KeepLemmas.{image_of, nothing_held}
 use Rattle.layer_store.proofs.StopLemmas.{new_left, shut_is_durable}
-use Rattle.layer_store.proofs.StoreLemmas.{alive}
+use Rattle.layer_store.proofs.StoreLemmas.{alive, closed_so}
 use Rattle.layer_store.proofs.store.start.create_store.Goals as goal
 
 pub returns-in-Ok-clause-stands : goal.returns-in-Ok-clause-stands
@@ -32,3 +32,6 @@ returns-in-Ok-clause-durable g c = λ honest. shut_is_durable c.in-Ok.file (c.in
 
 pub returns-in-Err-clause-refused_stops : goal.returns-in-Err-clause-refused_stops
 returns-in-Err-clause-refused_stops g c = λ cache honest. new_left _ _ _ _ _ (c.in-Err.ensures.refused_stops honest)
+
+pub returns-in-Ok-clause-now_closed : goal.returns-in-Ok-clause-now_closed
+returns-in-Ok-clause-now_closed g c = closed_so (record { kept = record { alloc = c.args.alloc; file = c.in-Ok.file; table = c.new.result; written = true }; failed = false }) c.in-Ok.ensures.shut refl

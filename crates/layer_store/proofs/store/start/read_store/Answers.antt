@@ -1,11 +1,11 @@
 -- What was read is what the pages hold, and they hold one table.
-use Rattle.std.proofs.Common.{true, false, refl, subst}
+use Rattle.std.proofs.Common.{◌∙◌, true, false, refl, subst}
 use Rattle.page_file.specs.File.{given, next_of}
 use Rattle.layer_store.specs.Keeping.{IsSound}
 use Rattle.layer_store.specs.Laws.{pages_hold_one_table, held_pages_are_not_damaged}
 use Rattle.layer_store.specs.Standing.{StandsFor}
 use Rattle.layer_store.proofs.KeepLemmas.{kept_table, live_table}
-use Rattle.layer_store.proofs.StoreLemmas.{alive}
+use Rattle.layer_store.proofs.StoreLemmas.{alive, closed_so}
 use Rattle.layer_store.proofs.store.start.read_store.Goals as goal
 
 pub returns-in-Ok-clause-stands : goal.returns-in-Ok-clause-stands
@@ -21,3 +21,6 @@ returns-in-Ok-clause-stands g c = λ map t held.
 
 pub returns-in-Ok-clause-opened : goal.returns-in-Ok-clause-opened
 returns-in-Ok-clause-opened g c = λ honest n damaged. held_pages_are_not_damaged (given c.args.file) (next_of c.args.file) n c.in-Ok.table (c.in-Ok.ensures.holds honest) damaged
+
+pub returns-in-Ok-clause-now_closed : goal.returns-in-Ok-clause-now_closed
+returns-in-Ok-clause-now_closed g c = λ shut. closed_so (record { kept = record { alloc = c.args.alloc; file = c.read_table.new.file; table = c.in-Ok.table; written = true }; failed = false }) (c.in-Ok.ensures.gate.gate ∙ shut) refl
