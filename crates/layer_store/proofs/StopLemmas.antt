@@ -1,6 +1,5 @@
 -- What a stop leaves of a store's blocks: a refusal, or an image.
-use Rattle.std.proofs.Common.{◌≡◌, ◌∙◌, ◌⊎◌, ℕ, Some, None, true, false, refl, sym, ap, subst, arith, inl, inr, ⊎_elim}
-use Rattle.std.specs.Prelude.{is_some}
+use Rattle.std.proofs.Common.{◌≡◌, ◌∙◌, ◌⊎◌, ℕ, suc, List, [], ◌∷◌, Some, refl, sym, ap, subst, arith, inl, inr, ⊎_elim}
 use Rattle.std.specs.FinMap.{empty}
 use Rattle.block_device.specs.Device.{Blocks, LeavesOnly, Only}
 use Rattle.block_device.specs.Moments.{leaves_then, leaves_weaker, started}
@@ -8,15 +7,19 @@ use Rattle.page_file.specs.Aside.{FindsSame, aside_passes}
 use Rattle.page_file.specs.File.{IsHonest, IsNewFile, IsPageMap, KeepsGate, LiesIn, blocks_of, gate_of, next_of, pages}
 use Rattle.page_file.specs.Given.{given_is, is_given}
 use Rattle.page_file.specs.Kept.{aside_at}
-use Rattle.page_file.specs.Laws.{a_run_goes_on, a_stop_follows_the_gate, a_stop_now_leaves_all_but_the_gate, is_open, stops_of_a_run_go_on}
-use Rattle.page_file.specs.Opening.{IsRefused, failed_check}
+use Rattle.page_file.specs.Laws.{a_gate_aside_finds_the_file, a_run_goes_on, a_stop_follows_the_gate, a_stop_now_leaves_all_but_the_gate, is_open, stops_of_a_run_go_on}
+use Rattle.page_file.specs.Opening.{IsRefused}
 use Rattle.page_file.specs.Pages.{given_pages, next_in}
-use Rattle.page_file.specs.Stops.{AddsOnly, GateAside, SameButGate, StopSince}
+use Rattle.page_file.specs.Stops.{AddsOnly, SameButGate, StopSince}
 use Rattle.page_file.specs.declared.file.PageFile.{PageFile}
 use Rattle.page_file.specs.declared.gate.Gate.{Gate}
 use Rattle.page_file.specs.declared.gate.Gate.TheVariants.{Shut, Open}
 use Rattle.plain_table.specs.Table.{Table}
-use Rattle.layer_store.specs.Image.{Holds, IsImage, LeftByClosing, LeftFromImage}
+use Rattle.layer_store.specs.Image.{Holds, IsImage, IsLeftOf}
+use Rattle.layer_store.specs.Keeping.{RestsOn}
+use Rattle.layer_store.specs.Standing.{Rests, StandsFor, blocks_in, device_in}
+use Rattle.layer_store.specs.declared.store.Store.{Store}
+use Rattle.layer_store.proofs.StoreLemmas.{alive_with}
 use Rattle.layer_store.specs.Laws.{a_held_table_stays}
 use Rattle.layer_store.proofs.KeepLemmas.{image_of, new_image}
 
@@ -31,9 +34,6 @@ image_aside blocks c t image same = ⊎_elim (λ (refused : IsRefused c). inl re
       (omega (arith, found.next)) image.holds;
 })) (aside_passes c blocks same)
 
-passed_not_refused : (blocks : Blocks) → failed_check blocks ≡ None → IsRefused blocks → ⊥
-passed_not_refused blocks passes refused = let no : false ≡ true = sym (ap is_some passes) ∙ refused in absurd (cc)
-
 -- what was opened and then only read
 pub only_read : {D : Type 0} (moment : D → ℕ) (left_since : D → ℕ → Blocks → Type 0) (may_leave : D → Blocks → Type 0) (old mid new : D) (gate : Gate) (shown now : Blocks) → may_leave old shown → gate ≡ Shut → now ≡ shown
     → LeavesOnly moment left_since old mid (may_leave old) → AddsOnly moment left_since mid new (StopSince gate now) → LeavesOnly moment left_since old new (may_leave old)
@@ -46,64 +46,75 @@ only_read moment left_since may_leave old mid new gate shown now there shut same
 pub new_left : {D : Type 0} (moment : D → ℕ) (left_since : D → ℕ → Blocks → Type 0) (old new : D) (Q : Blocks → Type 0) → LeavesOnly moment left_since old new (λ c. IsRefused c ⊎ (Q c × IsNewFile c)) → LeavesOnly moment left_since old new (λ c. IsRefused c ⊎ IsImage c empty)
 new_left moment left_since old new Q = leaves_weaker moment left_since old new (λ c. IsRefused c ⊎ (Q c × IsNewFile c)) (λ c. IsRefused c ⊎ IsImage c empty) (λ c. ⊎_elim (λ refused. inl refused) (λ made. inr (new_image c made.1)))
 
--- ---- a closing
+-- ---- a file at rest
 
--- pages were written, or not: what might have been left but for the gate, or a refusal
-abbrev pub LeftByWriting : (Blocks → Type 0) → Blocks → Type 0
-LeftByWriting before c = GateAside before c ⊎ IsRefused c
+or_this : (ts : List Table) (t : Table) (c : Blocks) → IsLeftOf ts c → IsLeftOf (t ∷ ts) c
+or_this ts t c (inl refused) = inl refused
+or_this ts t c (inr (u, (i, lt, is), image)) = inr (u, (suc i, omega (arith, lt), is), image)
+
+this_one : (ts : List Table) (t : Table) (c : Blocks) → IsImage c t → IsLeftOf (t ∷ ts) c
+this_one ts t c image = inr (t, (0, omega arith, refl), image)
 
 -- no table was closed
-pub not_closed : {D : Type 0} (moment : D → ℕ) (left_since : D → ℕ → Blocks → Type 0) (old new : D) (before : Blocks → Type 0) (t : Table) → LeavesOnly moment left_since old new (LeftByWriting before) → LeavesOnly moment left_since old new (LeftByClosing before t)
-not_closed moment left_since old new before t = leaves_weaker moment left_since old new (LeftByWriting before) (LeftByClosing before t) (λ c. ⊎_elim (λ aside. inl aside) (λ refused. inr (inl refused)))
-
--- no call was made
-pub none_made : {D : Type 0} (moment : D → ℕ) (left_since : D → ℕ → Blocks → Type 0) (may_leave : D → Blocks → Type 0) (device : D) → ((c : Blocks) → left_since device (moment device) c → may_leave device c)
-    → LeavesOnly moment left_since device device (LeftByWriting (may_leave device))
-none_made moment left_since may_leave device now = started moment left_since device (LeftByWriting (may_leave device)) (λ c left. inl (c, now c left, refl))
+pub leaves_or : {D : Type 0} (moment : D → ℕ) (left_since : D → ℕ → Blocks → Type 0) (old new : D) (ts : List Table) (t : Table) → LeavesOnly moment left_since old new (IsLeftOf ts) → LeavesOnly moment left_since old new (IsLeftOf (t ∷ ts))
+leaves_or moment left_since old new ts t = leaves_weaker moment left_since old new (IsLeftOf ts) (IsLeftOf (t ∷ ts)) (or_this ts t)
 
 module _ {D : Type 0} {m : _} where
-  -- the blocks of a file whose gate is open are no image
-  not_open : (file : PageFile D m) (t : Table) → IsHonest file → m.may_leave file.device (blocks_of file) → IsImage (blocks_of file) t → gate_of file ≡ Open → ⊥
-  not_open file t honest shown image opened =
-      passed_not_refused (blocks_of file) image.passes (subst (λ (gate : Gate). StopSince gate (blocks_of file) (blocks_of file)) opened (a_stop_follows_the_gate file (blocks_of file) honest shown))
-
-  -- the gate was opened, was open, or was not opened
-  pub gate_opened : (old new : PageFile D m) → m.may_leave old.device (blocks_of old) → ((c : Blocks) → m.left_since old.device (m.moment old.device) c → m.may_leave old.device c) → (gate_of old ≡ Open → new ≡ old)
-      → (¬ (gate_of old ≡ Open) → LeavesOnly m.moment m.left_since old.device new.device (λ c. SameButGate c (blocks_of old))) → LeavesOnly m.moment m.left_since old.device new.device (LeftByWriting (m.may_leave old.device))
-  gate_opened old new shown now was_open stops = ⊎_elim
-      (λ (opened : gate_of old ≡ Open). subst (λ (file : PageFile D m). LeavesOnly m.moment m.left_since old.device file.device (LeftByWriting (m.may_leave old.device))) (sym (was_open opened))
-      (none_made m.moment m.left_since m.may_leave old.device now))
-      (λ (closed : ¬ (gate_of old ≡ Open)). leaves_weaker m.moment m.left_since old.device new.device (λ c. SameButGate c (blocks_of old)) (LeftByWriting (m.may_leave old.device)) (λ c same. inl (blocks_of old, shown, same)) (stops closed))
-      (is_open (gate_of old))
-
-  -- and pages were written behind it
-  pub pages_written : (old mid new : PageFile D m) → IsHonest mid → gate_of mid ≡ Open → LeavesOnly m.moment m.left_since old.device mid.device (LeftByWriting (m.may_leave old.device)) → KeepsGate mid new
-      → LeavesOnly m.moment m.left_since old.device new.device (LeftByWriting (m.may_leave old.device))
-  pages_written old mid new honest opened before keeps =
-      leaves_weaker m.moment m.left_since old.device new.device (λ c. LeftByWriting (m.may_leave old.device) c ⊎ StopSince (gate_of mid) (blocks_of mid) c) (LeftByWriting (m.may_leave old.device))
-      (λ c. ⊎_elim (λ (p : LeftByWriting (m.may_leave old.device) c). p) (λ stop. inr (subst (λ (gate : Gate). StopSince gate (blocks_of mid) c) opened stop)))
-      (stops_of_a_run_go_on old.device mid new (LeftByWriting (m.may_leave old.device)) honest before keeps)
-
-  -- and the file was settled, or not, and holds the table
-  pub table_closed : (old mid new : D) (file : PageFile D m) (Q before : Blocks → Type 0) (t : Table) → LeavesOnly m.moment m.left_since old mid (LeftByWriting before) → LeavesOnly m.moment m.left_since mid new (λ c. IsRefused c ⊎ (Q c × LiesIn file c))
-      → IsPageMap file → Holds (pages file) (next_of file) t → LeavesOnly m.moment m.left_since old new (LeftByClosing before t)
-  table_closed old mid new file Q before t written settled map held =
-      leaves_then m.moment m.left_since old mid new (LeftByClosing before t) (not_closed m.moment m.left_since old mid before t written)
-      (leaves_weaker m.moment m.left_since mid new (λ c. IsRefused c ⊎ (Q c × LiesIn file c)) (LeftByClosing before t)
-      (λ c. ⊎_elim (λ refused. inr (inl refused)) (λ there. inr (inr (image_of file c t map there.1 held)))) settled)
+  -- what a stop at rest leaves
+  pub rest_leaves : (file : PageFile D m) (ts : List Table) → IsHonest file → RestsOn file ts → (c : Blocks) → m.may_leave file.device c → IsLeftOf ts c
+  rest_leaves file ts honest rests c left = ⊎_elim
+      (λ (opened : gate_of file ≡ Open). inl (subst (λ (gate : Gate). StopSince gate (blocks_of file) c) opened (a_stop_follows_the_gate file c honest left)))
+      (λ (closed : ¬ (gate_of file ≡ Open)). rests closed c (a_stop_now_leaves_all_but_the_gate file c honest closed left))
+      (is_open (gate_of file))
 
   -- nothing else is left where the gate is shut
   pub shut_is_durable : (file : PageFile D m) → IsHonest file → gate_of file ≡ Shut → Only (blocks_of file) (m.may_leave file.device)
   shut_is_durable file honest shut = λ c left. subst (λ (gate : Gate). StopSince gate (blocks_of file) c) shut (a_stop_follows_the_gate file c honest left)
 
+  -- a file that holds the table rests on it, whatever it rested on
+  pub rests_on_table : (file : PageFile D m) (ts : List Table) (t : Table) → IsPageMap file → Holds (pages file) (next_of file) t → RestsOn file (t ∷ ts)
+  rests_on_table file ts t map held = λ closed c same. ⊎_elim (λ refused. inl refused) (λ lies. this_one ts t c (image_of file c t map lies held)) (a_gate_aside_finds_the_file file c map.honest closed same)
+
+  pub rests_on_more : (file : PageFile D m) (ts : List Table) (t : Table) → RestsOn file ts → RestsOn file (t ∷ ts)
+  rests_on_more file ts t rests = λ closed c same. or_this ts t c (rests closed c same)
+
+  -- ---- a closing
+
+  -- no call was made
+  pub none_made : (file : PageFile D m) (ts : List Table) → IsHonest file → ((c : Blocks) → m.left_since file.device (m.moment file.device) c → m.may_leave file.device c) → RestsOn file ts → LeavesOnly m.moment m.left_since file.device file.device (IsLeftOf ts)
+  none_made file ts honest now rests = started m.moment m.left_since file.device (IsLeftOf ts) (λ c left. rest_leaves file ts honest rests c (now c left))
+
+  -- the gate was opened, was open, or was not opened
+  pub gate_opened : (old new : PageFile D m) (ts : List Table) → IsHonest old → ((c : Blocks) → m.left_since old.device (m.moment old.device) c → m.may_leave old.device c) → (gate_of old ≡ Open → new ≡ old)
+      → (¬ (gate_of old ≡ Open) → LeavesOnly m.moment m.left_since old.device new.device (λ c. SameButGate c (blocks_of old))) → RestsOn old ts → LeavesOnly m.moment m.left_since old.device new.device (IsLeftOf ts)
+  gate_opened old new ts honest now was_open stops rests = ⊎_elim
+      (λ (opened : gate_of old ≡ Open). subst (λ (file : PageFile D m). LeavesOnly m.moment m.left_since old.device file.device (IsLeftOf ts)) (sym (was_open opened)) (none_made old ts honest now rests))
+      (λ (closed : ¬ (gate_of old ≡ Open)). leaves_weaker m.moment m.left_since old.device new.device (λ c. SameButGate c (blocks_of old)) (IsLeftOf ts) (λ c same. rests closed c same) (stops closed))
+      (is_open (gate_of old))
+
+  -- and pages were written behind it
+  pub pages_written : (old mid new : PageFile D m) (ts : List Table) → IsHonest mid → gate_of mid ≡ Open → LeavesOnly m.moment m.left_since old.device mid.device (IsLeftOf ts) → KeepsGate mid new → LeavesOnly m.moment m.left_since old.device new.device (IsLeftOf ts)
+  pages_written old mid new ts honest opened before keeps =
+      leaves_weaker m.moment m.left_since old.device new.device (λ c. IsLeftOf ts c ⊎ StopSince (gate_of mid) (blocks_of mid) c) (IsLeftOf ts)
+      (λ c. ⊎_elim (λ (p : IsLeftOf ts c). p) (λ stop. inl (subst (λ (gate : Gate). StopSince gate (blocks_of mid) c) opened stop)))
+      (stops_of_a_run_go_on old.device mid new (IsLeftOf ts) honest before keeps)
+
+  -- and the file was settled, or not, and holds the table
+  pub table_closed : (old mid new : D) (file : PageFile D m) (Q : Blocks → Type 0) (ts : List Table) (t : Table) → LeavesOnly m.moment m.left_since old mid (IsLeftOf ts) → LeavesOnly m.moment m.left_since mid new (λ c. IsRefused c ⊎ (Q c × LiesIn file c))
+      → IsPageMap file → Holds (pages file) (next_of file) t → LeavesOnly m.moment m.left_since old new (IsLeftOf (t ∷ ts))
+  table_closed old mid new file Q ts t written settled map held =
+      leaves_then m.moment m.left_since old mid new (IsLeftOf (t ∷ ts)) (leaves_or m.moment m.left_since old mid ts t written)
+      (leaves_weaker m.moment m.left_since mid new (λ c. IsRefused c ⊎ (Q c × LiesIn file c)) (IsLeftOf (t ∷ ts))
+      (λ c. ⊎_elim (λ refused. inl refused) (λ there. this_one ts t c (image_of file c t map there.1 held))) settled)
+
   -- a file whose gate is shut was read
-  pub then_read : (old : D) (mid new : PageFile D m) (before : Blocks → Type 0) (t : Table) → IsHonest mid → gate_of mid ≡ Shut → IsImage (blocks_of mid) t → LeavesOnly m.moment m.left_since old mid.device (LeftByClosing before t) → KeepsGate mid new
-      → LeavesOnly m.moment m.left_since old new.device (LeftByClosing before t)
-  then_read old mid new before t honest shut image closed keeps =
-      leaves_weaker m.moment m.left_since old new.device (λ c. LeftByClosing before t c ⊎ StopSince (gate_of mid) (blocks_of mid) c) (LeftByClosing before t)
-      (λ c. ⊎_elim (λ (p : LeftByClosing before t c). p)
-      (λ stop. inr (inr (subst (λ (blocks : Blocks). IsImage blocks t) (sym (subst (λ (gate : Gate). StopSince gate (blocks_of mid) c) shut stop)) image))))
-      (stops_of_a_run_go_on old mid new (LeftByClosing before t) honest closed keeps)
+  pub then_read : (old : D) (mid new : PageFile D m) (ts : List Table) (t : Table) → IsHonest mid → gate_of mid ≡ Shut → IsImage (blocks_of mid) t → LeavesOnly m.moment m.left_since old mid.device (IsLeftOf (t ∷ ts)) → KeepsGate mid new
+      → LeavesOnly m.moment m.left_since old new.device (IsLeftOf (t ∷ ts))
+  then_read old mid new ts t honest shut image closed keeps =
+      leaves_weaker m.moment m.left_since old new.device (λ c. IsLeftOf (t ∷ ts) c ⊎ StopSince (gate_of mid) (blocks_of mid) c) (IsLeftOf (t ∷ ts))
+      (λ c. ⊎_elim (λ (p : IsLeftOf (t ∷ ts) c). p)
+      (λ stop. this_one ts t c (subst (λ (blocks : Blocks). IsImage blocks t) (sym (subst (λ (gate : Gate). StopSince gate (blocks_of mid) c) shut stop)) image)))
+      (stops_of_a_run_go_on old mid new (IsLeftOf (t ∷ ts)) honest closed keeps)
 
   -- and nothing else was done
   pub read_alone : (old new : PageFile D m) → IsHonest old → ((c : Blocks) → m.left_since old.device (m.moment old.device) c → m.may_leave old.device c) → gate_of old ≡ Shut → KeepsGate old new
@@ -114,15 +125,22 @@ module _ {D : Type 0} {m : _} where
       (stops_of_a_run_go_on old.device old new (λ c. c ≡ blocks_of old) honest
       (started m.moment m.left_since old.device (λ c. c ≡ blocks_of old) (λ c left. shut_is_durable old honest shut c (now c left))) keeps)
 
-  -- where the blocks were an image
-  pub from_image : (old : PageFile D m) (new : D) (u t : Table) → IsHonest old → m.may_leave old.device (blocks_of old) → IsImage (blocks_of old) u → LeavesOnly m.moment m.left_since old.device new (LeftByClosing (m.may_leave old.device) t)
-      → LeavesOnly m.moment m.left_since old.device new (LeftFromImage u t)
-  from_image old new u t honest shown image = leaves_weaker m.moment m.left_since old.device new (LeftByClosing (m.may_leave old.device) t) (LeftFromImage u t) (λ c. case c)
-    where
-      aside : (c : Blocks) → GateAside (m.may_leave old.device) c → SameButGate c (blocks_of old)
-      aside c from = from.2 ∙ a_stop_now_leaves_all_but_the_gate old from.0 honest (not_open old u honest shown image) from.1
+-- ---- a store at rest
 
-      case : (c : Blocks) → LeftByClosing (m.may_leave old.device) t c → LeftFromImage u t c
-      case c (inl from) = ⊎_elim (λ refused. inl refused) (λ same. inr (inl same)) (image_aside (blocks_of old) c u image (aside c from))
-      case c (inr (inl refused)) = inl refused
-      case c (inr (inr closed)) = inr (inr closed)
+module _ {D A : Type 0} {m : _} where
+  pub left_at_rest : (store : Store D A m) (t : Table) (ts : List Table) → StandsFor store t → Rests store ts → (c : Blocks) → m.may_leave (device_in store) c → IsLeftOf ts c
+  unfolding Rests
+  left_at_rest store t ts stands rests c left = rest_leaves store.kept.file ts (alive_with store t stands).sound.map.honest rests c left
+
+  pub image_at_rest : (store : Store D A m) (u : Table) → IsImage (blocks_in store) u → Rests store (u ∷ [])
+  unfolding Rests
+  image_at_rest store u image = λ closed c same. ⊎_elim (λ refused. inl refused) (λ there. this_one [] u c there) (image_aside (blocks_in store) c u image same)
+
+  -- of its file
+  pub rest_of : (store : Store D A m) (ts : List Table) → Rests store ts → RestsOn store.kept.file ts
+  unfolding Rests
+  rest_of store ts rests = rests
+
+  pub rests_so : (store : Store D A m) (ts : List Table) → RestsOn store.kept.file ts → Rests store ts
+  unfolding Rests
+  rests_so store ts rests = rests

@@ -1,6 +1,7 @@
 -- What the pages of a file hold of a table, which blocks are an image of one, and why opening refuses others.
 -- The directory of a layer is the first page of the chain of its objects, until layers are trees. Our rule, docs/FORMAT.md.
 use Rattle.std.specs.Prelude.{ℕ, ◌≡◌, ◌⊎◌, IsTrue, false, ◌<◌, List, [], ◌∷◌, length, take, slice_index_or, Option, Some, None, option_and_then}
+use Rattle.std.specs.List.{Contains}
 use Rattle.std.specs.FinMap.{entries}
 use Rattle.block_device.specs.Device.{Blocks}
 use Rattle.box_math.specs.Bounds.{Bounds}
@@ -8,7 +9,6 @@ use Rattle.catalog_page.specs.Layout.{Record, records_at}
 use Rattle.object_chain.specs.Chain.{PageMap, HoldsObjects, BreaksAt}
 use Rattle.page_file.specs.Opening.{IsRefused, failed_check}
 use Rattle.page_file.specs.Pages.{IsSoundMap, given_pages, next_in}
-use Rattle.page_file.specs.Stops.{GateAside}
 use Rattle.page_file.specs.declared.fault.Fault.{Fault}
 use Rattle.page_file.specs.declared.fault.Fault.TheVariants.{Damaged}
 use Rattle.plain_table.specs.Table.{Table, Layer}
@@ -53,14 +53,9 @@ pub record IsImage (blocks : Blocks) (t : Table) : Type 0 where
 
 -- ---- what a stop may leave
 
--- of a closing of table t: what one before it might have left but for the gate, blocks that opening refuses, or an image
--- of the table
-abbrev pub LeftByClosing : (Blocks → Type 0) → Table → Blocks → Type 0
-LeftByClosing before t c = GateAside before c ⊎ (IsRefused c ⊎ IsImage c t)
-
--- of one that began with an image of table u: blocks that opening refuses, or an image of u or t
-abbrev pub LeftFromImage : Table → Table → Blocks → Type 0
-LeftFromImage u t c = IsRefused c ⊎ (IsImage c u ⊎ IsImage c t)
+-- blocks that opening refuses, or an image of one of these tables
+abbrev pub IsLeftOf : List Table → Blocks → Type 0
+IsLeftOf ts c = IsRefused c ⊎ ((u : Table) × Contains ts u × IsImage c u)
 
 -- ---- what is no image
 

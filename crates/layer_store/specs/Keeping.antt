@@ -1,7 +1,12 @@
 -- What a store keeps while it has not failed.
-use Rattle.std.specs.Prelude.{◌≡◌, true}
-use Rattle.page_file.specs.File.{next_of, pages, IsPageMap}
-use Rattle.layer_store.specs.Image.{Holds}
+use Rattle.std.specs.Prelude.{◌≡◌, true, List}
+use Rattle.block_device.specs.Device.{Blocks}
+use Rattle.page_file.specs.File.{blocks_of, gate_of, next_of, pages, IsPageMap}
+use Rattle.page_file.specs.Stops.{SameButGate}
+use Rattle.page_file.specs.declared.file.PageFile.{PageFile}
+use Rattle.page_file.specs.declared.gate.Gate.TheVariants.{Open}
+use Rattle.plain_table.specs.Table.{Table}
+use Rattle.layer_store.specs.Image.{Holds, IsLeftOf}
 use Rattle.layer_store.specs.declared.kept.Kept.{Kept}
 
 -- its pages hold its table
@@ -12,3 +17,8 @@ HoldsItsTable kept = Holds (pages kept.file) (next_of kept.file) kept.table
 pub record IsSound {D A : Type 0} {m : _} (kept : Kept D A m) : Type 0 where
   pub map : IsPageMap kept.file
   pub held : kept.written ≡ true → HoldsItsTable kept
+
+-- At rest a stop leaves of the file blocks that opening refuses, or an image of one of these tables: its gate is open, or
+-- its blocks are so whatever their gate.
+abbrev pub RestsOn : {D : Type 0} {m : _} → PageFile D m → List Table → Type 0
+RestsOn file ts = ¬ (gate_of file ≡ Open) → (c : Blocks) → SameButGate c (blocks_of file) → IsLeftOf ts c

@@ -1,5 +1,5 @@
 -- What a store stands for, and the device and blocks that it has.
-use Rattle.std.specs.Prelude.{◌≡◌, true, if◌then◌else◌}
+use Rattle.std.specs.Prelude.{◌≡◌, true, List, if◌then◌else◌}
 use Rattle.block_device.specs.Device.{Blocks}
 use Rattle.page_file.specs.File.{blocks_of, device_of, gate_of, next_of}
 use Rattle.page_file.specs.declared.file.PageFile.{PageFile}
@@ -7,7 +7,7 @@ use Rattle.page_file.specs.declared.gate.Gate.TheVariants.{Shut}
 use Rattle.plain_table.specs.Lawful.{Reaches, Standing}
 use Rattle.plain_table.specs.Lawful.State.{Alive, Dead}
 use Rattle.plain_table.specs.Table.{Table}
-use Rattle.layer_store.specs.Keeping.{IsSound}
+use Rattle.layer_store.specs.Keeping.{IsSound, RestsOn}
 use Rattle.layer_store.specs.declared.store.Store.{Store}
 
 -- dead once it failed, else alive with its table; the faults of its device; and the page numbers given out
@@ -50,3 +50,7 @@ file_in store = store.kept.file
 -- Nothing is to be written: its gate is shut behind pages that hold its table.
 unfoldable pub IsClosed : {D A : Type 0} {m : _} → Store D A m → Type 0
 IsClosed store = (gate_of store.kept.file ≡ Shut) × (store.kept.written ≡ true)
+
+-- A stop between calls leaves of it blocks that opening refuses, or an image of one of these tables.
+unfoldable pub Rests : {D A : Type 0} {m : _} → Store D A m → List Table → Type 0
+Rests store ts = RestsOn store.kept.file ts

@@ -1,18 +1,17 @@
 //! What a store keeps while it has not failed: a file of pages, and the table in memory that it answers from.
 
-ghost use Rattle.std.specs.Prelude.{◌≡◌, ◌≤◌, ◌⊎◌, ◌^◌, ◌↔◌, true, length, Ok, IsOk, IsErrOf, IfOk, IfErr, OnErr, OnOk};
+ghost use Rattle.std.specs.Prelude.{◌≡◌, ◌≤◌, ◌⊎◌, ◌^◌, ◌↔◌, true, List, ◌∷◌, length, Ok, IsOk, IsErrOf, IfOk, IfErr, OnErr, OnOk};
 ghost use Rattle.plain_table.specs.Answers.{done_answer};
 ghost use Rattle.plain_table.specs.Commands.Command.{Create, Insert};
 ghost use Rattle.plain_table.specs.Lawful.{AnsweredInMemory};
 ghost use Rattle.block_device.specs.Device.{LeavesOnly, Only};
 ghost use Rattle.page_file.specs.Fault.{HasCause, IsOfDevice, faults_after};
 ghost use Rattle.page_file.specs.File.{blocks_of, device_of, gate_of, next_of, IsHonest, IsPageMap, KeepsGate, LiesIn};
-ghost use Rattle.page_file.specs.Opening.{IsRefused};
-ghost use Rattle.page_file.specs.Stops.{GateAside};
+ghost use Rattle.plain_table.specs.Table.{Table};
 ghost use Rattle.page_file.specs.declared.fault.Fault.TheVariants as fault;
 ghost use Rattle.page_file.specs.declared.gate.Gate.TheVariants.{Shut};
-ghost use Rattle.layer_store.specs.Image.{IsImage, LeftByClosing};
-ghost use Rattle.layer_store.specs.Keeping.{HoldsItsTable, IsSound};
+ghost use Rattle.layer_store.specs.Image.{IsImage, IsLeftOf};
+ghost use Rattle.layer_store.specs.Keeping.{HoldsItsTable, IsSound, RestsOn};
 
 use crate::image::{read_table, write_table};
 use block_device::BlockDevice;
@@ -60,9 +59,10 @@ impl<D: BlockDevice, A: Allocator + Copy> Kept<D, A> {
 
     // Writes the table into the pages, if they do not hold it.
     fn write(&mut self) -> Result<(), Fault>
-        // A stop leaves what one before the call might have left but for the gate, or blocks that opening refuses.
-        ensures stops { IsHonest self.old.file → LeavesOnly D.moment D.left_since (device_of self.old.file) (device_of self.new.file)
-            (λ c. GateAside (D.may_leave (device_of self.old.file)) c ⊎ IsRefused c) }
+        // A stop leaves what one at rest leaves.
+        ensures stops { (ts : List Table) → IsHonest self.old.file → RestsOn self.old.file ts →
+            LeavesOnly D.moment D.left_since (device_of self.old.file) (device_of self.new.file) (IsLeftOf ts) }
+        ensures rests { (ts : List Table) → IsHonest self.old.file → RestsOn self.old.file ts → RestsOn self.new.file ts }
 
         ensures written { OnOk result (self.new.written ≡ true) }
         ensures was_written { self.old.written ≡ true → (self.new ≡ self.old) × IsOk result }
@@ -89,10 +89,10 @@ impl<D: BlockDevice, A: Allocator + Copy> Kept<D, A> {
     /// On an honest device with a sound map it is refused by `Memory` or `Device`, or by `NoPages` where all page
     /// numbers were given out. The table in memory stays, and the map stays sound.
     pub fn settle(&mut self) -> Result<(), Fault>
-        // A stop leaves what one before the call might have left but for the gate, blocks that opening refuses, or an
-        // image of the table.
-        ensures stops { IsSound self.old → LeavesOnly D.moment D.left_since (device_of self.old.file) (device_of self.new.file)
-            (LeftByClosing (D.may_leave (device_of self.old.file)) self.old.table) }
+        // A stop leaves what one at rest leaves, or an image of the table.
+        ensures stops { (ts : List Table) → IsSound self.old → RestsOn self.old.file ts →
+            LeavesOnly D.moment D.left_since (device_of self.old.file) (device_of self.new.file) (IsLeftOf (self.old.table ∷ ts)) }
+        ensures rests { (ts : List Table) → IsSound self.old → RestsOn self.old.file ts → RestsOn self.new.file (self.old.table ∷ ts) }
 
         ensures shut { OnOk result (gate_of self.new.file ≡ Shut) }
         ensures written { OnOk result (self.new.written ≡ true) }
@@ -140,12 +140,12 @@ impl<D: BlockDevice, A: Allocator + Copy> Kept<D, A> {
         ensures closed { IsSound self → IfOk result (λ device. IsImage (D.shown device) self.table) }
         ensures was_closed { gate_of self.file ≡ Shut → self.written ≡ true → result ≡ Ok (device_of self.file) }
 
-        // A stop leaves what one before the call might have left but for the gate, blocks that opening refuses, or an
-        // image of the table; and after a closing that is finished nothing but what is read.
-        ensures stops { IsSound self → IfOk result (λ device.
-            LeavesOnly D.moment D.left_since (device_of self.file) device (LeftByClosing (D.may_leave (device_of self.file)) self.table)) }
-        ensures refused_stops { IsSound self → IfErr result (λ e.
-            LeavesOnly D.moment D.left_since (device_of self.file) e.1 (LeftByClosing (D.may_leave (device_of self.file)) self.table)) }
+        // A stop leaves what one at rest leaves, or an image of the table; and after a closing that is finished nothing but
+        // what is read.
+        ensures stops { (ts : List Table) → IsSound self → RestsOn self.file ts → IfOk result (λ device.
+            LeavesOnly D.moment D.left_since (device_of self.file) device (IsLeftOf (self.table ∷ ts))) }
+        ensures refused_stops { (ts : List Table) → IsSound self → RestsOn self.file ts → IfErr result (λ e.
+            LeavesOnly D.moment D.left_since (device_of self.file) e.1 (IsLeftOf (self.table ∷ ts))) }
         ensures durable { IsPageMap self.file → IfOk result (λ device. Only (D.shown device) (D.may_leave device)) }
 
         ensures faults { IsPageMap self.file → IfErr result (λ e. IsOfDevice e.0 ⊎ ((e.0 ≡ fault.NoPages) × (2 ^ 31 ≤ length (D.shown e.1)))) }

@@ -1,10 +1,15 @@
 //! What follows from the definitions of pages and images: each law is the contract of a function that does nothing.
-ghost use Rattle.std.specs.Prelude.{◌≡◌, ◌≤◌, ℕ};
+ghost use Rattle.std.specs.Prelude.{◌≡◌, ◌≤◌, ℕ, List, [], ◌∷◌};
 ghost use Rattle.block_device.specs.Device.{Blocks};
 ghost use Rattle.object_chain.specs.Chain.{KeepsPages, PageMap};
 ghost use Rattle.page_file.specs.declared.fault.Fault.{Fault};
 ghost use Rattle.plain_table.specs.Table.{Table};
-ghost use Rattle.layer_store.specs.Image.{Holds, IsImage, Refuses};
+ghost use Rattle.layer_store.specs.Image.{Holds, IsImage, IsLeftOf, Refuses};
+ghost use Rattle.layer_store.specs.Standing.{Rests, StandsFor, blocks_in, device_in};
+ghost use Rattle.layer_store.specs.declared.store.Store.{Store};
+
+use block_device::BlockDevice;
+use std::alloc::Allocator;
 
 /// Blocks are an image of at most one table.
 pub fn an_image_is_of_one_table()
@@ -25,4 +30,13 @@ pub fn blocks_are_refused_in_one_way()
 #[tactic(auto, using(crate::specs::Laws::a_held_table_stays))]
 pub fn a_held_table_stays()
     ensures { (old new : PageMap) (next after : ℕ) (t : Table) → KeepsPages old new → next ≤ after → Holds old next t → Holds new after t }
+{}
+
+/// What a stop leaves of a store at rest, between its calls; and one whose blocks are an image of a table rests on that
+/// table.
+#[tactic(auto, using(crate::proofs::StopLemmas::image_at_rest))]
+pub fn a_stop_between_calls_leaves_what_rests<D: BlockDevice, A: Allocator>()
+    ensures left { (store : Store D A ⟦<D as BlockDevice>⟧) (t : Table) (ts : List Table) → StandsFor store t → Rests store ts →
+        (c : Blocks) → D.may_leave (device_in store) c → IsLeftOf ts c }
+    ensures image { (store : Store D A ⟦<D as BlockDevice>⟧) (u : Table) → IsImage (blocks_in store) u → Rests store (u ∷ []) }
 {}

@@ -1,6 +1,6 @@
 //! The store: its commands, and its closing.
 
-ghost use Rattle.std.specs.Prelude.{◌≡◌, ◌⊎◌, ◌≤◌, ◌^◌, length, Ok, Err, IsOk, IfOk, IfErr, OnErr};
+ghost use Rattle.std.specs.Prelude.{◌≡◌, ◌⊎◌, ◌≤◌, ◌^◌, List, ◌∷◌, length, Ok, Err, IsOk, IfOk, IfErr, OnErr};
 ghost use Rattle.block_device.specs.Device.{LeavesOnly, Only};
 ghost use Rattle.plain_table.specs.Answers.{done_answer, boxes_answer};
 ghost use Rattle.plain_table.specs.Commands.Command.{Create, Insert, Window, Reopen};
@@ -9,7 +9,7 @@ ghost use Rattle.plain_table.specs.Lawful.Request.{Asks};
 ghost use Rattle.plain_table.specs.Table.{Table};
 ghost use Rattle.plain_table.specs.declared.refusal.Refusal.TheVariants as refusal;
 ghost use Rattle.layer_store.specs.Faults.{GivesUp, HasCause, faults_after};
-ghost use Rattle.layer_store.specs.Image.{IsImage, LeftByClosing, LeftFromImage};
+ghost use Rattle.layer_store.specs.Image.{IsImage, IsLeftOf};
 
 mod start;
 
@@ -37,7 +37,7 @@ pub struct Store<D: BlockDevice, A: Allocator = Global> {
 }
 
 impl<D: BlockDevice, A: Allocator + Copy> Store<D, A> {
-    ghost use Rattle.layer_store.specs.Standing.{Stands, StandsFor, HasFailed, IsClosed, blocks_in, device_in};
+    ghost use Rattle.layer_store.specs.Standing.{Stands, StandsFor, HasFailed, IsClosed, Rests, blocks_in, device_in};
 
     /// Makes an empty layer of that name with 2 or 3 axes, whose nodes may have 4 to 100 entries.
     ///
@@ -46,6 +46,7 @@ impl<D: BlockDevice, A: Allocator + Copy> Store<D, A> {
         ensures step { Takes Stands self.old self.new
             (λ s s'. LawfulStep s (Asks (Create layer.now dims fanout)) (done_answer result) s') }
         ensures device { device_in self.new ≡ device_in self.old }
+        ensures rests { (ts : List Table) → Rests self.old ts → Rests self.new ts }
         ensures still_closed { IsClosed self.old → OnErr result (IsClosed self.new) }
         ensures cause { HasCause (D.faults (device_in self.old)) (D.faults (device_in self.new)) result }
     {
@@ -62,6 +63,7 @@ impl<D: BlockDevice, A: Allocator + Copy> Store<D, A> {
         ensures step { Takes Stands self.old self.new
             (λ s s'. LawfulStep s (Asks (Insert layer.now id bounds)) (done_answer result) s') }
         ensures device { device_in self.new ≡ device_in self.old }
+        ensures rests { (ts : List Table) → Rests self.old ts → Rests self.new ts }
         ensures still_closed { IsClosed self.old → OnErr result (IsClosed self.new) }
         ensures cause { HasCause (D.faults (device_in self.old)) (D.faults (device_in self.new)) result }
     {
@@ -78,6 +80,7 @@ impl<D: BlockDevice, A: Allocator + Copy> Store<D, A> {
         ensures step { Takes Stands self.old self.new
             (λ s s'. LawfulStep s (Asks (Window layer.now bounds)) (boxes_answer result) s') }
         ensures device { device_in self.new ≡ device_in self.old }
+        ensures rests { (ts : List Table) → Rests self.old ts → Rests self.new ts }
         ensures still_closed { IsClosed self.old → IsClosed self.new }
         ensures cause { HasCause (D.faults (device_in self.old)) (D.faults (device_in self.new)) result }
     {
@@ -96,13 +99,11 @@ impl<D: BlockDevice, A: Allocator + Copy> Store<D, A> {
         ensures step { Takes Stands self.old self.new (λ s s'. LawfulStep s (Asks Reopen) (done_answer result) s') }
         ensures closed { (t : Table) → StandsFor self.old t → IsOk result ⊎ HasFailed self.new → IsImage (blocks_in self.new) t }
 
-        // A stop leaves what one before the call might have left but for the gate, blocks that opening refuses, or an
-        // image of the table. Where the blocks were an image, that is such blocks, or an image of the table that was
-        // closed before or of this one. After a closing that is finished it leaves nothing but what is read.
-        ensures stops { (t : Table) → StandsFor self.old t →
-            LeavesOnly D.moment D.left_since (device_in self.old) (device_in self.new) (LeftByClosing (D.may_leave (device_in self.old)) t) }
-        ensures image_stops { (t u : Table) → StandsFor self.old t → IsImage (blocks_in self.old) u →
-            LeavesOnly D.moment D.left_since (device_in self.old) (device_in self.new) (LeftFromImage u t) }
+        // A stop leaves what one before the call leaves, or an image of the table; and after a closing that is finished
+        // nothing but what is read.
+        ensures stops { (t : Table) (ts : List Table) → StandsFor self.old t → Rests self.old ts →
+            LeavesOnly D.moment D.left_since (device_in self.old) (device_in self.new) (IsLeftOf (t ∷ ts)) }
+        ensures rests { (t : Table) (ts : List Table) → StandsFor self.old t → Rests self.old ts → Rests self.new (t ∷ ts) }
         ensures durable { (t : Table) → StandsFor self.old t → IsOk result ⊎ HasFailed self.new → Only (blocks_in self.new) (D.may_leave (device_in self.new)) }
 
         // One that is closed is only read: a stop leaves the blocks as they are.
@@ -132,23 +133,18 @@ impl<D: BlockDevice, A: Allocator + Copy> Store<D, A> {
     /// Closes the table into the file, and hands the device back.
     ///
     /// Closed, its blocks are an image of the table. Refused it answers `Memory` or `Device`, or `NoPages` where the
-    /// device has 2^31 blocks, and the device comes back: if its blocks were an image, a stop then leaves blocks that
-    /// opening refuses, or an image of the table that was closed before, or of this one. A store that failed answers
-    /// `StoreFailed(19)`, and the device comes back as it is.
+    /// device has 2^31 blocks, and the device comes back: then a stop leaves of it blocks that opening refuses, or an
+    /// image of a table that was closed before, or of this one. A store that failed answers `StoreFailed(19)`, and the
+    /// device comes back as it is.
     pub fn close(self) -> Result<D, (Refusal, D)>
         ensures closed { (t : Table) → StandsFor self t → IfOk result (λ device. IsImage (D.shown device) t) }
 
-        // A stop leaves what one before the call might have left but for the gate, blocks that opening refuses, or an
-        // image of the table. Where the blocks were an image, that is such blocks, or an image of the table that was
-        // closed before or of this one. After a closing that is finished it leaves nothing but what is read.
-        ensures stops { (t : Table) → StandsFor self t → IfOk result (λ device.
-            LeavesOnly D.moment D.left_since (device_in self) device (LeftByClosing (D.may_leave (device_in self)) t)) }
-        ensures refused_stops { (t : Table) → StandsFor self t → IfErr result (λ e.
-            LeavesOnly D.moment D.left_since (device_in self) e.1 (LeftByClosing (D.may_leave (device_in self)) t)) }
-        ensures image_stops { (t u : Table) → StandsFor self t → IsImage (blocks_in self) u → IfOk result (λ device.
-            LeavesOnly D.moment D.left_since (device_in self) device (LeftFromImage u t)) }
-        ensures refused_image_stops { (t u : Table) → StandsFor self t → IsImage (blocks_in self) u → IfErr result (λ e.
-            LeavesOnly D.moment D.left_since (device_in self) e.1 (LeftFromImage u t)) }
+        // A stop leaves what one before the call leaves, or an image of the table; and after a closing that is finished
+        // nothing but what is read.
+        ensures stops { (t : Table) (ts : List Table) → StandsFor self t → Rests self ts → IfOk result (λ device.
+            LeavesOnly D.moment D.left_since (device_in self) device (IsLeftOf (t ∷ ts))) }
+        ensures refused_stops { (t : Table) (ts : List Table) → StandsFor self t → Rests self ts → IfErr result (λ e.
+            LeavesOnly D.moment D.left_since (device_in self) e.1 (IsLeftOf (t ∷ ts))) }
         ensures durable { (t : Table) → StandsFor self t → IfOk result (λ device. Only (D.shown device) (D.may_leave device)) }
 
         // Of one that is closed already the device comes back as it is.

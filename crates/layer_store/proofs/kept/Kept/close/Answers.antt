@@ -1,13 +1,13 @@
 -- The table is in the pages, and the pages are in the blocks.
-use Rattle.std.proofs.Common.{◌≡◌, ◌≤◌, ◌^◌, Err, length, ap, subst, sym, arith, inl, inr, ⊎_elim}
+use Rattle.std.proofs.Common.{◌∷◌, ◌≡◌, ◌≤◌, ◌^◌, Err, length, ap, subst, sym, arith, inl, inr, ⊎_elim}
 use Rattle.page_file.specs.File.{device_of, next_of, pages}
 use Rattle.page_file.specs.Laws.{a_number_given_out_has_its_block}
 use Rattle.page_file.specs.Stops.{SameButGate}
 use Rattle.block_device.specs.Device.{LeavesOnly}
-use Rattle.layer_store.specs.Image.{Holds, LeftByClosing}
+use Rattle.layer_store.specs.Image.{Holds, IsLeftOf}
 use Rattle.layer_store.proofs.KeepLemmas.{image_of}
 use Rattle.layer_store.proofs.Results.{if_err, if_ok}
-use Rattle.layer_store.proofs.StopLemmas.{not_closed, table_closed}
+use Rattle.layer_store.proofs.StopLemmas.{leaves_or, table_closed}
 use Rattle.layer_store.proofs.kept.Kept.close.Goals as goal
 
 pub returns-in-Ok-clause-closed : goal.returns-in-Ok-clause-closed
@@ -24,29 +24,27 @@ pub returns-in-Ok-clause-durable : goal.returns-in-Ok-clause-durable
 returns-in-Ok-clause-durable g c = λ map. if_ok c.close.result (λ device durable. durable (c.in-Ok.ensures.map map).honest) c.close.ensures.durable
 
 pub returns-in-Ok-clause-stops : goal.returns-in-Ok-clause-stops
-returns-in-Ok-clause-stops g c = λ sound.
+returns-in-Ok-clause-stops g c = λ ts sound rests.
     let kept = c.write.new.self in
-    let old = device_of c.args.self.file in
     let before = c.in-Ok.ensures.sound sound in
     let held = subst (Holds (pages kept.file) (next_of kept.file)) c.in-Ok.ensures.table (before.held c.in-Ok.ensures.written) in
-    if_ok c.close.result (λ device stops. table_closed old (device_of kept.file) device kept.file (λ b. SameButGate b (g.D.BlockDevice.shown device)) (g.D.BlockDevice.may_leave old) c.args.self.table
-    (c.in-Ok.ensures.stops sound.map.honest) (stops before.map.honest) before.map held) c.close.ensures.stops
+    if_ok c.close.result (λ device stops. table_closed (device_of c.args.self.file) (device_of kept.file) device kept.file (λ b. SameButGate b (g.D.BlockDevice.shown device)) ts c.args.self.table
+    (c.in-Ok.ensures.stops ts sound.map.honest rests) (stops before.map.honest) before.map held) c.close.ensures.stops
 
 pub returns-in-Ok-clause-refused_stops : goal.returns-in-Ok-clause-refused_stops
-returns-in-Ok-clause-refused_stops g c = λ sound.
+returns-in-Ok-clause-refused_stops g c = λ ts sound rests.
     let kept = c.write.new.self in
-    let old = device_of c.args.self.file in
     let before = c.in-Ok.ensures.sound sound in
     let held = subst (Holds (pages kept.file) (next_of kept.file)) c.in-Ok.ensures.table (before.held c.in-Ok.ensures.written) in
-    if_err c.close.result (λ e stops. table_closed old (device_of kept.file) e.1 kept.file (λ b. SameButGate b (g.D.BlockDevice.shown e.1)) (g.D.BlockDevice.may_leave old) c.args.self.table
-    (c.in-Ok.ensures.stops sound.map.honest) (stops before.map.honest) before.map held) c.close.ensures.refused_stops
+    if_err c.close.result (λ e stops. table_closed (device_of c.args.self.file) (device_of kept.file) e.1 kept.file (λ b. SameButGate b (g.D.BlockDevice.shown e.1)) ts c.args.self.table
+    (c.in-Ok.ensures.stops ts sound.map.honest rests) (stops before.map.honest) before.map held) c.close.ensures.refused_stops
 
 pub returns-clause-refused_stops : goal.returns-clause-refused_stops
-returns-clause-refused_stops g c = λ sound.
+returns-clause-refused_stops g c = λ ts sound rests.
     let d = g.D.BlockDevice in
     let old = device_of c.args.self.file in
-    subst (λ (device : _). LeavesOnly d.moment d.left_since old device (LeftByClosing (d.may_leave old) c.args.self.table)) (sym c.abandon.ensures)
-    (not_closed d.moment d.left_since old (device_of c.write.new.self.file) (d.may_leave old) c.args.self.table (c.in-Err.ensures.stops sound.map.honest))
+    subst (λ (device : _). LeavesOnly d.moment d.left_since old device (IsLeftOf (c.args.self.table ∷ ts))) (sym c.abandon.ensures)
+    (leaves_or d.moment d.left_since old (device_of c.write.new.self.file) ts c.args.self.table (c.in-Err.ensures.stops ts sound.map.honest rests))
 
 pub returns-clause-faults : goal.returns-clause-faults
 returns-clause-faults g c = λ map. ⊎_elim

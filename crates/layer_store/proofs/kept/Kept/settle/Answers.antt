@@ -1,7 +1,7 @@
 use Rattle.std.proofs.Common.{inl, subst}
 use Rattle.layer_store.proofs.KeepLemmas.{kept_table}
 use Rattle.layer_store.proofs.Results.{if_err}
-use Rattle.layer_store.proofs.StopLemmas.{not_closed, table_closed}
+use Rattle.layer_store.proofs.StopLemmas.{leaves_or, rests_on_more, rests_on_table, table_closed}
 use Rattle.layer_store.specs.Image.{Holds}
 use Rattle.page_file.specs.File.{blocks_of, device_of, next_of, pages}
 use Rattle.page_file.specs.Stops.{SameButGate}
@@ -22,17 +22,26 @@ pub returns-clause-faults : goal.returns-clause-faults
 returns-clause-faults g c = λ map. if_err c.settle.result (λ f h. inl h) (c.settle.ensures.faults (c.write.ensures.map map).honest)
 
 pub returns-in_err-write-clause-stops : goal.returns-in_err-write-clause-stops
-returns-in_err-write-clause-stops g c = λ sound.
+returns-in_err-write-clause-stops g c = λ ts sound rests.
     let d = g.D.BlockDevice in
-    let old = device_of c.args.self.now.file in
-    not_closed d.moment d.left_since old (device_of c.write.new.self.file) (d.may_leave old) c.args.self.now.table (c.write.ensures.stops sound.map.honest)
+    leaves_or d.moment d.left_since (device_of c.args.self.now.file) (device_of c.write.new.self.file) ts c.args.self.now.table (c.write.ensures.stops ts sound.map.honest rests)
+
+pub returns-in_err-write-clause-rests : goal.returns-in_err-write-clause-rests
+returns-in_err-write-clause-rests g c = λ ts sound rests. rests_on_more c.write.new.self.file ts c.args.self.now.table (c.write.ensures.rests ts sound.map.honest rests)
 
 pub returns-clause-stops : goal.returns-clause-stops
-returns-clause-stops g c = λ sound.
+returns-clause-stops g c = λ ts sound rests.
     let before = c.write.ensures.sound sound in
-    let old = device_of c.args.self.now.file in
     let new = c.settle.new.self in
     let held = kept_table c.write.new.self.file new c.args.self.now.table before.map.honest c.settle.ensures.map
     (subst (Holds (pages c.write.new.self.file) (next_of c.write.new.self.file)) c.in_ok-write.ensures.table (before.held c.in_ok-write.ensures.written)) in
-    table_closed old (device_of c.write.new.self.file) (device_of new) new (λ b. SameButGate b (blocks_of new)) (g.D.BlockDevice.may_leave old) c.args.self.now.table
-    (c.write.ensures.stops sound.map.honest) (c.settle.ensures.stops before.map.honest) (c.settle.ensures.map.sound.0 before.map) held
+    table_closed (device_of c.args.self.now.file) (device_of c.write.new.self.file) (device_of new) new (λ b. SameButGate b (blocks_of new)) ts c.args.self.now.table
+    (c.write.ensures.stops ts sound.map.honest rests) (c.settle.ensures.stops before.map.honest) (c.settle.ensures.map.sound.0 before.map) held
+
+pub returns-clause-rests : goal.returns-clause-rests
+returns-clause-rests g c = λ ts sound rests.
+    let before = c.write.ensures.sound sound in
+    let new = c.settle.new.self in
+    let held = kept_table c.write.new.self.file new c.args.self.now.table before.map.honest c.settle.ensures.map
+    (subst (Holds (pages c.write.new.self.file) (next_of c.write.new.self.file)) c.in_ok-write.ensures.table (before.held c.in_ok-write.ensures.written)) in
+    rests_on_table new ts c.args.self.now.table (c.settle.ensures.map.sound.0 before.map) held

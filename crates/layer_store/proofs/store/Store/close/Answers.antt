@@ -1,13 +1,13 @@
 -- A live store closes its table, and one that failed answers that alone.
-use Rattle.std.proofs.Common.{◌≡◌, ◌⊎◌, ◌≤◌, ◌^◌, Ok, length, sym, ap, subst}
+use Rattle.std.proofs.Common.{◌∷◌, ◌≡◌, ◌⊎◌, ◌≤◌, ◌^◌, Ok, length, sym, ap, subst}
 use Rattle.block_device.specs.Device.{LeavesOnly}
 use Rattle.page_file.specs.File.{device_of}
 use Rattle.plain_table.specs.Table.{Table}
 use Rattle.plain_table.specs.declared.refusal.Refusal.{Refusal}
 use Rattle.plain_table.specs.declared.refusal.Refusal.TheVariants as refusal
 use Rattle.layer_store.specs.Faults.{GivesUp}
-use Rattle.layer_store.specs.Image.{IsImage, LeftByClosing}
-use Rattle.layer_store.proofs.StopLemmas.{from_image}
+use Rattle.layer_store.specs.Image.{IsImage, IsLeftOf}
+use Rattle.layer_store.proofs.StopLemmas.{rest_of}
 use Rattle.layer_store.proofs.StoreLemmas.{alive_with, failed_so, is_closed, not_both, refused_closing}
 use Rattle.layer_store.proofs.store.Store.close.Goals as goal
 
@@ -32,36 +32,19 @@ pub returns-in-Err-clause-failed : goal.returns-in-Err-clause-failed
 returns-in-Err-clause-failed g c = λ failed. absurd (not_both _ (failed_so c.args.self failed) c.if-self.false)
 
 pub returns-then-self-clause-refused_stops : goal.returns-then-self-clause-refused_stops
-returns-then-self-clause-refused_stops g c = λ t stands. absurd (not_both _ c.if-self.true (alive_with c.args.self t stands).going)
-
-pub returns-then-self-clause-refused_image_stops : goal.returns-then-self-clause-refused_image_stops
-returns-then-self-clause-refused_image_stops g c = λ t u stands image. absurd (not_both _ c.if-self.true (alive_with c.args.self t stands).going)
+returns-then-self-clause-refused_stops g c = λ t ts stands rests. absurd (not_both _ c.if-self.true (alive_with c.args.self t stands).going)
 
 pub returns-in-Ok-clause-stops : goal.returns-in-Ok-clause-stops
-returns-in-Ok-clause-stops g c = λ t stands.
+returns-in-Ok-clause-stops g c = λ t ts stands rests.
     let live = alive_with c.args.self t stands in
     let d = g.D.BlockDevice in
-    let old = device_of c.args.self.kept.file in
-    subst (λ (x : Table). LeavesOnly d.moment d.left_since old c.in-Ok.device (LeftByClosing (d.may_leave old) x)) live.table (c.in-Ok.ensures.stops live.sound)
-
-pub returns-in-Ok-clause-image_stops : goal.returns-in-Ok-clause-image_stops
-returns-in-Ok-clause-image_stops g c = λ t u stands image.
-    let honest = (alive_with c.args.self t stands).sound.map.honest in
-    let file = c.args.self.kept.file in
-    from_image file c.in-Ok.device u t honest (g.met.D.BlockDevice.shown_counts (device_of file) honest) image (returns-in-Ok-clause-stops g c t stands)
+    subst (λ (x : Table). LeavesOnly d.moment d.left_since (device_of c.args.self.kept.file) c.in-Ok.device (IsLeftOf (x ∷ ts))) live.table (c.in-Ok.ensures.stops ts live.sound (rest_of c.args.self ts rests))
 
 pub returns-in-Err-clause-refused_stops : goal.returns-in-Err-clause-refused_stops
-returns-in-Err-clause-refused_stops g c = λ t stands.
+returns-in-Err-clause-refused_stops g c = λ t ts stands rests.
     let live = alive_with c.args.self t stands in
     let d = g.D.BlockDevice in
-    let old = device_of c.args.self.kept.file in
-    subst (λ (x : Table). LeavesOnly d.moment d.left_since old c.in-Err.device (LeftByClosing (d.may_leave old) x)) live.table (c.in-Err.ensures.refused_stops live.sound)
-
-pub returns-in-Err-clause-refused_image_stops : goal.returns-in-Err-clause-refused_image_stops
-returns-in-Err-clause-refused_image_stops g c = λ t u stands image.
-    let honest = (alive_with c.args.self t stands).sound.map.honest in
-    let file = c.args.self.kept.file in
-    from_image file c.in-Err.device u t honest (g.met.D.BlockDevice.shown_counts (device_of file) honest) image (returns-in-Err-clause-refused_stops g c t stands)
+    subst (λ (x : Table). LeavesOnly d.moment d.left_since (device_of c.args.self.kept.file) c.in-Err.device (IsLeftOf (x ∷ ts))) live.table (c.in-Err.ensures.refused_stops ts live.sound (rest_of c.args.self ts rests))
 
 pub returns-in-Ok-clause-durable : goal.returns-in-Ok-clause-durable
 returns-in-Ok-clause-durable g c = λ t stands. c.in-Ok.ensures.durable (alive_with c.args.self t stands).sound.map

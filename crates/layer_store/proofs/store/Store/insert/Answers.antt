@@ -1,4 +1,6 @@
-use Rattle.std.proofs.Common.{refl, ap}
+use Rattle.std.proofs.Common.{refl, sym, ap, subst}
+use Rattle.layer_store.specs.Keeping.{RestsOn}
+use Rattle.layer_store.proofs.StopLemmas.{rest_of, rests_so}
 use Rattle.page_file.specs.File.{device_of}
 use Rattle.page_file.specs.declared.file.PageFile.{PageFile}
 use Rattle.plain_table.specs.Answers.{done_answer}
@@ -17,3 +19,6 @@ returns-clause-cause g c = cause_in_memory _ _ c.insert.result done_answer c.arg
 
 pub returns-clause-still_closed : goal.returns-clause-still_closed
 returns-clause-still_closed g c = still_closed c.args.self.now (record { kept = c.insert.new.self; failed = c.args.self.now.failed }) c.insert.result c.insert.ensures.file c.insert.ensures.refused
+
+pub returns-clause-rests : goal.returns-clause-rests
+returns-clause-rests g c = λ ts rests. rests_so (record { kept = c.insert.new.self; failed = c.args.self.now.failed }) ts (subst (λ (file : PageFile _ _). RestsOn file ts) (sym c.insert.ensures.file) (rest_of c.args.self.now ts rests))

@@ -1,8 +1,8 @@
 -- A reopening closes the table, and reads the same table back.
-use Rattle.std.proofs.Common.{◌≡◌, ◌∙◌, ◌⊎◌, Err, true, false, refl, sym, ap, subst, arith, inl, inr}
+use Rattle.std.proofs.Common.{◌∷◌, ◌≡◌, ◌∙◌, ◌⊎◌, Err, true, false, refl, sym, ap, subst, arith, inl, inr}
 use Rattle.block_device.specs.Device.{Blocks, HasRisen, LeavesOnly}
 use Rattle.plain_table.specs.Table.{Table}
-use Rattle.layer_store.proofs.StopLemmas.{from_image, read_alone, shut_is_durable, then_read}
+use Rattle.layer_store.proofs.StopLemmas.{read_alone, rest_of, rests_on_table, rests_so, shut_is_durable, then_read}
 use Rattle.page_file.specs.Fault.{faults_after}
 use Rattle.page_file.specs.File.{blocks_of, device_of, gate_of, next_of, IsHonest, KeepsGate}
 use Rattle.page_file.specs.declared.gate.Gate.TheVariants.{Shut}
@@ -10,7 +10,8 @@ use Rattle.plain_table.specs.Commands.Command.{Reopen}
 use Rattle.plain_table.specs.Lawful.{IsEnd, IsFault, IsSpent, MayWrite}
 use Rattle.plain_table.specs.Step.Answer.{Done, Refused}
 use Rattle.plain_table.specs.declared.refusal.Refusal.TheVariants as refusal
-use Rattle.layer_store.specs.Image.{IsImage, LeftByClosing}
+use Rattle.layer_store.specs.Image.{IsImage, IsLeftOf}
+use Rattle.layer_store.specs.Keeping.{RestsOn}
 use Rattle.layer_store.specs.Standing.{HasFailed}
 use Rattle.layer_store.specs.declared.kept.Kept.{Kept}
 use Rattle.layer_store.specs.declared.store.Store.{Store}
@@ -89,26 +90,25 @@ returns-in-Err-read_again-clause-closed g c = λ t stands end.
     (subst (λ (blocks : Blocks). IsImage blocks kept.table) (sym (c.in-Err-read_again.ensures.blocks mid.map)) (image_of kept.file (blocks_of kept.file) kept.table mid.map (settled.lies live.sound.map) held))
 
 pub returns-then-self-clause-stops : goal.returns-then-self-clause-stops
-returns-then-self-clause-stops g c = λ t stands. absurd (not_both _ c.if-self.true (alive_with c.args.self.now t stands).going)
+returns-then-self-clause-stops g c = λ t ts stands rests. absurd (not_both _ c.if-self.true (alive_with c.args.self.now t stands).going)
 
-pub returns-then-self-clause-image_stops : goal.returns-then-self-clause-image_stops
-returns-then-self-clause-image_stops g c = λ t u stands image. absurd (not_both _ c.if-self.true (alive_with c.args.self.now t stands).going)
+pub returns-then-self-clause-rests : goal.returns-then-self-clause-rests
+returns-then-self-clause-rests g c = λ t ts stands rests. absurd (not_both _ c.if-self.true (alive_with c.args.self.now t stands).going)
 
 pub returns-in-Err-clause-stops : goal.returns-in-Err-clause-stops
-returns-in-Err-clause-stops g c = λ t stands.
+returns-in-Err-clause-stops g c = λ t ts stands rests.
     let live = alive_with c.args.self.now t stands in
     let d = g.D.BlockDevice in
-    let old = device_of c.args.self.now.kept.file in
-    subst (λ (x : Table). LeavesOnly d.moment d.left_since old (device_of c.settle.new.self.file) (LeftByClosing (d.may_leave old) x)) live.table (c.in-Err.ensures.stops live.sound)
+    subst (λ (x : Table). LeavesOnly d.moment d.left_since (device_of c.args.self.now.kept.file) (device_of c.settle.new.self.file) (IsLeftOf (x ∷ ts))) live.table (c.in-Err.ensures.stops ts live.sound (rest_of c.args.self.now ts rests))
 
-pub returns-in-Err-clause-image_stops : goal.returns-in-Err-clause-image_stops
-returns-in-Err-clause-image_stops g c = λ t u stands image.
-    let file = c.args.self.now.kept.file in
-    let honest = (alive_with c.args.self.now t stands).sound.map.honest in
-    from_image file (device_of c.settle.new.self.file) u t honest (g.met.D.BlockDevice.shown_counts (device_of file) honest) image (returns-in-Err-clause-stops g c t stands)
+pub returns-in-Err-clause-rests : goal.returns-in-Err-clause-rests
+returns-in-Err-clause-rests g c = λ t ts stands rests.
+    let live = alive_with c.args.self.now t stands in
+    rests_so (record { kept = c.settle.new.self; failed = c.args.self.now.failed }) (t ∷ ts)
+    (subst (λ (x : Table). RestsOn c.settle.new.self.file (x ∷ ts)) live.table (c.in-Err.ensures.rests ts live.sound (rest_of c.args.self.now ts rests)))
 
 pub returns-in-Ok-clause-stops : goal.returns-in-Ok-clause-stops
-returns-in-Ok-clause-stops g c = λ t stands.
+returns-in-Ok-clause-stops g c = λ t ts stands rests.
     let live = alive_with c.args.self.now t stands in
     let settled = c.in_default.ensures in
     let mid = settled.sound live.sound in
@@ -116,17 +116,21 @@ returns-in-Ok-clause-stops g c = λ t stands.
     let old = device_of c.args.self.now.kept.file in
     let d = g.D.BlockDevice in
     let there = subst (IsImage (blocks_of kept.file)) (settled.table ∙ live.table) (image_of kept.file (blocks_of kept.file) kept.table mid.map (settled.lies live.sound.map) (mid.held settled.written)) in
-    let before = subst (λ (x : Table). LeavesOnly d.moment d.left_since old (device_of kept.file) (LeftByClosing (d.may_leave old) x)) live.table (settled.stops live.sound) in
-    then_read old kept.file c.read_again.new.self.file (d.may_leave old) t mid.map.honest settled.shut there before c.in-Ok.ensures.gate
+    let before = subst (λ (x : Table). LeavesOnly d.moment d.left_since old (device_of kept.file) (IsLeftOf (x ∷ ts))) live.table (settled.stops ts live.sound (rest_of c.args.self.now ts rests)) in
+    then_read old kept.file c.read_again.new.self.file ts t mid.map.honest settled.shut there before c.in-Ok.ensures.gate
 
-pub returns-in-Ok-clause-image_stops : goal.returns-in-Ok-clause-image_stops
-returns-in-Ok-clause-image_stops g c = λ t u stands image.
-    let file = c.args.self.now.kept.file in
-    let honest = (alive_with c.args.self.now t stands).sound.map.honest in
-    from_image file (device_of c.read_again.new.self.file) u t honest (g.met.D.BlockDevice.shown_counts (device_of file) honest) image (returns-in-Ok-clause-stops g c t stands)
+pub returns-in-Ok-clause-rests : goal.returns-in-Ok-clause-rests
+returns-in-Ok-clause-rests g c = λ t ts stands rests.
+    let live = alive_with c.args.self.now t stands in
+    let settled = c.in_default.ensures in
+    let again = c.in-Ok.ensures in
+    let mid = settled.sound live.sound in
+    let sound = again.sound mid.map (mid.held settled.written) in
+    rests_so (record { kept = c.read_again.new.self; failed = c.args.self.now.failed }) (t ∷ ts)
+    (subst (λ (x : Table). RestsOn c.read_again.new.self.file (x ∷ ts)) (again.table mid.map (mid.held settled.written) ∙ settled.table ∙ live.table) (rests_on_table c.read_again.new.self.file ts c.read_again.new.self.table sound.0 sound.1))
 
 pub returns-in-Err-read_again-clause-stops : goal.returns-in-Err-read_again-clause-stops
-returns-in-Err-read_again-clause-stops g c = λ t stands.
+returns-in-Err-read_again-clause-stops g c = λ t ts stands rests.
     let live = alive_with c.args.self.now t stands in
     let settled = c.in_default.ensures in
     let mid = settled.sound live.sound in
@@ -134,14 +138,18 @@ returns-in-Err-read_again-clause-stops g c = λ t stands.
     let old = device_of c.args.self.now.kept.file in
     let d = g.D.BlockDevice in
     let there = subst (IsImage (blocks_of kept.file)) (settled.table ∙ live.table) (image_of kept.file (blocks_of kept.file) kept.table mid.map (settled.lies live.sound.map) (mid.held settled.written)) in
-    let before = subst (λ (x : Table). LeavesOnly d.moment d.left_since old (device_of kept.file) (LeftByClosing (d.may_leave old) x)) live.table (settled.stops live.sound) in
-    then_read old kept.file c.read_again.new.self.file (d.may_leave old) t mid.map.honest settled.shut there before c.in-Err-read_again.ensures.gate
+    let before = subst (λ (x : Table). LeavesOnly d.moment d.left_since old (device_of kept.file) (IsLeftOf (x ∷ ts))) live.table (settled.stops ts live.sound (rest_of c.args.self.now ts rests)) in
+    then_read old kept.file c.read_again.new.self.file ts t mid.map.honest settled.shut there before c.in-Err-read_again.ensures.gate
 
-pub returns-in-Err-read_again-clause-image_stops : goal.returns-in-Err-read_again-clause-image_stops
-returns-in-Err-read_again-clause-image_stops g c = λ t u stands image.
-    let file = c.args.self.now.kept.file in
-    let honest = (alive_with c.args.self.now t stands).sound.map.honest in
-    from_image file (device_of c.read_again.new.self.file) u t honest (g.met.D.BlockDevice.shown_counts (device_of file) honest) image (returns-in-Err-read_again-clause-stops g c t stands)
+pub returns-in-Err-read_again-clause-rests : goal.returns-in-Err-read_again-clause-rests
+returns-in-Err-read_again-clause-rests g c = λ t ts stands rests.
+    let live = alive_with c.args.self.now t stands in
+    let settled = c.in_default.ensures in
+    let again = c.in-Err-read_again.ensures in
+    let mid = settled.sound live.sound in
+    let sound = again.sound mid.map (mid.held settled.written) in
+    rests_so (record { kept = c.read_again.new.self; failed = true }) (t ∷ ts)
+    (subst (λ (x : Table). RestsOn c.read_again.new.self.file (x ∷ ts)) (again.table mid.map (mid.held settled.written) ∙ settled.table ∙ live.table) (rests_on_table c.read_again.new.self.file ts c.read_again.new.self.table sound.0 sound.1))
 
 pub returns-then-self-clause-durable : goal.returns-then-self-clause-durable
 returns-then-self-clause-durable g c = λ t stands end. absurd (not_both _ c.if-self.true (alive_with c.args.self.now t stands).going)
