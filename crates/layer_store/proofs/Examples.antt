@@ -1,22 +1,24 @@
 -- Worked examples of a store's definitions: which catalogs are good, what pages hold, which blocks are refused and why,
 -- and what refusals say of the device. No other proof rests on them. A definition that says another thing than
 -- docs/FORMAT.md is refused here.
-use Rattle.std.proofs.Common.{◌≡◌, ◌∙◌, ℕ, List, [], ◌∷◌, length, get_or, true, false, None, Ok, Err, refl, sym, ap, subst, arith, inl, inr}
+use Rattle.std.proofs.Common.{◌≡◌, ◌∙◌, ℕ, zero, suc, List, [], ◌∷◌, length, get_or, true, false, None, Ok, Err, refl, sym, ap, subst, arith, inl, inr}
+use Rattle.std.specs.Prelude.{is_some}
 use Rattle.std.specs.FinMap.{entries, entries-from_sorted}
 use Rattle.std.specs.Ordering.{nat_cmp}
+use Rattle.block_device.specs.Device.{Blocks}
 use Rattle.box_math.specs.Bounds.{Bounds}
 use Rattle.catalog_page.specs.Layout.{Record}
 use Rattle.object_chain.specs.Chain.{PageMap, HoldsObjects}
 use Rattle.object_chain.specs.Laws.{a_chain_holds_one_list, page_0_holds_nothing}
 use Rattle.page_file.specs.Opening.{failed_check}
 use Rattle.page_file.specs.declared.fault.Fault.TheVariants as fault
-use Rattle.plain_table.specs.Table.{Layer}
+use Rattle.plain_table.specs.Table.{Table, Layer}
 use Rattle.plain_table.specs.declared.refusal.Refusal.TheVariants as refusal
 use Rattle.plain_table.proofs.Examples.{layer}
 use Rattle.layer_store.specs.Catalog.{has_no_tree, is_good_catalog, is_layer_record, is_page_or_none, names_ascend, objects_named}
 use Rattle.layer_store.specs.Faults.{GivesUp, HasCause, faults_after, as_refusal}
-use Rattle.layer_store.specs.Image.{Holds, HoldsLayer, HoldsLayers, IsBroken, IsDamaged, Refuses}
-use Rattle.layer_store.specs.Laws.{blocks_are_refused_in_one_way}
+use Rattle.layer_store.specs.Image.{Holds, IsImage, IsLeftOf, HoldsLayer, HoldsLayers, IsBroken, IsDamaged, Refuses}
+use Rattle.layer_store.specs.Laws.{an_image_is_of_one_table, blocks_are_refused_in_one_way}
 use Rattle.layer_store.specs.Starting.{is_cache}
 
 -- ---- the size of a cache
@@ -196,3 +198,17 @@ no_blocks_are_no_store = inl refl
 
 and_nothing_else : Refuses [] fault.NotClosed → ⊥
 and_nothing_else h = let no = blocks_are_refused_in_one_way [] fault.NotAStore fault.NotClosed no_blocks_are_no_store h in absurd (cc)
+
+-- ---- what a stop may leave
+
+refused_blocks_may_be_left_of_any_tables : (ts : List Table) → IsLeftOf ts []
+unfolding failed_check
+refused_blocks_may_be_left_of_any_tables ts = inl refl
+
+an_image_may_be_left_of_its_table : (c : Blocks) (t u : Table) → IsImage c t → IsLeftOf (u ∷ t ∷ []) c
+an_image_may_be_left_of_its_table c t u image = inr (t, (1, omega arith, refl), image)
+
+an_image_of_another_table_may_not : (c : Blocks) (t u : Table) → IsImage c u → ¬ (t ≡ u) → IsLeftOf (t ∷ []) c → ⊥
+an_image_of_another_table_may_not c t u image other (inl refused) = let no : false ≡ true = sym (ap is_some image.passes) ∙ refused in absurd (cc)
+an_image_of_another_table_may_not c t u image other (inr (x, (zero, lt, is), there)) = other (is ∙ an_image_is_of_one_table c x u there image)
+an_image_of_another_table_may_not c t u image other (inr (x, (suc i, lt, is), there)) = absurd (omega (arith, lt))
