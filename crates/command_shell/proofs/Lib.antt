@@ -1,3 +1,4 @@
+-- The files of lemmas.
 pub mod WordLemmas
 pub mod NumberLemmas
 pub mod LineLemmas

@@ -1,3 +1,4 @@
+-- The files of definitions, and of the laws that callers cite.
 pub mod Boxes
 pub mod Refusals
 pub mod Table

@@ -1,3 +1,4 @@
+-- The goals of `join_encloses_both` that are proved by hand.
 use Rattle.box_math.proofs.BoxLaws.{join_of-encloses}
 use Rattle.box_math.proofs.laws.join_encloses_both.Goals as goal
 

@@ -1,3 +1,4 @@
+-- The goals of `join_with_an_enclosing_box` that are proved by hand.
 use Rattle.box_math.proofs.BoxLaws.{join_of-enclosing}
 use Rattle.box_math.proofs.laws.join_with_an_enclosing_box.Goals as goal
 

@@ -1,3 +1,4 @@
+-- What holds at each turn of the loop of `coordinates`.
 use Rattle.std.proofs.Common.{◌≡◌, length, ◌++◌, option_map}
 use Rattle.command_shell.specs.Numbers.{coordinates_of}
 use Rattle.command_shell.proofs.parse.coordinates.Given as goal

@@ -1,3 +1,4 @@
+-- The goals of `write_each` that are proved by hand.
 use Rattle.std.proofs.Common.{ℕ, arith}
 use Rattle.std.proofs.lemmas.Result.{err_from_is_err_and}
 use Rattle.plain_table.specs.Answers.{row_of}

@@ -1,3 +1,4 @@
+-- What holds at each turn of the loop of `write_each`.
 use Rattle.std.proofs.Common.{ℕ, take, flat_map}
 use Rattle.std.specs.Io.KnownBytes.{Appends}
 use Rattle.plain_table.specs.Answers.{row_of}

@@ -1,3 +1,4 @@
+-- The goals of `write_rows` that are proved by hand.
 use Rattle.std.proofs.Common.{ℕ, length, map, flat_map}
 use Rattle.std.proofs.lemmas.List.Folds.{flat_map-map}
 use Rattle.std.proofs.lemmas.Result.{err_from_is_err_and}

@@ -1,3 +1,4 @@
+-- The goals of `put` that are proved by hand.
 use Rattle.std.proofs.Common.{arith}
 use Rattle.std.proofs.lemmas.List.{take_rest}
 use Rattle.command_shell.proofs.WriteLemmas.{appends_more, taken_more}

@@ -1,3 +1,4 @@
+-- What holds at each turn of the loop of `put`.
 use Rattle.std.proofs.Common.{length, take, ◌≤◌, ◌-◌}
 use Rattle.std.specs.Io.KnownBytes.{Appends}
 use Rattle.command_shell.proofs.reply_line.put.Given as goal

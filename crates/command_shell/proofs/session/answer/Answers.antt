@@ -1,3 +1,4 @@
+-- The goals of `answer` that are proved by hand.
 use Rattle.command_shell.specs.Said.{said}
 use Rattle.command_shell.proofs.AnswerLemmas.{written, unwritten}
 use Rattle.command_shell.proofs.SessionLemmas.{takes_on}

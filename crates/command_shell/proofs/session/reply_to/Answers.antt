@@ -1,3 +1,4 @@
+-- The goals of `reply_to` that are proved by hand.
 use Rattle.std.proofs.Common.{ap}
 use Rattle.plain_table.specs.Answers.{done_answer, boxes_answer}
 use Rattle.plain_table.specs.Commands.Command.{Create, Insert, Window, Reopen}

@@ -1,3 +1,4 @@
+-- The goals of `run` that are proved by hand.
 use Rattle.std.proofs.Common.{ℕ, List, [], true, false, sym, subst}
 use Rattle.command_shell.specs.Pending.{pending}
 use Rattle.command_shell.specs.Serving.{Serves}

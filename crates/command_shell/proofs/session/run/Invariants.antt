@@ -1,3 +1,4 @@
+-- What holds at each turn of the loop of `run`.
 use Rattle.std.proofs.Common.{[], true, false}
 use Rattle.plain_table.specs.Lawful.{Takes}
 use Rattle.layer_store.specs.Standing.{Stands}

@@ -1,3 +1,4 @@
+-- The goals of `step` that are proved by hand.
 use Rattle.std.proofs.Common.{[], ◌∷◌, ◌++◌, take, true, false, subst, ap, ◌∙◌}
 use Rattle.std.specs.Io.KnownBytes.{IsAtEnd}
 use Rattle.command_shell.specs.Lines.{newline}

@@ -1,3 +1,4 @@
+-- The goals of `number` that are proved by hand.
 use Rattle.std.proofs.Common.{◌<◌, length, arith, refl, ◌∙◌}
 use Rattle.std.proofs.lemmas.Bool.Decides.{nat_tests}
 use Rattle.command_shell.proofs.NumberLemmas.{too_large, all_read}

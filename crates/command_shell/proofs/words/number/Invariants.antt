@@ -1,3 +1,4 @@
+-- What holds at each turn of the loop of `number`.
 use Rattle.command_shell.proofs.NumberLemmas.{IsReadTo}
 use Rattle.command_shell.proofs.words.number.Given as goal
 

@@ -1,3 +1,4 @@
+-- The goals of `names_ascend` that are proved by hand.
 use Rattle.std.proofs.Common.{◌∙◌, ◌&&◌, Bool, map, refl, sym, ap}
 use Rattle.catalog_page.specs.Layout.{record_of}
 use Rattle.layer_store.specs.Catalog.{names_ascend}

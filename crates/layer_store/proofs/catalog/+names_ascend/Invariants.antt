@@ -1,3 +1,4 @@
+-- What falls from turn to turn in `names_ascend`.
 use Rattle.std.proofs.Common.{length}
 use Rattle.layer_store.proofs.catalog.+names_ascend.Given as goal
 

@@ -1,3 +1,4 @@
+-- The goals of `have_room` that are proved by hand.
 use Rattle.std.proofs.Common.{arith, sym}
 use Rattle.layer_store.proofs.CatalogLemmas.{too_many}
 use Rattle.layer_store.proofs.catalog.have_room.Goals as goal

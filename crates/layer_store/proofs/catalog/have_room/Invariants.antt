@@ -1,3 +1,4 @@
+-- What holds at each turn of the loop of `have_room`.
 use Rattle.std.proofs.Common.{◌≡◌, ◌≤◌, map, take}
 use Rattle.catalog_page.specs.Layout.{record_of}
 use Rattle.layer_store.specs.Catalog.{objects_named}

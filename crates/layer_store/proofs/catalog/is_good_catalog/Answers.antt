@@ -1,3 +1,4 @@
+-- The goals of `is_good_catalog` that are proved by hand.
 use Rattle.std.proofs.Common.{◌∙◌, ◌&&◌, Bool, map, nat_le, sym, ap}
 use Rattle.std.proofs.lemmas.List.Folds.{list_all-map}
 use Rattle.catalog_page.specs.Layout.{record_of}

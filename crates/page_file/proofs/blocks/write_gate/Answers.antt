@@ -1,3 +1,4 @@
+-- The goals of `write_gate` that are proved by hand.
 use Rattle.std.proofs.Common.{ap, ◌∙◌, arith, length}
 use Rattle.block_device.specs.Device.{block_at}
 use Rattle.block_device.specs.Written.{block_at-written, length-written_within}

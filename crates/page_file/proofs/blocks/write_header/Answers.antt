@@ -1,3 +1,4 @@
+-- The goals of `write_header` that are proved by hand.
 use Rattle.std.proofs.Common.{ap, ◌∙◌, length, subst, sym}
 use Rattle.block_device.specs.Device.{block_at}
 use Rattle.block_device.specs.Written.{block_at-written, block_at-written_other, length-written_within, torn_other}

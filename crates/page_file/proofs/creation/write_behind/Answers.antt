@@ -1,3 +1,4 @@
+-- The goals of `write_behind` that are proved by hand.
 use Rattle.block_device.specs.Moments.{leaves_weaker}
 use Rattle.page_file.specs.Opening.{IsRefused}
 use Rattle.page_file.specs.Gated.{fails, still_open}

@@ -1,3 +1,4 @@
+-- The goals of `write_first` that are proved by hand.
 use Rattle.std.proofs.Common.{arith}
 use Rattle.block_device.specs.Moments.{leaves_weaker}
 use Rattle.page_file.specs.Opening.{IsRefused}

@@ -1,3 +1,4 @@
+-- The goals of `header_page` that are proved by hand.
 use Rattle.std.proofs.Common.{sym, subst, arith, rules}
 use Rattle.page_file.specs.Layout.{header_block, IsHeader}
 use Rattle.page_file.specs.Reading.{header_reads}

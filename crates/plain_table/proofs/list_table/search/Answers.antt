@@ -1,3 +1,4 @@
+-- The goals of `search` that are proved by hand.
 use Rattle.std.proofs.Common.{length, map, arith, sym, ap, ◌∙◌, below_more}
 use Rattle.std.proofs.lemmas.List.{length-map}
 use Rattle.std.specs.Cmp.Lexicographic.{slice_cmp, nat_list_cmp_total}

@@ -1,3 +1,4 @@
+-- What holds at each turn of the loop of `search`.
 use Rattle.std.proofs.Common.{◌≡◌, map}
 use Rattle.std.specs.Cmp.Lexicographic.{slice_cmp}
 use Rattle.std.specs.List.{AllWithin}

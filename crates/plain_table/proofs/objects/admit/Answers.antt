@@ -1,3 +1,4 @@
+-- The goals of `admit` that are proved by hand.
 use Rattle.std.proofs.Common.{◌≡◌, sym, refl, Ok, Err, true, false}
 use Rattle.std.specs.FinMap.{contains_key, from_sorted}
 use Rattle.std.specs.Ordering.{nat_cmp}

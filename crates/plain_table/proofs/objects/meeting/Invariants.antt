@@ -1,3 +1,4 @@
+-- What holds at each turn of the loop of `meeting`.
 use Rattle.std.proofs.Common.{◌≡◌, filter, take}
 use Rattle.box_math.specs.Bounds.{meets_test}
 use Rattle.plain_table.proofs.objects.meeting.Given as goal

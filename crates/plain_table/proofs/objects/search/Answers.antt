@@ -1,3 +1,4 @@
+-- The goals of `search` that are proved by hand.
 use Rattle.std.proofs.Common.{length, arith, sym, ◌∙◌}
 use Rattle.std.specs.Cmp.{nat_cmp_total}
 use Rattle.std.specs.Ordering.{nat_cmp}

@@ -1,3 +1,4 @@
+-- What holds at each turn of the loop of `search`.
 use Rattle.std.proofs.Common.{◌≡◌}
 use Rattle.std.specs.List.{AllWithin}
 use Rattle.std.specs.Ordering.{nat_cmp}

@@ -1,3 +1,4 @@
+-- The goals of `BBox::holds_point` that are proved by hand.
 use Rattle.std.proofs.Common.{sym, rules, arith, below_more}
 use Rattle.std.proofs.lemmas.Int.{to_z-of_z}
 use Rattle.box_math.specs.Bounds.{HoldsPoint}

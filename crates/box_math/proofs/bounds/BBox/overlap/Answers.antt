@@ -1,3 +1,4 @@
+-- The goals of `BBox::overlap` that are proved by hand.
 use Rattle.std.proofs.Common.{add-one, refl, ◌≡◌, sym, arith, below_more, unsigned_abs, ◌-ℤ◌}
 use Rattle.std.proofs.Math.Nat.{pow-suc}
 use Rattle.std.proofs.lemmas.Nat.{mul-le}

@@ -1,3 +1,4 @@
+-- What holds at each turn of the loop of `BBox::overlap`.
 use Rattle.std.proofs.Common.{◌≡◌, ◌^◌, ◌≤◌}
 use Rattle.box_math.specs.Bounds.{Meets, meet_of}
 use Rattle.box_math.specs.Measures.{product_over, side_of}

@@ -1,3 +1,4 @@
+-- The goals of `BBox::point_dist2` that are proved by hand.
 use Rattle.std.proofs.Common.{◌≡◌, ◌-ℤ◌, unsigned_abs, ◌*◌, ◌^◌, add-one, refl, arith}
 use Rattle.std.proofs.lemmas.Int.{to_z-of_z}
 use Rattle.box_math.specs.Bounds.{on_axis}

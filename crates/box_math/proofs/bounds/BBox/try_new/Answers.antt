@@ -1,3 +1,4 @@
+-- The goals of `BBox::try_new` that are proved by hand.
 use Rattle.std.proofs.Common.{sym, rules, arith}
 use Rattle.std.proofs.lemmas.Int.{to_z-of_z}
 use Rattle.box_math.specs.Bounds.{IsOrdered}

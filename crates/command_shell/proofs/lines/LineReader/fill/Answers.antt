@@ -1,3 +1,4 @@
+-- The goals of `LineReader::fill` that are proved by hand.
 use Rattle.std.proofs.Common.{arith, take, sym, ap, ◌∙◌, ◌++◌}
 use Rattle.command_shell.proofs.LineLemmas.{filled}
 use Rattle.command_shell.proofs.lines.LineReader.fill.Goals as goal

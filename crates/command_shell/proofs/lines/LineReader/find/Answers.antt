@@ -1,3 +1,4 @@
+-- The goals of `LineReader::find` that are proved by hand.
 use Rattle.std.proofs.Common.{◌≡◌, ℕ, List, ◌++◌, Option, Result, Ok, Err, MatchResult, ap, ◌∙◌, subst, append_assoc}
 use Rattle.command_shell.specs.Lines.{IsOneLine}
 use Rattle.std.specs.Io.KnownBytes.{IsAtEnd}

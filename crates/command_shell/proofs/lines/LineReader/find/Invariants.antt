@@ -1,3 +1,4 @@
+-- What holds at each turn of the loop of `LineReader::find`.
 use Rattle.std.proofs.Common.{◌≡◌, ◌≤◌, ◌++◌, length, take}
 use Rattle.command_shell.specs.Lines.{IsOneLine}
 use Rattle.command_shell.specs.Pending.{pending, work_left}

@@ -1,3 +1,4 @@
+-- The goals of `LineReader::newline` that are proved by hand.
 use Rattle.std.proofs.Common.{drop, ap, ◌∙◌, subst, Some, None}
 use Rattle.command_shell.specs.Lines.{IsOneLine}
 use Rattle.command_shell.specs.Pending.{pending}

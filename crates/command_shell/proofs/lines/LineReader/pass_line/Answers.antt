@@ -1,3 +1,4 @@
+-- The goals of `LineReader::pass_line` that are proved by hand.
 use Rattle.std.proofs.Common.{◌≡◌, ◌++◌, ◌∷◌, [], arith, List, ℕ, append_assoc, sym, ap, ◌∙◌, subst, length, take, drop, ◌<◌, ◌+◌, refl, take, length-append, add-one}
 use Rattle.std.specs.Prelude.{Option}
 use Rattle.std.specs.Io.KnownBytes.{IsAtEnd}

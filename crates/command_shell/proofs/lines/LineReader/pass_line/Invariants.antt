@@ -1,3 +1,4 @@
+-- What holds at each turn of the loop of `LineReader::pass_line`.
 use Rattle.std.proofs.Common.{◌≡◌, ◌<◌, []}
 use Rattle.command_shell.specs.Pending.{pending, work_left}
 use Rattle.command_shell.specs.Lines.{IsOneLine}

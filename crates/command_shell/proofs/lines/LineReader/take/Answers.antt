@@ -1,3 +1,4 @@
+-- The goals of `LineReader::take` that are proved by hand.
 use Rattle.std.proofs.Common.{arith}
 use Rattle.std.proofs.lemmas.List.{length-take}
 use Rattle.command_shell.proofs.LineLemmas.{drop_span}

@@ -1,3 +1,4 @@
+-- What holds at each turn of the loop of `ReplyLine::push_coordinates`.
 use Rattle.std.proofs.Common.{◌≡◌, ◌≤◌, ◌+◌, ◌*◌, ◌++◌, length, take}
 use Rattle.command_shell.specs.Texts.{coordinates_text}
 use Rattle.command_shell.proofs.reply_line.ReplyLine.push_coordinates.Given as goal

@@ -1,3 +1,4 @@
+-- The goals of `Words::next` that are proved by hand.
 use Rattle.std.proofs.Common.{◌≡◌, ℕ, [], ◌∷◌, List, ◌<◌, take, drop, sym, ap, ◌∙◌, arith}
 use Rattle.std.specs.List.{prefix_len}
 use Rattle.command_shell.specs.Lines.{is_blank, words_of}

@@ -1,3 +1,4 @@
+-- The goals of `read_layer` that are proved by hand.
 use Rattle.std.proofs.Common.{rules}
 use Rattle.page_file.specs.File.{given}
 use Rattle.plain_table.specs.Objects.{entries_of}

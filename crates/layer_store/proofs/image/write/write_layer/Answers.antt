@@ -1,3 +1,4 @@
+-- The goals of `write_layer` that are proved by hand.
 use Rattle.std.proofs.Common.{rules, sym, subst}
 use Rattle.object_chain.specs.Chain.{HoldsObjects, new_pages}
 use Rattle.page_file.specs.File.{pages}

@@ -1,3 +1,4 @@
+-- The goals of `Kept::insert` that are proved by hand.
 use Rattle.std.proofs.Common.{subst}
 use Rattle.plain_table.specs.Answers.{done_answer}
 use Rattle.plain_table.specs.Commands.Command.{Insert}

@@ -1,3 +1,4 @@
+-- The goals of `Kept::settle` that are proved by hand.
 use Rattle.std.proofs.Common.{inl, subst}
 use Rattle.layer_store.proofs.KeepLemmas.{kept_table}
 use Rattle.layer_store.proofs.Results.{if_err}

@@ -1,3 +1,4 @@
+-- The goals of `Store::create` that are proved by hand.
 use Rattle.std.proofs.Common.{refl, sym, ap, subst}
 use Rattle.layer_store.specs.Keeping.{RestsOn}
 use Rattle.layer_store.proofs.StopLemmas.{rest_of, rests_so}

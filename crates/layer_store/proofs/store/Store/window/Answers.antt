@@ -1,3 +1,4 @@
+-- The goals of `Store::window` that are proved by hand.
 use Rattle.std.proofs.Common.{refl}
 use Rattle.plain_table.specs.Answers.{boxes_answer}
 use Rattle.plain_table.specs.Commands.Command.{Window}

@@ -1,3 +1,4 @@
+-- The goals of `PageFile::allocate` that are proved by hand.
 use Rattle.std.proofs.Common.{◌≡◌, ℕ, List, Some, ap, ◌∙◌, arith, length, refl}
 use Rattle.block_bytes.specs.Numbers.{zeros}
 use Rattle.block_device.specs.Device.{block_at}

@@ -1,3 +1,4 @@
+-- The goals of `PageFile::begin_change` that are proved by hand.
 use Rattle.std.proofs.Common.{refl}
 use Rattle.page_file.specs.Kept.{map_kept_aside}
 use Rattle.page_file.proofs.file.PageFile.begin_change.Goals as goal

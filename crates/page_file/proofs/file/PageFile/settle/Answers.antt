@@ -1,3 +1,4 @@
+-- The goals of `PageFile::settle` that are proved by hand.
 use Rattle.std.proofs.Common.{◌≡◌, ◌∙◌, ◌⊎◌, sym, subst, inl, inr, ⊎_elim}
 use Rattle.block_device.specs.Device.{Blocks, LeavesOnly}
 use Rattle.block_device.specs.Moments.{leaves_then, leaves_weaker}

@@ -1,3 +1,4 @@
+-- The goals of `PageFile::shut` that are proved by hand.
 use Rattle.std.proofs.Common.{◌≡◌, refl, rules, sym, subst}
 use Rattle.page_file.specs.declared.gate.Gate.TheVariants.{Shut}
 use Rattle.page_file.specs.Layout.{IsShutGate}

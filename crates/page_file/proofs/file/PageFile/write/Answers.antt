@@ -1,3 +1,4 @@
+-- The goals of `PageFile::write` that are proved by hand.
 use Rattle.std.proofs.Common.{◌≡◌, ◌≤◌, ℕ, List, Some, ap, ◌∙◌, arith, length, refl}
 use Rattle.block_device.specs.Device.{block_at, written}
 use Rattle.block_device.specs.Written.{block_at-written}

@@ -1,3 +1,4 @@
+-- The goals of `create_pages` that are proved by hand.
 use Rattle.std.proofs.Common.{sym, subst, refl, arith}
 use Rattle.page_file.specs.Layout.{IsShutGate}
 use Rattle.page_file.specs.Kept.{shut_lies}

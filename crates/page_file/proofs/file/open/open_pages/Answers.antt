@@ -1,3 +1,4 @@
+-- The goals of `open_pages` that are proved by hand.
 use Rattle.std.proofs.Common.{◌≤◌, sym, subst, length}
 use Rattle.block_device.specs.Device.{Blocks, block_at}
 use Rattle.page_file.specs.declared.header.Header.{Header}

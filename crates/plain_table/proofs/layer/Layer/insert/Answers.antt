@@ -1,3 +1,4 @@
+-- The goals of `Layer::insert` that are proved by hand.
 use Rattle.std.proofs.Common.{◌∙◌, sym, ap, subst, refl, List, ℕ}
 use Rattle.std.specs.Prelude.{IsTrue}
 use Rattle.std.specs.List.{insert}

@@ -1,3 +1,4 @@
+-- The goals of `Layer::new` that are proved by hand.
 use Rattle.std.proofs.Common.{◌≡◌, ◌∙◌, sym, ap, arith}
 use Rattle.std.proofs.lemmas.Bool.Decides.{nat_tests}
 use Rattle.std.specs.FinMap.{from_sorted, empty}

@@ -1,3 +1,4 @@
+-- The goals of `Layer::window` that are proved by hand.
 use Rattle.std.proofs.Common.{◌∙◌, sym, ap, map, ℕ}
 use Rattle.box_math.specs.Bounds.{Bounds}
 use Rattle.plain_table.specs.declared.boxes.AnyBox.TheVariants as any

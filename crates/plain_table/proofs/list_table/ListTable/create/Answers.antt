@@ -1,3 +1,4 @@
+-- The goals of `ListTable::create` that are proved by hand.
 use Rattle.std.proofs.Common.{◌∙◌, sym, ap, subst, arith, map}
 use Rattle.std.specs.Cmp.Lexicographic.{slice_cmp}
 use Rattle.std.specs.Ordering.{nat_cmp}

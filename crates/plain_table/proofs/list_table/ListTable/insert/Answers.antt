@@ -1,3 +1,4 @@
+-- The goals of `ListTable::insert` that are proved by hand.
 use Rattle.std.proofs.Common.{◌∙◌, sym, subst, arith, map}
 use Rattle.std.specs.Prelude.{slice_set}
 use Rattle.std.specs.Cmp.Lexicographic.{slice_cmp}

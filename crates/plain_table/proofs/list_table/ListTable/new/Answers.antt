@@ -1,3 +1,4 @@
+-- The goals of `ListTable::new` that are proved by hand.
 use Rattle.std.proofs.Common.{ap, ◌∙◌}
 use Rattle.std.specs.Cmp.Lexicographic.{slice_cmp}
 use Rattle.std.specs.Ordering.{nat_cmp}

@@ -1,3 +1,4 @@
+-- The goals of `ListTable::window` that are proved by hand.
 use Rattle.std.proofs.Common.{◌∙◌, sym, subst, map}
 use Rattle.std.specs.Cmp.Lexicographic.{slice_cmp}
 use Rattle.std.specs.Ordering.{nat_cmp}
