@@ -1,2 +1,3 @@
 -- The files of lemmas.
 pub mod Back
+mod Examples

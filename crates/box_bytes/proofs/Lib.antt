@@ -1,3 +1,4 @@
 -- The files of lemmas.
 pub mod Writing
 pub mod BothCorners
+mod Examples
