@@ -6,6 +6,7 @@ use Rattle.std.specs.FinMap.{empty}
 use Rattle.plain_table.specs.Lawful.{Standing, Request, Session}
 use Rattle.plain_table.specs.Laws.{a_bad_line_is_lawful}
 use Rattle.plain_table.specs.Lawful.Request.{BadCommand}
+use Rattle.plain_table.specs.Lawful.AfterStop.{Surely}
 use Rattle.plain_table.specs.Lawful.State.{Alive}
 use Rattle.plain_table.specs.Step.{Answer}
 use Rattle.plain_table.specs.Step.Answer.{Refused}
@@ -29,7 +30,7 @@ known bytes = Some bytes
 
 -- a store with no layer
 abbrev fresh : Standing
-fresh = record { state = Alive empty; faults = 0; next = 3 }
+fresh = record { state = Alive empty; after_stop = Surely empty; faults = 0; next = 3 }
 
 -- ---- what is a run
 

@@ -14,10 +14,12 @@ use Rattle.page_file.specs.Stops.{AddsOnly, SameButGate, StopSince}
 use Rattle.page_file.specs.declared.file.PageFile.{PageFile}
 use Rattle.page_file.specs.declared.gate.Gate.{Gate}
 use Rattle.page_file.specs.declared.gate.Gate.TheVariants.{Shut, Open}
+use Rattle.plain_table.specs.Lawful.{AfterStop, Standing, tables_left}
+use Rattle.plain_table.specs.Lawful.AfterStop.{Surely, Perhaps}
 use Rattle.plain_table.specs.Table.{Table}
-use Rattle.layer_store.specs.Image.{Holds, IsImage, IsLeftOf}
-use Rattle.layer_store.specs.Keeping.{RestsOn}
-use Rattle.layer_store.specs.Standing.{Rests, StandsFor, blocks_in, device_in}
+use Rattle.layer_store.specs.Image.{Holds, IsImage, IsLeftAfter, IsLeftOf}
+use Rattle.layer_store.specs.Keeping.{LeavesAtRest, RestsOn}
+use Rattle.layer_store.specs.Standing.{Rests, Stands, StandsFor, blocks_in, device_in}
 use Rattle.layer_store.specs.declared.store.Store.{Store}
 use Rattle.layer_store.proofs.StoreLemmas.{alive_with}
 use Rattle.layer_store.specs.Laws.{a_held_table_stays}
@@ -77,6 +79,22 @@ module _ {D : Type 0} {m : _} where
 
   pub rests_on_more : (file : PageFile D m) (ts : List Table) (t : Table) → RestsOn file ts → RestsOn file (t ∷ ts)
   rests_on_more file ts t rests = λ closed c same. or_this ts t c (rests closed c same)
+
+  -- ---- what a stop leaves of it
+
+  -- the tables of which it may leave an image
+  pub left_rests : (file : PageFile D m) (left : AfterStop) → LeavesAtRest file left → RestsOn file (tables_left left)
+  left_rests file (Surely t) there = λ closed c same. ⊎_elim (λ refused. inl refused) (λ image. this_one [] t c image) (image_aside (blocks_of file) c t there.0 same)
+  left_rests file (Perhaps ts) there = there
+
+  -- a shut file that holds a table leaves its image
+  pub shut_leaves : (file : PageFile D m) (t : Table) → IsHonest file → gate_of file ≡ Shut → IsImage (blocks_of file) t → LeavesAtRest file (Surely t)
+  shut_leaves file t honest shut image = (image, shut_is_durable file honest shut)
+
+  -- what a stop may leave
+  pub at_rest_leaves : (file : PageFile D m) (left : AfterStop) → IsHonest file → LeavesAtRest file left → (c : Blocks) → m.may_leave file.device c → IsLeftAfter left c
+  at_rest_leaves file (Surely t) honest there c stop = subst (λ (blocks : Blocks). IsImage blocks t) (sym (there.1 c stop)) there.0
+  at_rest_leaves file (Perhaps ts) honest there c stop = rest_leaves file ts honest there c stop
 
   -- ---- a closing
 
@@ -144,3 +162,8 @@ module _ {D A : Type 0} {m : _} where
   pub rests_so : (store : Store D A m) (ts : List Table) → RestsOn store.kept.file ts → Rests store ts
   unfolding Rests
   rests_so store ts rests = rests
+
+  -- what a stop between calls leaves of a store
+  pub left_of_store : (store : Store D A m) (s : Standing) → Stands store s → (c : Blocks) → m.may_leave (device_in store) c → IsLeftAfter s.after_stop c
+  unfolding Stands
+  left_of_store store s stands c stop = at_rest_leaves store.kept.file s.after_stop stands.1.map.honest stands.2 c stop

@@ -11,6 +11,8 @@ use Rattle.page_file.specs.Opening.{IsRefused, failed_check}
 use Rattle.page_file.specs.Pages.{IsSoundMap, given_pages, next_in}
 use Rattle.page_file.specs.declared.fault.Fault.{Fault}
 use Rattle.page_file.specs.declared.fault.Fault.TheVariants.{Damaged}
+use Rattle.plain_table.specs.Lawful.{AfterStop}
+use Rattle.plain_table.specs.Lawful.AfterStop.{Surely, Perhaps}
 use Rattle.plain_table.specs.Table.{Table, Layer}
 use Rattle.layer_store.specs.Catalog.{is_good_catalog}
 
@@ -56,6 +58,11 @@ pub record IsImage (blocks : Blocks) (t : Table) : Type 0 where
 -- blocks that opening refuses, or an image of one of these tables
 abbrev pub IsLeftOf : List Table → Blocks → Type 0
 IsLeftOf ts c = IsRefused c ⊎ ((u : Table) × Contains ts u × IsImage c u)
+
+-- what a stop between two requests leaves, as it is told of a store
+abbrev pub IsLeftAfter : AfterStop → Blocks → Type 0
+IsLeftAfter (Surely t) c = IsImage c t
+IsLeftAfter (Perhaps ts) c = IsLeftOf ts c
 
 -- ---- what is no image
 

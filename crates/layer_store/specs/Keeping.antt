@@ -1,12 +1,14 @@
 -- What a store keeps while it has not failed.
 use Rattle.std.specs.Prelude.{◌≡◌, true, List}
-use Rattle.block_device.specs.Device.{Blocks}
-use Rattle.page_file.specs.File.{blocks_of, gate_of, next_of, pages, IsPageMap}
+use Rattle.block_device.specs.Device.{Blocks, Only}
+use Rattle.page_file.specs.File.{blocks_of, device_of, gate_of, next_of, pages, IsPageMap}
 use Rattle.page_file.specs.Stops.{SameButGate}
 use Rattle.page_file.specs.declared.file.PageFile.{PageFile}
 use Rattle.page_file.specs.declared.gate.Gate.TheVariants.{Open}
+use Rattle.plain_table.specs.Lawful.{AfterStop}
+use Rattle.plain_table.specs.Lawful.AfterStop.{Surely, Perhaps}
 use Rattle.plain_table.specs.Table.{Table}
-use Rattle.layer_store.specs.Image.{Holds, IsLeftOf}
+use Rattle.layer_store.specs.Image.{Holds, IsImage, IsLeftOf}
 use Rattle.layer_store.specs.declared.kept.Kept.{Kept}
 
 -- its pages hold its table
@@ -22,3 +24,9 @@ pub record IsSound {D A : Type 0} {m : _} (kept : Kept D A m) : Type 0 where
 -- its blocks are so whatever their gate.
 abbrev pub RestsOn : {D : Type 0} {m : _} → PageFile D m → List Table → Type 0
 RestsOn file ts = ¬ (gate_of file ≡ Open) → (c : Blocks) → SameButGate c (blocks_of file) → IsLeftOf ts c
+
+-- What a stop leaves of the file at rest: the blocks as they are, an image of the table; or blocks that opening refuses,
+-- or an image of one of these tables.
+abbrev pub LeavesAtRest : {D : Type 0} {m : _} → PageFile D m → AfterStop → Type 0
+LeavesAtRest {m = m} file (Surely t) = IsImage (blocks_of file) t × Only (blocks_of file) (m.may_leave (device_of file))
+LeavesAtRest file (Perhaps ts) = RestsOn file ts

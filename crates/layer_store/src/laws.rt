@@ -4,8 +4,9 @@ ghost use Rattle.block_device.specs.Device.{Blocks};
 ghost use Rattle.object_chain.specs.Chain.{KeepsPages, PageMap};
 ghost use Rattle.page_file.specs.declared.fault.Fault.{Fault};
 ghost use Rattle.plain_table.specs.Table.{Table};
-ghost use Rattle.layer_store.specs.Image.{Holds, IsImage, IsLeftOf, Refuses};
-ghost use Rattle.layer_store.specs.Standing.{Rests, StandsFor, blocks_in, device_in};
+ghost use Rattle.plain_table.specs.Lawful.{Standing};
+ghost use Rattle.layer_store.specs.Image.{Holds, IsImage, IsLeftAfter, IsLeftOf, Refuses};
+ghost use Rattle.layer_store.specs.Standing.{Rests, Stands, StandsFor, blocks_in, device_in};
 ghost use Rattle.layer_store.specs.declared.store.Store.{Store};
 
 use block_device::BlockDevice;
@@ -30,6 +31,12 @@ pub fn blocks_are_refused_in_one_way()
 #[tactic(auto, using(crate::specs::Laws::a_held_table_stays))]
 pub fn a_held_table_stays()
     ensures { (old new : PageMap) (next after : ℕ) (t : Table) → KeepsPages old new → next ≤ after → Holds old next t → Holds new after t }
+{}
+
+/// What a stop between two calls leaves of a store is what its standing says.
+pub fn a_stop_leaves_what_the_standing_says<D: BlockDevice, A: Allocator>()
+    ensures { (store : Store D A ⟦<D as BlockDevice>⟧) (s : Standing) → Stands store s →
+        (c : Blocks) → D.may_leave (device_in store) c → IsLeftAfter s.after_stop c }
 {}
 
 /// What a stop leaves of a store at rest, between its calls; and one whose blocks are an image of a table rests on that

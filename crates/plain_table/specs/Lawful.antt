@@ -1,6 +1,6 @@
 -- One command as a lawful step of a store, and sessions of such steps.
 -- A store answers as the plain table does; only want of memory, a fault of the device or want of page numbers may refuse a command instead. Our rule, docs/COMMANDS.md.
-use Rattle.std.specs.Prelude.{ℕ, ◌≡◌, ◌≤◌, ◌^◌, ◌⊎◌, Bool, true, false, ◌==◌, List, [], ◌∷◌}
+use Rattle.std.specs.Prelude.{ℕ, ◌≡◌, ◌≤◌, ◌^◌, ◌⊎◌, Bool, true, false, if◌then◌else◌, ◌==◌, List, [], ◌∷◌}
 use Rattle.block_device.specs.Device.{HasRisen}
 use Rattle.plain_table.specs.Commands.{Command}
 use Rattle.plain_table.specs.Commands.Command.{Reopen}
@@ -15,9 +15,16 @@ pub data State : Type 0 where
   Alive : Table → State
   Dead : State
 
--- a state, how often the device has failed so far, and one more than the greatest page number given out
+-- What a stop between two requests leaves of a store: surely an image of this table; or perhaps one of one of these, and
+-- else nothing that is opened.
+pub data AfterStop : Type 0 where
+  Surely : Table → AfterStop
+  Perhaps : List Table → AfterStop
+
+-- a state, what a stop leaves, how often the device has failed so far, and one more than the greatest page number given out
 pub record Standing : Type 0 where
   pub state : State
+  pub after_stop : AfterStop
   pub faults : ℕ
   pub next : ℕ
 
@@ -84,13 +91,42 @@ Lawful rose spent old BadCommand a new = (a ≡ Refused refusal.BadLine) × (new
 Lawful rose spent (Alive t) (Asks c) a new = LawfulFrom rose spent t c a new
 Lawful rose spent Dead (Asks c) a new = (a ≡ Refused (refusal.StoreFailed 19)) × (new ≡ Dead)
 
+-- the tables of which a stop may leave an image
+abbrev pub tables_left : AfterStop → List Table
+tables_left (Surely t) = t ∷ []
+tables_left (Perhaps ts) = ts
+
+-- the refusal says that the store is dead
+abbrev pub is_end : Refusal → Bool
+is_end (refusal.StoreFailed cause) = true
+is_end r = false
+
+-- A closing of the table is finished where it is answered, and where the store failed in reading the file again; else
+-- a stop leaves what it left before, or perhaps this table too.
+abbrev pub after_closing : Table → AfterStop → Answer → AfterStop
+after_closing t old (Refused r) = if is_end r then Surely t else Perhaps (t ∷ tables_left old)
+after_closing t old a = Surely t
+
+-- only a closing changes what a stop leaves
+abbrev pub after_command : Table → AfterStop → Command → Answer → AfterStop
+after_command t old Reopen a = after_closing t old a
+after_command t old c a = old
+
+-- what a stop leaves after a request
+abbrev pub after_request : State → AfterStop → Request → Answer → AfterStop
+after_request state old BadCommand a = old
+after_request (Alive t) old (Asks c) a = after_command t old c a
+after_request Dead old (Asks c) a = old
+
 -- the answer to a request, and the state that it leaves
 abbrev pub LawfulAnswer : Standing → Request → Answer → Standing → Type 0
 LawfulAnswer old r a new = Lawful (HasRisen old.faults new.faults) (IsSpent new.next) old.state r a new.state
 
--- One request answered lawfully. How often the device has failed does not fall, nor how many page numbers were given out.
+-- One request answered lawfully, and what a stop then leaves. How often the device has failed does not fall, nor how many
+-- page numbers were given out.
 pub record LawfulStep (old : Standing) (r : Request) (a : Answer) (new : Standing) : Type 0 where
   pub answer : LawfulAnswer old r a new
+  pub after_stop : new.after_stop ≡ after_request old.state old.after_stop r a
   pub faults : old.faults ≤ new.faults
   pub next : old.next ≤ new.next
 

@@ -13,7 +13,7 @@ pub returns-then-self-clause-step : goal.returns-then-self-clause-step
 returns-then-self-clause-step g c = takes_nothing c.args.self.now (Create c.args.layer.now c.args.dims c.args.fanout) c.if-self.true
 
 pub returns-clause-step : goal.returns-clause-step
-returns-clause-step g c = takes_in_memory c.args.self.now (record { kept = c.create.new.self; failed = c.args.self.now.failed }) (Create c.args.layer.now c.args.dims c.args.fanout) (done_answer c.create.result) c.if-self.false c.if-self.false c.create.ensures.table c.create.ensures.file c.create.ensures.written
+returns-clause-step g c = takes_in_memory c.args.self.now (record { kept = c.create.new.self; failed = c.args.self.now.failed }) (Create c.args.layer.now c.args.dims c.args.fanout) (done_answer c.create.result) c.if-self.false c.if-self.false c.create.ensures.table c.create.ensures.file c.create.ensures.written (λ left. refl)
 
 pub returns-clause-cause : goal.returns-clause-cause
 returns-clause-cause g c = cause_in_memory _ _ c.create.result done_answer c.args.self.now.kept.table c.create.new.self.table (Create c.args.layer.now c.args.dims c.args.fanout) (λ r. refl) c.create.ensures.table (ap (λ (file : PageFile _ _). g.D.BlockDevice.faults (device_of file)) c.create.ensures.file)

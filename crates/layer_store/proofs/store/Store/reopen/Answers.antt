@@ -2,21 +2,22 @@
 use Rattle.std.proofs.Common.{◌∷◌, ◌≡◌, ◌∙◌, ◌⊎◌, Err, true, false, refl, sym, ap, subst, arith, inl, inr}
 use Rattle.block_device.specs.Device.{Blocks, HasRisen, LeavesOnly}
 use Rattle.plain_table.specs.Table.{Table}
-use Rattle.layer_store.proofs.StopLemmas.{read_alone, rest_of, rests_on_table, rests_so, shut_is_durable, then_read}
+use Rattle.layer_store.proofs.StopLemmas.{left_rests, read_alone, rest_of, rests_on_table, rests_so, shut_is_durable, shut_leaves, then_read}
 use Rattle.page_file.specs.Fault.{faults_after}
 use Rattle.page_file.specs.File.{blocks_of, device_of, gate_of, next_of, IsHonest, KeepsGate}
 use Rattle.page_file.specs.declared.gate.Gate.TheVariants.{Shut}
 use Rattle.plain_table.specs.Commands.Command.{Reopen}
-use Rattle.plain_table.specs.Lawful.{IsEnd, IsFault, IsSpent, MayWrite}
+use Rattle.plain_table.specs.Lawful.{IsEnd, IsFault, IsSpent, MayWrite, tables_left}
 use Rattle.plain_table.specs.Step.Answer.{Done, Refused}
 use Rattle.plain_table.specs.declared.refusal.Refusal.TheVariants as refusal
 use Rattle.layer_store.specs.Image.{IsImage, IsLeftOf}
-use Rattle.layer_store.specs.Keeping.{RestsOn}
+use Rattle.layer_store.specs.Keeping.{LeavesAtRest, RestsOn}
 use Rattle.layer_store.specs.Standing.{HasFailed}
 use Rattle.layer_store.specs.declared.kept.Kept.{Kept}
 use Rattle.layer_store.specs.declared.store.Store.{Store}
 use Rattle.layer_store.proofs.KeepLemmas.{image_of}
-use Rattle.layer_store.proofs.StoreLemmas.{alive_with, closed_so, died_lawful, done_lawful, end_of_store, failed_so, fault_of_command, gave_up_lawful, is_closed, no_fewer, not_both, risen_of, takes_last, takes_nothing, takes_step}
+use Rattle.layer_store.proofs.Results.{subst_both}
+use Rattle.layer_store.proofs.StoreLemmas.{alive_with, closed_so, closing_refused, died_lawful, done_lawful, end_of_store, failed_so, fault_of_command, gave_up_lawful, is_closed, no_fewer, not_both, risen_of, takes_last, takes_nothing, takes_step}
 use Rattle.layer_store.proofs.store.Store.reopen.Goals as goal
 
 true_false : true ≡ false → ⊥
@@ -39,6 +40,8 @@ returns-in-Err-clause-step g c =
     let now = g.D.BlockDevice.faults (device_of c.settle.new.self.file) in
     let settled = c.in-Err.ensures in
     takes_step c.args.self.now (record { kept = c.settle.new.self; failed = c.args.self.now.failed }) Reopen (Refused c.as_refusal.result) c.if-self.false c.if-self.false settled.sound (λ sound. (no_fewer c.in-Err.fault before now (g.met.D.BlockDevice.faults_fit (device_of c.args.self.now.kept.file)) settled.cause.refused, settled.next))
+    (λ sound left there. subst (LeavesAtRest c.settle.new.self.file) (sym (closing_refused c.args.self.now.kept.table left c.in-Err.fault c.as_refusal.result c.as_refusal.ensures))
+    (settled.rests (tables_left left) sound (left_rests c.args.self.now.kept.file left there)))
     (λ sound. gave_up_lawful (HasRisen before now) (IsSpent (next_of c.settle.new.self.file)) c.args.self.now.kept.table c.settle.new.self.table Reopen c.as_refusal.result
     (subst (IsFault (HasRisen before now) (IsSpent (next_of c.settle.new.self.file) × MayWrite c.args.self.now.kept.table Reopen)) (sym c.as_refusal.ensures)
     (fault_of_command before now (IsSpent (next_of c.settle.new.self.file) × MayWrite c.args.self.now.kept.table Reopen) c.in-Err.fault (settled.faults sound.map) (risen_of before now c.in-Err.fault settled.cause.refused) (λ is. (settled.no_pages (ap Err is), inl refl))))
@@ -54,6 +57,13 @@ returns-in-Ok-clause-step g c =
     takes_step c.args.self.now (record { kept = c.read_again.new.self; failed = c.args.self.now.failed }) Reopen Done c.if-self.false c.if-self.false
     (λ sound. let mid = settled.sound sound in let now = again.sound mid.map (mid.held settled.written) in record { map = now.0; held = λ written. now.1 })
     (λ sound. (let same = again.cause.ok ∙ settled.cause.ok in omega (arith, same), let next = again.next (settled.sound sound).map in omega (arith, next, settled.next)))
+    (λ sound left there.
+    let mid = settled.sound sound in
+    let held = mid.held settled.written in
+    let kept = c.settle.new.self in
+    let image = image_of kept.file (blocks_of kept.file) kept.table mid.map (settled.lies sound.map) held in
+    shut_leaves c.read_again.new.self.file c.args.self.now.kept.table (again.sound mid.map held).0.honest (again.gate.gate ∙ settled.shut)
+    (subst_both IsImage (sym (again.blocks mid.map)) settled.table image))
     (λ sound. let mid = settled.sound sound in done_lawful (HasRisen (g.D.BlockDevice.faults (device_of c.args.self.now.kept.file)) (g.D.BlockDevice.faults (device_of c.read_again.new.self.file))) (IsSpent (next_of c.read_again.new.self.file)) c.args.self.now.kept.table c.read_again.new.self.table (again.table mid.map (mid.held settled.written) ∙ settled.table))
 
 pub returns-in-Ok-clause-closed : goal.returns-in-Ok-clause-closed
@@ -75,6 +85,13 @@ returns-in-Err-read_again-clause-step g c =
     takes_last c.args.self.now (record { kept = c.read_again.new.self; failed = true }) Reopen (Refused (refusal.StoreFailed c.number.result)) c.if-self.false refl
     (λ sound. let mid = settled.sound sound in let after = again.sound mid.map (mid.held settled.written) in record { map = after.0; held = λ written. after.1 })
     (λ sound. (no_fewer c.in-Err-read_again.fault before now (g.met.D.BlockDevice.faults_fit (device_of c.args.self.now.kept.file)) (again.cause.refused ∙ ap (faults_after c.in-Err-read_again.fault) settled.cause.ok), let next = again.next (settled.sound sound).map in omega (arith, next, settled.next)))
+    (λ sound left there.
+    let mid = settled.sound sound in
+    let held = mid.held settled.written in
+    let kept = c.settle.new.self in
+    let image = image_of kept.file (blocks_of kept.file) kept.table mid.map (settled.lies sound.map) held in
+    shut_leaves c.read_again.new.self.file c.args.self.now.kept.table (again.sound mid.map held).0.honest (again.gate.gate ∙ settled.shut)
+    (subst_both IsImage (sym (again.blocks mid.map)) settled.table image))
     (λ sound. let mid = settled.sound sound in died_lawful (HasRisen before now) (IsSpent (next_of c.read_again.new.self.file)) c.args.self.now.kept.table (refusal.StoreFailed c.number.result)
     (subst (λ n. IsEnd (HasRisen before now) (refusal.StoreFailed n)) (sym c.number.ensures)
     (end_of_store before now c.in-Err-read_again.fault (again.faults mid.map (mid.held settled.written)) (risen_of before now c.in-Err-read_again.fault (again.cause.refused ∙ ap (faults_after c.in-Err-read_again.fault) settled.cause.ok)))))

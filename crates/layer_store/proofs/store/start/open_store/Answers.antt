@@ -1,8 +1,9 @@
 -- The pages given out are those of the blocks that were opened.
-use Rattle.std.proofs.Common.{◌∙◌, refl, sym, inl, inr, ⊎_elim}
+use Rattle.std.proofs.Common.{◌∙◌, refl, sym, subst, inl, inr, ⊎_elim}
+use Rattle.block_device.specs.Device.{Blocks}
 use Rattle.page_file.specs.File.{blocks_of, device_of, gate_of}
 use Rattle.page_file.specs.declared.fault.Fault.TheVariants as fault
-use Rattle.layer_store.specs.Image.{Holds, IsDamaged}
+use Rattle.layer_store.specs.Image.{Holds, IsDamaged, IsImage}
 use Rattle.layer_store.specs.Laws.{some_is_not_none}
 use Rattle.layer_store.proofs.KeepLemmas.{same_blocks}
 use Rattle.layer_store.proofs.Results.{if_err, if_err_given, if_ok, subst_both}
@@ -15,7 +16,8 @@ returns-in-Ok-clause-image g c = λ t honest image.
     let opened = c.in-Ok.ensures in
     let lies = opened.lies honest in
     let same = same_blocks c.in-Ok.file (g.D.BlockDevice.shown c.args.device) (opened.blocks honest) lies.next in
-    if_ok c.read_store.result (λ store stands. stands t (subst_both (λ pages next. Holds pages next t) (sym same) lies.next image.holds)) (c.read_store.ensures.stands (lies.sound.1 image.free))
+    if_ok c.read_store.result (λ store begins. begins t (subst_both (λ pages next. Holds pages next t) (sym same) lies.next image.holds)
+    (subst (λ (blocks : Blocks). IsImage blocks t) (sym (opened.blocks honest)) image)) (c.read_store.ensures.begins (lies.sound.1 image.free) opened.shut)
 
 pub returns-in-Ok-clause-opened : goal.returns-in-Ok-clause-opened
 returns-in-Ok-clause-opened g c =
