@@ -30,7 +30,7 @@ known bytes = Some bytes
 
 -- a store with no layer
 abbrev fresh : Standing
-fresh = record { state = Alive empty; after_stop = Surely empty; faults = 0; next = 3 }
+fresh = record { state = Alive empty; stops = record { now = Surely empty; since = 0; so_far = empty ∷ [] }; faults = 0; next = 3 }
 
 -- ---- what is a run
 

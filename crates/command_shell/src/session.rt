@@ -33,9 +33,11 @@ pub enum RunEnd {
 /// Answers the lines of a reader, each before the next one is looked for, until the text ends or a read or a write
 /// fails.
 ///
-/// Whatever table and state the store stands for, the commands of the text that was read are a lawful session from
-/// there, the store stands for its end, and what was written are the texts of its answers; [`RunEnd`] says how much of
-/// the text and of the last answer's text that is. Where reader or writer does not make its bytes known, nothing is
+/// Whatever the store stands for, the commands of the text that was read are a lawful session from there, the store
+/// stands for its end, and what was written are the texts of its answers; [`RunEnd`] says how much of the text and of
+/// the last answer's text that is. So a stop at any moment of the run leaves blocks that opening refuses, or an image of
+/// a table that one before it may have left or that the run closed (docs/FORMAT.md, "What stops leave of a store").
+/// Where reader or writer does not make its bytes known, nothing is
 /// said of them.
 ///
 /// An interrupted read is a fault like any other. The writer is not flushed. Beside what the store takes, it takes no

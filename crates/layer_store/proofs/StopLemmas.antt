@@ -1,6 +1,7 @@
 -- What a stop leaves of a store's blocks: a refusal, or an image.
-use Rattle.std.proofs.Common.{◌≡◌, ◌∙◌, ◌⊎◌, ℕ, suc, List, [], ◌∷◌, Some, refl, sym, ap, subst, arith, inl, inr, ⊎_elim}
+use Rattle.std.proofs.Common.{◌≡◌, ◌∙◌, ◌⊎◌, ◌≤◌, ℕ, zero, suc, List, [], ◌∷◌, Some, refl, sym, ap, subst, arith, inl, inr, ⊎_elim}
 use Rattle.std.specs.FinMap.{empty}
+use Rattle.std.specs.List.{Contains}
 use Rattle.block_device.specs.Device.{Blocks, LeavesOnly, Only}
 use Rattle.block_device.specs.Moments.{leaves_then, leaves_weaker, started}
 use Rattle.page_file.specs.Aside.{FindsSame, aside_passes}
@@ -14,14 +15,14 @@ use Rattle.page_file.specs.Stops.{AddsOnly, SameButGate, StopSince}
 use Rattle.page_file.specs.declared.file.PageFile.{PageFile}
 use Rattle.page_file.specs.declared.gate.Gate.{Gate}
 use Rattle.page_file.specs.declared.gate.Gate.TheVariants.{Shut, Open}
-use Rattle.plain_table.specs.Lawful.{AfterStop, Standing, tables_left}
+use Rattle.plain_table.specs.Lawful.{AfterStop, Standing, Stops, tables_left}
 use Rattle.plain_table.specs.Lawful.AfterStop.{Surely, Perhaps}
 use Rattle.plain_table.specs.Table.{Table}
 use Rattle.layer_store.specs.Image.{Holds, IsImage, IsLeftAfter, IsLeftOf}
-use Rattle.layer_store.specs.Keeping.{LeavesAtRest, RestsOn}
-use Rattle.layer_store.specs.Standing.{Rests, Stands, StandsFor, blocks_in, device_in}
+use Rattle.layer_store.specs.Keeping.{HoldsItsTable, Leaves, LeavesAtRest, RestsOn}
+use Rattle.layer_store.specs.Standing.{Stands, closed_since, device_in}
+use Rattle.layer_store.specs.declared.kept.Kept.{Kept}
 use Rattle.layer_store.specs.declared.store.Store.{Store}
-use Rattle.layer_store.proofs.StoreLemmas.{alive_with}
 use Rattle.layer_store.specs.Laws.{a_held_table_stays}
 use Rattle.layer_store.proofs.KeepLemmas.{image_of, new_image}
 
@@ -143,27 +144,97 @@ module _ {D : Type 0} {m : _} where
       (stops_of_a_run_go_on old.device old new (λ c. c ≡ blocks_of old) honest
       (started m.moment m.left_since old.device (λ c. c ≡ blocks_of old) (λ c left. shut_is_durable old honest shut c (now c left))) keeps)
 
--- ---- a store at rest
+-- ---- what stops leave of a store
+
+contains_more : {X : Type 0} (x y : X) (xs : List X) → Contains xs x → Contains (y ∷ xs) x
+contains_more x y xs (k, lt, is) = (suc k, omega (arith, lt), is)
+
+contains_first : {X : Type 0} (x : X) (xs : List X) → Contains (x ∷ xs) x
+contains_first x xs = (0, omega arith, refl)
+
+contains_one : {X : Type 0} (x y : X) (xs : List X) → Contains (y ∷ []) x → Contains (y ∷ xs) x
+contains_one x y xs (zero, lt, is) = (0, omega arith, is)
+contains_one x y xs (suc k, lt, is) = absurd (omega (arith, lt))
+
+-- one more of which a table is left
+left_among : (ts us : List Table) (c : Blocks) → ((t : Table) → Contains ts t → Contains us t) → IsLeftOf ts c → IsLeftOf us c
+left_among ts us c among (inl refused) = inl refused
+left_among ts us c among (inr (u, there, image)) = inr (u, among u there, image)
+
+either_among : (t : Table) (ts us : List Table) → ((u : Table) → Contains ts u → Contains us u) → (u : Table) → Contains (t ∷ ts) u → Contains (t ∷ us) u
+either_among t ts us among u (zero, lt, is) = (0, omega arith, is)
+either_among t ts us among u (suc k, lt, is) = contains_more u t us (among u (k, omega (arith, lt), is))
+
+module _ {D : Type 0} {m : _} where
+  -- after a closing of the table, refused or not
+  pub closing_leaves : (old new : PageFile D m) (t : Table) (stops : Stops) (now : AfterStop) → LeavesOnly m.moment m.left_since old.device new.device (IsLeftOf (t ∷ tables_left stops.now)) → Leaves old stops → LeavesAtRest new now
+      → ((u : Table) → Contains (tables_left now) u → Contains (t ∷ tables_left stops.now) u) → Leaves new (record { now = now; since = stops.since; so_far = t ∷ stops.so_far })
+  closing_leaves old new t stops now closing was rest within = record {
+    now = rest;
+    begun = omega (arith, was.begun, closing.later);
+    so_far = λ c left. ⊎_elim (λ before. or_this stops.so_far t c (was.so_far c before))
+        (λ here. left_among (t ∷ tables_left stops.now) (t ∷ stops.so_far) c (either_among t (tables_left stops.now) stops.so_far was.among) here)
+        (closing.before stops.since c was.begun left);
+    among = λ u there. either_among t (tables_left stops.now) stops.so_far was.among u (within u there);
+  }
+
+  -- a finished one
+  pub closing_finished : (old new : PageFile D m) (t : Table) (stops : Stops) → LeavesOnly m.moment m.left_since old.device new.device (IsLeftOf (t ∷ tables_left stops.now)) → Leaves old stops → LeavesAtRest new (Surely t)
+      → Leaves new (record { now = Surely t; since = stops.since; so_far = t ∷ stops.so_far })
+  closing_finished old new t stops closing was rest = closing_leaves old new t stops (Surely t) closing was rest (λ u there. contains_one u t (tables_left stops.now) there)
+
+  -- a table was closed, and since then no other
+  pub closed_leaves : (file : PageFile D m) (moment : ℕ) (t : Table) → LeavesAtRest file (Surely t) → moment ≤ m.moment file.device → ((c : Blocks) → m.left_since file.device moment c → IsRefused c ⊎ IsImage c t) → Leaves file (closed_since moment t)
+  closed_leaves file moment t rest begun stops = record {
+    now = rest;
+    begun = begun;
+    so_far = λ c left. ⊎_elim (λ refused. inl refused) (λ image. this_one [] t c image) (stops c left);
+    among = λ u there. there;
+  }
+
+  -- seen from now on
+  pub leaves_from_now : (file : PageFile D m) (stops : Stops) → IsHonest file → ((c : Blocks) → m.left_since file.device (m.moment file.device) c → m.may_leave file.device c) → Leaves file stops
+      → Leaves file (record { now = stops.now; since = m.moment file.device; so_far = tables_left stops.now })
+  leaves_from_now file stops honest here was = record {
+    now = was.now;
+    begun = omega arith;
+    so_far = λ c left. rest_leaves file (tables_left stops.now) honest (left_rests file stops.now was.now) c (here c left);
+    among = λ u there. there;
+  }
 
 module _ {D A : Type 0} {m : _} where
-  pub left_at_rest : (store : Store D A m) (t : Table) (ts : List Table) → StandsFor store t → Rests store ts → (c : Blocks) → m.may_leave (device_in store) c → IsLeftOf ts c
-  unfolding Rests
-  left_at_rest store t ts stands rests c left = rest_leaves store.kept.file ts (alive_with store t stands).sound.map.honest rests c left
-
-  pub image_at_rest : (store : Store D A m) (u : Table) → IsImage (blocks_in store) u → Rests store (u ∷ [])
-  unfolding Rests
-  image_at_rest store u image = λ closed c same. ⊎_elim (λ refused. inl refused) (λ there. this_one [] u c there) (image_aside (blocks_in store) c u image same)
-
-  -- of its file
-  pub rest_of : (store : Store D A m) (ts : List Table) → Rests store ts → RestsOn store.kept.file ts
-  unfolding Rests
-  rest_of store ts rests = rests
-
-  pub rests_so : (store : Store D A m) (ts : List Table) → RestsOn store.kept.file ts → Rests store ts
-  unfolding Rests
-  rests_so store ts rests = rests
+  -- a table was closed, and its file read
+  pub closed_and_read : (old mid : Kept D A m) (new : PageFile D m) (ts : List Table) → IsPageMap mid.file → HoldsItsTable mid → LiesIn mid.file (blocks_of mid.file) → mid.table ≡ old.table → gate_of mid.file ≡ Shut
+      → LeavesOnly m.moment m.left_since old.file.device mid.file.device (IsLeftOf (old.table ∷ ts)) → KeepsGate mid.file new → blocks_of new ≡ blocks_of mid.file
+      → LeavesOnly m.moment m.left_since old.file.device new.device (IsLeftOf (old.table ∷ ts)) × LeavesAtRest new (Surely old.table)
+  closed_and_read old mid new ts map held lies table shut closing keeps blocks =
+      let image = subst (IsImage (blocks_of mid.file)) table (image_of mid.file (blocks_of mid.file) mid.table map lies held) in (
+        then_read old.file.device mid.file new ts old.table map.honest shut image closing keeps,
+        shut_leaves new old.table (keeps.honest.0 map.honest) (keeps.gate ∙ shut) (subst (λ (b : Blocks). IsImage b old.table) (sym blocks) image),
+      )
 
   -- what a stop between calls leaves of a store
-  pub left_of_store : (store : Store D A m) (s : Standing) → Stands store s → (c : Blocks) → m.may_leave (device_in store) c → IsLeftAfter s.after_stop c
+  pub left_of_store : (store : Store D A m) (s : Standing) → Stands store s → (c : Blocks) → m.may_leave (device_in store) c → IsLeftAfter s.stops.now c
   unfolding Stands
-  left_of_store store s stands c stop = at_rest_leaves store.kept.file s.after_stop stands.1.map.honest stands.2 c stop
+  left_of_store store s stands c stop = at_rest_leaves store.kept.file s.stops.now stands.1.map.honest stands.2.now c stop
+
+  -- and what one so far left
+  pub left_so_far : (store : Store D A m) (s : Standing) → Stands store s → (c : Blocks) → m.left_since (device_in store) s.stops.since c → IsLeftOf s.stops.so_far c
+  unfolding Stands
+  left_so_far store s stands c stop = stands.2.so_far c stop
+
+  -- the same store, seen from now on
+  pub stands_from_now : (store : Store D A m) (s : Standing) → ((c : Blocks) → m.honest (device_in store) → m.left_since (device_in store) (m.moment (device_in store)) c → m.may_leave (device_in store) c) → Stands store s
+      → Stands store (record { state = s.state; stops = record { now = s.stops.now; since = m.moment (device_in store); so_far = tables_left s.stops.now }; faults = s.faults; next = s.next })
+  unfolding Stands
+  stands_from_now store s here stands =
+      let seen : Stops = record { now = s.stops.now; since = m.moment (device_in store); so_far = tables_left s.stops.now } in (
+        ap (λ (z : Standing). record { state = z.state; stops = seen; faults = z.faults; next = z.next }) stands.0,
+        stands.1,
+        leaves_from_now store.kept.file s.stops stands.1.map.honest (λ c left. here c stands.1.map.honest left) stands.2,
+      )
+
+  -- the tables of which a closing of it may leave an image
+  pub rests_of_store : (store : Store D A m) (s : Standing) → Stands store s → RestsOn store.kept.file (tables_left s.stops.now)
+  unfolding Stands
+  rests_of_store store s stands = left_rests store.kept.file s.stops.now stands.2.now

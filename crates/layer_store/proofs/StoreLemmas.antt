@@ -12,7 +12,7 @@ use Rattle.page_file.specs.declared.file.PageFile.{PageFile}
 use Rattle.page_file.specs.declared.gate.Gate.TheVariants.{Shut}
 use Rattle.plain_table.specs.Commands.{Command}
 use Rattle.plain_table.specs.Commands.Command.{Reopen}
-use Rattle.plain_table.specs.Lawful.{AfterStop, AnsweredInMemory, after_closing, after_command, after_request, blames_device, is_end, tables_left, IsEnd, IsFault, IsSpent, Lawful, LawfulFrom, LawfulStep, MayWrite, Standing, Takes}
+use Rattle.plain_table.specs.Lawful.{AfterStop, AnsweredInMemory, Stops, after_closing, after_command, after_request, blames_device, is_end, tables_left, IsEnd, IsFault, IsSpent, Lawful, LawfulFrom, LawfulStep, MayWrite, Standing, Takes}
 use Rattle.plain_table.specs.Lawful.AfterStop.{Surely, Perhaps}
 use Rattle.plain_table.specs.Lawful.Request.{Asks}
 use Rattle.plain_table.specs.Lawful.State.{Alive, Dead}
@@ -25,8 +25,8 @@ use Rattle.plain_table.specs.declared.refusal.Refusal.TheVariants as refusal
 use Rattle.layer_store.specs.Faults.{GivesUp, as_refusal}
 use Rattle.layer_store.specs.Faults as store
 use Rattle.layer_store.specs.Image.{Holds}
-use Rattle.layer_store.specs.Keeping.{IsSound, LeavesAtRest}
-use Rattle.layer_store.specs.Standing.{BeginsWith, HasFailed, IsClosed, Stands, StandsFor, standing_of}
+use Rattle.layer_store.specs.Keeping.{IsSound, Leaves}
+use Rattle.layer_store.specs.Standing.{BeginsWith, HasFailed, IsClosed, Stands, StandsFor, closed_since, standing_of}
 use Rattle.layer_store.specs.declared.kept.Kept.{Kept}
 use Rattle.layer_store.specs.declared.store.Store.{Store}
 
@@ -130,14 +130,14 @@ dead_step : (rose spent : Type 0) (o : Bool) (t : Table) (c : Command) → o ≡
 dead_step rose spent true t c e = (refl, refl)
 dead_step rose spent false t c e = absurd (cc)
 
--- what a stop leaves after a command of a live store, and after one of a store that failed
-live_left : (o : Bool) (t : Table) (left : AfterStop) (c : Command) (a : Answer) → o ≡ false → after_command t left c a ≡ after_request (cond o Dead (Alive t)) left (Asks c) a
-live_left false t left c a e = refl
-live_left true t left c a e = absurd (cc)
+-- what stops leave after a command of a live store, and after one of a store that failed
+live_stops : (o : Bool) (t : Table) (stops : Stops) (c : Command) (a : Answer) → o ≡ false → after_command t stops c a ≡ after_request (cond o Dead (Alive t)) stops (Asks c) a
+live_stops false t stops c a e = refl
+live_stops true t stops c a e = absurd (cc)
 
-dead_left : (o : Bool) (t : Table) (left : AfterStop) (c : Command) (a : Answer) → o ≡ true → left ≡ after_request (cond o Dead (Alive t)) left (Asks c) a
-dead_left true t left c a e = refl
-dead_left false t left c a e = absurd (cc)
+dead_stops : (o : Bool) (t : Table) (stops : Stops) (c : Command) (a : Answer) → o ≡ true → stops ≡ after_request (cond o Dead (Alive t)) stops (Asks c) a
+dead_stops true t stops c a e = refl
+dead_stops false t stops c a e = absurd (cc)
 
 state_alive : (b : Bool) (t u : Table) → cond b Dead (Alive t) ≡ Alive u → (b ≡ false) × (t ≡ u)
 state_alive true t u e = absurd (cc)
@@ -157,10 +157,10 @@ module _ {D A : Type 0} {m : _} where
   }
 
   -- a store that is sound and has not failed
-  pub begins : (store : Store D A m) → IsSound store.kept → store.failed ≡ false → LeavesAtRest store.kept.file (Surely store.kept.table) → BeginsWith store store.kept.table
+  pub begins : (store : Store D A m) (moment : ℕ) → IsSound store.kept → store.failed ≡ false → Leaves store.kept.file (closed_since moment store.kept.table) → BeginsWith store moment store.kept.table
   unfolding Stands
-  begins store sound failed left = record {
-    next = standing_of store (Surely store.kept.table);
+  begins store moment sound failed left = record {
+    next = standing_of store (closed_since moment store.kept.table);
     stands = (refl, sound, left);
     so = (ap (λ (b : Bool). cond b Dead (Alive store.kept.table)) failed, refl);
   }
@@ -171,39 +171,39 @@ module _ {D A : Type 0} {m : _} where
 
   -- a command of a live store
   pub takes_step : (old new : Store D A m) (c : Command) (a : Answer) → old.failed ≡ false → new.failed ≡ false → (IsSound old.kept → IsSound new.kept) → (IsSound old.kept → NoFewer old new)
-      → (IsSound old.kept → (left : AfterStop) → LeavesAtRest old.kept.file left → LeavesAtRest new.kept.file (after_command old.kept.table left c a))
+      → (IsSound old.kept → (stops : Stops) → Leaves old.kept.file stops → Leaves new.kept.file (after_command old.kept.table stops c a))
       → (IsSound old.kept → LawfulFrom (HasRisen (m.faults (device_of old.kept.file)) (m.faults (device_of new.kept.file))) (IsSpent (next_of new.kept.file)) old.kept.table c a (Alive new.kept.table))
       → Takes Stands old new (λ s s'. LawfulStep s (Asks c) a s')
   unfolding Stands
   takes_step old new c a o n sound more leaves lawful = λ s stands.
-      let left = after_command old.kept.table s.after_stop c a in record {
-    next = standing_of new left;
-    stands = (refl, sound stands.1, leaves stands.1 s.after_stop stands.2);
-    so = subst (λ (z : Standing). LawfulStep z (Asks c) a (standing_of new left)) (sym stands.0) (record {
-      answer = alive_step _ _ old.failed new.failed old.kept.table new.kept.table c a o n (lawful stands.1);
-      after_stop = live_left old.failed old.kept.table s.after_stop c a o;
-      faults = (more stands.1).0;
-      next = (more stands.1).1;
-    });
-  }
+      let stops = after_command old.kept.table s.stops c a in record {
+        next = standing_of new stops;
+        stands = (refl, sound stands.1, leaves stands.1 s.stops stands.2);
+        so = subst (λ (z : Standing). LawfulStep z (Asks c) a (standing_of new stops)) (sym stands.0) (record {
+          answer = alive_step _ _ old.failed new.failed old.kept.table new.kept.table c a o n (lawful stands.1);
+          stops = live_stops old.failed old.kept.table s.stops c a o;
+          faults = (more stands.1).0;
+          next = (more stands.1).1;
+        });
+      }
 
   -- one answered from the table in memory
   pub takes_in_memory : (old new : Store D A m) (c : Command) (a : Answer) → old.failed ≡ false → new.failed ≡ false → AnsweredInMemory old.kept.table c a new.kept.table → new.kept.file ≡ old.kept.file
-      → (new.kept.written ≡ true → (old.kept.written ≡ true) × (new.kept.table ≡ old.kept.table)) → ((left : AfterStop) → after_command old.kept.table left c a ≡ left) → Takes Stands old new (λ s s'. LawfulStep s (Asks c) a s')
+      → (new.kept.written ≡ true → (old.kept.written ≡ true) × (new.kept.table ≡ old.kept.table)) → ((stops : Stops) → after_command old.kept.table stops c a ≡ stops) → Takes Stands old new (λ s s'. LawfulStep s (Asks c) a s')
   takes_in_memory old new c a o n answered file written same = takes_step old new c a o n (sound_after old.kept new.kept file written)
       (λ sound. (let same = ap (λ (f : PageFile D m). m.faults (device_of f)) file in omega (arith, same), let same = ap (λ (f : PageFile D m). next_of f) file in omega (arith, same)))
-      (λ sound left there. subst (LeavesAtRest new.kept.file) (sym (same left)) (subst (λ (f : PageFile D m). LeavesAtRest f left) (sym file) there))
+      (λ sound stops there. subst (Leaves new.kept.file) (sym (same stops)) (subst (λ (f : PageFile D m). Leaves f stops) (sym file) there))
       (λ sound. memory_is_lawful _ _ old.kept.table new.kept.table c a answered)
 
   -- a command of a store that failed
   pub takes_nothing : (store : Store D A m) (c : Command) → store.failed ≡ true → Takes Stands store store (λ s s'. LawfulStep s (Asks c) (Refused (refusal.StoreFailed 19)) s')
   unfolding Stands
   takes_nothing store c failed = λ s stands. record {
-    next = standing_of store s.after_stop;
+    next = standing_of store s.stops;
     stands = (refl, stands.1, stands.2);
-    so = subst (λ (z : Standing). LawfulStep z (Asks c) (Refused (refusal.StoreFailed 19)) (standing_of store s.after_stop)) (sym stands.0) (record {
+    so = subst (λ (z : Standing). LawfulStep z (Asks c) (Refused (refusal.StoreFailed 19)) (standing_of store s.stops)) (sym stands.0) (record {
       answer = dead_step _ _ store.failed store.kept.table c failed;
-      after_stop = dead_left store.failed store.kept.table s.after_stop c (Refused (refusal.StoreFailed 19)) failed;
+      stops = dead_stops store.failed store.kept.table s.stops c (Refused (refusal.StoreFailed 19)) failed;
       faults = omega arith;
       next = omega arith;
     });
@@ -211,27 +211,31 @@ module _ {D A : Type 0} {m : _} where
 
   -- the last command of a live store
   pub takes_last : (old new : Store D A m) (c : Command) (a : Answer) → old.failed ≡ false → new.failed ≡ true → (IsSound old.kept → IsSound new.kept) → (IsSound old.kept → NoFewer old new)
-      → (IsSound old.kept → (left : AfterStop) → LeavesAtRest old.kept.file left → LeavesAtRest new.kept.file (after_command old.kept.table left c a))
+      → (IsSound old.kept → (stops : Stops) → Leaves old.kept.file stops → Leaves new.kept.file (after_command old.kept.table stops c a))
       → (IsSound old.kept → LawfulFrom (HasRisen (m.faults (device_of old.kept.file)) (m.faults (device_of new.kept.file))) (IsSpent (next_of new.kept.file)) old.kept.table c a Dead)
       → Takes Stands old new (λ s s'. LawfulStep s (Asks c) a s')
   unfolding Stands
   takes_last old new c a o n sound more leaves lawful = λ s stands.
-      let left = after_command old.kept.table s.after_stop c a in record {
-    next = standing_of new left;
-    stands = (refl, sound stands.1, leaves stands.1 s.after_stop stands.2);
-    so = subst (λ (z : Standing). LawfulStep z (Asks c) a (standing_of new left)) (sym stands.0) (record {
-      answer = last_step _ _ old.failed new.failed old.kept.table new.kept.table c a o n (lawful stands.1);
-      after_stop = live_left old.failed old.kept.table s.after_stop c a o;
-      faults = (more stands.1).0;
-      next = (more stands.1).1;
-    });
-  }
+      let stops = after_command old.kept.table s.stops c a in record {
+        next = standing_of new stops;
+        stands = (refl, sound stands.1, leaves stands.1 s.stops stands.2);
+        so = subst (λ (z : Standing). LawfulStep z (Asks c) a (standing_of new stops)) (sym stands.0) (record {
+          answer = last_step _ _ old.failed new.failed old.kept.table new.kept.table c a o n (lawful stands.1);
+          stops = live_stops old.failed old.kept.table s.stops c a o;
+          faults = (more stands.1).0;
+          next = (more stands.1).1;
+        });
+      }
 
   -- what a live store that stands for a table is
   pub record IsAliveWith (store : Store D A m) (t : Table) : Type 0 where
     pub going : store.failed ≡ false
     pub table : store.kept.table ≡ t
     pub sound : IsSound store.kept
+
+  -- in a standing
+  pub stands_for : (store : Store D A m) (s : Standing) (t : Table) → Stands store s → s.state ≡ Alive t → StandsFor store t
+  stands_for store s t stands alive = record { next = s; stands = stands; so = alive }
 
   pub alive_with : (store : Store D A m) (t : Table) → StandsFor store t → IsAliveWith store t
   unfolding Stands

@@ -1,12 +1,12 @@
 //! What follows from the definitions of pages and images: each law is the contract of a function that does nothing.
-ghost use Rattle.std.specs.Prelude.{◌≡◌, ◌≤◌, ℕ, List, [], ◌∷◌};
+ghost use Rattle.std.specs.Prelude.{◌≡◌, ◌≤◌, ℕ};
 ghost use Rattle.block_device.specs.Device.{Blocks};
 ghost use Rattle.object_chain.specs.Chain.{KeepsPages, PageMap};
 ghost use Rattle.page_file.specs.declared.fault.Fault.{Fault};
 ghost use Rattle.plain_table.specs.Table.{Table};
 ghost use Rattle.plain_table.specs.Lawful.{Standing};
 ghost use Rattle.layer_store.specs.Image.{Holds, IsImage, IsLeftAfter, IsLeftOf, Refuses};
-ghost use Rattle.layer_store.specs.Standing.{Rests, Stands, StandsFor, blocks_in, device_in};
+ghost use Rattle.layer_store.specs.Standing.{Stands, device_in, from_now};
 ghost use Rattle.layer_store.specs.declared.store.Store.{Store};
 
 use block_device::BlockDevice;
@@ -33,17 +33,16 @@ pub fn a_held_table_stays()
     ensures { (old new : PageMap) (next after : ℕ) (t : Table) → KeepsPages old new → next ≤ after → Holds old next t → Holds new after t }
 {}
 
-/// What a stop between two calls leaves of a store is what its standing says.
-pub fn a_stop_leaves_what_the_standing_says<D: BlockDevice, A: Allocator>()
-    ensures { (store : Store D A ⟦<D as BlockDevice>⟧) (s : Standing) → Stands store s →
-        (c : Blocks) → D.may_leave (device_in store) c → IsLeftAfter s.after_stop c }
+/// A stop between two calls leaves of a store what its standing says, and one at any moment since the beginning left
+/// blocks that opening refuses, or an image of one of the standing's tables.
+pub fn stops_leave_what_the_standing_says<D: BlockDevice, A: Allocator>()
+    ensures now { (store : Store D A ⟦<D as BlockDevice>⟧) (s : Standing) → Stands store s →
+        (c : Blocks) → D.may_leave (device_in store) c → IsLeftAfter s.stops.now c }
+    ensures so_far { (store : Store D A ⟦<D as BlockDevice>⟧) (s : Standing) → Stands store s →
+        (c : Blocks) → D.left_since (device_in store) s.stops.since c → IsLeftOf s.stops.so_far c }
 {}
 
-/// What a stop leaves of a store at rest, between its calls; and one whose blocks are an image of a table rests on that
-/// table.
-#[tactic(auto, using(crate::proofs::StopLemmas::image_at_rest))]
-pub fn a_stop_between_calls_leaves_what_rests<D: BlockDevice, A: Allocator>()
-    ensures left { (store : Store D A ⟦<D as BlockDevice>⟧) (t : Table) (ts : List Table) → StandsFor store t → Rests store ts →
-        (c : Blocks) → D.may_leave (device_in store) c → IsLeftOf ts c }
-    ensures image { (store : Store D A ⟦<D as BlockDevice>⟧) (u : Table) → IsImage (blocks_in store) u → Rests store (u ∷ []) }
+/// Each moment may be taken for the beginning: the tables so far are then those that a stop now may leave.
+pub fn a_standing_begins_at_each_call<D: BlockDevice, A: Allocator>()
+    ensures { (store : Store D A ⟦<D as BlockDevice>⟧) (s : Standing) → Stands store s → Stands store (from_now s (D.moment (device_in store))) }
 {}

@@ -1,10 +1,11 @@
 //! The store: its commands, and its closing.
 
-ghost use Rattle.std.specs.Prelude.{◌≡◌, ◌⊎◌, ◌≤◌, ◌^◌, List, ◌∷◌, length, Ok, Err, IsOk, IfOk, IfErr, OnErr};
+ghost use Rattle.std.specs.Prelude.{◌≡◌, ◌⊎◌, ◌≤◌, ◌^◌, ◌∷◌, length, Ok, Err, IsOk, IfOk, IfErr, OnErr};
 ghost use Rattle.block_device.specs.Device.{LeavesOnly, Only};
 ghost use Rattle.plain_table.specs.Answers.{done_answer, boxes_answer};
 ghost use Rattle.plain_table.specs.Commands.Command.{Create, Insert, Window, Reopen};
-ghost use Rattle.plain_table.specs.Lawful.{Takes, LawfulStep};
+ghost use Rattle.plain_table.specs.Lawful.{Takes, LawfulStep, Standing, tables_left};
+ghost use Rattle.plain_table.specs.Lawful.State.{Alive};
 ghost use Rattle.plain_table.specs.Lawful.Request.{Asks};
 ghost use Rattle.plain_table.specs.Table.{Table};
 ghost use Rattle.plain_table.specs.declared.refusal.Refusal.TheVariants as refusal;
@@ -37,7 +38,7 @@ pub struct Store<D: BlockDevice, A: Allocator = Global> {
 }
 
 impl<D: BlockDevice, A: Allocator + Copy> Store<D, A> {
-    ghost use Rattle.layer_store.specs.Standing.{Stands, StandsFor, HasFailed, IsClosed, Rests, blocks_in, device_in};
+    ghost use Rattle.layer_store.specs.Standing.{Stands, StandsFor, HasFailed, IsClosed, blocks_in, device_in};
 
     /// Makes an empty layer of that name with 2 or 3 axes, whose nodes may have 4 to 100 entries.
     ///
@@ -46,7 +47,6 @@ impl<D: BlockDevice, A: Allocator + Copy> Store<D, A> {
         ensures step { Takes Stands self.old self.new
             (λ s s'. LawfulStep s (Asks (Create layer.now dims fanout)) (done_answer result) s') }
         ensures device { device_in self.new ≡ device_in self.old }
-        ensures rests { (ts : List Table) → Rests self.old ts → Rests self.new ts }
         ensures still_closed { IsClosed self.old → OnErr result (IsClosed self.new) }
         ensures cause { HasCause (D.faults (device_in self.old)) (D.faults (device_in self.new)) result }
     {
@@ -63,7 +63,6 @@ impl<D: BlockDevice, A: Allocator + Copy> Store<D, A> {
         ensures step { Takes Stands self.old self.new
             (λ s s'. LawfulStep s (Asks (Insert layer.now id bounds)) (done_answer result) s') }
         ensures device { device_in self.new ≡ device_in self.old }
-        ensures rests { (ts : List Table) → Rests self.old ts → Rests self.new ts }
         ensures still_closed { IsClosed self.old → OnErr result (IsClosed self.new) }
         ensures cause { HasCause (D.faults (device_in self.old)) (D.faults (device_in self.new)) result }
     {
@@ -80,7 +79,6 @@ impl<D: BlockDevice, A: Allocator + Copy> Store<D, A> {
         ensures step { Takes Stands self.old self.new
             (λ s s'. LawfulStep s (Asks (Window layer.now bounds)) (boxes_answer result) s') }
         ensures device { device_in self.new ≡ device_in self.old }
-        ensures rests { (ts : List Table) → Rests self.old ts → Rests self.new ts }
         ensures still_closed { IsClosed self.old → IsClosed self.new }
         ensures cause { HasCause (D.faults (device_in self.old)) (D.faults (device_in self.new)) result }
     {
@@ -101,9 +99,8 @@ impl<D: BlockDevice, A: Allocator + Copy> Store<D, A> {
 
         // A stop leaves what one before the call leaves, or an image of the table; and after a closing that is finished
         // nothing but what is read.
-        ensures stops { (t : Table) (ts : List Table) → StandsFor self.old t → Rests self.old ts →
-            LeavesOnly D.moment D.left_since (device_in self.old) (device_in self.new) (IsLeftOf (t ∷ ts)) }
-        ensures rests { (t : Table) (ts : List Table) → StandsFor self.old t → Rests self.old ts → Rests self.new (t ∷ ts) }
+        ensures stops { (s : Standing) (t : Table) → Stands self.old s → s.state ≡ Alive t →
+            LeavesOnly D.moment D.left_since (device_in self.old) (device_in self.new) (IsLeftOf (t ∷ tables_left s.stops.now)) }
         ensures durable { (t : Table) → StandsFor self.old t → IsOk result ⊎ HasFailed self.new → Only (blocks_in self.new) (D.may_leave (device_in self.new)) }
 
         // One that is closed is only read: a stop leaves the blocks as they are.
@@ -141,10 +138,10 @@ impl<D: BlockDevice, A: Allocator + Copy> Store<D, A> {
 
         // A stop leaves what one before the call leaves, or an image of the table; and after a closing that is finished
         // nothing but what is read.
-        ensures stops { (t : Table) (ts : List Table) → StandsFor self t → Rests self ts → IfOk result (λ device.
-            LeavesOnly D.moment D.left_since (device_in self) device (IsLeftOf (t ∷ ts))) }
-        ensures refused_stops { (t : Table) (ts : List Table) → StandsFor self t → Rests self ts → IfErr result (λ e.
-            LeavesOnly D.moment D.left_since (device_in self) e.1 (IsLeftOf (t ∷ ts))) }
+        ensures stops { (s : Standing) (t : Table) → Stands self s → s.state ≡ Alive t → IfOk result (λ device.
+            LeavesOnly D.moment D.left_since (device_in self) device (IsLeftOf (t ∷ tables_left s.stops.now))) }
+        ensures refused_stops { (s : Standing) (t : Table) → Stands self s → s.state ≡ Alive t → IfErr result (λ e.
+            LeavesOnly D.moment D.left_since (device_in self) e.1 (IsLeftOf (t ∷ tables_left s.stops.now))) }
         ensures durable { (t : Table) → StandsFor self t → IfOk result (λ device. Only (D.shown device) (D.may_leave device)) }
 
         // Of one that is closed already the device comes back as it is.

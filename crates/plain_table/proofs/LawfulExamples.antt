@@ -7,7 +7,7 @@ use Rattle.std.specs.FinMap.{entries, entries-from_sorted}
 use Rattle.block_device.specs.Device.{HasRisen}
 use Rattle.plain_table.specs.Commands.{Command}
 use Rattle.plain_table.specs.Commands.Command.{Create, Window, Reopen}
-use Rattle.plain_table.specs.Lawful.{AfterStop, Standing, State, Request, LawfulAnswer, LawfulStep, Session, after_request}
+use Rattle.plain_table.specs.Lawful.{Standing, Stops, State, Request, LawfulAnswer, LawfulStep, Session, after_request}
 use Rattle.plain_table.specs.Lawful.AfterStop.{Surely, Perhaps}
 use Rattle.plain_table.specs.Lawful.Request.{BadCommand, Asks}
 use Rattle.plain_table.specs.Lawful.State.{Alive, Dead}
@@ -21,12 +21,16 @@ use Rattle.plain_table.proofs.Examples.{a, at, table, touching, empty_layer, squ
 
 -- ---- the steps
 
+-- no table was closed
+abbrev unclosed : Stops
+unclosed = record { now = Perhaps []; since = 0; so_far = [] }
+
 -- a store with this table, after so many faults and with so many page numbers given out
 abbrev live : Table → ℕ → ℕ → Standing
-live t faults next = record { state = Alive t; after_stop = Perhaps []; faults = faults; next = next }
+live t faults next = record { state = Alive t; stops = unclosed; faults = faults; next = next }
 
 abbrev dead : ℕ → ℕ → Standing
-dead faults next = record { state = Dead; after_stop = Perhaps []; faults = faults; next = next }
+dead faults next = record { state = Dead; stops = unclosed; faults = faults; next = next }
 
 -- a layer that is there, and one that is new
 abbrev made : Table
@@ -203,36 +207,40 @@ a_window_ends_no_store s' (inr (inr h)) = elim h.1 [ inl e ↦ absurd (cc) | inr
 
 -- ---- what a stop leaves
 
--- one table was closed last, and another stands now
-abbrev closed_before : AfterStop
-closed_before = Surely none
+-- one table was closed last, at moment 7, and another stands now
+abbrev closed_before : Stops
+closed_before = record { now = Surely none; since = 7; so_far = none ∷ [] }
 
-a_closing_leaves_its_table_alone : (before : AfterStop) → after_request (Alive made) before (Asks Reopen) Done ≡ Surely made
-a_closing_leaves_its_table_alone before = refl
+-- a closing of it was refused
+abbrev closing_refused : Stops
+closing_refused = record { now = Perhaps (made ∷ none ∷ []); since = 7; so_far = made ∷ none ∷ [] }
 
-a_closing_is_finished_where_the_store_fails_behind_it : (before : AfterStop) → after_request (Alive made) before (Asks Reopen) (Refused (refusal.StoreFailed 17)) ≡ Surely made
-a_closing_is_finished_where_the_store_fails_behind_it before = refl
+a_closing_leaves_its_table_alone : after_request (Alive made) closed_before (Asks Reopen) Done ≡ record { now = Surely made; since = 7; so_far = made ∷ none ∷ [] }
+a_closing_leaves_its_table_alone = refl
 
-a_refused_closing_leaves_either_table : after_request (Alive made) closed_before (Asks Reopen) (Refused refusal.Device) ≡ Perhaps (made ∷ none ∷ [])
+a_closing_is_finished_where_the_store_fails_behind_it : after_request (Alive made) closed_before (Asks Reopen) (Refused (refusal.StoreFailed 17)) ≡ record { now = Surely made; since = 7; so_far = made ∷ none ∷ [] }
+a_closing_is_finished_where_the_store_fails_behind_it = refl
+
+a_refused_closing_leaves_either_table : after_request (Alive made) closed_before (Asks Reopen) (Refused refusal.Device) ≡ closing_refused
 a_refused_closing_leaves_either_table = refl
 
-a_closing_refused_again_leaves_no_other : after_request (Alive made) (Perhaps (made ∷ none ∷ [])) (Asks Reopen) (Refused refusal.Memory) ≡ Perhaps (made ∷ made ∷ none ∷ [])
-a_closing_refused_again_leaves_no_other = refl
+the_next_closing_leaves_its_table_alone : after_request (Alive made) closing_refused (Asks Reopen) Done ≡ record { now = Surely made; since = 7; so_far = made ∷ made ∷ none ∷ [] }
+the_next_closing_leaves_its_table_alone = refl
 
 no_other_request_changes_what_is_left : (t : Table) (answer : Answer) → (after_request (Alive t) closed_before create answer ≡ closed_before) × (after_request (Alive t) closed_before BadCommand answer ≡ closed_before)
 no_other_request_changes_what_is_left t answer = (refl, refl)
 
-a_dead_store_closes_nothing : (before : AfterStop) (c : Command) (answer : Answer) → after_request Dead before (Asks c) answer ≡ before
+a_dead_store_closes_nothing : (before : Stops) (c : Command) (answer : Answer) → after_request Dead before (Asks c) answer ≡ before
 a_dead_store_closes_nothing before c answer = refl
 
 -- a closing that is answered, and was not made
-a_closing_is_made : (s' : Standing) → s'.after_stop ≡ Perhaps [] → LawfulStep (live made 0 4) (Asks Reopen) Done s' → ⊥
-a_closing_is_made s' is h = let no = sym is ∙ h.after_stop in absurd (cc)
+a_closing_is_made : (s' : Standing) → s'.stops ≡ unclosed → LawfulStep (live made 0 4) (Asks Reopen) Done s' → ⊥
+a_closing_is_made s' is h = let no = ap (λ (stops : Stops). stops.now) (sym is ∙ h.stops) in absurd (cc)
 
 -- ---- sessions
 
 requests_are_answered_in_their_order : Session (live none 0 3) (BadCommand ∷ create ∷ []) (Refused refusal.BadLine ∷ Done ∷ []) (live made 0 4)
-requests_are_answered_in_their_order = (live none 0 3, a_bad_line_is_lawful (live none 0 3), (live made 0 4, record { answer = a_create_is_done; after_stop = refl; faults = omega arith; next = omega arith }, refl))
+requests_are_answered_in_their_order = (live none 0 3, a_bad_line_is_lawful (live none 0 3), (live made 0 4, record { answer = a_create_is_done; stops = refl; faults = omega arith; next = omega arith }, refl))
 
 -- no step forgets that the device failed, or takes page numbers back
 no_fault_is_forgotten : (s' : Standing) (r : Request) (answer : Answer) → s'.faults ≡ 4 → LawfulStep (live none 5 3) r answer s' → ⊥

@@ -21,10 +21,17 @@ pub data AfterStop : Type 0 where
   Surely : Table → AfterStop
   Perhaps : List Table → AfterStop
 
--- a state, what a stop leaves, how often the device has failed so far, and one more than the greatest page number given out
+-- What stops leave of a store: one now, between two requests; and of one at any moment since that of a beginning an image
+-- of one of these tables, and else nothing that is opened.
+pub record Stops : Type 0 where
+  pub now : AfterStop
+  pub since : ℕ
+  pub so_far : List Table
+
+-- a state, what stops leave, how often the device has failed so far, and one more than the greatest page number given out
 pub record Standing : Type 0 where
   pub state : State
-  pub after_stop : AfterStop
+  pub stops : Stops
   pub faults : ℕ
   pub next : ℕ
 
@@ -107,13 +114,13 @@ abbrev pub after_closing : Table → AfterStop → Answer → AfterStop
 after_closing t old (Refused r) = if is_end r then Surely t else Perhaps (t ∷ tables_left old)
 after_closing t old a = Surely t
 
--- only a closing changes what a stop leaves
-abbrev pub after_command : Table → AfterStop → Command → Answer → AfterStop
-after_command t old Reopen a = after_closing t old a
+-- only a closing changes what stops leave
+abbrev pub after_command : Table → Stops → Command → Answer → Stops
+after_command t old Reopen a = record { now = after_closing t old.now a; since = old.since; so_far = t ∷ old.so_far }
 after_command t old c a = old
 
--- what a stop leaves after a request
-abbrev pub after_request : State → AfterStop → Request → Answer → AfterStop
+-- what stops leave after a request
+abbrev pub after_request : State → Stops → Request → Answer → Stops
 after_request state old BadCommand a = old
 after_request (Alive t) old (Asks c) a = after_command t old c a
 after_request Dead old (Asks c) a = old
@@ -122,11 +129,11 @@ after_request Dead old (Asks c) a = old
 abbrev pub LawfulAnswer : Standing → Request → Answer → Standing → Type 0
 LawfulAnswer old r a new = Lawful (HasRisen old.faults new.faults) (IsSpent new.next) old.state r a new.state
 
--- One request answered lawfully, and what a stop then leaves. How often the device has failed does not fall, nor how many
--- page numbers were given out.
+-- One request answered lawfully, and what stops leave after it. How often the device has failed does not fall, nor how
+-- many page numbers were given out.
 pub record LawfulStep (old : Standing) (r : Request) (a : Answer) (new : Standing) : Type 0 where
   pub answer : LawfulAnswer old r a new
-  pub after_stop : new.after_stop ≡ after_request old.state old.after_stop r a
+  pub stops : new.stops ≡ after_request old.state old.stops r a
   pub faults : old.faults ≤ new.faults
   pub next : old.next ≤ new.next
 

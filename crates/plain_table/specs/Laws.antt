@@ -32,7 +32,7 @@ a_refusal_changes_nothing t u c r (inr h) = h.1
 
 -- a bad line is answered so, whatever the store stands for
 pub a_bad_line_is_lawful : (s : Standing) → LawfulStep s BadCommand (Refused refusal.BadLine) s
-a_bad_line_is_lawful s = record { answer = (refl, refl); after_stop = refl; faults = omega arith; next = omega arith }
+a_bad_line_is_lawful s = record { answer = (refl, refl); stops = refl; faults = omega arith; next = omega arith }
 
 -- what a table in memory does is lawful
 pub memory_is_lawful : (rose spent : Type 0) (t u : Table) (c : Command) (a : Answer) → AnsweredInMemory t c a u → LawfulFrom rose spent t c a (Alive u)

@@ -43,7 +43,7 @@ pub fn create_store<D: BlockDevice, A: Allocator + Copy>(
 ) -> Result<Store<D, A>, (Refusal, D)>
     requires { length (D.shown device) ≡ 0 }
     ensures bad_cache { is_cache cache ≡ false → result ≡ Err (refusal.BadCache, device) }
-    ensures begins { IfOk result (λ store. D.honest device → BeginsWith store empty) }
+    ensures begins { IfOk result (λ store. D.honest device → BeginsWith store (D.moment device) empty) }
     ensures closed { IfOk result (λ store. D.honest device → IsImage (blocks_in store) empty) }
     ensures now_closed { IfOk result IsClosed }
 
@@ -93,7 +93,7 @@ pub fn open_store<D: BlockDevice, A: Allocator + Copy>(
     cache: u32,
 ) -> Result<Store<D, A>, (Refusal, D)>
     ensures bad_cache { is_cache cache ≡ false → result ≡ Err (refusal.BadCache, device) }
-    ensures image { (t : Table) → D.honest device → IsImage (D.shown device) t → IfOk result (λ store. BeginsWith store t) }
+    ensures image { (t : Table) → D.honest device → IsImage (D.shown device) t → IfOk result (λ store. BeginsWith store (D.moment (device_in store)) t) }
     ensures opened { IfOk result (λ store. D.honest device → (f : Fault) → Refuses (D.shown device) f → ⊥) }
     ensures table { IfOk result (λ store. D.honest device → HoldsIn (D.shown device) (table_in store)) }
     ensures refused { is_cache cache ≡ true → IfErr result (λ e. D.honest device → GivesUp e.0 ⊎ IsRefusedFor (D.shown device) e.0) }
@@ -126,7 +126,7 @@ fn read_store<D: BlockDevice, A: Allocator + Copy>(
     alloc: A,
     file: PageFile<D>,
 ) -> Result<Store<D, A>, (Refusal, D)>
-    ensures begins { IsPageMap file → gate_of file ≡ Shut → IfOk result (λ store. (t : Table) → Holds (given file) (next_of file) t → IsImage (blocks_of file) t → BeginsWith store t) }
+    ensures begins { IsPageMap file → gate_of file ≡ Shut → IfOk result (λ store. (t : Table) → Holds (given file) (next_of file) t → IsImage (blocks_of file) t → BeginsWith store (D.moment (device_in store)) t) }
     ensures opened { IfOk result (λ store. IsHonest file → (n : ℕ) → IsDamaged (given file) (next_of file) n → ⊥) }
     ensures table { IfOk result (λ store. IsHonest file → Holds (given file) (next_of file) (table_in store)) }
     ensures refused { IsHonest file → IfErr result (λ e. GivesUp e.0 ⊎ ((n : ℕ) × (e.0 ≡ refusal.Damaged n) × IsDamaged (given file) (next_of file) n)) }

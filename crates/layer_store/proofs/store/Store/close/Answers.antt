@@ -2,13 +2,14 @@
 use Rattle.std.proofs.Common.{◌∷◌, ◌≡◌, ◌⊎◌, ◌≤◌, ◌^◌, Ok, length, sym, ap, subst}
 use Rattle.block_device.specs.Device.{LeavesOnly}
 use Rattle.page_file.specs.File.{device_of}
+use Rattle.plain_table.specs.Lawful.{tables_left}
 use Rattle.plain_table.specs.Table.{Table}
 use Rattle.plain_table.specs.declared.refusal.Refusal.{Refusal}
 use Rattle.plain_table.specs.declared.refusal.Refusal.TheVariants as refusal
 use Rattle.layer_store.specs.Faults.{GivesUp}
 use Rattle.layer_store.specs.Image.{IsImage, IsLeftOf}
-use Rattle.layer_store.proofs.StopLemmas.{rest_of}
-use Rattle.layer_store.proofs.StoreLemmas.{alive_with, failed_so, is_closed, not_both, refused_closing}
+use Rattle.layer_store.proofs.StopLemmas.{rests_of_store}
+use Rattle.layer_store.proofs.StoreLemmas.{alive_with, failed_so, is_closed, not_both, refused_closing, stands_for}
 use Rattle.layer_store.proofs.store.Store.close.Goals as goal
 
 pub returns-then-self-clause-refused : goal.returns-then-self-clause-refused
@@ -32,19 +33,21 @@ pub returns-in-Err-clause-failed : goal.returns-in-Err-clause-failed
 returns-in-Err-clause-failed g c = λ failed. absurd (not_both _ (failed_so c.args.self failed) c.if-self.false)
 
 pub returns-then-self-clause-refused_stops : goal.returns-then-self-clause-refused_stops
-returns-then-self-clause-refused_stops g c = λ t ts stands rests. absurd (not_both _ c.if-self.true (alive_with c.args.self t stands).going)
+returns-then-self-clause-refused_stops g c = λ s t stands alive. absurd (not_both _ c.if-self.true (alive_with c.args.self t (stands_for c.args.self s t stands alive)).going)
 
 pub returns-in-Ok-clause-stops : goal.returns-in-Ok-clause-stops
-returns-in-Ok-clause-stops g c = λ t ts stands rests.
-    let live = alive_with c.args.self t stands in
+returns-in-Ok-clause-stops g c = λ s t stands alive.
+    let live = alive_with c.args.self t (stands_for c.args.self s t stands alive) in
     let d = g.D.BlockDevice in
-    subst (λ (x : Table). LeavesOnly d.moment d.left_since (device_of c.args.self.kept.file) c.in-Ok.device (IsLeftOf (x ∷ ts))) live.table (c.in-Ok.ensures.stops ts live.sound (rest_of c.args.self ts rests))
+    let ts = tables_left s.stops.now in
+    subst (λ (x : Table). LeavesOnly d.moment d.left_since (device_of c.args.self.kept.file) c.in-Ok.device (IsLeftOf (x ∷ ts))) live.table (c.in-Ok.ensures.stops ts live.sound (rests_of_store c.args.self s stands))
 
 pub returns-in-Err-clause-refused_stops : goal.returns-in-Err-clause-refused_stops
-returns-in-Err-clause-refused_stops g c = λ t ts stands rests.
-    let live = alive_with c.args.self t stands in
+returns-in-Err-clause-refused_stops g c = λ s t stands alive.
+    let live = alive_with c.args.self t (stands_for c.args.self s t stands alive) in
     let d = g.D.BlockDevice in
-    subst (λ (x : Table). LeavesOnly d.moment d.left_since (device_of c.args.self.kept.file) c.in-Err.device (IsLeftOf (x ∷ ts))) live.table (c.in-Err.ensures.refused_stops ts live.sound (rest_of c.args.self ts rests))
+    let ts = tables_left s.stops.now in
+    subst (λ (x : Table). LeavesOnly d.moment d.left_since (device_of c.args.self.kept.file) c.in-Err.device (IsLeftOf (x ∷ ts))) live.table (c.in-Err.ensures.refused_stops ts live.sound (rests_of_store c.args.self s stands))
 
 pub returns-in-Ok-clause-durable : goal.returns-in-Ok-clause-durable
 returns-in-Ok-clause-durable g c = λ t stands. c.in-Ok.ensures.durable (alive_with c.args.self t stands).sound.map

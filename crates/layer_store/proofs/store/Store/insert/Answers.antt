@@ -1,7 +1,5 @@
 -- The goals of `Store::insert` that are proved by hand.
-use Rattle.std.proofs.Common.{refl, sym, ap, subst}
-use Rattle.layer_store.specs.Keeping.{RestsOn}
-use Rattle.layer_store.proofs.StopLemmas.{rest_of, rests_so}
+use Rattle.std.proofs.Common.{refl, ap}
 use Rattle.page_file.specs.File.{device_of}
 use Rattle.page_file.specs.declared.file.PageFile.{PageFile}
 use Rattle.plain_table.specs.Answers.{done_answer}
@@ -13,13 +11,10 @@ pub returns-then-self-clause-step : goal.returns-then-self-clause-step
 returns-then-self-clause-step g c = takes_nothing c.args.self.now (Insert c.args.layer.now c.args.id c.args.bounds) c.if-self.true
 
 pub returns-clause-step : goal.returns-clause-step
-returns-clause-step g c = takes_in_memory c.args.self.now (record { kept = c.insert.new.self; failed = c.args.self.now.failed }) (Insert c.args.layer.now c.args.id c.args.bounds) (done_answer c.insert.result) c.if-self.false c.if-self.false c.insert.ensures.table c.insert.ensures.file c.insert.ensures.written (λ left. refl)
+returns-clause-step g c = takes_in_memory c.args.self.now (record { kept = c.insert.new.self; failed = c.args.self.now.failed }) (Insert c.args.layer.now c.args.id c.args.bounds) (done_answer c.insert.result) c.if-self.false c.if-self.false c.insert.ensures.table c.insert.ensures.file c.insert.ensures.written (λ stops. refl)
 
 pub returns-clause-cause : goal.returns-clause-cause
 returns-clause-cause g c = cause_in_memory _ _ c.insert.result done_answer c.args.self.now.kept.table c.insert.new.self.table (Insert c.args.layer.now c.args.id c.args.bounds) (λ r. refl) c.insert.ensures.table (ap (λ (file : PageFile _ _). g.D.BlockDevice.faults (device_of file)) c.insert.ensures.file)
 
 pub returns-clause-still_closed : goal.returns-clause-still_closed
 returns-clause-still_closed g c = still_closed c.args.self.now (record { kept = c.insert.new.self; failed = c.args.self.now.failed }) c.insert.result c.insert.ensures.file c.insert.ensures.refused
-
-pub returns-clause-rests : goal.returns-clause-rests
-returns-clause-rests g c = λ ts rests. rests_so (record { kept = c.insert.new.self; failed = c.args.self.now.failed }) ts (subst (λ (file : PageFile _ _). RestsOn file ts) (sym c.insert.ensures.file) (rest_of c.args.self.now ts rests))

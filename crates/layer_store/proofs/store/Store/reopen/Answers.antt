@@ -2,22 +2,22 @@
 use Rattle.std.proofs.Common.{◌∷◌, ◌≡◌, ◌∙◌, ◌⊎◌, Err, true, false, refl, sym, ap, subst, arith, inl, inr}
 use Rattle.block_device.specs.Device.{Blocks, HasRisen, LeavesOnly}
 use Rattle.plain_table.specs.Table.{Table}
-use Rattle.layer_store.proofs.StopLemmas.{left_rests, read_alone, rest_of, rests_on_table, rests_so, shut_is_durable, shut_leaves, then_read}
+use Rattle.layer_store.proofs.StopLemmas.{closed_and_read, closing_finished, closing_leaves, left_rests, read_alone, rests_of_store, shut_is_durable}
 use Rattle.page_file.specs.Fault.{faults_after}
 use Rattle.page_file.specs.File.{blocks_of, device_of, gate_of, next_of, IsHonest, KeepsGate}
 use Rattle.page_file.specs.declared.gate.Gate.TheVariants.{Shut}
 use Rattle.plain_table.specs.Commands.Command.{Reopen}
-use Rattle.plain_table.specs.Lawful.{IsEnd, IsFault, IsSpent, MayWrite, tables_left}
+use Rattle.plain_table.specs.Lawful.{AfterStop, IsEnd, IsFault, IsSpent, MayWrite, tables_left}
+use Rattle.plain_table.specs.Lawful.AfterStop.{Perhaps}
 use Rattle.plain_table.specs.Step.Answer.{Done, Refused}
 use Rattle.plain_table.specs.declared.refusal.Refusal.TheVariants as refusal
 use Rattle.layer_store.specs.Image.{IsImage, IsLeftOf}
-use Rattle.layer_store.specs.Keeping.{LeavesAtRest, RestsOn}
+use Rattle.layer_store.specs.Keeping.{Leaves}
 use Rattle.layer_store.specs.Standing.{HasFailed}
 use Rattle.layer_store.specs.declared.kept.Kept.{Kept}
 use Rattle.layer_store.specs.declared.store.Store.{Store}
 use Rattle.layer_store.proofs.KeepLemmas.{image_of}
-use Rattle.layer_store.proofs.Results.{subst_both}
-use Rattle.layer_store.proofs.StoreLemmas.{alive_with, closed_so, closing_refused, died_lawful, done_lawful, end_of_store, failed_so, fault_of_command, gave_up_lawful, is_closed, no_fewer, not_both, risen_of, takes_last, takes_nothing, takes_step}
+use Rattle.layer_store.proofs.StoreLemmas.{alive_with, closed_so, closing_refused, died_lawful, done_lawful, end_of_store, failed_so, fault_of_command, gave_up_lawful, is_closed, no_fewer, not_both, risen_of, stands_for, takes_last, takes_nothing, takes_step}
 use Rattle.layer_store.proofs.store.Store.reopen.Goals as goal
 
 true_false : true ≡ false → ⊥
@@ -40,8 +40,12 @@ returns-in-Err-clause-step g c =
     let now = g.D.BlockDevice.faults (device_of c.settle.new.self.file) in
     let settled = c.in-Err.ensures in
     takes_step c.args.self.now (record { kept = c.settle.new.self; failed = c.args.self.now.failed }) Reopen (Refused c.as_refusal.result) c.if-self.false c.if-self.false settled.sound (λ sound. (no_fewer c.in-Err.fault before now (g.met.D.BlockDevice.faults_fit (device_of c.args.self.now.kept.file)) settled.cause.refused, settled.next))
-    (λ sound left there. subst (LeavesAtRest c.settle.new.self.file) (sym (closing_refused c.args.self.now.kept.table left c.in-Err.fault c.as_refusal.result c.as_refusal.ensures))
-    (settled.rests (tables_left left) sound (left_rests c.args.self.now.kept.file left there)))
+    (λ sound stops there.
+    let old = c.args.self.now.kept in
+    let ts = tables_left stops.now in
+    let rests = left_rests old.file stops.now there.now in
+    subst (λ (now : AfterStop). Leaves c.settle.new.self.file (record { now = now; since = stops.since; so_far = old.table ∷ stops.so_far })) (sym (closing_refused old.table stops.now c.in-Err.fault c.as_refusal.result c.as_refusal.ensures))
+    (closing_leaves old.file c.settle.new.self.file old.table stops (Perhaps (old.table ∷ ts)) (settled.stops ts sound rests) there (settled.rests ts sound rests) (λ u is. is)))
     (λ sound. gave_up_lawful (HasRisen before now) (IsSpent (next_of c.settle.new.self.file)) c.args.self.now.kept.table c.settle.new.self.table Reopen c.as_refusal.result
     (subst (IsFault (HasRisen before now) (IsSpent (next_of c.settle.new.self.file) × MayWrite c.args.self.now.kept.table Reopen)) (sym c.as_refusal.ensures)
     (fault_of_command before now (IsSpent (next_of c.settle.new.self.file) × MayWrite c.args.self.now.kept.table Reopen) c.in-Err.fault (settled.faults sound.map) (risen_of before now c.in-Err.fault settled.cause.refused) (λ is. (settled.no_pages (ap Err is), inl refl))))
@@ -57,13 +61,12 @@ returns-in-Ok-clause-step g c =
     takes_step c.args.self.now (record { kept = c.read_again.new.self; failed = c.args.self.now.failed }) Reopen Done c.if-self.false c.if-self.false
     (λ sound. let mid = settled.sound sound in let now = again.sound mid.map (mid.held settled.written) in record { map = now.0; held = λ written. now.1 })
     (λ sound. (let same = again.cause.ok ∙ settled.cause.ok in omega (arith, same), let next = again.next (settled.sound sound).map in omega (arith, next, settled.next)))
-    (λ sound left there.
+    (λ sound stops there.
+    let old = c.args.self.now.kept in
     let mid = settled.sound sound in
-    let held = mid.held settled.written in
-    let kept = c.settle.new.self in
-    let image = image_of kept.file (blocks_of kept.file) kept.table mid.map (settled.lies sound.map) held in
-    shut_leaves c.read_again.new.self.file c.args.self.now.kept.table (again.sound mid.map held).0.honest (again.gate.gate ∙ settled.shut)
-    (subst_both IsImage (sym (again.blocks mid.map)) settled.table image))
+    let ts = tables_left stops.now in
+    let end = closed_and_read old c.settle.new.self c.read_again.new.self.file ts mid.map (mid.held settled.written) (settled.lies sound.map) settled.table settled.shut (settled.stops ts sound (left_rests old.file stops.now there.now)) again.gate (again.blocks mid.map) in
+    closing_finished old.file c.read_again.new.self.file old.table stops end.0 there end.1)
     (λ sound. let mid = settled.sound sound in done_lawful (HasRisen (g.D.BlockDevice.faults (device_of c.args.self.now.kept.file)) (g.D.BlockDevice.faults (device_of c.read_again.new.self.file))) (IsSpent (next_of c.read_again.new.self.file)) c.args.self.now.kept.table c.read_again.new.self.table (again.table mid.map (mid.held settled.written) ∙ settled.table))
 
 pub returns-in-Ok-clause-closed : goal.returns-in-Ok-clause-closed
@@ -85,13 +88,12 @@ returns-in-Err-read_again-clause-step g c =
     takes_last c.args.self.now (record { kept = c.read_again.new.self; failed = true }) Reopen (Refused (refusal.StoreFailed c.number.result)) c.if-self.false refl
     (λ sound. let mid = settled.sound sound in let after = again.sound mid.map (mid.held settled.written) in record { map = after.0; held = λ written. after.1 })
     (λ sound. (no_fewer c.in-Err-read_again.fault before now (g.met.D.BlockDevice.faults_fit (device_of c.args.self.now.kept.file)) (again.cause.refused ∙ ap (faults_after c.in-Err-read_again.fault) settled.cause.ok), let next = again.next (settled.sound sound).map in omega (arith, next, settled.next)))
-    (λ sound left there.
+    (λ sound stops there.
+    let old = c.args.self.now.kept in
     let mid = settled.sound sound in
-    let held = mid.held settled.written in
-    let kept = c.settle.new.self in
-    let image = image_of kept.file (blocks_of kept.file) kept.table mid.map (settled.lies sound.map) held in
-    shut_leaves c.read_again.new.self.file c.args.self.now.kept.table (again.sound mid.map held).0.honest (again.gate.gate ∙ settled.shut)
-    (subst_both IsImage (sym (again.blocks mid.map)) settled.table image))
+    let ts = tables_left stops.now in
+    let end = closed_and_read old c.settle.new.self c.read_again.new.self.file ts mid.map (mid.held settled.written) (settled.lies sound.map) settled.table settled.shut (settled.stops ts sound (left_rests old.file stops.now there.now)) again.gate (again.blocks mid.map) in
+    closing_finished old.file c.read_again.new.self.file old.table stops end.0 there end.1)
     (λ sound. let mid = settled.sound sound in died_lawful (HasRisen before now) (IsSpent (next_of c.read_again.new.self.file)) c.args.self.now.kept.table (refusal.StoreFailed c.number.result)
     (subst (λ n. IsEnd (HasRisen before now) (refusal.StoreFailed n)) (sym c.number.ensures)
     (end_of_store before now c.in-Err-read_again.fault (again.faults mid.map (mid.held settled.written)) (risen_of before now c.in-Err-read_again.fault (again.cause.refused ∙ ap (faults_after c.in-Err-read_again.fault) settled.cause.ok)))))
@@ -107,66 +109,38 @@ returns-in-Err-read_again-clause-closed g c = λ t stands end.
     (subst (λ (blocks : Blocks). IsImage blocks kept.table) (sym (c.in-Err-read_again.ensures.blocks mid.map)) (image_of kept.file (blocks_of kept.file) kept.table mid.map (settled.lies live.sound.map) held))
 
 pub returns-then-self-clause-stops : goal.returns-then-self-clause-stops
-returns-then-self-clause-stops g c = λ t ts stands rests. absurd (not_both _ c.if-self.true (alive_with c.args.self.now t stands).going)
-
-pub returns-then-self-clause-rests : goal.returns-then-self-clause-rests
-returns-then-self-clause-rests g c = λ t ts stands rests. absurd (not_both _ c.if-self.true (alive_with c.args.self.now t stands).going)
+returns-then-self-clause-stops g c = λ s t stands alive. absurd (not_both _ c.if-self.true (alive_with c.args.self.now t (stands_for c.args.self.now s t stands alive)).going)
 
 pub returns-in-Err-clause-stops : goal.returns-in-Err-clause-stops
-returns-in-Err-clause-stops g c = λ t ts stands rests.
-    let live = alive_with c.args.self.now t stands in
+returns-in-Err-clause-stops g c = λ s t stands alive.
+    let live = alive_with c.args.self.now t (stands_for c.args.self.now s t stands alive) in
     let d = g.D.BlockDevice in
-    subst (λ (x : Table). LeavesOnly d.moment d.left_since (device_of c.args.self.now.kept.file) (device_of c.settle.new.self.file) (IsLeftOf (x ∷ ts))) live.table (c.in-Err.ensures.stops ts live.sound (rest_of c.args.self.now ts rests))
-
-pub returns-in-Err-clause-rests : goal.returns-in-Err-clause-rests
-returns-in-Err-clause-rests g c = λ t ts stands rests.
-    let live = alive_with c.args.self.now t stands in
-    rests_so (record { kept = c.settle.new.self; failed = c.args.self.now.failed }) (t ∷ ts)
-    (subst (λ (x : Table). RestsOn c.settle.new.self.file (x ∷ ts)) live.table (c.in-Err.ensures.rests ts live.sound (rest_of c.args.self.now ts rests)))
+    let ts = tables_left s.stops.now in
+    subst (λ (x : Table). LeavesOnly d.moment d.left_since (device_of c.args.self.now.kept.file) (device_of c.settle.new.self.file) (IsLeftOf (x ∷ ts))) live.table (c.in-Err.ensures.stops ts live.sound (rests_of_store c.args.self.now s stands))
 
 pub returns-in-Ok-clause-stops : goal.returns-in-Ok-clause-stops
-returns-in-Ok-clause-stops g c = λ t ts stands rests.
-    let live = alive_with c.args.self.now t stands in
-    let settled = c.in_default.ensures in
-    let mid = settled.sound live.sound in
-    let kept = c.settle.new.self in
-    let old = device_of c.args.self.now.kept.file in
-    let d = g.D.BlockDevice in
-    let there = subst (IsImage (blocks_of kept.file)) (settled.table ∙ live.table) (image_of kept.file (blocks_of kept.file) kept.table mid.map (settled.lies live.sound.map) (mid.held settled.written)) in
-    let before = subst (λ (x : Table). LeavesOnly d.moment d.left_since old (device_of kept.file) (IsLeftOf (x ∷ ts))) live.table (settled.stops ts live.sound (rest_of c.args.self.now ts rests)) in
-    then_read old kept.file c.read_again.new.self.file ts t mid.map.honest settled.shut there before c.in-Ok.ensures.gate
-
-pub returns-in-Ok-clause-rests : goal.returns-in-Ok-clause-rests
-returns-in-Ok-clause-rests g c = λ t ts stands rests.
-    let live = alive_with c.args.self.now t stands in
+returns-in-Ok-clause-stops g c = λ s t stands alive.
+    let live = alive_with c.args.self.now t (stands_for c.args.self.now s t stands alive) in
     let settled = c.in_default.ensures in
     let again = c.in-Ok.ensures in
     let mid = settled.sound live.sound in
-    let sound = again.sound mid.map (mid.held settled.written) in
-    rests_so (record { kept = c.read_again.new.self; failed = c.args.self.now.failed }) (t ∷ ts)
-    (subst (λ (x : Table). RestsOn c.read_again.new.self.file (x ∷ ts)) (again.table mid.map (mid.held settled.written) ∙ settled.table ∙ live.table) (rests_on_table c.read_again.new.self.file ts c.read_again.new.self.table sound.0 sound.1))
+    let d = g.D.BlockDevice in
+    let ts = tables_left s.stops.now in
+    let end = closed_and_read c.args.self.now.kept c.settle.new.self c.read_again.new.self.file ts mid.map (mid.held settled.written) (settled.lies live.sound.map) settled.table settled.shut
+    (settled.stops ts live.sound (rests_of_store c.args.self.now s stands)) again.gate (again.blocks mid.map) in
+    subst (λ (x : Table). LeavesOnly d.moment d.left_since (device_of c.args.self.now.kept.file) (device_of c.read_again.new.self.file) (IsLeftOf (x ∷ ts))) live.table end.0
 
 pub returns-in-Err-read_again-clause-stops : goal.returns-in-Err-read_again-clause-stops
-returns-in-Err-read_again-clause-stops g c = λ t ts stands rests.
-    let live = alive_with c.args.self.now t stands in
-    let settled = c.in_default.ensures in
-    let mid = settled.sound live.sound in
-    let kept = c.settle.new.self in
-    let old = device_of c.args.self.now.kept.file in
-    let d = g.D.BlockDevice in
-    let there = subst (IsImage (blocks_of kept.file)) (settled.table ∙ live.table) (image_of kept.file (blocks_of kept.file) kept.table mid.map (settled.lies live.sound.map) (mid.held settled.written)) in
-    let before = subst (λ (x : Table). LeavesOnly d.moment d.left_since old (device_of kept.file) (IsLeftOf (x ∷ ts))) live.table (settled.stops ts live.sound (rest_of c.args.self.now ts rests)) in
-    then_read old kept.file c.read_again.new.self.file ts t mid.map.honest settled.shut there before c.in-Err-read_again.ensures.gate
-
-pub returns-in-Err-read_again-clause-rests : goal.returns-in-Err-read_again-clause-rests
-returns-in-Err-read_again-clause-rests g c = λ t ts stands rests.
-    let live = alive_with c.args.self.now t stands in
+returns-in-Err-read_again-clause-stops g c = λ s t stands alive.
+    let live = alive_with c.args.self.now t (stands_for c.args.self.now s t stands alive) in
     let settled = c.in_default.ensures in
     let again = c.in-Err-read_again.ensures in
     let mid = settled.sound live.sound in
-    let sound = again.sound mid.map (mid.held settled.written) in
-    rests_so (record { kept = c.read_again.new.self; failed = true }) (t ∷ ts)
-    (subst (λ (x : Table). RestsOn c.read_again.new.self.file (x ∷ ts)) (again.table mid.map (mid.held settled.written) ∙ settled.table ∙ live.table) (rests_on_table c.read_again.new.self.file ts c.read_again.new.self.table sound.0 sound.1))
+    let d = g.D.BlockDevice in
+    let ts = tables_left s.stops.now in
+    let end = closed_and_read c.args.self.now.kept c.settle.new.self c.read_again.new.self.file ts mid.map (mid.held settled.written) (settled.lies live.sound.map) settled.table settled.shut
+    (settled.stops ts live.sound (rests_of_store c.args.self.now s stands)) again.gate (again.blocks mid.map) in
+    subst (λ (x : Table). LeavesOnly d.moment d.left_since (device_of c.args.self.now.kept.file) (device_of c.read_again.new.self.file) (IsLeftOf (x ∷ ts))) live.table end.0
 
 pub returns-then-self-clause-durable : goal.returns-then-self-clause-durable
 returns-then-self-clause-durable g c = λ t stands end. absurd (not_both _ c.if-self.true (alive_with c.args.self.now t stands).going)

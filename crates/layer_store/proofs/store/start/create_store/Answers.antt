@@ -1,12 +1,14 @@
 -- A new file holds the empty table, and lies in its blocks.
-use Rattle.std.proofs.Common.{true, false, refl, sym, subst}
+use Rattle.std.proofs.Common.{◌⊎◌, true, false, refl, sym, subst}
 use Rattle.std.specs.FinMap.{empty}
 use Rattle.page_file.specs.File.{blocks_of, next_of, pages}
+use Rattle.page_file.specs.Opening.{IsRefused}
+use Rattle.plain_table.specs.Table.{Table}
 use Rattle.layer_store.specs.Image.{Holds, IsImage}
 use Rattle.layer_store.specs.Standing.{BeginsWith}
 use Rattle.layer_store.specs.declared.store.Store.{Store}
 use Rattle.layer_store.proofs.KeepLemmas.{image_of, nothing_held}
-use Rattle.layer_store.proofs.StopLemmas.{new_left, shut_is_durable, shut_leaves}
+use Rattle.layer_store.proofs.StopLemmas.{closed_leaves, new_left, shut_is_durable, shut_leaves}
 use Rattle.layer_store.proofs.StoreLemmas.{begins, closed_so}
 use Rattle.layer_store.proofs.store.start.create_store.Goals as goal
 
@@ -16,9 +18,12 @@ returns-in-Ok-clause-begins g c = λ honest.
     let held = subst (λ next. Holds (pages c.in-Ok.file) next empty) (sym made.next) (nothing_held (pages c.in-Ok.file) (made.catalog honest)) in
     let store : Store _ _ _ = record { kept = record { alloc = c.args.alloc; file = c.in-Ok.file; table = c.new.result; written = true }; failed = false } in
     let image = image_of c.in-Ok.file (blocks_of c.in-Ok.file) empty (made.sound honest) (made.lies honest) held in
-    subst (BeginsWith store) c.new.ensures
-    (begins store (record { map = made.sound honest; held = λ written. subst (Holds (pages c.in-Ok.file) (next_of c.in-Ok.file)) (sym c.new.ensures) held }) refl
-    (shut_leaves c.in-Ok.file c.new.result (made.sound honest).honest made.shut (subst (IsImage (blocks_of c.in-Ok.file)) (sym c.new.ensures) image)))
+    let d = g.D.BlockDevice in
+    let stops = new_left _ _ _ _ _ (made.stops honest) in
+    subst (BeginsWith store (d.moment c.args.device)) c.new.ensures
+    (begins store (d.moment c.args.device) (record { map = made.sound honest; held = λ written. subst (Holds (pages c.in-Ok.file) (next_of c.in-Ok.file)) (sym c.new.ensures) held }) refl
+    (closed_leaves c.in-Ok.file (d.moment c.args.device) c.new.result (shut_leaves c.in-Ok.file c.new.result (made.sound honest).honest made.shut (subst (IsImage (blocks_of c.in-Ok.file)) (sym c.new.ensures) image))
+    stops.later (λ b left. subst (λ (t : Table). IsRefused b ⊎ IsImage b t) (sym c.new.ensures) (stops.each b left))))
 
 pub returns-in-Ok-clause-closed : goal.returns-in-Ok-clause-closed
 returns-in-Ok-clause-closed g c = λ honest.

@@ -1,6 +1,7 @@
 -- What was read is what the pages hold, and they hold one table.
-use Rattle.std.proofs.Common.{◌∙◌, true, false, refl, sym, subst}
-use Rattle.page_file.specs.File.{blocks_of, given, next_of}
+use Rattle.std.proofs.Common.{◌∙◌, true, false, refl, sym, subst, arith, inr}
+use Rattle.page_file.specs.File.{blocks_of, device_of, given, next_of}
+use Rattle.plain_table.specs.Lawful.AfterStop.{Surely}
 use Rattle.layer_store.specs.Image.{IsImage}
 use Rattle.layer_store.specs.Keeping.{IsSound}
 use Rattle.layer_store.specs.Laws.{pages_hold_one_table, held_pages_are_not_damaged}
@@ -8,7 +9,7 @@ use Rattle.layer_store.specs.Standing.{BeginsWith}
 use Rattle.layer_store.specs.declared.kept.Kept.{Kept}
 use Rattle.layer_store.proofs.KeepLemmas.{kept_table, live_table}
 use Rattle.layer_store.proofs.Results.{subst_both}
-use Rattle.layer_store.proofs.StopLemmas.{shut_leaves}
+use Rattle.layer_store.proofs.StopLemmas.{at_rest_leaves, closed_leaves, shut_leaves}
 use Rattle.layer_store.proofs.StoreLemmas.{begins, closed_so}
 use Rattle.layer_store.proofs.store.start.read_store.Goals as goal
 
@@ -22,8 +23,13 @@ returns-in-Ok-clause-begins g c = λ map shut t held image.
       held = λ written. kept_table c.args.file c.read_table.new.file c.in-Ok.table map.honest read.map (live_table c.args.file c.in-Ok.table map (read.holds map.honest));
     } in
     let there : IsImage (blocks_of c.read_table.new.file) c.in-Ok.table = subst_both IsImage (sym (read.blocks map.honest)) (sym same) image in
-    subst (BeginsWith (record { kept = kept; failed = false })) same
-    (begins (record { kept = kept; failed = false }) sound refl (shut_leaves c.read_table.new.file c.in-Ok.table (read.map.sound.0 map).honest (read.gate.gate ∙ shut) there))
+    let file = c.read_table.new.file in
+    let honest = (read.map.sound.0 map).honest in
+    let now = g.D.BlockDevice.moment (device_of file) in
+    let rest = shut_leaves file c.in-Ok.table honest (read.gate.gate ∙ shut) there in
+    subst (BeginsWith (record { kept = kept; failed = false }) now) same
+    (begins (record { kept = kept; failed = false }) now sound refl
+    (closed_leaves file now c.in-Ok.table rest (omega arith) (λ b left. inr (at_rest_leaves file (Surely c.in-Ok.table) honest rest b (g.met.D.BlockDevice.only_now (device_of file) b honest left)))))
 
 pub returns-in-Ok-clause-opened : goal.returns-in-Ok-clause-opened
 returns-in-Ok-clause-opened g c = λ honest n damaged. held_pages_are_not_damaged (given c.args.file) (next_of c.args.file) n c.in-Ok.table (c.in-Ok.ensures.holds honest) damaged
