@@ -6,7 +6,7 @@ use Rattle.std.proofs.lemmas.List.Concat.{flat_map-append}
 use Rattle.plain_table.specs.Lawful.{Standing, Request, Session, Takes}
 use Rattle.plain_table.specs.Step.{Answer}
 use Rattle.command_shell.specs.Answering.{AnswersLine}
-use Rattle.command_shell.specs.Commands.{AreCommands, AsksAlone}
+use Rattle.command_shell.specs.Commands.{AreCommands, AsksAlone, IsUnfinished}
 use Rattle.command_shell.specs.Commands.AreCommands.{none}
 use Rattle.command_shell.specs.Lines.{lines_of}
 use Rattle.command_shell.specs.Meanings.{Meaning, meaning_of}
@@ -96,6 +96,15 @@ steps_after {remaining = remaining} contents s s' r r' w w' pending left text re
 steps_after {remaining = remaining} contents s s' r r' w w' pending left text requests answers ended end (Err x) e h a l o =
     let P : Option RunEnd → Type 0 = λ x. StepsTo remaining contents x s s' r r' w w' pending left in
     subst P (sym e) (ended, left, record { text = text; requests = requests; answers = answers; reads = h; asked = a; lawful = l; written = o })
+
+-- the text ended, or could not be read further, behind the last line
+pub takes_end : {R W S : Type 0} {remaining : R → Option (List ℕ)} {contents : W → Option (List ℕ)} {Stands : S → Standing → Type 0} {old : S} (r r' : R) (w : W) (pending left : List ℕ) → Reads remaining true r r' pending [] []
+    → Takes Stands old old (λ s s'. StepsTo remaining contents (Some Finished) s s' r r' w w pending left)
+takes_end r r' w pending left h = takes_none _ (λ s. serves_none true s r r' w pending [] h)
+
+pub takes_fault : {R W S : Type 0} {remaining : R → Option (List ℕ)} {contents : W → Option (List ℕ)} {Stands : S → Standing → Type 0} {old : S} (r r' : R) (w : W) (pending left next : List ℕ) → IsUnfinished next → Reads remaining false r r' pending next []
+    → Takes Stands old old (λ s s'. StepsTo remaining contents (Some ReadFault) s s' r r' w w pending left)
+takes_fault r r' w pending left next unfinished h = takes_none _ (λ s. (next, unfinished, serves_none false s r r' w pending next h))
 
 -- a line was taken, and answered
 pub steps_line : {R W E S : Type 0} {remaining : R → Option (List ℕ)} {contents : W → Option (List ℕ)} {Stands : S → Standing → Type 0} {old new : S} (r r' : R) (w w' : W) (pending left text line : List ℕ) (m : Meaning) (ended : Bool) (end : Option RunEnd) (result : Result (Unit {0}) E) → MatchResult result (λ _. end ≡ cond ended (Some Finished) None) (λ _. end ≡ Some WriteFault) → Reads remaining ended r r' pending left text → lines_of text ≡ line ∷ [] → m ≡ meaning_of line → Takes Stands old new (λ s s'. AnswersLine contents m s s' w w' result) → Takes Stands old new (λ s s'. StepsTo remaining contents end s s' r r' w w' pending left)

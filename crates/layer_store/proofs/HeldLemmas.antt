@@ -24,7 +24,7 @@ use Rattle.plain_table.specs.declared.layer.Layer.{Layer as KeptLayer}
 use Rattle.plain_table.specs.Table.{Table, Layer, most_objects, object_count}
 use Rattle.layer_store.specs.Catalog.{by_name, is_good_catalog, is_layer_record, names_ascend, objects_named}
 use Rattle.layer_store.specs.Image.{Holds, HoldsLayer, HoldsLayers}
-use Rattle.layer_store.specs.Laws.{other_layers}
+use Rattle.layer_store.specs.Laws.{more_records, other_layers}
 
 -- one more
 pub layers_more : (pages : PageMap) (rs : List Record) (es : List (List ℕ × Layer)) (r : Record) (e : List ℕ × Layer) → HoldsLayers pages rs es → HoldsLayer pages r e → HoldsLayers pages (rs ++ r ∷ []) (es ++ e ∷ [])
@@ -101,6 +101,12 @@ held pages next page rs t there spelled good layers few = record {
 -- a record more is good where all before it are
 pub good_more : (next next' : ℕ) (rs : List Record) (r : Record) → list_all (is_layer_record next) rs ≡ true → (list_all (is_layer_record next) rs ≡ true → list_all (is_layer_record next') rs ≡ true) → is_layer_record next' r ≡ true → list_all (is_layer_record next') (rs ++ r ∷ []) ≡ true
 good_more next next' rs r all more this = list_all-append (is_layer_record next') rs (r ∷ []) ∙ (λ j. more all j && (this j && true))
+
+-- the same of the records of layers
+pub good_records : (next next' : ℕ) (rs rs' : List LayerRecord) (r : LayerRecord) → list_all (is_layer_record next) (map record_of rs) ≡ true → next ≤ next' → is_layer_record next' (record_of r) ≡ true → rs' ≡ rs ++ r ∷ []
+    → list_all (is_layer_record next') (map record_of rs') ≡ true
+good_records next next' rs rs' r all more this e =
+    ap (list_all (is_layer_record next')) (ap (map record_of) e ∙ map-append record_of rs (r ∷ [])) ∙ good_more next next' (map record_of rs) (record_of r) all (more_records next next' (map record_of rs) more) this
 
 -- ---- one layer written after the other
 

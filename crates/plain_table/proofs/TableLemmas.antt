@@ -1,5 +1,5 @@
 -- The table that a list of layers is: searching it, a layer more in it, and a layer that changed.
-use Rattle.std.proofs.Common.{◌≡◌, ℕ, zero, suc, ◌<◌, ◌+◌, List, [], ◌∷◌, length, get_or, map, Some, None, refl, sym, ap, ◌∙◌, arith, inl, inr, add-zero}
+use Rattle.std.proofs.Common.{◌≡◌, ℕ, zero, suc, ◌<◌, ◌+◌, List, [], ◌∷◌, length, get_or, map, Some, None, refl, sym, ap, ◌∙◌, arith, inl, inr, add-zero, subst}
 use Rattle.std.specs.Prelude.{Result, IsTrue, is_ok, slice_set, sum_by}
 use Rattle.std.specs.Cmp.Lexicographic.{slice_cmp, nat_list_cmp_total}
 use Rattle.std.specs.List.{insert}
@@ -104,8 +104,8 @@ module _ {A : Type 0} where
       ∙ ap (λ (e : List ℕ × Layer). Some e.1) (read_entry layers i l (omega (arith, s.within, length-map layers entry_of)) is)
 
   -- a layer more
-  pub more_listed : (layers : List (KeptLayer A)) (count : ℕ) (name : List ℕ) (i : ℕ) (l : KeptLayer A) → IsListed layers count → BelongsAt (slice_cmp nat_cmp) (map entry_of layers) name i → l.name.items ≡ name → (layer_of l).objects ≡ empty → length layers < most_layers → IsListed (insert layers i l) count
-  more_listed layers count name i l h b named none room = record {
+  pub more_listed : (layers : List (KeptLayer A)) (count : ℕ) (name : List ℕ) (i : ℕ) (l : KeptLayer A) → IsListed layers count → BelongsAt (slice_cmp nat_cmp) (map entry_of layers) name i → l.name.items ≡ name → (layer_of l).objects ≡ empty → length layers < most_layers → (new : List (KeptLayer A)) → new ≡ insert layers i l → IsListed new count
+  more_listed layers count name i l h b named none room new e = subst (λ ls. IsListed ls count) (sym e) (record {
     ascending = ap (is_sorted (slice_cmp nat_cmp)) (inserted_entry layers name i l named) ∙ inserted_in_order (slice_cmp nat_cmp) nat_list_cmp_total (map entry_of layers) name (layer_of l) i h.ascending b;
     counted = h.counted ∙ counted_in (map entry_of layers) h.ascending
         ∙ sym (ap (λ n. counted_layers (map entry_of layers) + n) (ap len none ∙ len-empty nat_cmp Bounds) ∙ add-zero _)
@@ -115,7 +115,7 @@ module _ {A : Type 0} where
         ∙ ap (λ es. object_count (from_sorted {R = slice_cmp nat_cmp} es)) (sym (inserted_entry layers name i l named));
     within = h.within;
     few = omega (arith, room, length-insert layers i l (omega (arith, b.within, length-map layers entry_of)));
-  }
+  })
 
   pub more_table : (layers : List (KeptLayer A)) (count : ℕ) (name : List ℕ) (i : ℕ) (l : KeptLayer A) → IsListed layers count → BelongsAt (slice_cmp nat_cmp) (map entry_of layers) name i → l.name.items ≡ name → table_from (insert layers i l) ≡ map_insert (table_from layers) name (layer_of l)
   more_table layers count name i l h b named = ap (from_sorted {R = slice_cmp nat_cmp}) (inserted_entry layers name i l named) ∙ inserted_map (slice_cmp nat_cmp) nat_list_cmp_total (map entry_of layers) name (layer_of l) i h.ascending b

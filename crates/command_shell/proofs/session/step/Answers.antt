@@ -7,7 +7,7 @@ use Rattle.command_shell.specs.Pending.{pending}
 use Rattle.command_shell.specs.Reading.{Reads}
 use Rattle.command_shell.proofs.CommandLemmas.{lines_of-line, long_meaning}
 use Rattle.command_shell.proofs.ReadLemmas.{begun_read, line_read, one_line, last_read, last_front, last_left, last_line, long_read, long_last_read, long_last_line, end_read}
-use Rattle.command_shell.proofs.SessionLemmas.{takes_none, serves_none, steps_line}
+use Rattle.command_shell.proofs.SessionLemmas.{takes_end, takes_fault, steps_line}
 use Rattle.command_shell.proofs.session.step.Goals as goal
 
 pub returns-in-Ok-Line-clause-steps : goal.returns-in-Ok-Line-clause-steps
@@ -61,9 +61,10 @@ pub returns-in-Ok-End-clause-steps : goal.returns-in-Ok-End-clause-steps
 returns-in-Ok-End-clause-steps g c =
     let bytes = pending c.args.lines.now in
     let found = rw c.in-Ok-End.field-0-is at c.in-Ok-End.ensures.found in
-    takes_none _ (λ s. serves_none true s c.args.input.now c.find.new.reader c.args.output.now bytes [] (subst (λ l. Reads g.R.Read.remaining true c.args.input.now c.find.new.reader bytes l []) found.so.0 (end_read c.args.input.now c.find.new.reader bytes (pending c.find.new.self) found)))
+    let left = pending c.find.new.self in
+    takes_end c.args.input.now c.find.new.reader c.args.output.now bytes left (subst (λ l. Reads g.R.Read.remaining true c.args.input.now c.find.new.reader bytes l []) found.so.0 (end_read c.args.input.now c.find.new.reader bytes left found))
 
 pub returns-in-Err-clause-steps : goal.returns-in-Err-clause-steps
 returns-in-Err-clause-steps g c =
     let bytes = pending c.args.lines.now in
-    takes_none _ (λ s. (_, c.in-Err.ensures.found.so, serves_none false s c.args.input.now c.find.new.reader c.args.output.now bytes _ (begun_read c.args.input.now c.find.new.reader bytes c.in-Err.ensures.found)))
+    takes_fault c.args.input.now c.find.new.reader c.args.output.now bytes (pending c.find.new.self) _ c.in-Err.ensures.found.so (begun_read c.args.input.now c.find.new.reader bytes c.in-Err.ensures.found)

@@ -1,15 +1,13 @@
 -- The records name layers whose chains stand in new pages, so the catalog may be written over the old one.
-use Rattle.std.proofs.Common.{◌≡◌, ◌∙◌, List, map, true, sym, ap, subst, arith, inl}
-use Rattle.std.proofs.lemmas.List.{map-append}
+use Rattle.std.proofs.Common.{◌∙◌, map, ap, arith, inl}
 use Rattle.std.specs.List.{list_all}
-use Rattle.catalog_page.specs.Layout.{Record, record_of}
+use Rattle.catalog_page.specs.Layout.{record_of}
 use Rattle.object_chain.specs.Chain.{new_pages}
 use Rattle.object_chain.proofs.Frames.{keeps_in_turn}
 use Rattle.page_file.specs.File.{next_of, pages}
 use Rattle.page_file.specs.Laws.{the_catalog_is_live, the_gate_is_kept_in_turn}
 use Rattle.layer_store.specs.Catalog.{is_layer_record}
-use Rattle.layer_store.specs.Laws.{more_records}
-use Rattle.layer_store.proofs.HeldLemmas.{all_held, good_more, held, layers_stay, one_more_held, written_aside}
+use Rattle.layer_store.proofs.HeldLemmas.{all_held, good_records, held, layers_stay, one_more_held, written_aside}
 use Rattle.layer_store.proofs.Results.{if_err, on_ok}
 use Rattle.layer_store.proofs.image.write.write_table.Goals as goal
 
@@ -27,8 +25,7 @@ loop-layer-preserved g c =
       holds = λ map. one_more_held old mid new records c.push.new.self.items c.layers-layer-items.result.now c.loop-layer.layer-index c.in_ok-record.record c.layer-item.result
           (before.others map) (done.others (before.sound map)) c.push.ensures.items c.loop-layer-test.true c.layer-item.is (before.holds map) (done.holds (before.sound map));
       others = λ map. keeps_in_turn old mid new (before.others map) (done.others (before.sound map));
-      good = subst (λ (rs : List Record). list_all (is_layer_record (next_of c.write_layer.new.file)) rs ≡ true) (sym (ap (map record_of) c.push.ensures.items ∙ map-append record_of records _))
-          (good_more (next_of c.loop-layer.file) (next_of c.write_layer.new.file) (map record_of records) (record_of c.in_ok-record.record) before.good (more_records (next_of c.loop-layer.file) (next_of c.write_layer.new.file) (map record_of records) done.next) done.good);
+      good = good_records (next_of c.loop-layer.file) (next_of c.write_layer.new.file) records c.push.new.self.items c.in_ok-record.record before.good done.next done.good c.push.ensures.items;
       count = omega (arith, before.count, c.push.ensures.len);
       next = omega (arith, before.next, done.next);
       no_fault = done.cause.ok ∙ before.no_fault;

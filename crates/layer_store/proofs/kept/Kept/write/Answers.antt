@@ -1,11 +1,11 @@
 -- A stop before the gate is open leaves what was left at rest, one behind it a refusal.
-use Rattle.std.proofs.Common.{◌≡◌, ◌∙◌, true, false, sym}
+use Rattle.std.proofs.Common.{◌≡◌, ◌∙◌, true, false}
 use Rattle.page_file.specs.File.{device_of}
 use Rattle.layer_store.proofs.StopLemmas.{gate_opened, none_made, pages_written}
 use Rattle.layer_store.proofs.kept.Kept.write.Goals as goal
 
-true_false : true ≡ false → ⊥
-true_false e = absurd (cc)
+refused_is_not_ok : false ≡ true → ⊥
+refused_is_not_ok e = absurd (cc)
 
 pub returns-then-self-clause-stops : goal.returns-then-self-clause-stops
 returns-then-self-clause-stops g c = λ ts honest rests.
@@ -21,7 +21,7 @@ returns-in_err-begin_change-clause-stops g c = λ ts honest rests.
 pub returns-in_err-begin_change-clause-rests : goal.returns-in_err-begin_change-clause-rests
 returns-in_err-begin_change-clause-rests g c = λ ts honest rests closed b same.
     let begun = c.in_err-begin_change.ensures in
-    rests (λ opened. true_false (sym (begun.was_open opened).1)) b (same ∙ begun.blocks honest)
+    rests (λ opened. refused_is_not_ok (begun.was_open opened).1) b (same ∙ begun.blocks honest)
 
 pub returns-in_err-write_table-clause-stops : goal.returns-in_err-write_table-clause-stops
 returns-in_err-write_table-clause-stops g c = λ ts honest rests.

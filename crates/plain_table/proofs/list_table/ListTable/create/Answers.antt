@@ -6,7 +6,7 @@ use Rattle.plain_table.specs.Commands.Command.{Create}
 use Rattle.plain_table.specs.Entries.{StandsAt, BelongsAt}
 use Rattle.plain_table.specs.Kept.{entry_of}
 use Rattle.plain_table.specs.Lawful.{AnsweredInMemory}
-use Rattle.plain_table.specs.Listed.{IsListed, table_from}
+use Rattle.plain_table.specs.Listed.{table_from}
 use Rattle.plain_table.specs.Step.Answer.{Done, Refused}
 use Rattle.plain_table.specs.declared.refusal.Refusal.TheVariants as refusal
 use Rattle.plain_table.proofs.ListLemmas.{create_refused, create_no_room, create_done}
@@ -28,8 +28,7 @@ returns-then-len-ge-MOST_LAYERS g c =
 pub invariant_of-self-2 : goal.invariant_of-self-2
 invariant_of-self-2 g c =
     let belongs = subst (λ ls. BelongsAt (slice_cmp nat_cmp) (map entry_of ls) c.args.name.now c.in-Err.place) c.deref.ensures.value c.in-Err.ensures in
-    subst (λ ls. IsListed ls c.self.inside.object_count) (sym c.in_ok-insert.ensures.items)
-    (more_listed c.self.inside.layers.items c.self.inside.object_count c.args.name.now c.in-Err.place c.new-layer.result c.self.invariant belongs c.new-layer.ensures.name (ap (λ l. l.objects) c.new-layer.ensures.layer) (omega arith))
+    more_listed c.self.inside.layers.items c.self.inside.object_count c.args.name.now c.in-Err.place c.new-layer.result c.self.invariant belongs c.new-layer.ensures.name (ap (λ l. l.objects) c.new-layer.ensures.layer) (omega arith) c.insert.new.self.items c.in_ok-insert.ensures.items
 
 pub returns : goal.returns
 returns g c =
