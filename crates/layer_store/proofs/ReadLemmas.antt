@@ -1,5 +1,5 @@
 -- Layers read by the records of a good catalog are a list of layers, and the table that the pages hold.
-use Rattle.std.proofs.Common.{◌≡◌, ◌∙◌, ◌≤◌, ◌<◌, ◌+◌, ℕ, zero, suc, List, [], ◌∷◌, ◌++◌, length, map, take, get_or, Bool, true, ◌&&◌, nat_le, Some, refl, sym, ap, arith, subst, T, inr}
+use Rattle.std.proofs.Common.{◌≡◌, ◌∙◌, ◌≤◌, ◌<◌, ◌+◌, ℕ, zero, suc, List, [], ◌∷◌, ◌++◌, append_assoc, length, map, take, drop, get_or, Bool, true, ◌&&◌, nat_le, Some, refl, sym, ap, arith, subst, T, inr}
 use Rattle.std.specs.Prelude.{IsTrue, sum_by, sum}
 use Rattle.std.specs.List.{list_all}
 use Rattle.std.specs.Cmp.{first_so, second_so}
@@ -8,7 +8,7 @@ use Rattle.std.specs.FinMap.{entries, entries-from_sorted, from_sorted, is_sorte
 use Rattle.std.specs.FinMap.Entries.{below_all}
 use Rattle.std.specs.Ordering.{is_lt, nat_cmp}
 use Rattle.std.proofs.lemmas.Bool.Decides.{nat_tests}
-use Rattle.std.proofs.lemmas.List.{get_or-map, length-map, map-append, take-map, take_all}
+use Rattle.std.proofs.lemmas.List.{get_or-map, length-map, map-append, take-append-drop, take-map, take_all}
 use Rattle.std.proofs.lemmas.List.Sums.{sum-map, sum_by_more, sum_by_more_le}
 use Rattle.std.proofs.Math.Seq.{take-suc}
 use Rattle.block_device.specs.Device.{Blocks}
@@ -163,14 +163,16 @@ module _ {A : Type 0} where
 -- the first layer that is broken damages a page
 pub broken_is_damaged : (pages : PageMap) (next i n : ℕ) (rs : List LayerRecord) (r : LayerRecord) (before : List (List ℕ × Layer)) → catalog_in pages ≡ Some (map record_of rs) → is_good_catalog next (map record_of rs) ≡ true → HoldsLayers pages (map record_of (take i rs)) before → i < length rs → r ≡ get_or rs i r → IsBroken pages (record_of r) n → IsDamaged pages next n
 broken_is_damaged pages next i n rs r before spelled good whole lt is broken = inr (record {
-  records = map record_of rs;
-  spelled = spelled;
-  good = good;
-  place = i;
-  before = before;
-  whole = subst (λ (xs : List Record). HoldsLayers pages xs before) (sym (take-map record_of i rs)) whole;
+  front = map record_of (take i rs);
   layer = record_of r;
-  within = omega (arith, lt, length-map rs record_of);
-  named = get_or-map record_of rs i r (record_of r) lt ∙ ap record_of (sym is);
+  rest = map record_of (drop (i + 1) rs);
+  spelled = spelled ∙ ap Some parts;
+  good = ap (is_good_catalog next) (sym parts) ∙ good;
+  before = before;
+  whole = whole;
   broken = broken;
 })
+  where
+    parts : map record_of rs ≡ map record_of (take i rs) ++ record_of r ∷ map record_of (drop (i + 1) rs)
+    parts = ap (map record_of) (sym (take-append-drop (i + 1) rs) ∙ ap (λ (xs : List LayerRecord). xs ++ drop (i + 1) rs) (taken_more rs i r lt is) ∙ append_assoc (take i rs) (r ∷ []) (drop (i + 1) rs))
+        ∙ map-append record_of (take i rs) (r ∷ drop (i + 1) rs)

@@ -1,6 +1,6 @@
 -- What the pages of a file hold of a table, which blocks are an image of one, and why opening refuses others.
 -- The directory of a layer is the first page of the chain of its objects, until layers are trees. Our rule, docs/FORMAT.md.
-use Rattle.std.specs.Prelude.{ℕ, ◌≡◌, ◌⊎◌, IsTrue, false, ◌<◌, List, [], ◌∷◌, length, take, slice_index_or, Option, Some, None, option_and_then}
+use Rattle.std.specs.Prelude.{ℕ, ◌≡◌, ◌⊎◌, IsTrue, false, List, [], ◌∷◌, ◌++◌, length, Option, Some, None, option_and_then}
 use Rattle.std.specs.List.{Contains}
 use Rattle.std.specs.FinMap.{entries}
 use Rattle.block_device.specs.Device.{Blocks}
@@ -78,17 +78,15 @@ Miscounts pages r = (objects : List (ℕ × Bounds)) × HoldsObjects pages r.dim
 abbrev pub IsBroken : PageMap → Record → ℕ → Type 0
 IsBroken pages r n = BreaksAt pages r.dims r.directory n ⊎ ((n ≡ 2) × Miscounts pages r)
 
--- the first layer of a good catalog that is broken: the pages hold those before it
+-- the first layer of a good catalog that is broken: the pages hold those in front of it
 pub record HasBrokenLayer (pages : PageMap) (next n : ℕ) : Type 0 where
-  pub records : List Record
-  pub spelled : catalog_in pages ≡ Some records
-  pub good : IsTrue (is_good_catalog next records)
-  pub place : ℕ
-  pub before : List (List ℕ × Layer)
-  pub whole : HoldsLayers pages (take place records) before
+  pub front : List Record
   pub layer : Record
-  pub within : place < length records
-  pub named : slice_index_or records place layer ≡ layer
+  pub rest : List Record
+  pub spelled : catalog_in pages ≡ Some (front ++ layer ∷ rest)
+  pub good : IsTrue (is_good_catalog next (front ++ layer ∷ rest))
+  pub before : List (List ℕ × Layer)
+  pub whole : HoldsLayers pages front before
   pub broken : IsBroken pages layer n
 
 -- page n is not what it must be

@@ -1,12 +1,11 @@
 -- What follows from pages that hold a table, and from images.
-use Rattle.std.proofs.Common.{◌≡◌, ◌∙◌, ℕ, zero, suc, ◌<◌, ◌≤◌, List, [], ◌∷◌, length, take, get_or, Bool, true, false, ◌&&◌, ◌==◌, nat_le, Option, Some, None, refl, sym, ap, arith, subst, inl, inr}
+use Rattle.std.proofs.Common.{◌≡◌, ◌∙◌, ℕ, ◌≤◌, List, [], ◌∷◌, ◌++◌, length, Bool, true, false, ◌&&◌, ◌==◌, nat_le, Option, Some, None, refl, sym, ap, arith, subst, inl, inr}
 use Rattle.std.specs.Cmp.{first_so, second_so}
 use Rattle.std.specs.Cmp.Derive.{both_true}
 use Rattle.std.specs.Prelude.{option_and_then}
-use Rattle.std.specs.List.{Contains, list_all}
+use Rattle.std.specs.List.{list_all}
 use Rattle.std.specs.FinMap.{entries, same_entries_map}
 use Rattle.std.proofs.lemmas.Bool.Decides.{nat_tests}
-use Rattle.std.proofs.lemmas.List.{get_or-take, get_or_default, length-take-le}
 use Rattle.block_device.specs.Device.{Blocks}
 use Rattle.box_math.specs.Bounds.{Bounds}
 use Rattle.catalog_page.specs.Layout.{Record, records_at}
@@ -48,15 +47,12 @@ an_image_is_of_one_table blocks t u h k = pages_hold_one_table _ _ t u h.holds k
 
 -- ---- an image is not refused
 
--- the layer of a record that is there
-pub held_layer : (pages : PageMap) (rs : List Record) (es : List (List ℕ × Layer)) (r : Record) → HoldsLayers pages rs es → Contains rs r → (e : List ℕ × Layer) × HoldsLayer pages r e
-held_layer pages rs es r h c = at rs es c.0 h c.1 c.2
-  where
-    at : (rs : List Record) (es : List (List ℕ × Layer)) (k : ℕ) → HoldsLayers pages rs es → k < length rs → get_or rs k r ≡ r → (e : List ℕ × Layer) × HoldsLayer pages r e
-    at [] es k h lt is = absurd (omega (arith, lt))
-    at (x ∷ rs) [] k h lt is = elim h [ ]
-    at (x ∷ rs) (e ∷ es) zero h lt is = (e, subst (λ (y : Record). HoldsLayer pages y e) is h.0)
-    at (x ∷ rs) (e ∷ es) (suc k) h lt is = at rs es k h.1 (omega (arith, lt)) is
+-- the layer of a record among others
+held_layer : (pages : PageMap) (front rest : List Record) (r : Record) (es : List (List ℕ × Layer)) → HoldsLayers pages (front ++ r ∷ rest) es → (e : List ℕ × Layer) × HoldsLayer pages r e
+held_layer pages [] rest r [] h = elim h [ ]
+held_layer pages [] rest r (e ∷ es) h = (e, h.0)
+held_layer pages (x ∷ front) rest r [] h = elim h [ ]
+held_layer pages (x ∷ front) rest r (e ∷ es) h = held_layer pages front rest r es h.1
 
 pub some_is_not_none : {X : Type 0} {a : X} → None ≡ Some a → ⊥
 some_is_not_none e = absurd (cc)
@@ -64,17 +60,17 @@ some_is_not_none e = absurd (cc)
 true_is_not_false : true ≡ false → ⊥
 true_is_not_false e = absurd (cc)
 
+held_is_not_broken : (pages : PageMap) (r : Record) (e : List ℕ × Layer) (n : ℕ) → HoldsLayer pages r e → IsBroken pages r n → ⊥
+held_is_not_broken pages r e n h (inl at) = a_whole_chain_breaks_nowhere pages r.dims r.directory n (entries e.1.objects) h.objects at
+held_is_not_broken pages r e n h (inr at) = at.1.2 (ap length (a_chain_holds_one_list pages r.dims r.directory at.1.0 (entries e.1.objects) at.1.1 h.objects) ∙ h.count)
+
 -- pages that hold a table have no damaged page
 pub held_pages_are_not_damaged : (pages : PageMap) (next n : ℕ) (t : Table) → Holds pages next t → IsDamaged pages next n → ⊥
 held_pages_are_not_damaged pages next n t h (inl none) = true_is_not_false (sym h.good ∙ none.1 h.records h.spelled)
 held_pages_are_not_damaged pages next n t h (inr b) =
-    let same : h.records ≡ b.records = same_some (sym h.spelled ∙ b.spelled) in
-    let e = held_layer pages b.records (entries t) b.layer (subst (λ (rs : List Record). HoldsLayers pages rs (entries t)) same h.layers) (b.place, b.within, b.named) in
-    case e.0 e.1 b.broken
-  where
-    case : (e : List ℕ × Layer) → HoldsLayer pages b.layer e → IsBroken pages b.layer n → ⊥
-    case e held (inl at) = a_whole_chain_breaks_nowhere pages b.layer.dims b.layer.directory n (entries e.1.objects) held.objects at
-    case e held (inr at) = at.1.2 (ap length (a_chain_holds_one_list pages b.layer.dims b.layer.directory at.1.0 (entries e.1.objects) at.1.1 held.objects) ∙ held.count)
+    let same : h.records ≡ b.front ++ b.layer ∷ b.rest = same_some (sym h.spelled ∙ b.spelled) in
+    let held = held_layer pages b.front b.rest b.layer (entries t) (subst (λ (rs : List Record). HoldsLayers pages rs (entries t)) same h.layers) in
+    held_is_not_broken pages b.layer held.0 n held.1 b.broken
 
 -- opening refuses no image but for want of memory or a fault of the device
 pub an_image_is_not_refused : (blocks : Blocks) (t : Table) (f : Fault) → IsImage blocks t → Refuses blocks f → ⊥
@@ -83,58 +79,32 @@ an_image_is_not_refused blocks t f h (inr d) = held_pages_are_not_damaged _ _ d.
 
 -- ---- opening refuses in one way
 
-held_is_not_broken : (pages : PageMap) (r : Record) (e : List ℕ × Layer) (n : ℕ) → HoldsLayer pages r e → IsBroken pages r n → ⊥
-held_is_not_broken pages r e n h (inl at) = a_whole_chain_breaks_nowhere pages r.dims r.directory n (entries e.1.objects) h.objects at
-held_is_not_broken pages r e n h (inr at) = at.1.2 (ap length (a_chain_holds_one_list pages r.dims r.directory at.1.0 (entries e.1.objects) at.1.1 h.objects) ∙ h.count)
-
 broken_once : (pages : PageMap) (r : Record) (n m : ℕ) → IsBroken pages r n → IsBroken pages r m → n ≡ m
 broken_once pages r n m (inl a) (inl b) = a_chain_breaks_at_one_page pages r.dims r.directory n m a b
 broken_once pages r n m (inl a) (inr b) = absurd (a_whole_chain_breaks_nowhere pages r.dims r.directory n b.1.0 b.1.1 a)
 broken_once pages r n m (inr a) (inl b) = absurd (a_whole_chain_breaks_nowhere pages r.dims r.directory m a.1.0 a.1.1 b)
 broken_once pages r n m (inr a) (inr b) = a.0 ∙ sym b.0
 
--- a layer before the first broken one is not broken
-not_earlier : (pages : PageMap) (rs : List Record) (before : List (List ℕ × Layer)) (i j n : ℕ) (r : Record) → HoldsLayers pages (take j rs) before → i < j → j < length rs → get_or rs i r ≡ r → IsBroken pages r n → ⊥
-not_earlier pages rs before i j n r h lt within is broken =
-    let size : length (take j rs) ≡ j = length-take-le j rs (omega (arith, within)) in
-    let e = held_layer pages (take j rs) before r h (i, omega (arith, lt, size), get_or-take j rs i r lt ∙ is) in
-    held_is_not_broken pages r e.0 n e.1 broken
-
-data Order (i j : ℕ) : Type 0 where
-  below : i < j → Order i j
-  same : i ≡ j → Order i j
-  above : j < i → Order i j
-
-order : (i j : ℕ) → Order i j
-order zero zero = same refl
-order zero (suc j) = below (omega arith)
-order (suc i) zero = above (omega arith)
-order (suc i) (suc j) = next (order i j)
-  where
-    next : Order i j → Order (suc i) (suc j)
-    next (below l) = below (omega (arith, l))
-    next (same e) = same (ap suc e)
-    next (above l) = above (omega (arith, l))
+-- the first layer that is broken is one
+broken_first : (pages : PageMap) (front front' rest rest' : List Record) (r r' : Record) (es es' : List (List ℕ × Layer)) (n m : ℕ) → front ++ r ∷ rest ≡ front' ++ r' ∷ rest' → HoldsLayers pages front es → HoldsLayers pages front' es'
+    → IsBroken pages r n → IsBroken pages r' m → n ≡ m
+broken_first pages [] [] rest rest' r r' es es' n m same h k broken broken' = let one : r ≡ r' = cc in broken_once pages r' n m (subst (λ (x : Record). IsBroken pages x n) one broken) broken'
+broken_first pages [] (x ∷ front') rest rest' r r' es [] n m same h k broken broken' = elim k [ ]
+broken_first pages [] (x ∷ front') rest rest' r r' es (e ∷ es') n m same h k broken broken' = let one : r ≡ x = cc in absurd (held_is_not_broken pages x e n k.0 (subst (λ (y : Record). IsBroken pages y n) one broken))
+broken_first pages (x ∷ front) [] rest rest' r r' [] es' n m same h k broken broken' = elim h [ ]
+broken_first pages (x ∷ front) [] rest rest' r r' (e ∷ es) es' n m same h k broken broken' = let one : r' ≡ x = cc in absurd (held_is_not_broken pages x e m h.0 (subst (λ (y : Record). IsBroken pages y m) one broken'))
+broken_first pages (x ∷ front) (y ∷ front') rest rest' r r' [] es' n m same h k broken broken' = elim h [ ]
+broken_first pages (x ∷ front) (y ∷ front') rest rest' r r' (e ∷ es) [] n m same h k broken broken' = elim k [ ]
+broken_first pages (x ∷ front) (y ∷ front') rest rest' r r' (e ∷ es) (e' ∷ es') n m same h k broken broken' =
+    let behind : front ++ r ∷ rest ≡ front' ++ r' ∷ rest' = cc in broken_first pages front front' rest rest' r r' es es' n m behind h.1 k.1 broken broken'
 
 -- one page is damaged at most
 pub one_page_is_damaged : (pages : PageMap) (next n m : ℕ) → IsDamaged pages next n → IsDamaged pages next m → n ≡ m
 one_page_is_damaged pages next n m (inl a) (inl b) = a.0 ∙ sym b.0
-one_page_is_damaged pages next n m (inl a) (inr b) = absurd (true_is_not_false (sym b.good ∙ a.1 b.records b.spelled))
-one_page_is_damaged pages next n m (inr a) (inl b) = absurd (true_is_not_false (sym a.good ∙ b.1 a.records a.spelled))
-one_page_is_damaged pages next n m (inr a) (inr b) = case (order a.place b.place)
-  where
-    one : a.records ≡ b.records
-    one = same_some (sym a.spelled ∙ b.spelled)
-
-    there : get_or b.records a.place a.layer ≡ a.layer
-    there = ap (λ (rs : List Record). get_or rs a.place a.layer) (sym one) ∙ a.named
-
-    case : Order a.place b.place → n ≡ m
-    case (below l) = absurd (not_earlier pages b.records b.before a.place b.place n a.layer b.whole l b.within there a.broken)
-    case (above l) = absurd (not_earlier pages a.records a.before b.place a.place m b.layer a.whole l a.within (ap (λ (rs : List Record). get_or rs b.place b.layer) one ∙ b.named) b.broken)
-    case (same e) =
-        let layer : a.layer ≡ b.layer = sym there ∙ ap (λ (i : ℕ). get_or b.records i a.layer) e ∙ get_or_default b.records b.place a.layer b.layer b.within ∙ b.named in
-        broken_once pages b.layer n m (subst (λ (r : Record). IsBroken pages r n) layer a.broken) b.broken
+one_page_is_damaged pages next n m (inl a) (inr b) = absurd (true_is_not_false (sym b.good ∙ a.1 (b.front ++ b.layer ∷ b.rest) b.spelled))
+one_page_is_damaged pages next n m (inr a) (inl b) = absurd (true_is_not_false (sym a.good ∙ b.1 (a.front ++ a.layer ∷ a.rest) a.spelled))
+one_page_is_damaged pages next n m (inr a) (inr b) =
+    broken_first pages a.front b.front a.rest b.rest a.layer b.layer a.before b.before n m (same_some (sym a.spelled ∙ b.spelled)) a.whole b.whole a.broken b.broken
 
 -- opening refuses blocks in one way
 pub blocks_are_refused_in_one_way : (blocks : Blocks) (f g : Fault) → Refuses blocks f → Refuses blocks g → f ≡ g
