@@ -16,7 +16,7 @@ use Rattle.plain_table.specs.Table.{Table, Layer}
 use Rattle.plain_table.specs.declared.refusal.Refusal.TheVariants as refusal
 use Rattle.plain_table.proofs.Examples.{layer}
 use Rattle.layer_store.specs.Catalog.{has_no_tree, is_good_catalog, is_layer_record, is_page_or_none, names_ascend, objects_named}
-use Rattle.layer_store.specs.Faults.{GivesUp, HasCause, faults_after, as_refusal}
+use Rattle.layer_store.specs.Faults.{IsMemoryOrDevice, HasCause, faults_after, as_refusal}
 use Rattle.layer_store.specs.Image.{Holds, IsImage, IsLeftOf, HoldsLayer, HoldsLayers, IsBroken, IsDamaged, Refuses}
 use Rattle.layer_store.specs.Laws.{an_image_is_of_one_table, blocks_are_refused_in_one_way}
 use Rattle.layer_store.specs.Starting.{is_cache}
@@ -70,9 +70,9 @@ want_of_memory_hides_no_fault h = absurd (omega (arith, h.refused))
 the_device_is_not_blamed_without_one : HasCause {T = ℕ} 4 4 (Err refusal.Device) → ⊥
 the_device_is_not_blamed_without_one h = absurd (omega (arith, h.refused))
 
-want_of_pages_is_no_giving_up : GivesUp refusal.NoPages → ⊥
-want_of_pages_is_no_giving_up (inl e) = cc
-want_of_pages_is_no_giving_up (inr e) = cc
+want_of_pages_is_neither : IsMemoryOrDevice refusal.NoPages → ⊥
+want_of_pages_is_neither (inl e) = cc
+want_of_pages_is_neither (inr e) = cc
 
 -- ---- good catalogs, of a file in which the pages up to 8 were given out
 

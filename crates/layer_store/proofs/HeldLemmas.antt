@@ -17,7 +17,7 @@ use Rattle.object_chain.specs.Chain.{KeepsPages, PageMap, new_pages}
 use Rattle.object_chain.specs.Laws.{a_chain_stays}
 use Rattle.object_chain.proofs.Frames.{is_new, new_pages_kept, not_before}
 use Rattle.page_file.specs.Pages.{SameBut}
-use Rattle.plain_table.specs.Kept.{entry_of}
+use Rattle.plain_table.specs.InMemory.{entry_of}
 use Rattle.plain_table.specs.Laws.{listed_are_entries}
 use Rattle.plain_table.specs.Listed.{IsListed, table_from}
 use Rattle.plain_table.specs.declared.layer.Layer.{Layer as KeptLayer}

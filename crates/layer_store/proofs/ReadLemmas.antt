@@ -16,7 +16,7 @@ use Rattle.page_file.specs.Pages.{given_pages}
 use Rattle.catalog_page.specs.Layout.{Record, record_of}
 use Rattle.catalog_page.specs.declared.layer_record.LayerRecord.{LayerRecord}
 use Rattle.object_chain.specs.Chain.{PageMap}
-use Rattle.plain_table.specs.Kept.{entry_of}
+use Rattle.plain_table.specs.InMemory.{entry_of}
 use Rattle.plain_table.specs.Laws.{listed_are_entries}
 use Rattle.plain_table.specs.Listed.{IsListed, table_from}
 use Rattle.plain_table.specs.Objects.{entries_of}

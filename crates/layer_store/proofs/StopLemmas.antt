@@ -7,7 +7,7 @@ use Rattle.block_device.specs.Moments.{leaves_then, leaves_weaker, started}
 use Rattle.page_file.specs.Aside.{FindsSame, aside_passes}
 use Rattle.page_file.specs.File.{IsHonest, IsNewFile, IsPageMap, KeepsGate, LiesIn, blocks_of, gate_of, next_of, pages}
 use Rattle.page_file.specs.Given.{given_is, is_given}
-use Rattle.page_file.specs.Kept.{aside_at}
+use Rattle.page_file.specs.Frames.{aside_at}
 use Rattle.page_file.specs.Laws.{a_gate_aside_finds_the_file, a_run_goes_on, a_stop_follows_the_gate, a_stop_now_leaves_all_but_the_gate, is_open, stops_of_a_run_go_on}
 use Rattle.page_file.specs.Opening.{IsRefused}
 use Rattle.page_file.specs.Pages.{given_pages, next_in}

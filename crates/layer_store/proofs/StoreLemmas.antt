@@ -22,7 +22,7 @@ use Rattle.plain_table.specs.Step.Answer.{Done, Refused}
 use Rattle.plain_table.specs.Table.{Table}
 use Rattle.plain_table.specs.declared.refusal.Refusal.{Refusal}
 use Rattle.plain_table.specs.declared.refusal.Refusal.TheVariants as refusal
-use Rattle.layer_store.specs.Faults.{GivesUp, as_refusal}
+use Rattle.layer_store.specs.Faults.{IsMemoryOrDevice, as_refusal}
 use Rattle.layer_store.specs.Faults as store
 use Rattle.layer_store.specs.Image.{Holds}
 use Rattle.layer_store.specs.Keeping.{IsSound, Leaves}
@@ -75,9 +75,9 @@ end_of_store old new f (inl e) rose = inl (ap number_of e)
 end_of_store old new f (inr e) rose = inr (ap number_of e, rose e)
 
 -- as a refusal
-pub gives_up : (f : Fault) → IsOfDevice f → GivesUp (as_refusal f)
-gives_up f (inl e) = inl (ap as_refusal e)
-gives_up f (inr e) = inr (ap as_refusal e)
+pub memory_or_device : (f : Fault) → IsOfDevice f → IsMemoryOrDevice (as_refusal f)
+memory_or_device f (inl e) = inl (ap as_refusal e)
+memory_or_device f (inr e) = inr (ap as_refusal e)
 
 -- ---- the count of faults
 
@@ -267,8 +267,8 @@ not_both b e f = cc
 -- ---- a refused closing
 
 -- the fault of a closing, as a refusal of it
-pub refused_closing : (blocks : ℕ) (f : Fault) → IsOfDevice f ⊎ ((f ≡ fault.NoPages) × (2 ^ 31 ≤ blocks)) → GivesUp (as_refusal f) ⊎ ((as_refusal f ≡ refusal.NoPages) × (2 ^ 31 ≤ blocks))
-refused_closing blocks f (inl of_device) = inl (gives_up f of_device)
+pub refused_closing : (blocks : ℕ) (f : Fault) → IsOfDevice f ⊎ ((f ≡ fault.NoPages) × (2 ^ 31 ≤ blocks)) → IsMemoryOrDevice (as_refusal f) ⊎ ((as_refusal f ≡ refusal.NoPages) × (2 ^ 31 ≤ blocks))
+refused_closing blocks f (inl of_device) = inl (memory_or_device f of_device)
 refused_closing blocks f (inr full) = inr (ap as_refusal full.0, full.1)
 
 -- ---- a reopening

@@ -27,5 +27,5 @@ pub record HasCause {T : Type 0} (before now : ℕ) (result : Result T Refusal) 
   pub refused : IfErr result (λ r. now ≡ faults_after r before)
 
 -- want of memory, or a device that failed
-abbrev pub GivesUp : Refusal → Type 0
-GivesUp r = (r ≡ refusal.Memory) ⊎ (r ≡ refusal.Device)
+abbrev pub IsMemoryOrDevice : Refusal → Type 0
+IsMemoryOrDevice r = (r ≡ refusal.Memory) ⊎ (r ≡ refusal.Device)

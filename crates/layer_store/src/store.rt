@@ -9,7 +9,7 @@ ghost use Rattle.plain_table.specs.Lawful.State.{Alive};
 ghost use Rattle.plain_table.specs.Lawful.Request.{Asks};
 ghost use Rattle.plain_table.specs.Table.{Table};
 ghost use Rattle.plain_table.specs.declared.refusal.Refusal.TheVariants as refusal;
-ghost use Rattle.layer_store.specs.Faults.{GivesUp, HasCause, faults_after};
+ghost use Rattle.layer_store.specs.Faults.{IsMemoryOrDevice, HasCause, faults_after};
 ghost use Rattle.layer_store.specs.Image.{IsImage, IsLeftOf};
 
 mod start;
@@ -147,7 +147,7 @@ impl<D: BlockDevice, A: Allocator + Copy> Store<D, A> {
         // Of one that is closed already the device comes back as it is.
         ensures quiet { (t : Table) → StandsFor self t → IsClosed self → result ≡ Ok (device_in self) }
 
-        ensures refused { (t : Table) → StandsFor self t → IfErr result (λ e. GivesUp e.0 ⊎ ((e.0 ≡ refusal.NoPages) × (2 ^ 31 ≤ length (D.shown e.1)))) }
+        ensures refused { (t : Table) → StandsFor self t → IfErr result (λ e. IsMemoryOrDevice e.0 ⊎ ((e.0 ≡ refusal.NoPages) × (2 ^ 31 ≤ length (D.shown e.1)))) }
         ensures failed { HasFailed self → result ≡ Err (refusal.StoreFailed 19, device_in self) }
         ensures no_fault { IfOk result (λ device. D.faults device ≡ D.faults (device_in self)) }
         ensures cause { IfErr result (λ e. D.faults e.1 ≡ faults_after e.0 (D.faults (device_in self))) }

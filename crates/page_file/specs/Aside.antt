@@ -12,7 +12,7 @@ use Rattle.page_file.specs.Layout.{IsHeader, catalog_block, new_header}
 use Rattle.page_file.specs.Opening.{IsRefused, failed_check, header_of_block}
 use Rattle.page_file.specs.Pages.{HasFreeChain, IsSoundMap, header_in, is_live, next_in, page_of, pages_in}
 use Rattle.page_file.specs.Stops.{SameButGate}
-use Rattle.page_file.specs.Kept.{aside_at}
+use Rattle.page_file.specs.Frames.{aside_at}
 use Rattle.page_file.specs.Live.{free_same, new_free, pages_same}
 use Rattle.page_file.specs.Settled.{header_is}
 

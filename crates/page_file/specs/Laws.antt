@@ -10,7 +10,7 @@ use Rattle.page_file.specs.Opening.{IsRefused, failed_check}
 use Rattle.page_file.specs.Stops.{AddsOnly, SameButGate, StopNow, StopSince}
 use Rattle.page_file.specs.Aside.{aside_lies, aside_passes}
 use Rattle.page_file.specs.Gated.{now_since}
-use Rattle.page_file.specs.Kept as kept
+use Rattle.page_file.specs.Frames as kept
 use Rattle.page_file.specs.Given.{given_is_live, live_is_given}
 use Rattle.page_file.specs.Layout.{kind_of}
 use Rattle.page_file.specs.Live.{catalog_lives, lives}

@@ -12,6 +12,6 @@ pub mod Chains
 pub mod Live
 pub mod Given
 pub mod Settled
-pub mod Kept
+pub mod Frames
 pub mod Aside
 pub mod Laws

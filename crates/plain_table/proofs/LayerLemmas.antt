@@ -9,7 +9,7 @@ use Rattle.box_math.specs.Bounds.{Bounds, ordered_test, meets_test}
 use Rattle.plain_table.specs.Answers.{row_of}
 use Rattle.plain_table.specs.Boxes.{dims_of, given_bounds}
 use Rattle.plain_table.specs.Entries.{BelongsAt}
-use Rattle.plain_table.specs.Kept.{layer_of}
+use Rattle.plain_table.specs.InMemory.{layer_of}
 use Rattle.plain_table.specs.Objects.{axes_of, entries_of, object_refused}
 use Rattle.plain_table.specs.Step.{first_refusal, box_refusals, object_refusals, window_rows}
 use Rattle.plain_table.specs.Table.{with_object}

@@ -10,7 +10,7 @@ use Rattle.plain_table.specs.Boxes.{given_bounds}
 use Rattle.plain_table.specs.Commands.{Command}
 use Rattle.plain_table.specs.Commands.Command.{Create, Insert, Window}
 use Rattle.plain_table.specs.Entries.{StandsAt, BelongsAt}
-use Rattle.plain_table.specs.Kept.{entry_of, layer_of, IsRefusal}
+use Rattle.plain_table.specs.InMemory.{entry_of, layer_of, IsRefusal}
 use Rattle.plain_table.specs.Lawful.{AnsweredInMemory}
 use Rattle.plain_table.specs.Listed.{table_from, IsListed}
 use Rattle.plain_table.specs.Step.{first_refusal, box_refusals, object_refusals, window_rows, refusal_of}

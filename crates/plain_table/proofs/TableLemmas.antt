@@ -13,7 +13,7 @@ use Rattle.std.proofs.lemmas.List.Sums.{sum_by-insert, sum_by-set}
 use Rattle.box_math.specs.Bounds.{Bounds}
 use Rattle.plain_table.specs.Commands.{Command}
 use Rattle.plain_table.specs.Entries.{StandsAt, BelongsAt, IsSearched}
-use Rattle.plain_table.specs.Kept.{entry_of, layer_of}
+use Rattle.plain_table.specs.InMemory.{entry_of, layer_of}
 use Rattle.plain_table.specs.Lawful.{AnsweredInMemory}
 use Rattle.plain_table.specs.Listed.{table_from, IsListed}
 use Rattle.plain_table.specs.Step.{Answer, refusal_of, answer_of, changed, refused_or, kept_or}

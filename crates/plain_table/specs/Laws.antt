@@ -6,7 +6,7 @@ use Rattle.std.specs.List.{list_all}
 use Rattle.std.specs.Ordering.{nat_cmp}
 use Rattle.plain_table.specs.Commands.{Command}
 use Rattle.plain_table.specs.Commands.Command.{Create, Insert, Window, Reopen}
-use Rattle.plain_table.specs.Kept.{entry_of}
+use Rattle.plain_table.specs.InMemory.{entry_of}
 use Rattle.plain_table.specs.Lawful.{AnsweredInMemory, blames_device, IsFault, LawfulFrom, LawfulStep, MayWrite, RefusedBy, Standing}
 use Rattle.plain_table.specs.Lawful.Request.{BadCommand}
 use Rattle.plain_table.specs.Lawful.State.{Alive}

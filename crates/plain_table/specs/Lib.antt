@@ -9,6 +9,6 @@ pub mod Step
 pub mod Lawful
 pub mod Answers
 pub mod Objects
-pub mod Kept
+pub mod InMemory
 pub mod Listed
 pub mod Laws

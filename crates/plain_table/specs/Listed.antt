@@ -3,7 +3,7 @@ use Rattle.std.specs.Prelude.{ℕ, ◌≡◌, ◌≤◌, IsTrue, List, length, m
 use Rattle.std.specs.Cmp.Lexicographic.{slice_cmp}
 use Rattle.std.specs.FinMap.{from_sorted, is_sorted}
 use Rattle.std.specs.Ordering.{nat_cmp}
-use Rattle.plain_table.specs.Kept.{entry_of}
+use Rattle.plain_table.specs.InMemory.{entry_of}
 use Rattle.plain_table.specs.Table.{Table, object_count, most_layers, most_objects}
 use Rattle.plain_table.specs.declared.layer.Layer.{Layer as KeptLayer}
 

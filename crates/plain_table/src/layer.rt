@@ -35,7 +35,7 @@ pub struct Layer<A: Allocator> {
 }
 
 impl<A: Allocator + Copy> Layer<A> {
-    ghost use Rattle.plain_table.specs.Kept.{layer_of, IsRefusal};
+    ghost use Rattle.plain_table.specs.InMemory.{layer_of, IsRefusal};
 
     /// A layer with no object, of a good name, 2 or 3 axes and a good fanout.
     pub fn new(alloc: A, name: &[u8], dims: u64, fanout: u64) -> Self

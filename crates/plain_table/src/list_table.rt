@@ -7,7 +7,7 @@ ghost use Rattle.std.specs.Ordering.{nat_cmp};
 ghost use Rattle.plain_table.specs.Answers.{done_answer, boxes_answer};
 ghost use Rattle.plain_table.specs.Commands.Command.{Create, Insert, Window};
 ghost use Rattle.plain_table.specs.Entries.{IsSearched};
-ghost use Rattle.plain_table.specs.Kept.{entry_of};
+ghost use Rattle.plain_table.specs.InMemory.{entry_of};
 ghost use Rattle.plain_table.specs.Lawful.{AnsweredInMemory};
 ghost use Rattle.plain_table.specs.Listed.{table_from, IsListed};
 ghost use Rattle.plain_table.specs.Table.{most_objects, object_count};

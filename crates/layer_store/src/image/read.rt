@@ -8,7 +8,7 @@ ghost use Rattle.object_chain.specs.Chain.{BreaksAt, HoldsObjects};
 ghost use Rattle.page_file.specs.Fault.{HasCause, IsDamage, IsOfDevice};
 ghost use Rattle.page_file.specs.File.{blocks_of, device_of, given, next_of, IsHonest, KeepsGate, KeepsMap};
 ghost use Rattle.page_file.specs.declared.fault.Fault.TheVariants as fault;
-ghost use Rattle.plain_table.specs.Kept.{entry_of};
+ghost use Rattle.plain_table.specs.InMemory.{entry_of};
 ghost use Rattle.plain_table.specs.Objects.{axes_of, entries_of};
 ghost use Rattle.plain_table.specs.Table.{is_dims, is_fanout, is_layer_name};
 ghost use Rattle.layer_store.specs.Catalog as catalog;

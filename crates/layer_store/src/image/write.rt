@@ -9,7 +9,7 @@ ghost use Rattle.page_file.specs.Fault.{HasCause, IsOfDevice};
 ghost use Rattle.page_file.specs.File.{device_of, gate_of, next_of, pages, IsPageMap, KeepsGate};
 ghost use Rattle.page_file.specs.declared.fault.Fault.TheVariants as fault;
 ghost use Rattle.page_file.specs.declared.gate.Gate.TheVariants.{Open};
-ghost use Rattle.plain_table.specs.Kept.{entry_of};
+ghost use Rattle.plain_table.specs.InMemory.{entry_of};
 ghost use Rattle.plain_table.specs.Objects.{axes_of, entries_of};
 ghost use Rattle.layer_store.specs.Catalog.{is_layer_record, is_page_or_none};
 ghost use Rattle.layer_store.specs.Image.{Holds, HoldsLayer};

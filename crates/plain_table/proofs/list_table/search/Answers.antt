@@ -3,7 +3,7 @@ use Rattle.std.proofs.Common.{length, map, arith, sym, ap, ◌∙◌, below_more
 use Rattle.std.proofs.lemmas.List.{length-map}
 use Rattle.std.specs.Cmp.Lexicographic.{slice_cmp, nat_list_cmp_total}
 use Rattle.std.specs.Ordering.{nat_cmp}
-use Rattle.plain_table.specs.Kept.{entry_of}
+use Rattle.plain_table.specs.InMemory.{entry_of}
 use Rattle.plain_table.proofs.EntryLemmas.{stands_at, belongs_at}
 use Rattle.plain_table.proofs.TableLemmas.{named_at}
 use Rattle.plain_table.proofs.list_table.search.Goals as goal

@@ -10,7 +10,7 @@ use Rattle.page_file.specs.File.{blocks_of, given, next_of}
 use Rattle.page_file.specs.Laws.{the_gate_is_kept_in_turn, the_map_is_kept_in_turn}
 use Rattle.page_file.specs.declared.fault.Fault.{Fault}
 use Rattle.page_file.specs.declared.fault.Fault.TheVariants as fault
-use Rattle.plain_table.specs.Kept.{entry_of}
+use Rattle.plain_table.specs.InMemory.{entry_of}
 use Rattle.plain_table.specs.Objects.{entries_of}
 use Rattle.plain_table.specs.declared.layer.Layer.{Layer as KeptLayer}
 use Rattle.layer_store.specs.Catalog.{is_good_catalog, objects_named}

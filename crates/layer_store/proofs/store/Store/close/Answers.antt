@@ -6,7 +6,7 @@ use Rattle.plain_table.specs.Lawful.{tables_left}
 use Rattle.plain_table.specs.Table.{Table}
 use Rattle.plain_table.specs.declared.refusal.Refusal.{Refusal}
 use Rattle.plain_table.specs.declared.refusal.Refusal.TheVariants as refusal
-use Rattle.layer_store.specs.Faults.{GivesUp}
+use Rattle.layer_store.specs.Faults.{IsMemoryOrDevice}
 use Rattle.layer_store.specs.Image.{IsImage, IsLeftOf}
 use Rattle.layer_store.proofs.StopLemmas.{rests_of_store}
 use Rattle.layer_store.proofs.StoreLemmas.{alive_with, failed_so, is_closed, not_both, refused_closing, stands_for}
@@ -26,7 +26,7 @@ returns-in-Ok-clause-failed g c = λ failed. absurd (not_both _ (failed_so c.arg
 pub returns-in-Err-clause-refused : goal.returns-in-Err-clause-refused
 returns-in-Err-clause-refused g c = λ t stands.
     let blocks = length (g.D.BlockDevice.shown c.in-Err.device) in
-    subst (λ (r : Refusal). GivesUp r ⊎ ((r ≡ refusal.NoPages) × (2 ^ 31 ≤ blocks))) (sym c.as_refusal.ensures)
+    subst (λ (r : Refusal). IsMemoryOrDevice r ⊎ ((r ≡ refusal.NoPages) × (2 ^ 31 ≤ blocks))) (sym c.as_refusal.ensures)
     (refused_closing blocks c.in-Err.fault (c.in-Err.ensures.faults (alive_with c.args.self t stands).sound.map))
 
 pub returns-in-Err-clause-failed : goal.returns-in-Err-clause-failed

@@ -4,7 +4,7 @@ use Rattle.block_bytes.specs.Numbers.{zeros}
 use Rattle.block_device.specs.Device.{block_at}
 use Rattle.block_device.specs.Written.{block_at-written}
 use Rattle.page_file.specs.Gated.{open_is_not_shut}
-use Rattle.page_file.specs.Kept.{adds_behind, stop_behind}
+use Rattle.page_file.specs.Frames.{adds_behind, stop_behind}
 use Rattle.page_file.specs.Live.{fresh_free, fresh_lives, fresh_none, fresh_others, one_page_more, page_live, refused_free, refused_others}
 use Rattle.page_file.proofs.Results.{on_err_any}
 use Rattle.page_file.specs.Settled.{more_given, sound_says}

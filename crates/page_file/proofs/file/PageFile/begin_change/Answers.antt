@@ -1,6 +1,6 @@
 -- The goals of `PageFile::begin_change` that are proved by hand.
 use Rattle.std.proofs.Common.{refl}
-use Rattle.page_file.specs.Kept.{map_kept_aside}
+use Rattle.page_file.specs.Frames.{map_kept_aside}
 use Rattle.page_file.proofs.file.PageFile.begin_change.Goals as goal
 
 pub returns-in_err-write_gate-clause-map : goal.returns-in_err-write_gate-clause-map

@@ -4,7 +4,7 @@ use Rattle.block_device.specs.Device.{block_at}
 use Rattle.block_device.specs.Written.{block_at-written}
 use Rattle.page_file.specs.Layout.{free_block, kind_of, link_of}
 use Rattle.page_file.specs.Gated.{open_is_not_shut}
-use Rattle.page_file.specs.Kept.{adds_behind, stop_behind}
+use Rattle.page_file.specs.Frames.{adds_behind, stop_behind}
 use Rattle.page_file.specs.Live.{lives, others_same, free_torn, freed_free, freed_others, room_for_one}
 use Rattle.page_file.specs.Reading.{free_kind, free_link}
 use Rattle.page_file.specs.Settled.{more_free, sound_says}

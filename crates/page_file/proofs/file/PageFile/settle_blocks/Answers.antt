@@ -3,7 +3,7 @@ use Rattle.std.proofs.Common.{refl, arith}
 use Rattle.block_device.specs.Moments.{leaves_weaker}
 use Rattle.page_file.specs.Opening.{IsRefused}
 use Rattle.page_file.specs.Gated.{fails, still_open, stop_open, open_is_not_shut}
-use Rattle.page_file.specs.Kept.{map_kept, stop_behind}
+use Rattle.page_file.specs.Frames.{map_kept, stop_behind}
 use Rattle.page_file.specs.Settled.{sound_says}
 use Rattle.page_file.proofs.file.PageFile.settle_blocks.Goals as goal
 

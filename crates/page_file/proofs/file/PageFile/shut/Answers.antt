@@ -2,7 +2,7 @@
 use Rattle.std.proofs.Common.{◌≡◌, refl, rules, sym, subst}
 use Rattle.page_file.specs.declared.gate.Gate.TheVariants.{Shut}
 use Rattle.page_file.specs.Layout.{IsShutGate}
-use Rattle.page_file.specs.Kept.{map_kept_aside, shut_lies}
+use Rattle.page_file.specs.Frames.{map_kept_aside, shut_lies}
 use Rattle.page_file.specs.Reading.{shut_gate}
 use Rattle.page_file.proofs.file.PageFile.shut.Goals as goal
 

@@ -3,7 +3,7 @@ use Rattle.std.proofs.Common.{◌≡◌, ◌≤◌, ℕ, List, Some, ap, ◌∙�
 use Rattle.block_device.specs.Device.{block_at, written}
 use Rattle.block_device.specs.Written.{block_at-written}
 use Rattle.page_file.specs.Gated.{open_is_not_shut}
-use Rattle.page_file.specs.Kept.{adds_behind, stop_behind}
+use Rattle.page_file.specs.Frames.{adds_behind, stop_behind}
 use Rattle.page_file.specs.Live.{lives, lives_some, others_same, page_live, free_torn, torn_lives}
 use Rattle.page_file.proofs.Results.{on_ok_map}
 use Rattle.page_file.specs.Written.{torn_longer}

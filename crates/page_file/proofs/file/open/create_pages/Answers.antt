@@ -1,7 +1,7 @@
 -- The goals of `create_pages` that are proved by hand.
 use Rattle.std.proofs.Common.{sym, subst, refl, arith}
 use Rattle.page_file.specs.Layout.{IsShutGate}
-use Rattle.page_file.specs.Kept.{shut_lies}
+use Rattle.page_file.specs.Frames.{shut_lies}
 use Rattle.page_file.specs.Reading.{shut_gate}
 use Rattle.page_file.proofs.file.open.create_pages.Goals as goal
 

@@ -4,7 +4,7 @@ use Rattle.std.specs.Cmp.Lexicographic.{slice_cmp}
 use Rattle.std.specs.Ordering.{nat_cmp}
 use Rattle.plain_table.specs.Commands.Command.{Create}
 use Rattle.plain_table.specs.Entries.{StandsAt, BelongsAt}
-use Rattle.plain_table.specs.Kept.{entry_of}
+use Rattle.plain_table.specs.InMemory.{entry_of}
 use Rattle.plain_table.specs.Lawful.{AnsweredInMemory}
 use Rattle.plain_table.specs.Listed.{table_from}
 use Rattle.plain_table.specs.Step.Answer.{Done, Refused}

@@ -6,7 +6,7 @@ use Rattle.std.specs.Ordering.{nat_cmp}
 use Rattle.std.proofs.lemmas.List.{length-map}
 use Rattle.plain_table.specs.Commands.Command.{Insert}
 use Rattle.plain_table.specs.Entries.{StandsAt, BelongsAt}
-use Rattle.plain_table.specs.Kept.{entry_of}
+use Rattle.plain_table.specs.InMemory.{entry_of}
 use Rattle.plain_table.specs.Lawful.{AnsweredInMemory}
 use Rattle.plain_table.specs.Listed.{table_from}
 use Rattle.plain_table.specs.Step.Answer.{Done, Refused}

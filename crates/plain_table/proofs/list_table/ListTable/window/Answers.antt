@@ -5,7 +5,7 @@ use Rattle.std.specs.Ordering.{nat_cmp}
 use Rattle.plain_table.specs.Answers.{boxes_answer}
 use Rattle.plain_table.specs.Commands.Command.{Window}
 use Rattle.plain_table.specs.Entries.{StandsAt, BelongsAt}
-use Rattle.plain_table.specs.Kept.{entry_of}
+use Rattle.plain_table.specs.InMemory.{entry_of}
 use Rattle.plain_table.specs.Lawful.{AnsweredInMemory}
 use Rattle.plain_table.specs.Step.Answer.{Refused}
 use Rattle.plain_table.specs.declared.refusal.Refusal.TheVariants as refusal
