@@ -20,7 +20,7 @@ use Rattle.plain_table.specs.Lawful.AfterStop.{Surely, Perhaps}
 use Rattle.plain_table.specs.Table.{Table}
 use Rattle.layer_store.specs.Image.{Holds, IsImage, IsLeftAfter, IsLeftOf}
 use Rattle.layer_store.specs.Keeping.{HoldsItsTable, Leaves, LeavesAtRest, RestsOn}
-use Rattle.layer_store.specs.Standing.{Stands, closed_since, device_in}
+use Rattle.layer_store.specs.Standing.{Stands, closed_since, device_in, standing_of}
 use Rattle.layer_store.specs.declared.kept.Kept.{Kept}
 use Rattle.layer_store.specs.declared.store.Store.{Store}
 use Rattle.layer_store.specs.Laws.{a_held_table_stays}
@@ -217,6 +217,10 @@ module _ {D A : Type 0} {m : _} where
   pub left_of_store : (store : Store D A m) (s : Standing) → Stands store s → (c : Blocks) → m.may_leave (device_in store) c → IsLeftAfter s.stops.now c
   unfolding Stands
   left_of_store store s stands c stop = at_rest_leaves store.kept.file s.stops.now stands.1.map.honest stands.2.now c stop
+
+  pub standing_is : (store : Store D A m) (s : Standing) → Stands store s → s ≡ standing_of store s.stops
+  unfolding Stands
+  standing_is store s stands = stands.0
 
   -- and what one so far left
   pub left_so_far : (store : Store D A m) (s : Standing) → Stands store s → (c : Blocks) → m.left_since (device_in store) s.stops.since c → IsLeftOf s.stops.so_far c

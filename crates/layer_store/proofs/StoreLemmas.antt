@@ -12,7 +12,7 @@ use Rattle.page_file.specs.declared.file.PageFile.{PageFile}
 use Rattle.page_file.specs.declared.gate.Gate.TheVariants.{Shut}
 use Rattle.plain_table.specs.Commands.{Command}
 use Rattle.plain_table.specs.Commands.Command.{Reopen}
-use Rattle.plain_table.specs.Lawful.{AfterStop, AnsweredInMemory, Stops, after_closing, after_command, after_request, blames_device, is_end, tables_left, IsEnd, IsFault, IsSpent, Lawful, LawfulFrom, LawfulStep, MayWrite, Standing, Takes}
+use Rattle.plain_table.specs.Lawful.{AfterStop, AnsweredInMemory, AnswersInMemory, Stops, after_closing, after_command, after_request, blames_device, is_end, tables_left, IsEnd, IsFault, IsSpent, Lawful, LawfulFrom, LawfulStep, MayWrite, Standing, Takes}
 use Rattle.plain_table.specs.Lawful.AfterStop.{Surely, Perhaps}
 use Rattle.plain_table.specs.Lawful.Request.{Asks}
 use Rattle.plain_table.specs.Lawful.State.{Alive, Dead}
@@ -26,7 +26,7 @@ use Rattle.layer_store.specs.Faults.{IsMemoryOrDevice, as_refusal}
 use Rattle.layer_store.specs.Faults as store
 use Rattle.layer_store.specs.Image.{Holds}
 use Rattle.layer_store.specs.Keeping.{IsSound, Leaves}
-use Rattle.layer_store.specs.Standing.{BeginsWith, HasFailed, IsClosed, Stands, StandsFor, closed_since, standing_of}
+use Rattle.layer_store.specs.Standing.{BeginsWith, HasFailed, IsSettled, Stands, StandsFor, closed_since, standing_of, state_of}
 use Rattle.layer_store.specs.declared.kept.Kept.{Kept}
 use Rattle.layer_store.specs.declared.store.Store.{Store}
 
@@ -130,6 +130,16 @@ dead_step : (rose spent : Type 0) (o : Bool) (t : Table) (c : Command) → o ≡
 dead_step rose spent true t c e = (refl, refl)
 dead_step rose spent false t c e = absurd (cc)
 
+-- a command answered from the table in memory, and one of a store that failed
+alive_memory : (o n : Bool) (t u : Table) (c : Command) (a : Answer) → o ≡ false → n ≡ false → AnsweredInMemory t c a u → AnswersInMemory (cond o Dead (Alive t)) c a (cond n Dead (Alive u))
+alive_memory false false t u c a e f h = (u, refl, h)
+alive_memory true n t u c a e f h = absurd (cc)
+alive_memory false true t u c a e f h = absurd (cc)
+
+dead_memory : (o : Bool) (t : Table) (c : Command) → o ≡ true → AnswersInMemory (cond o Dead (Alive t)) c (Refused (refusal.StoreFailed 19)) (cond o Dead (Alive t))
+dead_memory true t c e = (refl, refl)
+dead_memory false t c e = absurd (cc)
+
 -- what stops leave after a command of a live store, and after one of a store that failed
 live_stops : (o : Bool) (t : Table) (stops : Stops) (c : Command) (a : Answer) → o ≡ false → after_command t stops c a ≡ after_request (cond o Dead (Alive t)) stops (Asks c) a
 live_stops false t stops c a e = refl
@@ -209,6 +219,12 @@ module _ {D A : Type 0} {m : _} where
     });
   }
 
+  pub answers_in_memory : (old new : Store D A m) (c : Command) (a : Answer) → old.failed ≡ false → new.failed ≡ false → AnsweredInMemory old.kept.table c a new.kept.table → AnswersInMemory (state_of old) c a (state_of new)
+  answers_in_memory old new c a o n answered = alive_memory old.failed new.failed old.kept.table new.kept.table c a o n answered
+
+  pub answers_nothing : (store : Store D A m) (c : Command) → store.failed ≡ true → AnswersInMemory (state_of store) c (Refused (refusal.StoreFailed 19)) (state_of store)
+  answers_nothing store c failed = dead_memory store.failed store.kept.table c failed
+
   -- the last command of a live store
   pub takes_last : (old new : Store D A m) (c : Command) (a : Answer) → old.failed ≡ false → new.failed ≡ true → (IsSound old.kept → IsSound new.kept) → (IsSound old.kept → NoFewer old new)
       → (IsSound old.kept → (stops : Stops) → Leaves old.kept.file stops → Leaves new.kept.file (after_command old.kept.table stops c a))
@@ -244,18 +260,18 @@ module _ {D A : Type 0} {m : _} where
       record { going = state.0; table = state.1; sound = r.stands.1 }
 
   -- where nothing is to be written
-  pub closed_so : (store : Store D A m) → gate_of store.kept.file ≡ Shut → store.kept.written ≡ true → IsClosed store
-  unfolding IsClosed
-  closed_so store shut written = (shut, written)
+  pub settled_so : (store : Store D A m) → gate_of store.kept.file ≡ Shut → store.kept.written ≡ true → IsSettled store
+  unfolding IsSettled
+  settled_so store shut written = (shut, written)
 
-  pub is_closed : (store : Store D A m) → IsClosed store → (gate_of store.kept.file ≡ Shut) × (store.kept.written ≡ true)
-  unfolding IsClosed
-  is_closed store closed = closed
+  pub is_settled : (store : Store D A m) → IsSettled store → (gate_of store.kept.file ≡ Shut) × (store.kept.written ≡ true)
+  unfolding IsSettled
+  is_settled store closed = closed
 
-  pub still_closed : {X E : Type 0} (old new : Store D A m) (result : Result X E) → new.kept.file ≡ old.kept.file → OnErr result (new.kept.written ≡ old.kept.written) → IsClosed old → OnErr result (IsClosed new)
-  still_closed old new (Ok x) file written closed = tt
-  still_closed old new (Err e) file written closed =
-      let was = is_closed old closed in closed_so new (ap (λ (f : PageFile D m). gate_of f) file ∙ was.0) (written ∙ was.1)
+  pub still_settled : {X E : Type 0} (old new : Store D A m) (result : Result X E) → new.kept.file ≡ old.kept.file → OnErr result (new.kept.written ≡ old.kept.written) → IsSettled old → OnErr result (IsSettled new)
+  still_settled old new (Ok x) file written closed = tt
+  still_settled old new (Err e) file written closed =
+      let was = is_settled old closed in settled_so new (ap (λ (f : PageFile D m). gate_of f) file ∙ was.0) (written ∙ was.1)
 
   pub failed_so : (store : Store D A m) → HasFailed store → store.failed ≡ true
   unfolding Stands

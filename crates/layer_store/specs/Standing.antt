@@ -4,18 +4,21 @@ use Rattle.block_device.specs.Device.{Blocks}
 use Rattle.page_file.specs.File.{blocks_of, device_of, gate_of, next_of}
 use Rattle.page_file.specs.declared.file.PageFile.{PageFile}
 use Rattle.page_file.specs.declared.gate.Gate.TheVariants.{Shut}
-use Rattle.plain_table.specs.Lawful.{Reaches, Standing, Stops, tables_left}
+use Rattle.plain_table.specs.Lawful.{Reaches, Standing, State, Stops, tables_left}
 use Rattle.plain_table.specs.Lawful.AfterStop.{Surely}
 use Rattle.plain_table.specs.Lawful.State.{Alive, Dead}
 use Rattle.plain_table.specs.Table.{Table}
 use Rattle.layer_store.specs.Keeping.{IsSound, Leaves}
 use Rattle.layer_store.specs.declared.store.Store.{Store}
 
--- dead once it failed, else alive with its table; what stops leave; the faults of its device; and the page numbers given
--- out
+-- dead once it failed, else alive with the table that it answers from; of any store, sound or not
+abbrev pub state_of : {D A : Type 0} {m : _} → Store D A m → State
+state_of store = if store.failed then Dead else Alive store.kept.table
+
+-- its state; what stops leave; the faults of its device; and the page numbers given out
 abbrev pub standing_of : {D A : Type 0} {m : _} → Store D A m → Stops → Standing
 standing_of {m = m} store stops = record {
-  state = if store.failed then Dead else Alive store.kept.table;
+  state = state_of store;
   stops = stops;
   faults = m.faults (device_of store.kept.file);
   next = next_of store.kept.file;
@@ -55,14 +58,10 @@ blocks_in store = blocks_of store.kept.file
 abbrev pub device_in : {D A : Type 0} {m : _} → Store D A m → D
 device_in store = device_of store.kept.file
 
--- the table that it answers from
-abbrev pub table_in : {D A : Type 0} {m : _} → Store D A m → Table
-table_in store = store.kept.table
-
 -- its file of pages
 abbrev pub file_in : {D A : Type 0} {m : _} → Store D A m → PageFile D m
 file_in store = store.kept.file
 
--- Nothing is to be written: its gate is shut behind pages that hold its table.
-unfoldable pub IsClosed : {D A : Type 0} {m : _} → Store D A m → Type 0
-IsClosed store = (gate_of store.kept.file ≡ Shut) × (store.kept.written ≡ true)
+-- It is settled: its gate is shut behind pages that hold its table, so nothing is to be written.
+unfoldable pub IsSettled : {D A : Type 0} {m : _} → Store D A m → Type 0
+IsSettled store = (gate_of store.kept.file ≡ Shut) × (store.kept.written ≡ true)

@@ -96,7 +96,7 @@ impl<D: BlockDevice, A: Allocator + Copy> Kept<D, A> {
 
         ensures shut { OnOk result (gate_of self.new.file ≡ Shut) }
         ensures written { OnOk result (self.new.written ≡ true) }
-        ensures was_closed { gate_of self.old.file ≡ Shut → self.old.written ≡ true → (self.new ≡ self.old) × IsOk result }
+        ensures was_settled { gate_of self.old.file ≡ Shut → self.old.written ≡ true → (self.new ≡ self.old) × IsOk result }
         ensures lies { IsPageMap self.old.file → OnOk result (LiesIn self.new.file (blocks_of self.new.file)) }
         ensures table { self.new.table ≡ self.old.table }
         ensures map { IsPageMap self.old.file → IsPageMap self.new.file }
@@ -138,7 +138,7 @@ impl<D: BlockDevice, A: Allocator + Copy> Kept<D, A> {
     /// blocks. The device comes back with it.
     pub fn close(self) -> Result<D, (Fault, D)>
         ensures closed { IsSound self → IfOk result (λ device. IsImage (D.shown device) self.table) }
-        ensures was_closed { gate_of self.file ≡ Shut → self.written ≡ true → result ≡ Ok (device_of self.file) }
+        ensures was_settled { gate_of self.file ≡ Shut → self.written ≡ true → result ≡ Ok (device_of self.file) }
 
         // A stop leaves what one at rest leaves, or an image of the table; and after a closing that is finished nothing but
         // what is read.

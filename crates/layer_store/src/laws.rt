@@ -6,7 +6,7 @@ ghost use Rattle.page_file.specs.declared.fault.Fault.{Fault};
 ghost use Rattle.plain_table.specs.Table.{Table};
 ghost use Rattle.plain_table.specs.Lawful.{Standing};
 ghost use Rattle.layer_store.specs.Image.{Holds, IsImage, IsLeftAfter, IsLeftOf, Refuses};
-ghost use Rattle.layer_store.specs.Standing.{Stands, device_in, from_now};
+ghost use Rattle.layer_store.specs.Standing.{Stands, device_in, from_now, standing_of};
 ghost use Rattle.layer_store.specs.declared.store.Store.{Store};
 
 use block_device::BlockDevice;
@@ -40,6 +40,11 @@ pub fn stops_leave_what_the_standing_says<D: BlockDevice, A: Allocator>()
         (c : Blocks) → D.may_leave (device_in store) c → IsLeftAfter s.stops.now c }
     ensures so_far { (store : Store D A ⟦<D as BlockDevice>⟧) (s : Standing) → Stands store s →
         (c : Blocks) → D.left_since (device_in store) s.stops.since c → IsLeftOf s.stops.so_far c }
+{}
+
+/// A standing has the state of its store, the faults of its device and the page numbers given out of its file.
+pub fn a_standing_is_of_its_store<D: BlockDevice, A: Allocator>()
+    ensures { (store : Store D A ⟦<D as BlockDevice>⟧) (s : Standing) → Stands store s → s ≡ standing_of store s.stops }
 {}
 
 /// Each moment may be taken for the beginning: the tables so far are then those that a stop now may leave.

@@ -4,7 +4,7 @@ ghost use Rattle.std.specs.Prelude.{◌≡◌, ◌⊎◌, ◌≤◌, ◌^◌, �
 ghost use Rattle.block_device.specs.Device.{LeavesOnly, Only};
 ghost use Rattle.plain_table.specs.Answers.{done_answer, boxes_answer};
 ghost use Rattle.plain_table.specs.Commands.Command.{Create, Insert, Window, Reopen};
-ghost use Rattle.plain_table.specs.Lawful.{Takes, LawfulStep, Standing, tables_left};
+ghost use Rattle.plain_table.specs.Lawful.{AnswersInMemory, Takes, LawfulStep, Standing, tables_left};
 ghost use Rattle.plain_table.specs.Lawful.State.{Alive};
 ghost use Rattle.plain_table.specs.Lawful.Request.{Asks};
 ghost use Rattle.plain_table.specs.Table.{Table};
@@ -38,7 +38,7 @@ pub struct Store<D: BlockDevice, A: Allocator = Global> {
 }
 
 impl<D: BlockDevice, A: Allocator + Copy> Store<D, A> {
-    ghost use Rattle.layer_store.specs.Standing.{Stands, StandsFor, HasFailed, IsClosed, blocks_in, device_in};
+    ghost use Rattle.layer_store.specs.Standing.{Stands, StandsFor, HasFailed, IsSettled, blocks_in, device_in, state_of};
 
     /// Makes an empty layer of that name with 2 or 3 axes, whose nodes may have 4 to 100 entries.
     ///
@@ -46,8 +46,9 @@ impl<D: BlockDevice, A: Allocator + Copy> Store<D, A> {
     pub fn create(&mut self, layer: &[u8], dims: u64, fanout: u64) -> Result<(), Refusal>
         ensures step { Takes Stands self.old self.new
             (λ s s'. LawfulStep s (Asks (Create layer.now dims fanout)) (done_answer result) s') }
+        ensures in_memory { AnswersInMemory (state_of self.old) (Create layer.now dims fanout) (done_answer result) (state_of self.new) }
         ensures device { device_in self.new ≡ device_in self.old }
-        ensures still_closed { IsClosed self.old → OnErr result (IsClosed self.new) }
+        ensures still_settled { IsSettled self.old → OnErr result (IsSettled self.new) }
         ensures cause { HasCause (D.faults (device_in self.old)) (D.faults (device_in self.new)) result }
     {
         if self.failed {
@@ -62,8 +63,9 @@ impl<D: BlockDevice, A: Allocator + Copy> Store<D, A> {
     pub fn insert(&mut self, layer: &[u8], id: u64, bounds: RawBox) -> Result<(), Refusal>
         ensures step { Takes Stands self.old self.new
             (λ s s'. LawfulStep s (Asks (Insert layer.now id bounds)) (done_answer result) s') }
+        ensures in_memory { AnswersInMemory (state_of self.old) (Insert layer.now id bounds) (done_answer result) (state_of self.new) }
         ensures device { device_in self.new ≡ device_in self.old }
-        ensures still_closed { IsClosed self.old → OnErr result (IsClosed self.new) }
+        ensures still_settled { IsSettled self.old → OnErr result (IsSettled self.new) }
         ensures cause { HasCause (D.faults (device_in self.old)) (D.faults (device_in self.new)) result }
     {
         if self.failed {
@@ -78,8 +80,9 @@ impl<D: BlockDevice, A: Allocator + Copy> Store<D, A> {
     pub fn window(&mut self, layer: &[u8], bounds: RawBox) -> Result<Vec<(u64, AnyBox), A>, Refusal>
         ensures step { Takes Stands self.old self.new
             (λ s s'. LawfulStep s (Asks (Window layer.now bounds)) (boxes_answer result) s') }
+        ensures in_memory { AnswersInMemory (state_of self.old) (Window layer.now bounds) (boxes_answer result) (state_of self.new) }
         ensures device { device_in self.new ≡ device_in self.old }
-        ensures still_closed { IsClosed self.old → IsClosed self.new }
+        ensures still_settled { IsSettled self.old → IsSettled self.new }
         ensures cause { HasCause (D.faults (device_in self.old)) (D.faults (device_in self.new)) result }
     {
         if self.failed {
@@ -103,9 +106,9 @@ impl<D: BlockDevice, A: Allocator + Copy> Store<D, A> {
             LeavesOnly D.moment D.left_since (device_in self.old) (device_in self.new) (IsLeftOf (t ∷ tables_left s.stops.now)) }
         ensures durable { (t : Table) → StandsFor self.old t → IsOk result ⊎ HasFailed self.new → Only (blocks_in self.new) (D.may_leave (device_in self.new)) }
 
-        // One that is closed is only read: a stop leaves the blocks as they are.
-        ensures now_closed { IsOk result → IsClosed self.new }
-        ensures quiet { (t : Table) → StandsFor self.old t → IsClosed self.old →
+        // One that is settled is only read: a stop leaves the blocks as they are.
+        ensures now_settled { IsOk result → IsSettled self.new }
+        ensures quiet { (t : Table) → StandsFor self.old t → IsSettled self.old →
             LeavesOnly D.moment D.left_since (device_in self.old) (device_in self.new) (λ c. c ≡ blocks_in self.old) }
 
         // One that failed leaves the device as it is.
@@ -144,8 +147,8 @@ impl<D: BlockDevice, A: Allocator + Copy> Store<D, A> {
             LeavesOnly D.moment D.left_since (device_in self) e.1 (IsLeftOf (t ∷ tables_left s.stops.now))) }
         ensures durable { (t : Table) → StandsFor self t → IfOk result (λ device. Only (D.shown device) (D.may_leave device)) }
 
-        // Of one that is closed already the device comes back as it is.
-        ensures quiet { (t : Table) → StandsFor self t → IsClosed self → result ≡ Ok (device_in self) }
+        // Of one that is settled already the device comes back as it is.
+        ensures quiet { (t : Table) → StandsFor self t → IsSettled self → result ≡ Ok (device_in self) }
 
         ensures refused { (t : Table) → StandsFor self t → IfErr result (λ e. IsMemoryOrDevice e.0 ⊎ ((e.0 ≡ refusal.NoPages) × (2 ^ 31 ≤ length (D.shown e.1)))) }
         ensures failed { HasFailed self → result ≡ Err (refusal.StoreFailed 19, device_in self) }

@@ -83,6 +83,11 @@ GaveUp rose spent t c a new = RefusedBy (IsFault rose (spent × MayWrite t c)) a
 abbrev pub AnsweredInMemory : Table → Command → Answer → Table → Type 0
 AnsweredInMemory t c a new = ((a ≡ reply_of t c) × (new ≡ after t c)) ⊎ ((a ≡ Refused refusal.Memory) × (new ≡ t))
 
+-- The same of a store of either state that answers from a table in memory: it goes on, and a dead one stays dead.
+abbrev pub AnswersInMemory : State → Command → Answer → State → Type 0
+AnswersInMemory (Alive t) c a new = (u : Table) × (new ≡ Alive u) × AnsweredInMemory t c a u
+AnswersInMemory Dead c a new = (a ≡ Refused (refusal.StoreFailed 19)) × (new ≡ Dead)
+
 -- a fault half way through a reopening or a change of the table: the store is dead
 abbrev pub Died : Type 0 → Table → Command → Answer → State → Type 0
 Died rose t c a new = RefusedBy (IsEnd rose) a × MayWrite t c × (new ≡ Dead)

@@ -11,7 +11,8 @@ ghost use Rattle.page_file.specs.declared.fault.Fault.{Fault};
 ghost use Rattle.page_file.specs.declared.gate.Gate.TheVariants.{Shut};
 ghost use Rattle.page_file.specs.File.{blocks_of, device_of, gate_of, given, next_of, IsHonest, IsPageMap, KeepsGate};
 ghost use Rattle.layer_store.specs.Image.{Holds, HoldsIn, IsDamaged, IsImage, Refuses};
-ghost use Rattle.layer_store.specs.Standing.{BeginsWith, IsClosed, blocks_in, device_in, file_in, table_in};
+ghost use Rattle.layer_store.specs.Standing.{BeginsWith, IsSettled, blocks_in, device_in, file_in, state_of};
+ghost use Rattle.plain_table.specs.Lawful.State.{Alive};
 ghost use Rattle.layer_store.specs.Faults.{IsMemoryOrDevice, faults_after};
 ghost use Rattle.layer_store.specs.Starting.{IsRefusedFor, is_cache};
 
@@ -45,7 +46,7 @@ pub fn create_store<D: BlockDevice, A: Allocator + Copy>(
     ensures bad_cache { is_cache cache ≡ false → result ≡ Err (refusal.BadCache, device) }
     ensures begins { IfOk result (λ store. D.honest device → BeginsWith store (D.moment device) empty) }
     ensures closed { IfOk result (λ store. D.honest device → IsImage (blocks_in store) empty) }
-    ensures now_closed { IfOk result IsClosed }
+    ensures now_settled { IfOk result IsSettled }
 
     // A stop leaves blocks that opening refuses, or an image of the empty table; and once the store is made nothing but
     // what is read.
@@ -95,7 +96,7 @@ pub fn open_store<D: BlockDevice, A: Allocator + Copy>(
     ensures bad_cache { is_cache cache ≡ false → result ≡ Err (refusal.BadCache, device) }
     ensures image { (t : Table) → D.honest device → IsImage (D.shown device) t → IfOk result (λ store. BeginsWith store (D.moment (device_in store)) t) }
     ensures opened { IfOk result (λ store. D.honest device → (f : Fault) → Refuses (D.shown device) f → ⊥) }
-    ensures table { IfOk result (λ store. D.honest device → HoldsIn (D.shown device) (table_in store)) }
+    ensures table { IfOk result (λ store. D.honest device → (t : Table) × (state_of store ≡ Alive t) × HoldsIn (D.shown device) t) }
     ensures refused { is_cache cache ≡ true → IfErr result (λ e. D.honest device → IsMemoryOrDevice e.0 ⊎ IsRefusedFor (D.shown device) e.0) }
 
     // A stop leaves nothing but what one before the call might have left; and once the store is opened nothing but what
@@ -104,7 +105,7 @@ pub fn open_store<D: BlockDevice, A: Allocator + Copy>(
     ensures refused_stops { is_cache cache ≡ true → IfErr result (λ e. D.honest device → LeavesOnly D.moment D.left_since device e.1 (D.may_leave device)) }
     ensures durable { IfOk result (λ store. D.honest device → Only (blocks_in store) (D.may_leave (device_in store))) }
 
-    ensures now_closed { IfOk result IsClosed }
+    ensures now_settled { IfOk result IsSettled }
     ensures blocks { IfOk result (λ store. D.honest device → blocks_in store ≡ D.shown device) }
     ensures refused_blocks { IfErr result (λ e. D.honest device → D.shown e.1 ≡ D.shown device) }
     ensures no_fault { IfOk result (λ store. D.faults (device_in store) ≡ D.faults device) }
@@ -128,10 +129,10 @@ fn read_store<D: BlockDevice, A: Allocator + Copy>(
 ) -> Result<Store<D, A>, (Refusal, D)>
     ensures begins { IsPageMap file → gate_of file ≡ Shut → IfOk result (λ store. (t : Table) → Holds (given file) (next_of file) t → IsImage (blocks_of file) t → BeginsWith store (D.moment (device_in store)) t) }
     ensures opened { IfOk result (λ store. IsHonest file → (n : ℕ) → IsDamaged (given file) (next_of file) n → ⊥) }
-    ensures table { IfOk result (λ store. IsHonest file → Holds (given file) (next_of file) (table_in store)) }
+    ensures table { IfOk result (λ store. IsHonest file → (t : Table) × (state_of store ≡ Alive t) × Holds (given file) (next_of file) t) }
     ensures refused { IsHonest file → IfErr result (λ e. IsMemoryOrDevice e.0 ⊎ ((n : ℕ) × (e.0 ≡ refusal.Damaged n) × IsDamaged (given file) (next_of file) n)) }
     ensures gate { IfOk result (λ store. KeepsGate file (file_in store)) }
-    ensures now_closed { gate_of file ≡ Shut → IfOk result IsClosed }
+    ensures now_settled { gate_of file ≡ Shut → IfOk result IsSettled }
     ensures refused_stops { IfErr result (λ e. IsHonest file → AddsOnly D.moment D.left_since (device_of file) e.1 (StopSince (gate_of file) (blocks_of file))) }
     ensures no_fault { IfOk result (λ store. D.faults (device_in store) ≡ D.faults (device_of file)) }
     ensures cause { IfErr result (λ e. D.faults e.1 ≡ faults_after e.0 (D.faults (device_of file))) }

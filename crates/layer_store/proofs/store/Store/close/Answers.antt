@@ -9,7 +9,7 @@ use Rattle.plain_table.specs.declared.refusal.Refusal.TheVariants as refusal
 use Rattle.layer_store.specs.Faults.{IsMemoryOrDevice}
 use Rattle.layer_store.specs.Image.{IsImage, IsLeftOf}
 use Rattle.layer_store.proofs.StopLemmas.{rests_of_store}
-use Rattle.layer_store.proofs.StoreLemmas.{alive_with, failed_so, is_closed, not_both, refused_closing, stands_for}
+use Rattle.layer_store.proofs.StoreLemmas.{alive_with, failed_so, is_settled, not_both, refused_closing, stands_for}
 use Rattle.layer_store.proofs.store.Store.close.Goals as goal
 
 pub returns-then-self-clause-refused : goal.returns-then-self-clause-refused
@@ -56,7 +56,7 @@ pub returns-then-self-clause-quiet : goal.returns-then-self-clause-quiet
 returns-then-self-clause-quiet g c = λ t stands closed. absurd (not_both _ c.if-self.true (alive_with c.args.self t stands).going)
 
 pub returns-in-Ok-clause-quiet : goal.returns-in-Ok-clause-quiet
-returns-in-Ok-clause-quiet g c = λ t stands closed. let was = is_closed c.args.self closed in ap Ok (let e = c.in-Ok.ensures.was_closed was.0 was.1 in cc)
+returns-in-Ok-clause-quiet g c = λ t stands closed. let was = is_settled c.args.self closed in ap Ok (let e = c.in-Ok.ensures.was_settled was.0 was.1 in cc)
 
 pub returns-in-Err-clause-quiet : goal.returns-in-Err-clause-quiet
-returns-in-Err-clause-quiet g c = λ t stands closed. let was = is_closed c.args.self closed in let no = c.in-Err.ensures.was_closed was.0 was.1 in absurd (cc)
+returns-in-Err-clause-quiet g c = λ t stands closed. let was = is_settled c.args.self closed in let no = c.in-Err.ensures.was_settled was.0 was.1 in absurd (cc)

@@ -4,7 +4,7 @@ use Rattle.page_file.specs.File.{device_of}
 use Rattle.page_file.specs.declared.file.PageFile.{PageFile}
 use Rattle.plain_table.specs.Answers.{done_answer}
 use Rattle.plain_table.specs.Commands.Command.{Create}
-use Rattle.layer_store.proofs.StoreLemmas.{cause_in_memory, still_closed, takes_in_memory, takes_nothing}
+use Rattle.layer_store.proofs.StoreLemmas.{answers_in_memory, answers_nothing, cause_in_memory, still_settled, takes_in_memory, takes_nothing}
 use Rattle.layer_store.proofs.store.Store.create.Goals as goal
 
 pub returns-then-self-clause-step : goal.returns-then-self-clause-step
@@ -16,5 +16,11 @@ returns-clause-step g c = takes_in_memory c.args.self.now (record { kept = c.cre
 pub returns-clause-cause : goal.returns-clause-cause
 returns-clause-cause g c = cause_in_memory _ _ c.create.result done_answer c.args.self.now.kept.table c.create.new.self.table (Create c.args.layer.now c.args.dims c.args.fanout) (λ r. refl) c.create.ensures.table (ap (λ (file : PageFile _ _). g.D.BlockDevice.faults (device_of file)) c.create.ensures.file)
 
-pub returns-clause-still_closed : goal.returns-clause-still_closed
-returns-clause-still_closed g c = still_closed c.args.self.now (record { kept = c.create.new.self; failed = c.args.self.now.failed }) c.create.result c.create.ensures.file c.create.ensures.refused
+pub returns-clause-still_settled : goal.returns-clause-still_settled
+returns-clause-still_settled g c = still_settled c.args.self.now (record { kept = c.create.new.self; failed = c.args.self.now.failed }) c.create.result c.create.ensures.file c.create.ensures.refused
+
+pub returns-then-self-clause-in_memory : goal.returns-then-self-clause-in_memory
+returns-then-self-clause-in_memory g c = answers_nothing c.args.self.now (Create c.args.layer.now c.args.dims c.args.fanout) c.if-self.true
+
+pub returns-clause-in_memory : goal.returns-clause-in_memory
+returns-clause-in_memory g c = answers_in_memory c.args.self.now (record { kept = c.create.new.self; failed = c.args.self.now.failed }) (Create c.args.layer.now c.args.dims c.args.fanout) (done_answer c.create.result) c.if-self.false c.if-self.false c.create.ensures.table

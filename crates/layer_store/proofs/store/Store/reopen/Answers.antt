@@ -17,7 +17,7 @@ use Rattle.layer_store.specs.Standing.{HasFailed}
 use Rattle.layer_store.specs.declared.kept.Kept.{Kept}
 use Rattle.layer_store.specs.declared.store.Store.{Store}
 use Rattle.layer_store.proofs.KeepLemmas.{image_of}
-use Rattle.layer_store.proofs.StoreLemmas.{alive_with, closed_so, closing_refused, died_lawful, done_lawful, end_of_store, failed_so, fault_of_command, gave_up_lawful, is_closed, no_fewer, not_both, risen_of, stands_for, takes_last, takes_nothing, takes_step}
+use Rattle.layer_store.proofs.StoreLemmas.{alive_with, settled_so, closing_refused, died_lawful, done_lawful, end_of_store, failed_so, fault_of_command, gave_up_lawful, is_settled, no_fewer, not_both, risen_of, stands_for, takes_last, takes_nothing, takes_step}
 use Rattle.layer_store.proofs.store.Store.reopen.Goals as goal
 
 true_false : true ≡ false → ⊥
@@ -169,10 +169,10 @@ returns-in-Ok-clause-failed g c = λ failed. absurd (not_both _ (failed_so c.arg
 pub returns-in-Err-read_again-clause-failed : goal.returns-in-Err-read_again-clause-failed
 returns-in-Err-read_again-clause-failed g c = λ failed. absurd (not_both _ (failed_so c.args.self.now failed) c.if-self.false)
 
-pub returns-in-Ok-clause-now_closed : goal.returns-in-Ok-clause-now_closed
-returns-in-Ok-clause-now_closed g c = λ ok.
+pub returns-in-Ok-clause-now_settled : goal.returns-in-Ok-clause-now_settled
+returns-in-Ok-clause-now_settled g c = λ ok.
     let settled = c.in_default.ensures in
-    closed_so (record { kept = c.read_again.new.self; failed = c.args.self.now.failed }) (c.in-Ok.ensures.gate.gate ∙ settled.shut) (c.in-Ok.ensures.written ∙ settled.written)
+    settled_so (record { kept = c.read_again.new.self; failed = c.args.self.now.failed }) (c.in-Ok.ensures.gate.gate ∙ settled.shut) (c.in-Ok.ensures.written ∙ settled.written)
 
 -- nothing was written before the file was read
 quietly : {D A : Type 0} {m : _} (old mid new : Kept D A m) → IsHonest old.file → ((b : Blocks) → m.left_since (device_of old.file) (m.moment (device_of old.file)) b → m.may_leave (device_of old.file) b) → gate_of old.file ≡ Shut → mid ≡ old → KeepsGate mid.file new.file
@@ -183,18 +183,18 @@ pub returns-then-self-clause-quiet : goal.returns-then-self-clause-quiet
 returns-then-self-clause-quiet g c = λ t stands closed. absurd (not_both _ c.if-self.true (alive_with c.args.self.now t stands).going)
 
 pub returns-in-Err-clause-quiet : goal.returns-in-Err-clause-quiet
-returns-in-Err-clause-quiet g c = λ t stands closed. let was = is_closed c.args.self.now closed in absurd (true_false (sym (c.in-Err.ensures.was_closed was.0 was.1).1))
+returns-in-Err-clause-quiet g c = λ t stands closed. let was = is_settled c.args.self.now closed in absurd (true_false (sym (c.in-Err.ensures.was_settled was.0 was.1).1))
 
 pub returns-in-Ok-clause-quiet : goal.returns-in-Ok-clause-quiet
 returns-in-Ok-clause-quiet g c = λ t stands closed.
-    let was = is_closed c.args.self.now closed in
+    let was = is_settled c.args.self.now closed in
     let honest = (alive_with c.args.self.now t stands).sound.map.honest in
     let device = device_of c.args.self.now.kept.file in
-    quietly c.args.self.now.kept c.settle.new.self c.read_again.new.self honest (λ b left. g.met.D.BlockDevice.only_now device b honest left) was.0 (c.in_default.ensures.was_closed was.0 was.1).0 c.in-Ok.ensures.gate
+    quietly c.args.self.now.kept c.settle.new.self c.read_again.new.self honest (λ b left. g.met.D.BlockDevice.only_now device b honest left) was.0 (c.in_default.ensures.was_settled was.0 was.1).0 c.in-Ok.ensures.gate
 
 pub returns-in-Err-read_again-clause-quiet : goal.returns-in-Err-read_again-clause-quiet
 returns-in-Err-read_again-clause-quiet g c = λ t stands closed.
-    let was = is_closed c.args.self.now closed in
+    let was = is_settled c.args.self.now closed in
     let honest = (alive_with c.args.self.now t stands).sound.map.honest in
     let device = device_of c.args.self.now.kept.file in
-    quietly c.args.self.now.kept c.settle.new.self c.read_again.new.self honest (λ b left. g.met.D.BlockDevice.only_now device b honest left) was.0 (c.in_default.ensures.was_closed was.0 was.1).0 c.in-Err-read_again.ensures.gate
+    quietly c.args.self.now.kept c.settle.new.self c.read_again.new.self honest (λ b left. g.met.D.BlockDevice.only_now device b honest left) was.0 (c.in_default.ensures.was_settled was.0 was.1).0 c.in-Err-read_again.ensures.gate

@@ -2,7 +2,7 @@
 use Rattle.std.proofs.Common.{refl}
 use Rattle.plain_table.specs.Answers.{boxes_answer}
 use Rattle.plain_table.specs.Commands.Command.{Window}
-use Rattle.layer_store.proofs.StoreLemmas.{cause_in_memory, takes_in_memory, takes_nothing}
+use Rattle.layer_store.proofs.StoreLemmas.{answers_in_memory, answers_nothing, cause_in_memory, takes_in_memory, takes_nothing}
 use Rattle.layer_store.proofs.store.Store.window.Goals as goal
 
 pub returns-then-self-clause-step : goal.returns-then-self-clause-step
@@ -13,3 +13,9 @@ returns-clause-step g c = takes_in_memory c.args.self.now c.args.self.now (Windo
 
 pub returns-clause-cause : goal.returns-clause-cause
 returns-clause-cause g c = cause_in_memory _ _ c.window.result boxes_answer c.args.self.now.kept.table c.args.self.now.kept.table (Window c.args.layer.now c.args.bounds) (λ r. refl) c.window.ensures refl
+
+pub returns-then-self-clause-in_memory : goal.returns-then-self-clause-in_memory
+returns-then-self-clause-in_memory g c = answers_nothing c.args.self.now (Window c.args.layer.now c.args.bounds) c.if-self.true
+
+pub returns-clause-in_memory : goal.returns-clause-in_memory
+returns-clause-in_memory g c = answers_in_memory c.args.self.now c.args.self.now (Window c.args.layer.now c.args.bounds) (boxes_answer c.window.result) c.if-self.false c.if-self.false c.window.ensures

@@ -9,7 +9,7 @@ use Rattle.layer_store.specs.Standing.{BeginsWith}
 use Rattle.layer_store.specs.declared.store.Store.{Store}
 use Rattle.layer_store.proofs.KeepLemmas.{image_of, nothing_held}
 use Rattle.layer_store.proofs.StopLemmas.{closed_leaves, new_left, shut_is_durable, shut_leaves}
-use Rattle.layer_store.proofs.StoreLemmas.{begins, closed_so}
+use Rattle.layer_store.proofs.StoreLemmas.{begins, settled_so}
 use Rattle.layer_store.proofs.store.start.create_store.Goals as goal
 
 pub returns-in-Ok-clause-begins : goal.returns-in-Ok-clause-begins
@@ -40,5 +40,5 @@ returns-in-Ok-clause-durable g c = λ honest. shut_is_durable c.in-Ok.file (c.in
 pub returns-in-Err-clause-refused_stops : goal.returns-in-Err-clause-refused_stops
 returns-in-Err-clause-refused_stops g c = λ cache honest. new_left _ _ _ _ _ (c.in-Err.ensures.refused_stops honest)
 
-pub returns-in-Ok-clause-now_closed : goal.returns-in-Ok-clause-now_closed
-returns-in-Ok-clause-now_closed g c = closed_so (record { kept = record { alloc = c.args.alloc; file = c.in-Ok.file; table = c.new.result; written = true }; failed = false }) c.in-Ok.ensures.shut refl
+pub returns-in-Ok-clause-now_settled : goal.returns-in-Ok-clause-now_settled
+returns-in-Ok-clause-now_settled g c = settled_so (record { kept = record { alloc = c.args.alloc; file = c.in-Ok.file; table = c.new.result; written = true }; failed = false }) c.in-Ok.ensures.shut refl

@@ -8,7 +8,7 @@ use Rattle.layer_store.specs.Laws.{some_is_not_none}
 use Rattle.layer_store.proofs.KeepLemmas.{same_blocks}
 use Rattle.layer_store.proofs.Results.{if_err, if_err_given, if_ok, subst_both}
 use Rattle.layer_store.proofs.StopLemmas.{only_read, shut_is_durable}
-use Rattle.layer_store.specs.Standing.{device_in, file_in, table_in}
+use Rattle.layer_store.specs.Standing.{device_in, file_in}
 use Rattle.layer_store.proofs.store.start.open_store.Goals as goal
 
 pub returns-in-Ok-clause-image : goal.returns-in-Ok-clause-image
@@ -51,7 +51,7 @@ pub returns-in-Ok-clause-table : goal.returns-in-Ok-clause-table
 returns-in-Ok-clause-table g c =
     let opened = c.in-Ok.ensures in
     let blocks = g.D.BlockDevice.shown c.args.device in
-    if_ok c.read_store.result (λ store holds honest. subst_both (λ pages next. Holds pages next (table_in store)) (same_blocks c.in-Ok.file blocks (opened.blocks honest) (opened.lies honest).next) (sym (opened.lies honest).next) (holds (opened.honest.0 honest))) c.read_store.ensures.table
+    if_ok c.read_store.result (λ store found honest. let t = found (opened.honest.0 honest) in (t.0, t.1, subst_both (λ pages next. Holds pages next t.0) (same_blocks c.in-Ok.file blocks (opened.blocks honest) (opened.lies honest).next) (sym (opened.lies honest).next) t.2)) c.read_store.ensures.table
 
 pub returns-in-Ok-clause-stops : goal.returns-in-Ok-clause-stops
 returns-in-Ok-clause-stops g c =

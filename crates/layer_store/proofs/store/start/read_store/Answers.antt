@@ -10,7 +10,7 @@ use Rattle.layer_store.specs.declared.kept.Kept.{Kept}
 use Rattle.layer_store.proofs.KeepLemmas.{kept_table, live_table}
 use Rattle.layer_store.proofs.Results.{subst_both}
 use Rattle.layer_store.proofs.StopLemmas.{at_rest_leaves, closed_leaves, shut_leaves}
-use Rattle.layer_store.proofs.StoreLemmas.{begins, closed_so}
+use Rattle.layer_store.proofs.StoreLemmas.{begins, settled_so}
 use Rattle.layer_store.proofs.store.start.read_store.Goals as goal
 
 pub returns-in-Ok-clause-begins : goal.returns-in-Ok-clause-begins
@@ -34,5 +34,8 @@ returns-in-Ok-clause-begins g c = λ map shut t held image.
 pub returns-in-Ok-clause-opened : goal.returns-in-Ok-clause-opened
 returns-in-Ok-clause-opened g c = λ honest n damaged. held_pages_are_not_damaged (given c.args.file) (next_of c.args.file) n c.in-Ok.table (c.in-Ok.ensures.holds honest) damaged
 
-pub returns-in-Ok-clause-now_closed : goal.returns-in-Ok-clause-now_closed
-returns-in-Ok-clause-now_closed g c = λ shut. closed_so (record { kept = record { alloc = c.args.alloc; file = c.read_table.new.file; table = c.in-Ok.table; written = true }; failed = false }) (c.in-Ok.ensures.gate.gate ∙ shut) refl
+pub returns-in-Ok-clause-now_settled : goal.returns-in-Ok-clause-now_settled
+returns-in-Ok-clause-now_settled g c = λ shut. settled_so (record { kept = record { alloc = c.args.alloc; file = c.read_table.new.file; table = c.in-Ok.table; written = true }; failed = false }) (c.in-Ok.ensures.gate.gate ∙ shut) refl
+
+pub returns-in-Ok-clause-table : goal.returns-in-Ok-clause-table
+returns-in-Ok-clause-table g c = λ honest. (c.in-Ok.table, refl, c.in-Ok.ensures.holds honest)
