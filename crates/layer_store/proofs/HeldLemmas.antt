@@ -1,7 +1,7 @@
 -- Layers that pages hold, one more, and what their records say of the table.
 use Rattle.std.proofs.Common.{◌≡◌, ◌∙◌, ◌≤◌, ◌<◌, ◌+◌, ℕ, suc, List, [], ◌∷◌, ◌++◌, length, map, take, get_or, Bool, true, false, ◌&&◌, nat_le, Option, Some, None, refl, sym, ap, arith, subst, T}
 use Rattle.std.specs.Prelude.{cond, sum, is_some, option_and_then}
-use Rattle.std.specs.List.{list_all}
+use Rattle.std.specs.List.{list_all, sum_by}
 use Rattle.std.specs.Cmp.Lexicographic.{slice_cmp}
 use Rattle.std.specs.FinMap.{entries, entries_sorted, is_sorted, len, len-entries}
 use Rattle.std.specs.FinMap.Entries.{below_all}
@@ -9,11 +9,11 @@ use Rattle.std.specs.Ordering.{is_lt, nat_cmp}
 use Rattle.std.proofs.lemmas.Bool.Decides.{nat_tests}
 use Rattle.std.proofs.lemmas.List.{map-append, take_all}
 use Rattle.std.proofs.lemmas.List.Folds.{list_all-append}
-use Rattle.std.proofs.lemmas.List.Sums.{sum-map}
+use Rattle.std.proofs.lemmas.List.Sums.{sum-map, sum_by-append}
 use Rattle.std.proofs.Math.Seq.{take-suc}
 use Rattle.catalog_page.specs.Layout.{Record, record_of, records_at}
 use Rattle.catalog_page.specs.declared.layer_record.LayerRecord.{LayerRecord}
-use Rattle.object_chain.specs.Chain.{KeepsPages, PageMap, new_pages}
+use Rattle.object_chain.specs.Chain.{KeepsPages, PageMap, new_pages, pages_for}
 use Rattle.object_chain.specs.Laws.{a_chain_stays}
 use Rattle.object_chain.proofs.Frames.{is_new, new_pages_kept, not_before}
 use Rattle.page_file.specs.Pages.{SameBut}
@@ -107,6 +107,25 @@ pub good_records : (next next' : ℕ) (rs rs' : List LayerRecord) (r : LayerReco
     → list_all (is_layer_record next') (map record_of rs') ≡ true
 good_records next next' rs rs' r all more this e =
     ap (list_all (is_layer_record next')) (ap (map record_of) e ∙ map-append record_of rs (r ∷ [])) ∙ good_more next next' (map record_of rs) (record_of r) all (more_records next next' (map record_of rs) more) this
+
+-- the pages that the records' objects fill are those of the layers' objects
+same_pages : (pages : PageMap) (rs : List Record) (es : List (List ℕ × Layer)) → HoldsLayers pages rs es → map (λ (r : Record). pages_for r.count) rs ≡ map (λ (e : List ℕ × Layer). pages_for (length (entries e.1.objects))) es
+same_pages pages [] [] h = refl
+same_pages pages [] (e ∷ es) h = elim h [ ]
+same_pages pages (r ∷ rs) [] h = elim h [ ]
+same_pages pages (r ∷ rs) (e ∷ es) h = λ j. pages_for (sym h.0.count j) ∷ same_pages pages rs es h.1 j
+
+pub same_filled : (pages : PageMap) (rs : List Record) (es : List (List ℕ × Layer)) → HoldsLayers pages rs es → sum_by (λ (r : Record). pages_for r.count) rs ≡ sum_by (λ (e : List ℕ × Layer). pages_for (length (entries e.1.objects))) es
+same_filled pages rs es h =
+    sym (sum-map (λ (r : Record). pages_for r.count) rs) ∙ ap sum (same_pages pages rs es h) ∙ sum-map (λ (e : List ℕ × Layer). pages_for (length (entries e.1.objects))) es
+
+-- those of one more
+pub more_filled : (old mid new : ℕ) (rs rs' : List LayerRecord) (r : LayerRecord) → mid ≤ old + sum_by (λ (r : Record). pages_for r.count) (map record_of rs) → new ≤ mid + pages_for r.count → rs' ≡ rs ++ r ∷ []
+    → new ≤ old + sum_by (λ (r : Record). pages_for r.count) (map record_of rs')
+more_filled old mid new rs rs' r before this e =
+    let f : Record → ℕ = λ r. pages_for r.count in
+    let all : sum_by f (map record_of rs') ≡ sum_by f (map record_of rs) + (0 + pages_for r.count) = ap (sum_by f) (ap (map record_of) e ∙ map-append record_of rs (r ∷ [])) ∙ sum_by-append f (map record_of rs) (record_of r ∷ []) in
+    omega (arith, before, this, all)
 
 -- ---- one layer written after the other
 

@@ -1,12 +1,12 @@
 -- What the pages of a file hold of a table, which blocks are an image of one, and why opening refuses others.
 -- The directory of a layer is the first page of the chain of its objects, until layers are trees. Our rule, docs/FORMAT.md.
 use Rattle.std.specs.Prelude.{ℕ, ◌≡◌, ◌⊎◌, IsTrue, false, List, [], ◌∷◌, ◌++◌, length, Option, Some, None, option_and_then}
-use Rattle.std.specs.List.{Contains}
+use Rattle.std.specs.List.{Contains, sum_by}
 use Rattle.std.specs.FinMap.{entries}
 use Rattle.block_device.specs.Device.{Blocks}
 use Rattle.box_math.specs.Bounds.{Bounds}
 use Rattle.catalog_page.specs.Layout.{Record, records_at}
-use Rattle.object_chain.specs.Chain.{PageMap, HoldsObjects, BreaksAt}
+use Rattle.object_chain.specs.Chain.{PageMap, HoldsObjects, BreaksAt, pages_for}
 use Rattle.page_file.specs.Opening.{IsRefused, failed_check}
 use Rattle.page_file.specs.Pages.{IsSoundMap, given_pages, next_in}
 use Rattle.page_file.specs.declared.fault.Fault.{Fault}
@@ -52,6 +52,10 @@ pub record IsImage (blocks : Blocks) (t : Table) : Type 0 where
   pub passes : failed_check blocks ≡ None
   pub free : IsSoundMap blocks
   pub holds : HoldsIn blocks t
+
+-- how many pages the objects of a table fill
+abbrev pub pages_filled : Table → ℕ
+pages_filled t = sum_by (λ (e : List ℕ × Layer). pages_for (length (entries e.1.objects))) (entries t)
 
 -- ---- what a stop may leave
 

@@ -1,6 +1,6 @@
 //! What a store keeps while it has not failed: a file of pages, and the table in memory that it answers from.
 
-ghost use Rattle.std.specs.Prelude.{◌≡◌, ◌≤◌, ◌⊎◌, ◌^◌, ◌↔◌, true, List, ◌∷◌, length, Ok, IsOk, IsErrOf, IfOk, IfErr, OnErr, OnOk};
+ghost use Rattle.std.specs.Prelude.{◌≡◌, ◌≤◌, ◌+◌, ◌⊎◌, ◌^◌, ◌↔◌, true, List, ◌∷◌, length, Ok, IsOk, IsErrOf, IfOk, IfErr, OnErr, OnOk};
 ghost use Rattle.plain_table.specs.Answers.{done_answer};
 ghost use Rattle.plain_table.specs.Commands.Command.{Create, Insert};
 ghost use Rattle.plain_table.specs.Lawful.{AnsweredInMemory};
@@ -10,7 +10,7 @@ ghost use Rattle.page_file.specs.File.{blocks_of, device_of, gate_of, next_of, I
 ghost use Rattle.plain_table.specs.Table.{Table};
 ghost use Rattle.page_file.specs.declared.fault.Fault.TheVariants as fault;
 ghost use Rattle.page_file.specs.declared.gate.Gate.TheVariants.{Shut};
-ghost use Rattle.layer_store.specs.Image.{IsImage, IsLeftOf};
+ghost use Rattle.layer_store.specs.Image.{IsImage, IsLeftOf, pages_filled};
 ghost use Rattle.layer_store.specs.Keeping.{HoldsItsTable, IsSound, RestsOn};
 
 use crate::image::{read_table, write_table};
@@ -71,6 +71,7 @@ impl<D: BlockDevice, A: Allocator + Copy> Kept<D, A> {
         ensures map { IsPageMap self.old.file → IsPageMap self.new.file }
         ensures sound { IsSound self.old → IsSound self.new }
         ensures next { next_of self.old.file ≤ next_of self.new.file }
+        ensures few { IsPageMap self.old.file → OnOk result (next_of self.new.file ≤ next_of self.old.file + pages_filled self.old.table) }
         ensures faults { IsPageMap self.old.file → IfErr result (λ f. IsOfDevice f ⊎ (f ≡ fault.NoPages)) }
         ensures no_pages { IsErrOf result fault.NoPages → next_of self.new.file ≡ 2 ^ 31 }
         ensures cause { HasCause (D.faults (device_of self.old.file)) (D.faults (device_of self.new.file)) result }
@@ -102,6 +103,7 @@ impl<D: BlockDevice, A: Allocator + Copy> Kept<D, A> {
         ensures map { IsPageMap self.old.file → IsPageMap self.new.file }
         ensures sound { IsSound self.old → IsSound self.new }
         ensures next { next_of self.old.file ≤ next_of self.new.file }
+        ensures few { IsPageMap self.old.file → OnOk result (next_of self.new.file ≤ next_of self.old.file + pages_filled self.old.table) }
         ensures faults { IsPageMap self.old.file → IfErr result (λ f. IsOfDevice f ⊎ (f ≡ fault.NoPages)) }
         ensures no_pages { IsErrOf result fault.NoPages → next_of self.new.file ≡ 2 ^ 31 }
         ensures cause { HasCause (D.faults (device_of self.old.file)) (D.faults (device_of self.new.file)) result }

@@ -1,6 +1,6 @@
 //! The store: its commands, and its closing.
 
-ghost use Rattle.std.specs.Prelude.{◌≡◌, ◌⊎◌, ◌≤◌, ◌^◌, ◌∷◌, length, Ok, Err, IsOk, IfOk, IfErr, OnErr};
+ghost use Rattle.std.specs.Prelude.{◌≡◌, ◌⊎◌, ◌≤◌, ◌+◌, ◌^◌, ◌∷◌, length, Ok, Err, IsOk, IfOk, IfErr, OnErr, OnOk};
 ghost use Rattle.block_device.specs.Device.{LeavesOnly, Only};
 ghost use Rattle.plain_table.specs.Answers.{done_answer, boxes_answer};
 ghost use Rattle.plain_table.specs.Commands.Command.{Create, Insert, Window, Reopen};
@@ -10,7 +10,8 @@ ghost use Rattle.plain_table.specs.Lawful.Request.{Asks};
 ghost use Rattle.plain_table.specs.Table.{Table};
 ghost use Rattle.plain_table.specs.declared.refusal.Refusal.TheVariants as refusal;
 ghost use Rattle.layer_store.specs.Faults.{IsMemoryOrDevice, HasCause, faults_after};
-ghost use Rattle.layer_store.specs.Image.{IsImage, IsLeftOf};
+ghost use Rattle.layer_store.specs.Image.{IsImage, IsLeftOf, pages_filled};
+ghost use Rattle.page_file.specs.File.{next_of};
 
 mod start;
 
@@ -38,7 +39,7 @@ pub struct Store<D: BlockDevice, A: Allocator = Global> {
 }
 
 impl<D: BlockDevice, A: Allocator + Copy> Store<D, A> {
-    ghost use Rattle.layer_store.specs.Standing.{Stands, StandsFor, HasFailed, IsSettled, blocks_in, device_in, state_of};
+    ghost use Rattle.layer_store.specs.Standing.{Stands, StandsFor, HasFailed, IsSettled, blocks_in, device_in, file_in, state_of};
 
     /// Makes an empty layer of that name with 2 or 3 axes, whose nodes may have 4 to 100 entries.
     ///
@@ -110,6 +111,9 @@ impl<D: BlockDevice, A: Allocator + Copy> Store<D, A> {
         ensures now_settled { IsOk result → IsSettled self.new }
         ensures quiet { (t : Table) → StandsFor self.old t → IsSettled self.old →
             LeavesOnly D.moment D.left_since (device_in self.old) (device_in self.new) (λ c. c ≡ blocks_in self.old) }
+
+        // It takes no more page numbers than the objects fill pages.
+        ensures few { (t : Table) → StandsFor self.old t → OnOk result (next_of (file_in self.new) ≤ next_of (file_in self.old) + pages_filled t) }
 
         // One that failed leaves the device as it is.
         ensures failed { HasFailed self.old → device_in self.new ≡ device_in self.old }

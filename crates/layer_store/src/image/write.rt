@@ -1,10 +1,10 @@
 //! The table written into new pages of a file, and the catalog that names them.
 
-ghost use Rattle.std.specs.Prelude.{◌≡◌, ◌≤◌, ◌^◌, ◌⊎◌, IsTrue, IsErrOf, IfOk, IfErr, OnOk};
+ghost use Rattle.std.specs.Prelude.{◌≡◌, ◌≤◌, ◌+◌, ◌^◌, ◌⊎◌, length, IsTrue, IsErrOf, IfOk, IfErr, OnOk};
 ghost use Rattle.std.specs.FinMap.{is_sorted};
 ghost use Rattle.std.specs.Ordering.{nat_cmp};
 ghost use Rattle.catalog_page.specs.Layout.{record_of};
-ghost use Rattle.object_chain.specs.Chain.{HoldsObjects, KeepsPages, new_pages};
+ghost use Rattle.object_chain.specs.Chain.{HoldsObjects, KeepsPages, new_pages, pages_for};
 ghost use Rattle.page_file.specs.Fault.{HasCause, IsOfDevice};
 ghost use Rattle.page_file.specs.File.{device_of, gate_of, next_of, pages, IsPageMap, KeepsGate};
 ghost use Rattle.page_file.specs.declared.fault.Fault.TheVariants as fault;
@@ -12,7 +12,7 @@ ghost use Rattle.page_file.specs.declared.gate.Gate.TheVariants.{Open};
 ghost use Rattle.plain_table.specs.InMemory.{entry_of};
 ghost use Rattle.plain_table.specs.Objects.{axes_of, entries_of};
 ghost use Rattle.layer_store.specs.Catalog.{is_layer_record, is_page_or_none};
-ghost use Rattle.layer_store.specs.Image.{Holds, HoldsLayer};
+ghost use Rattle.layer_store.specs.Image.{Holds, HoldsLayer, pages_filled};
 
 use crate::image::CATALOG;
 use arrayvec::ArrayVec;
@@ -24,7 +24,8 @@ use page_file::{Fault, PageFile};
 use plain_table::{Layer, ListTable, Objects};
 use std::alloc::Allocator;
 
-/// Writes the table into newly allocated pages, and the catalog that names them. The gate has to be open.
+/// Writes the table into newly allocated pages, no more than its objects fill, and the catalog that names them. The gate
+/// has to be open.
 ///
 /// `NoPages` comes only where all page numbers were given out; with a sound map any other refusal is `Memory` or
 /// `Device`. After a refusal the pages hold any table or none.
@@ -38,6 +39,7 @@ pub fn write_table<D: BlockDevice, A: Allocator + Copy>(
     ensures holds { IsPageMap file.old → OnOk result (Holds (pages file.new) (next_of file.new) table.now) }
     ensures sound { IsPageMap file.old → IsPageMap file.new }
     ensures next { next_of file.old ≤ next_of file.new }
+    ensures few { IsPageMap file.old → OnOk result (next_of file.new ≤ next_of file.old + pages_filled table.now) }
     ensures faults { IsPageMap file.old → IfErr result (λ f. IsOfDevice f ⊎ (f ≡ fault.NoPages)) }
     ensures no_pages { IsErrOf result fault.NoPages → next_of file.new ≡ 2 ^ 31 }
     ensures cause { HasCause (D.faults (device_of file.old)) (D.faults (device_of file.new)) result }
@@ -64,6 +66,7 @@ fn write_layer<D: BlockDevice, A: Allocator + Copy>(
     ensures others { IsPageMap file.old → KeepsPages (pages file.old) (pages file.new) }
     ensures sound { IsPageMap file.old → IsPageMap file.new }
     ensures next { next_of file.old ≤ next_of file.new }
+    ensures few { IfOk result (λ r. next_of file.new ≤ next_of file.old + pages_for r.count) }
     ensures faults { IsPageMap file.old → IfErr result (λ f. IsOfDevice f ⊎ (f ≡ fault.NoPages)) }
     ensures no_pages { IsErrOf result fault.NoPages → next_of file.new ≡ 2 ^ 31 }
     ensures cause { HasCause (D.faults (device_of file.old)) (D.faults (device_of file.new)) result }
@@ -95,6 +98,7 @@ fn write_objects<D: BlockDevice, A: Allocator + Copy>(
     ensures others { IsPageMap file.old → KeepsPages (pages file.old) (pages file.new) }
     ensures sound { IsPageMap file.old → IsPageMap file.new }
     ensures next { next_of file.old ≤ next_of file.new }
+    ensures few { next_of file.new ≤ next_of file.old + pages_for (length (entries_of objects.now)) }
     ensures faults { IsPageMap file.old → IfErr result (λ f. IsOfDevice f ⊎ (f ≡ fault.NoPages)) }
     ensures no_pages { IsErrOf result fault.NoPages → next_of file.new ≡ 2 ^ 31 }
     ensures cause { HasCause (D.faults (device_of file.old)) (D.faults (device_of file.new)) result }

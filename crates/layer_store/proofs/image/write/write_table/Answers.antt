@@ -1,5 +1,6 @@
 -- The records name layers whose chains stand in new pages, so the catalog may be written over the old one.
-use Rattle.std.proofs.Common.{◌∙◌, map, ap, arith, inl}
+use Rattle.std.proofs.Common.{◌≤◌, ◌+◌, ◌∙◌, map, ap, arith, inl}
+use Rattle.std.specs.FinMap.{entries}
 use Rattle.std.specs.List.{list_all}
 use Rattle.catalog_page.specs.Layout.{record_of}
 use Rattle.object_chain.specs.Chain.{new_pages}
@@ -7,7 +8,8 @@ use Rattle.object_chain.proofs.Frames.{keeps_in_turn}
 use Rattle.page_file.specs.File.{next_of, pages}
 use Rattle.page_file.specs.Laws.{the_catalog_is_live, the_gate_is_kept_in_turn}
 use Rattle.layer_store.specs.Catalog.{is_layer_record}
-use Rattle.layer_store.proofs.HeldLemmas.{all_held, good_records, held, layers_stay, one_more_held, written_aside}
+use Rattle.layer_store.specs.Image.{pages_filled}
+use Rattle.layer_store.proofs.HeldLemmas.{all_held, good_records, held, layers_stay, more_filled, one_more_held, same_filled, written_aside}
 use Rattle.layer_store.proofs.Results.{if_err, on_ok}
 use Rattle.layer_store.proofs.image.write.write_table.Goals as goal
 
@@ -28,6 +30,7 @@ loop-layer-preserved g c =
       good = good_records (next_of c.loop-layer.file) (next_of c.write_layer.new.file) records c.push.new.self.items c.in_ok-record.record before.good done.next done.good c.push.ensures.items;
       count = omega (arith, before.count, c.push.ensures.len);
       next = omega (arith, before.next, done.next);
+      few = more_filled (next_of c.args.file.now) (next_of c.loop-layer.file) (next_of c.write_layer.new.file) records c.push.new.self.items c.in_ok-record.record before.few done.few c.push.ensures.items;
       no_fault = done.cause.ok ∙ before.no_fault;
     }
 
@@ -45,6 +48,17 @@ returns-clause-holds g c = λ map'.
     (all_held (pages c.write.new.self) records c.layers-layer-items.result.now c.args.table.now c.loop-layer.layer-index _ (omega (arith, c.loop-layer-test.false)) c.layers-layer-items.ensures.table c.layers-layer-items.ensures.listed layers)
     c.layers-layer-items.ensures.listed.within)
     (wrote.written mid.honest live)
+
+pub returns-clause-few : goal.returns-clause-few
+returns-clause-few g c = λ map'.
+    let before = c.loop-layer.invariant in
+    let records = map record_of c.loop-layer.records.items in
+    let layers = c.layers-layer-items.result.now in
+    let made = new_pages (pages c.args.file.now) (pages c.loop-layer.file) in
+    let filled = same_filled made records (entries c.args.table.now)
+    (all_held made records layers c.args.table.now c.loop-layer.layer-index _ (omega (arith, c.loop-layer-test.false)) c.layers-layer-items.ensures.table c.layers-layer-items.ensures.listed (before.holds map')) in
+    let few : next_of c.write.new.self ≤ next_of c.args.file.now + pages_filled c.args.table.now = omega (arith, before.few, filled, c.write.ensures.next) in
+    on_ok c.write.result (λ there. few) (c.write.ensures.written (before.sound map').honest (the_catalog_is_live c.loop-layer.file (before.sound map')))
 
 pub returns-clause-sound : goal.returns-clause-sound
 returns-clause-sound g c = λ map. let mid = c.loop-layer.invariant.sound map in c.write.ensures.sound mid (the_catalog_is_live c.loop-layer.file mid)

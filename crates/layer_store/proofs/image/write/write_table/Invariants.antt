@@ -1,8 +1,8 @@
 -- The records so far name the layers so far, in pages that were not live before.
-use Rattle.std.proofs.Common.{◌≡◌, ◌≤◌, map, take, length, true}
-use Rattle.std.specs.List.{list_all}
-use Rattle.catalog_page.specs.Layout.{record_of}
-use Rattle.object_chain.specs.Chain.{KeepsPages, new_pages}
+use Rattle.std.proofs.Common.{◌≡◌, ◌≤◌, ◌+◌, map, take, length, true}
+use Rattle.std.specs.List.{list_all, sum_by}
+use Rattle.catalog_page.specs.Layout.{Record, record_of}
+use Rattle.object_chain.specs.Chain.{KeepsPages, new_pages, pages_for}
 use Rattle.page_file.specs.File.{device_of, next_of, pages, IsPageMap, KeepsGate}
 use Rattle.plain_table.specs.InMemory.{entry_of}
 use Rattle.layer_store.specs.Catalog.{is_layer_record}
@@ -18,5 +18,6 @@ invariant-loop-layer g l = record {
   good : list_all (is_layer_record (next_of l.file)) (map record_of l.records.items) ≡ true;
   count : length l.records.items ≡ l.layer-index;
   next : next_of l.initial.file ≤ next_of l.file;
+  few : next_of l.file ≤ next_of l.initial.file + sum_by (λ (r : Record). pages_for r.count) (map record_of l.records.items);
   no_fault : g.D.BlockDevice.faults (device_of l.file) ≡ g.D.BlockDevice.faults (device_of l.initial.file);
 }

@@ -11,7 +11,7 @@ use Rattle.plain_table.specs.Lawful.{AfterStop, IsEnd, IsFault, IsSpent, MayWrit
 use Rattle.plain_table.specs.Lawful.AfterStop.{Perhaps}
 use Rattle.plain_table.specs.Step.Answer.{Done, Refused}
 use Rattle.plain_table.specs.declared.refusal.Refusal.TheVariants as refusal
-use Rattle.layer_store.specs.Image.{IsImage, IsLeftOf}
+use Rattle.layer_store.specs.Image.{IsImage, IsLeftOf, pages_filled}
 use Rattle.layer_store.specs.Keeping.{Leaves}
 use Rattle.layer_store.specs.Standing.{HasFailed}
 use Rattle.layer_store.specs.declared.kept.Kept.{Kept}
@@ -198,3 +198,12 @@ returns-in-Err-read_again-clause-quiet g c = λ t stands closed.
     let honest = (alive_with c.args.self.now t stands).sound.map.honest in
     let device = device_of c.args.self.now.kept.file in
     quietly c.args.self.now.kept c.settle.new.self c.read_again.new.self honest (λ b left. g.met.D.BlockDevice.only_now device b honest left) was.0 (c.in_default.ensures.was_settled was.0 was.1).0 c.in-Err-read_again.ensures.gate
+
+pub returns-in-Ok-clause-few : goal.returns-in-Ok-clause-few
+returns-in-Ok-clause-few g c = λ t stands.
+    let live = alive_with c.args.self.now t stands in
+    let settled = c.in_default.ensures in
+    let next = c.in-Ok.ensures.next (settled.sound live.sound).map in
+    let few = settled.few live.sound.map in
+    let filled = ap pages_filled live.table in
+    omega (arith, next, few, filled)
