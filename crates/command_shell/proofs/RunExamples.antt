@@ -72,6 +72,7 @@ a_run_that_a_write_ended : Runs known known WriteFault fresh fresh (codes "x\ny"
 unfolding digits
 a_run_that_a_write_ended = (
   false,
+  false,
   [],
   record {
     text = codes "x\n";

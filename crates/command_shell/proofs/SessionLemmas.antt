@@ -1,6 +1,6 @@
 -- A run, one command further.
 use Rattle.std.proofs.Common.{◌≡◌, ℕ, Bool, true, false, cond, List, [], ◌∷◌, ◌++◌, take, Option, Some, None, Result, Ok, Err, MatchResult, refl, sym, ap, ◌∙◌, subst, append_assoc}
-use Rattle.std.specs.Io.KnownBytes.{Appends}
+use Rattle.std.specs.Io.KnownBytes.{Appends, Keeps}
 use Rattle.std.specs.Prelude.{IfNone}
 use Rattle.std.proofs.lemmas.List.Concat.{flat_map-append}
 use Rattle.plain_table.specs.Lawful.{Standing, Request, Session, Takes}
@@ -30,6 +30,12 @@ session_more old mid new (r ∷ rs) ss [] bs p q = elim p [ ]
 pub appends_none : (a : Option (List ℕ)) → Appends a a []
 appends_none None = tt
 appends_none (Some a) = sym (append_none a)
+
+appends_kept : (a b c : Option (List ℕ)) (text : List ℕ) → Appends a b text → Keeps b c → Appends a c text
+appends_kept None b c text h k = tt
+appends_kept (Some a) None c text h k = elim h [ ]
+appends_kept (Some a) (Some b) None text h k = elim k [ ]
+appends_kept (Some a) (Some b) (Some c) text h k = k ∙ h
 
 -- whole answers, and then answers that may break off
 wrote_more : (whole : Bool) (a b c : Option (List ℕ)) (x y : List Answer) → Appends a b (texts_of x) → Wrote whole b c y → Wrote whole a c (x ++ y)
@@ -66,6 +72,10 @@ module _ {R W : Type 0} {remaining : R → Option (List ℕ)} {contents : W → 
   pub serves_none : (ended : Bool) (s : Standing) (r r' : R) (w : W) (pending left : List ℕ) → Reads remaining ended r r' pending left [] → Serves remaining contents ended true s s r r' w w pending left
   serves_none ended s r r' w pending left h = record { text = []; requests = []; answers = []; reads = h; asked = none; lawful = refl; written = appends_none (contents w) }
 
+  -- and the writer was flushed
+  pub serves_kept : (ended : Bool) (s s' : Standing) (r r' : R) (w w1 w2 : W) (pending left : List ℕ) → Serves remaining contents ended true s s' r r' w w1 pending left → Keeps (contents w1) (contents w2) → Serves remaining contents ended true s s' r r' w w2 pending left
+  serves_kept ended s s' r r' w w1 w2 pending left h k = record { text = h.text; requests = h.requests; answers = h.answers; reads = h.reads; asked = h.asked; lawful = h.lawful; written = appends_kept (contents w) (contents w1) (contents w2) (texts_of h.answers) h.written k }
+
   -- whole commands, and then a part of a run
   pub serves_more : (ended whole : Bool) (old mid new : Standing) (r0 r1 r2 : R) (w0 w1 w2 : W) (pending left next : List ℕ) → Serves remaining contents false true old mid r0 r1 w0 w1 pending left → Serves remaining contents ended whole mid new r1 r2 w1 w2 left next → Serves remaining contents ended whole old new r0 r2 w0 w2 pending next
   serves_more ended whole old mid new r0 r1 r2 w0 w1 w2 pending left next p q = record {
@@ -82,7 +92,7 @@ module _ {R W : Type 0} {remaining : R → Option (List ℕ)} {contents : W → 
   pub ends_run : (old mid new : Standing) (r0 r1 r2 : R) (w0 w1 w2 : W) (pending left : List ℕ) → Serves remaining contents false true old mid r0 r1 w0 w1 pending left → (end : RunEnd) → RunsFrom remaining contents end mid new r1 r2 w1 w2 left → RunsFrom remaining contents end old new r0 r2 w0 w2 pending
   ends_run old mid new r0 r1 r2 w0 w1 w2 pending left p Finished h = serves_more true true old mid new r0 r1 r2 w0 w1 w2 pending left [] p h
   ends_run old mid new r0 r1 r2 w0 w1 w2 pending left p ReadFault h = (h.0, h.1, serves_more false true old mid new r0 r1 r2 w0 w1 w2 pending left h.0 p h.2)
-  ends_run old mid new r0 r1 r2 w0 w1 w2 pending left p WriteFault h = (h.0, h.1, serves_more h.0 false old mid new r0 r1 r2 w0 w1 w2 pending left h.1 p h.2)
+  ends_run old mid new r0 r1 r2 w0 w1 w2 pending left p WriteFault h = (h.0, h.1, h.2, serves_more h.0 h.1 old mid new r0 r1 r2 w0 w1 w2 pending left h.2 p h.3)
 
 -- a text was taken, and its commands answered
 steps_after : {R W E : Type 0} {remaining : R → Option (List ℕ)} (contents : W → Option (List ℕ)) (s s' : Standing) (r r' : R) (w w' : W) (pending left text : List ℕ) (requests : List Request) (answers : List Answer) (ended : Bool) (end : Option RunEnd) (result : Result (Unit {0}) E) → MatchResult result (λ _. end ≡ cond ended (Some Finished) None) (λ _. end ≡ Some WriteFault) → Reads remaining ended r r' pending left text → AreCommands ended (lines_of text) requests → Session s requests answers s' → WroteAs (contents w) (contents w') result answers → StepsTo remaining contents end s s' r r' w w' pending left
@@ -95,7 +105,7 @@ steps_after {remaining = remaining} contents s s' r r' w w' pending left text re
     subst P (sym e) (record { text = text; requests = requests; answers = answers; reads = h; asked = a; lawful = l; written = o })
 steps_after {remaining = remaining} contents s s' r r' w w' pending left text requests answers ended end (Err x) e h a l o =
     let P : Option RunEnd → Type 0 = λ x. StepsTo remaining contents x s s' r r' w w' pending left in
-    subst P (sym e) (ended, left, record { text = text; requests = requests; answers = answers; reads = h; asked = a; lawful = l; written = o })
+    subst P (sym e) (ended, false, left, record { text = text; requests = requests; answers = answers; reads = h; asked = a; lawful = l; written = o })
 
 -- the text ended, or could not be read further, behind the last line
 pub takes_end : {R W S : Type 0} {remaining : R → Option (List ℕ)} {contents : W → Option (List ℕ)} {Stands : S → Standing → Type 0} {old : S} (r r' : R) (w : W) (pending left : List ℕ) → Reads remaining true r r' pending [] []

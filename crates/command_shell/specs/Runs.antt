@@ -7,11 +7,12 @@ use Rattle.command_shell.specs.declared.session.RunEnd.{RunEnd}
 use Rattle.command_shell.specs.declared.session.RunEnd.TheVariants.{Finished, ReadFault, WriteFault}
 
 -- A run that begins with pending bytes. Finished: all that there was is read, and all its commands are answered.
--- ReadFault: the same of all commands that were read to their last newline. WriteFault: the last answer is written in part.
+-- ReadFault: the same of all commands that were read to their last newline. WriteFault: the last answer is written wholly or
+-- in part.
 abbrev pub RunsFrom : {R W : Type 0} → (R → Option (List ℕ)) → (W → Option (List ℕ)) → RunEnd → Standing → Standing → R → R → W → W → List ℕ → Type 0
 RunsFrom remaining contents Finished old new r r' w w' pending = Serves remaining contents true true old new r r' w w' pending []
 RunsFrom remaining contents ReadFault old new r r' w w' pending = (left : List ℕ) × IsUnfinished left × Serves remaining contents false true old new r r' w w' pending left
-RunsFrom remaining contents WriteFault old new r r' w w' pending = (ended : Bool) × (left : List ℕ) × Serves remaining contents ended false old new r r' w w' pending left
+RunsFrom remaining contents WriteFault old new r r' w w' pending = (ended whole : Bool) × (left : List ℕ) × Serves remaining contents ended whole old new r r' w w' pending left
 
 -- a run that begins with nothing pending
 abbrev pub Runs : {R W : Type 0} → (R → Option (List ℕ)) → (W → Option (List ℕ)) → RunEnd → Standing → Standing → R → R → W → W → Type 0

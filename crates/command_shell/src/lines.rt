@@ -1,6 +1,6 @@
 //! The lines of a reader, found in one buffer.
 
-ghost use Rattle.std.specs.Prelude.{◌≡◌, ◌+◌, ◌<◌, ◌≤◌, ◌^◌, ◌++◌, [], length, take, drop, MatchOption, MatchResult, OnOk, OnErr, IfOk};
+ghost use Rattle.std.specs.Prelude.{◌≡◌, ℕ, true, false, ◌+◌, ◌<◌, ◌≤◌, ◌^◌, ◌++◌, [], length, take, drop, MatchOption, MatchResult, OnOk, OnErr, IfOk};
 ghost use Rattle.command_shell.specs.Lines.{IsOneLine};
 ghost use Rattle.command_shell.specs.Reading.{buffer_size, most_calls, BeginsLine, ReadsTo};
 ghost use Rattle.std.specs.Io.KnownBytes.{IsAtEnd, Keeps};
@@ -97,6 +97,14 @@ impl LineReader {
         &self.buffer[self.start..self.end]
     }
 
+    /// Whether a line and its newline are pending.
+    pub fn has_line(&self) -> bool
+        ensures found { result ≡ true → (n : ℕ) × BeginsLine (pending self.now) n }
+        ensures none { result ≡ false → IsOneLine (pending self.now) }
+    {
+        self.newline(0).is_some()
+    }
+
     /// The first bytes that are pending.
     pub fn front(&self, len: usize) -> &[u8]
         requires { len ≤ length (pending self.now) }
@@ -114,7 +122,8 @@ impl LineReader {
         self.start += count;
     }
 
-    /// Finds the next line. It stays pending, unless it was too long. Where a read fails no newline was read.
+    /// Finds the next line. It stays pending, unless it was too long. It reads only where no whole line is pending; where
+    /// a read fails no newline was read.
     ///
     /// A line is known to be too long once more than `MAX_LINE` bytes of it are pending and no newline is. A line
     /// whose newline is pending is given whatever its length.
@@ -123,6 +132,7 @@ impl LineReader {
             (λ found. ReadsTo R.remaining reader.old reader.new (λ more.
             Finds (IsAtEnd (R.remaining reader.new)) found (pending self.old ++ more) (pending self.new)))
             (λ _. ReadsTo R.remaining reader.old reader.new (λ more. IsOneLine (pending self.old ++ more))) }
+        ensures lazy { (n : ℕ) → BeginsLine (pending self.old) n → reader.new ≡ reader.old }
         ensures fewer { IfOk result (λ found. work_left self.new + work_done found ≤ work_left self.old) }
     {
         let mut seen = 0;

@@ -1,6 +1,7 @@
 //! The session of a reader's lines with a store, and how it ends.
 
 ghost use Rattle.std.specs.Prelude.{◌≡◌, ◌<◌, Some, None, MatchResult, IfNone, if◌then◌else◌};
+ghost use Rattle.std.specs.Io.KnownBytes.{Keeps};
 ghost use Rattle.plain_table.specs.Answers.{done_answer, boxes_answer};
 ghost use Rattle.plain_table.specs.Lawful.{Takes};
 ghost use Rattle.layer_store.specs.Standing.{Stands};
@@ -40,8 +41,8 @@ pub enum RunEnd {
 /// Where reader or writer does not make its bytes known, nothing is
 /// said of them.
 ///
-/// An interrupted read is a fault like any other. The writer is not flushed. Beside what the store takes, it takes no
-/// memory.
+/// The writer is flushed before more is read, unless a whole line is pending; at the end it is not. An interrupted read is
+/// a fault like any other. Beside what the store takes, it takes no memory.
 pub fn run<D: BlockDevice, A: Allocator + Copy, R: Read, W: Write>(
     store: &mut Store<D, A>,
     input: &mut R,
@@ -52,10 +53,23 @@ pub fn run<D: BlockDevice, A: Allocator + Copy, R: Read, W: Write>(
 {
     let mut lines = LineReader::new();
     loop {
+        if hand_on(&lines, output).is_err() {
+            return RunEnd::WriteFault;
+        }
         if let Some(end) = step(store, &mut lines, input, output) {
             return end;
         }
     }
+}
+
+// Flushes the replies so far where no line is pending, so that who waits for one before the next line is sent has it.
+fn hand_on<W: Write>(lines: &LineReader, output: &mut W) -> io::Result<()>
+    ensures { Keeps (W.contents output.old) (W.contents output.new) }
+{
+    if lines.has_line() {
+        return Ok(());
+    }
+    output.flush()
 }
 
 // Answers the next line, or says how the run ends.

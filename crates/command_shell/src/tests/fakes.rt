@@ -1,6 +1,7 @@
 //! Readers and writers that are slow, or fail.
 
 use std::alloc::Allocator;
+use std::cell::Cell;
 use std::io;
 use std::io::{ErrorKind, Read, Write};
 
@@ -48,5 +49,88 @@ impl<A: Allocator> Write for Short<A> {
 
     fn flush(&mut self) -> io::Result<()> {
         Ok(())
+    }
+}
+
+/// Gives a part a call, or fails where there is none, and nothing behind the last.
+#[derive(Drop)]
+pub struct Parts<'a> {
+    pub parts: &'a [Option<&'a [u8]>],
+    pub calls: usize,
+}
+
+impl Read for Parts<'_> {
+    fn read(&mut self, buffer: &mut [u8]) -> io::Result<usize> {
+        let Some(part) = self.parts.get(self.calls) else {
+            return Ok(0);
+        };
+        self.calls = self.calls.saturating_add(1);
+        match *part {
+            None => Err(io::Error::from(ErrorKind::Other)),
+            Some(mut bytes) => bytes.read(buffer),
+        }
+    }
+}
+
+/// Takes all, but for one call that fails.
+#[derive(Drop)]
+pub struct FailsOnce<A: Allocator> {
+    pub written: Vec<u8, A>,
+    pub passes: Option<usize>,
+}
+
+impl<A: Allocator> Write for FailsOnce<A> {
+    fn write(&mut self, bytes: &[u8]) -> io::Result<usize> {
+        let fails = self.passes == Some(0);
+        self.passes = self.passes.and_then(|passes| passes.checked_sub(1));
+        if fails {
+            return Err(io::Error::from(ErrorKind::Other));
+        }
+        match self.written.extend_from_slice(bytes) {
+            Ok(()) => Ok(bytes.len()),
+            Err(_) => Err(io::Error::from(ErrorKind::OutOfMemory)),
+        }
+    }
+
+    fn flush(&mut self) -> io::Result<()> {
+        Ok(())
+    }
+}
+
+/// Counts in a cell the bytes that it took and did not flush. A flush fails, if it is to.
+#[derive(Drop)]
+pub struct Unflushed<'a> {
+    pub bytes: &'a Cell<usize>,
+    pub fails: bool,
+}
+
+impl Write for Unflushed<'_> {
+    fn write(&mut self, bytes: &[u8]) -> io::Result<usize> {
+        self.bytes.set(self.bytes.get().saturating_add(bytes.len()));
+        Ok(bytes.len())
+    }
+
+    fn flush(&mut self) -> io::Result<()> {
+        if self.fails {
+            return Err(io::Error::from(ErrorKind::Other));
+        }
+        self.bytes.set(0);
+        Ok(())
+    }
+}
+
+/// Gives a part a call, and fails where bytes were not flushed before it.
+#[derive(Drop)]
+pub struct Waits<'a> {
+    pub parts: Parts<'a>,
+    pub unflushed: &'a Cell<usize>,
+}
+
+impl Read for Waits<'_> {
+    fn read(&mut self, buffer: &mut [u8]) -> io::Result<usize> {
+        if self.unflushed.get() > 0 {
+            return Err(io::Error::from(ErrorKind::Other));
+        }
+        self.parts.read(buffer)
     }
 }

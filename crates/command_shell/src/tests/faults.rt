@@ -1,8 +1,9 @@
 //! Runs over readers and writers that are slow or fail, with lines that ask nothing of the store.
 
-use super::fakes::{Short, Slow};
+use super::fakes::{FailsOnce, Parts, Short, Slow, Unflushed, Waits};
 use super::new_store;
 use crate::{MAX_LINE, RunEnd, run};
+use std::cell::Cell;
 use std::io::ErrorKind;
 use std::test::Fail;
 
@@ -74,6 +75,79 @@ fn ends_where_a_write_fails(rt: HostRuntime) -> Result<(), Fail> {
             assert_eq!(rt; output.written.as_slice(), &REPLIES[..room]);
         }
     }
+    Ok(())
+}
+
+// The line behind a read that failed is not read, and the lines before it are answered first.
+#[test]
+fn ends_where_a_read_fails_once(rt: HostRuntime) -> Result<(), Fail> {
+    let mut store = new_store(rt.alloc())?;
+    let mut input = Parts {
+        parts: &[Some(b"drop\ndrop\nd"), None, Some(b"rop\n")],
+        calls: 0,
+    };
+    let mut output = Vec::new(rt.alloc());
+    let end = run(&mut store, &mut input, &mut output);
+    assert_eq!(rt; end, RunEnd::ReadFault);
+    assert_eq!(rt; output.as_slice(), REPLIES);
+    assert_eq!(rt; input.calls, 2);
+    Ok(())
+}
+
+#[test]
+fn ends_where_a_write_fails_once(rt: HostRuntime) -> Result<(), Fail> {
+    for passes in 0..2 {
+        let mut store = new_store(rt.alloc())?;
+        let mut input = TEXT;
+        let mut output = FailsOnce {
+            written: Vec::new(rt.alloc()),
+            passes: Some(passes),
+        };
+        let end = run(&mut store, &mut input, &mut output);
+        assert_eq!(rt; end, RunEnd::WriteFault);
+        assert_eq!(rt; output.written.as_slice(), &REPLIES[..16 * passes]);
+    }
+    Ok(())
+}
+
+// Who sends a line once the one before is answered is not kept waiting, however the lines are cut.
+#[test]
+fn flushes_before_it_reads(rt: HostRuntime) -> Result<(), Fail> {
+    let unflushed = Cell::new(0);
+    let mut store = new_store(rt.alloc())?;
+    let mut input = Waits {
+        parts: Parts {
+            parts: &[
+                Some(b"drop\n"),
+                Some(b"drop\ndrop\ndr"),
+                Some(b"op\n"),
+                Some(b"# end"),
+            ],
+            calls: 0,
+        },
+        unflushed: &unflushed,
+    };
+    let mut output = Unflushed {
+        bytes: &unflushed,
+        fails: false,
+    };
+    let end = run(&mut store, &mut input, &mut output);
+    assert_eq!(rt; end, RunEnd::Finished);
+    Ok(())
+}
+
+#[test]
+fn ends_where_a_flush_fails(rt: HostRuntime) -> Result<(), Fail> {
+    let unflushed = Cell::new(0);
+    let mut store = new_store(rt.alloc())?;
+    let mut input = TEXT;
+    let mut output = Unflushed {
+        bytes: &unflushed,
+        fails: true,
+    };
+    let end = run(&mut store, &mut input, &mut output);
+    assert_eq!(rt; end, RunEnd::WriteFault);
+    assert_eq!(rt; unflushed.get(), 0);
     Ok(())
 }
 

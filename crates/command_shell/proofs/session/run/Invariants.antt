@@ -7,8 +7,8 @@ use Rattle.command_shell.specs.Serving.{Serves}
 use Rattle.command_shell.proofs.session.run.Given as goal
 
 -- whole lines were taken so far, and each of them is answered
-abbrev pub invariant-loop-end : goal.invariant-loop-end
-invariant-loop-end g l = Takes Stands l.fn.store l.store (λ s s'. Serves g.R.Read.remaining g.W.Write.contents false true s s' l.fn.input l.input l.fn.output l.output [] (pending l.lines))
+abbrev pub invariant-loop-lines : goal.invariant-loop-lines
+invariant-loop-lines g l = Takes Stands l.fn.store l.store (λ s s'. Serves g.R.Read.remaining g.W.Write.contents false true s s' l.fn.input l.input l.fn.output l.output [] (pending l.lines))
 
-abbrev pub decreases-loop-end : goal.decreases-loop-end
-decreases-loop-end g l = work_left l.lines
+abbrev pub decreases-loop-lines : goal.decreases-loop-lines
+decreases-loop-lines g l = work_left l.lines

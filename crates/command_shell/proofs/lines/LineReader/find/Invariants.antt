@@ -1,8 +1,8 @@
 -- What holds at each turn of the loop of `LineReader::find`.
-use Rattle.std.proofs.Common.{◌≡◌, ◌≤◌, ◌++◌, length, take}
+use Rattle.std.proofs.Common.{◌≡◌, ◌≤◌, ℕ, ◌++◌, length, take}
 use Rattle.command_shell.specs.Lines.{IsOneLine}
 use Rattle.command_shell.specs.Pending.{pending, work_left}
-use Rattle.command_shell.specs.Reading.{ReadsTo}
+use Rattle.command_shell.specs.Reading.{BeginsLine, ReadsTo}
 use Rattle.command_shell.proofs.lines.LineReader.find.Given as goal
 
 abbrev pub invariant-loop-at : goal.invariant-loop-at
@@ -11,6 +11,7 @@ invariant-loop-at g l = record {
   within : l.seen ≤ length (pending l.self);
   none_seen : IsOneLine (take l.seen (pending l.self));
   fewer : work_left l.self ≤ work_left l.fn.self;
+  lazy : (n : ℕ) → BeginsLine (pending l.fn.self) n → (l.reader ≡ l.fn.reader) × (pending l.self ≡ pending l.fn.self);
 }
 
 abbrev pub decreases-loop-at : goal.decreases-loop-at
