@@ -27,7 +27,7 @@ pub enum RunEnd {
     Finished,
     /// The reader failed, or was called 2^62 times. Each command that was read to its last newline was answered.
     ReadFault,
-    /// The writer failed. The last reply may be written in part, and no line after it was answered.
+    /// The writer failed, in a write or a flush. The last reply may be written in part, and no line after it was answered.
     WriteFault,
 }
 

@@ -10,7 +10,7 @@ use Rattle.plain_table.specs.Answers.{row_of}
 use Rattle.plain_table.specs.Boxes.{dims_of, given_bounds}
 use Rattle.plain_table.specs.Entries.{BelongsAt}
 use Rattle.plain_table.specs.InMemory.{layer_of}
-use Rattle.plain_table.specs.Objects.{axes_of, entries_of, object_refused}
+use Rattle.plain_table.specs.Objects.{axes_of, entries_of, object_checks}
 use Rattle.plain_table.specs.Step.{first_refusal, box_refusals, object_refusals, window_rows}
 use Rattle.plain_table.specs.Table.{with_object}
 use Rattle.plain_table.specs.declared.boxes.AnyBox.{AnyBox}
@@ -39,13 +39,13 @@ module _ {A : Type 0} (l : KeptLayer A) (raw : RawBox) (es : List (ℕ × Bounds
   in_order = subst (λ xs. IsTrue (is_sorted nat_cmp xs)) kept l.ascending
 
   -- the dimension is right, so what is left to refuse is an object among others
-  not_wrong : (id : ℕ) (full : Bool) → first_refusal (object_refused (dims_of raw) es id (given_bounds raw) full) ≡ None → first_refusal (object_refusals (layer_of l) id raw full) ≡ None
+  not_wrong : (id : ℕ) (full : Bool) → first_refusal (object_checks (dims_of raw) es id (given_bounds raw) full) ≡ None → first_refusal (object_refusals (layer_of l) id raw full) ≡ None
   not_wrong id full h =
       let right : (dims_of raw == axes_of l.objects) ≡ true = eq-eqb _ _ (sym axes) in
       rw (right, kept) h
 
   -- an object was added
-  pub inserts : (m : KeptObjects A) (id i : ℕ) (b : Bounds) (full : Bool) → first_refusal (object_refused (dims_of raw) es id (given_bounds raw) full) ≡ None → BelongsAt nat_cmp es id i → b ≡ given_bounds raw → axes_of m ≡ dims_of raw → entries_of m ≡ insert es i (id, b) → (first_refusal (object_refusals (layer_of l) id raw full) ≡ None) × (record { dims = axes_of m; fanout = l.fanout; objects = from_sorted (entries_of m) } ≡ with_object (layer_of l) id (given_bounds raw))
+  pub inserts : (m : KeptObjects A) (id i : ℕ) (b : Bounds) (full : Bool) → first_refusal (object_checks (dims_of raw) es id (given_bounds raw) full) ≡ None → BelongsAt nat_cmp es id i → b ≡ given_bounds raw → axes_of m ≡ dims_of raw → entries_of m ≡ insert es i (id, b) → (first_refusal (object_refusals (layer_of l) id raw full) ≡ None) × (record { dims = axes_of m; fanout = l.fanout; objects = from_sorted (entries_of m) } ≡ with_object (layer_of l) id (given_bounds raw))
   inserts m id i b full h at is axes' new =
       let more = ap from_sorted new ∙ inserted_map nat_cmp nat_cmp_total es id b i in_order at ∙ (λ j. map_insert (from_sorted {R = nat_cmp} (sym kept j)) id (is j)) in
       (not_wrong id full h, λ j. record { dims = (axes' ∙ sym axes) j; fanout = l.fanout; objects = more j })

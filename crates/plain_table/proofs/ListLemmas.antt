@@ -10,7 +10,7 @@ use Rattle.plain_table.specs.Boxes.{given_bounds}
 use Rattle.plain_table.specs.Commands.{Command}
 use Rattle.plain_table.specs.Commands.Command.{Create, Insert, Window}
 use Rattle.plain_table.specs.Entries.{StandsAt, BelongsAt}
-use Rattle.plain_table.specs.InMemory.{entry_of, layer_of, IsRefusal}
+use Rattle.plain_table.specs.InMemory.{entry_of, layer_of, IsRefusalOrMemory}
 use Rattle.plain_table.specs.Lawful.{AnsweredInMemory}
 use Rattle.plain_table.specs.Listed.{table_from, IsListed}
 use Rattle.plain_table.specs.Step.{first_refusal, box_refusals, object_refusals, window_rows, refusal_of}
@@ -25,7 +25,7 @@ use Rattle.plain_table.proofs.StepLemmas.{create_exists, create_full, create_pas
 use Rattle.plain_table.proofs.TableLemmas.{refused, answered, without_memory, len_listed, named, layer_named, more_table, other_table, same_table, grown_listed}
 
 -- the table's refusal, or want of memory
-refused_or_without : (t u : Table) (c : Command) (o : Option Refusal) (r : Refusal) → refusal_of t c ≡ o → IsRefusal o r → u ≡ t → AnsweredInMemory t c (Refused r) u
+refused_or_without : (t u : Table) (c : Command) (o : Option Refusal) (r : Refusal) → refusal_of t c ≡ o → IsRefusalOrMemory o r → u ≡ t → AnsweredInMemory t c (Refused r) u
 refused_or_without t u c o r h (inl e) s = subst (λ x. AnsweredInMemory t c (Refused r) x) (sym s) (refused t c r (h ∙ e))
 refused_or_without t u c o r h (inr e) s = subst (λ x. AnsweredInMemory t c (Refused x) u) (sym e) (without_memory t u c s)
 
@@ -59,7 +59,7 @@ module _ {A : Type 0} (layers : List (KeptLayer A)) (count : ℕ) (listed : IsLi
       refusals : refusal_of (table_from layers) (Insert name id box) ≡ first_refusal (object_refusals (layer_of l) id box full)
       refusals = insert_refusal (table_from layers) name good id box (layer_of l) full there (is_full ∙ ap (nat_le most_objects) listed.counted)
 
-      pub insert_refused : (r : Refusal) → IsRefusal (first_refusal (object_refusals (layer_of l) id box full)) r → layer_of m ≡ layer_of l → AnsweredInMemory (table_from layers) (Insert name id box) (Refused r) (table_from (slice_set layers i m))
+      pub insert_refused : (r : Refusal) → IsRefusalOrMemory (first_refusal (object_refusals (layer_of l) id box full)) r → layer_of m ≡ layer_of l → AnsweredInMemory (table_from layers) (Insert name id box) (Refused r) (table_from (slice_set layers i m))
       insert_refused r h same = refused_or_without (table_from layers) (table_from (slice_set layers i m)) (Insert name id box) (first_refusal (object_refusals (layer_of l) id box full)) r refusals h (same_table layers i l m is called same)
 
       pub insert_done : first_refusal (object_refusals (layer_of l) id box full) ≡ None → layer_of m ≡ with_object (layer_of l) id (given_bounds box) → AnsweredInMemory (table_from layers) (Insert name id box) Done (table_from (slice_set layers i m))
@@ -71,7 +71,7 @@ module _ {A : Type 0} (layers : List (KeptLayer A)) (count : ℕ) (listed : IsLi
           let free = object_passes (layer_of l) id box full h in
           grown_listed layers count name i l m listed stands is called (ap (λ x. len x.objects) more ∙ len-with_object (layer_of l) id (given_bounds box) free.0) (has_room full count is_full free.1)
 
-    pub window_shown : (box : RawBox) (result : Result (Vec (ℕ × AnyBox) A) Refusal) → MatchResult result (λ rows. (first_refusal (box_refusals (layer_of l) box []) ≡ None) × (map row_of rows.items ≡ window_rows (layer_of l) (given_bounds box))) (λ e. IsRefusal (first_refusal (box_refusals (layer_of l) box [])) e) → AnsweredInMemory (table_from layers) (Window name box) (boxes_answer result) (table_from layers)
+    pub window_shown : (box : RawBox) (result : Result (Vec (ℕ × AnyBox) A) Refusal) → MatchResult result (λ rows. (first_refusal (box_refusals (layer_of l) box []) ≡ None) × (map row_of rows.items ≡ window_rows (layer_of l) (given_bounds box))) (λ e. IsRefusalOrMemory (first_refusal (box_refusals (layer_of l) box [])) e) → AnsweredInMemory (table_from layers) (Window name box) (boxes_answer result) (table_from layers)
     window_shown box (Ok rows) h = answered (table_from layers) (table_from layers) (Window name box) (Boxes (map row_of rows.items)) (window_refusal (table_from layers) name good box (layer_of l) there ∙ h.0)
         (ap Boxes (h.1 ∙ ap (λ x. window_rows x (given_bounds box)) this_layer)) refl
     window_shown box (Err r) h = refused_or_without (table_from layers) (table_from layers) (Window name box) (first_refusal (box_refusals (layer_of l) box [])) r (window_refusal (table_from layers) name good box (layer_of l) there) h refl

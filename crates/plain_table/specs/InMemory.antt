@@ -16,5 +16,5 @@ abbrev pub entry_of : {A : Type 0} → KeptLayer A → List ℕ × Layer
 entry_of l = (l.name.items, layer_of l)
 
 -- the table's refusal, or want of memory
-abbrev pub IsRefusal : Option Refusal → Refusal → Type 0
-IsRefusal refused e = (refused ≡ Some e) ⊎ (e ≡ refusal.Memory)
+abbrev pub IsRefusalOrMemory : Option Refusal → Refusal → Type 0
+IsRefusalOrMemory refused e = (refused ≡ Some e) ⊎ (e ≡ refusal.Memory)

@@ -20,6 +20,6 @@ entries_of (objects.Two os) = os.items
 entries_of (objects.Three os) = os.items
 
 -- why an object with so many axes is not added to others of the same dimension
-abbrev pub object_refused : ℕ → List (ℕ × Bounds) → ℕ → Bounds → Bool → List (Bool × Refusal)
-object_refused dims es id bounds is_full =
+abbrev pub object_checks : ℕ → List (ℕ × Bounds) → ℕ → Bounds → Bool → List (Bool × Refusal)
+object_checks dims es id bounds is_full =
     (not (is_ordered dims bounds), refusal.BadBox) ∷ (contains_key (from_sorted {R = nat_cmp} es) id, refusal.Duplicate) ∷ (is_full, refusal.TooManyObjects) ∷ []

@@ -35,7 +35,7 @@ pub struct Layer<A: Allocator> {
 }
 
 impl<A: Allocator + Copy> Layer<A> {
-    ghost use Rattle.plain_table.specs.InMemory.{layer_of, IsRefusal};
+    ghost use Rattle.plain_table.specs.InMemory.{layer_of, IsRefusalOrMemory};
 
     /// A layer with no object, of a good name, 2 or 3 axes and a good fanout.
     pub fn new(alloc: A, name: &[u8], dims: u64, fanout: u64) -> Self
@@ -66,7 +66,7 @@ impl<A: Allocator + Copy> Layer<A> {
         ensures inserts { MatchResult result
             (λ _. (first_refusal (object_refusals (layer_of self.old) id bounds is_full) ≡ None)
             × (layer_of self.new ≡ with_object (layer_of self.old) id (given_bounds bounds)))
-            (λ e. IsRefusal (first_refusal (object_refusals (layer_of self.old) id bounds is_full)) e
+            (λ e. IsRefusalOrMemory (first_refusal (object_refusals (layer_of self.old) id bounds is_full)) e
             × (layer_of self.new ≡ layer_of self.old)) }
         ensures name { self.new.name ≡ self.old.name }
     {
@@ -96,7 +96,7 @@ impl<A: Allocator + Copy> Layer<A> {
         ensures { MatchResult result
             (λ rows. (first_refusal (box_refusals (layer_of self.now) bounds []) ≡ None)
             × (each row_of rows.items ≡ window_rows (layer_of self.now) (given_bounds bounds)))
-            (λ e. IsRefusal (first_refusal (box_refusals (layer_of self.now) bounds [])) e) }
+            (λ e. IsRefusalOrMemory (first_refusal (box_refusals (layer_of self.now) bounds [])) e) }
     {
         match (&self.objects, bounds) {
             (Objects::Two(objects), RawBox::Two(low, high)) => {

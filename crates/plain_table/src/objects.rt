@@ -6,7 +6,7 @@ ghost use Rattle.std.specs.FinMap.{is_sorted};
 ghost use Rattle.std.specs.Ordering.{nat_cmp};
 ghost use Rattle.box_math.specs.Bounds.{IsDims, meets_test};
 ghost use Rattle.plain_table.specs.Entries.{IsSearched, BelongsAt};
-ghost use Rattle.plain_table.specs.Objects.{object_refused};
+ghost use Rattle.plain_table.specs.Objects.{object_checks};
 ghost use Rattle.plain_table.specs.Step.{first_refusal};
 
 use crate::boxes::AnyBox;
@@ -61,9 +61,9 @@ pub fn admit<const D: usize>(
     requires dims { IsDims D }
     requires sorted { IsTrue (is_sorted nat_cmp objects.now) }
     ensures { MatchResult result
-        (λ place. (first_refusal (object_refused D objects.now id (record { low = low.entry; high = high.entry }) is_full) ≡ None)
+        (λ place. (first_refusal (object_checks D objects.now id (record { low = low.entry; high = high.entry }) is_full) ≡ None)
         × BelongsAt nat_cmp objects.now id place.0 × (place.1 ≡ record { low = low.entry; high = high.entry }))
-        (λ e. first_refusal (object_refused D objects.now id (record { low = low.entry; high = high.entry }) is_full) ≡ Some e) }
+        (λ e. first_refusal (object_checks D objects.now id (record { low = low.entry; high = high.entry }) is_full) ≡ Some e) }
 {
     let Some(bounds) = BBox::try_new(low, high) else {
         return Err(Refusal::BadBox);
