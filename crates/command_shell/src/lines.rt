@@ -1,6 +1,6 @@
 //! The lines of a reader, found in one buffer.
 
-ghost use Rattle.std.specs.Prelude.{◌≡◌, ℕ, true, false, ◌+◌, ◌<◌, ◌≤◌, ◌^◌, ◌++◌, [], length, take, drop, MatchOption, MatchResult, OnOk, OnErr, IfOk};
+ghost use Rattle.std.specs.Prelude.{◌≡◌, ℕ, ◌+◌, ◌<◌, ◌≤◌, ◌^◌, ◌++◌, [], length, take, drop, MatchOption, MatchResult, OnOk, OnErr, IfOk, IfSome};
 ghost use Rattle.command_shell.specs.Lines.{IsOneLine};
 ghost use Rattle.command_shell.specs.Reading.{buffer_size, most_calls, BeginsLine, ReadsTo};
 ghost use Rattle.std.specs.Io.KnownBytes.{IsAtEnd, Keeps};
@@ -97,12 +97,11 @@ impl LineReader {
         &self.buffer[self.start..self.end]
     }
 
-    /// Whether a line and its newline are pending.
-    pub fn has_line(&self) -> bool
-        ensures found { result ≡ true → (n : ℕ) × BeginsLine (pending self.now) n }
-        ensures none { result ≡ false → IsOneLine (pending self.now) }
+    /// The length of the next line, if it is pending with its newline.
+    pub fn line(&self) -> Option<usize>
+        ensures { MatchOption result (IsOneLine (pending self.now)) (BeginsLine (pending self.now)) }
     {
-        self.newline(0).is_some()
+        self.newline(0)
     }
 
     /// The first bytes that are pending.
@@ -122,12 +121,28 @@ impl LineReader {
         self.start += count;
     }
 
-    /// Finds the next line. It stays pending, unless it was too long. It reads only where no whole line is pending; where
-    /// a read fails no newline was read.
+    /// Finds the next line, which is so long where it is known to be pending. It stays pending, unless it was too long. It
+    /// reads only where no whole line is pending; where a read fails no newline was read.
     ///
     /// A line is known to be too long once more than `MAX_LINE` bytes of it are pending and no newline is. A line
     /// whose newline is pending is given whatever its length.
-    pub fn find<R: Read>(&mut self, reader: &mut R) -> io::Result<Found>
+    pub fn find<R: Read>(&mut self, line: Option<usize>, reader: &mut R) -> io::Result<Found>
+        requires { IfSome line (BeginsLine (pending self.old)) }
+        ensures found { MatchResult result
+            (λ found. ReadsTo R.remaining reader.old reader.new (λ more.
+            Finds (IsAtEnd (R.remaining reader.new)) found (pending self.old ++ more) (pending self.new)))
+            (λ _. ReadsTo R.remaining reader.old reader.new (λ more. IsOneLine (pending self.old ++ more))) }
+        ensures lazy { (n : ℕ) → BeginsLine (pending self.old) n → reader.new ≡ reader.old }
+        ensures fewer { IfOk result (λ found. work_left self.new + work_done found ≤ work_left self.old) }
+    {
+        match line {
+            Some(len) => Ok(Found::Line(len)),
+            None => self.read_line(reader),
+        }
+    }
+
+    // Finds the next line by looking for it, and by reading where it is not pending.
+    fn read_line<R: Read>(&mut self, reader: &mut R) -> io::Result<Found>
         ensures found { MatchResult result
             (λ found. ReadsTo R.remaining reader.old reader.new (λ more.
             Finds (IsAtEnd (R.remaining reader.new)) found (pending self.old ++ more) (pending self.new)))

@@ -1,12 +1,13 @@
 //! The session of a reader's lines with a store, and how it ends.
 
-ghost use Rattle.std.specs.Prelude.{◌≡◌, ◌<◌, Some, None, MatchResult, IfNone, if◌then◌else◌};
+ghost use Rattle.std.specs.Prelude.{◌≡◌, ◌<◌, Some, None, MatchResult, IfNone, IfSome, if◌then◌else◌};
 ghost use Rattle.std.specs.Io.KnownBytes.{Keeps};
 ghost use Rattle.plain_table.specs.Answers.{done_answer, boxes_answer};
 ghost use Rattle.plain_table.specs.Lawful.{Takes};
 ghost use Rattle.layer_store.specs.Standing.{Stands};
 ghost use Rattle.command_shell.specs.Answering.{AnswersLine, Replies, reply_answers};
 ghost use Rattle.command_shell.specs.Pending.{pending, work_left};
+ghost use Rattle.command_shell.specs.Reading.{BeginsLine};
 ghost use Rattle.command_shell.specs.Runs.{Runs, StepsTo};
 ghost use Rattle.command_shell.specs.Said.{said};
 ghost use Rattle.command_shell.specs.Texts.{reply_answer};
@@ -53,38 +54,41 @@ pub fn run<D: BlockDevice, A: Allocator + Copy, R: Read, W: Write>(
 {
     let mut lines = LineReader::new();
     loop {
-        if hand_on(&lines, output).is_err() {
+        let line = lines.line();
+        if hand_on(line, output).is_err() {
             return RunEnd::WriteFault;
         }
-        if let Some(end) = step(store, &mut lines, input, output) {
+        if let Some(end) = step(store, &mut lines, line, input, output) {
             return end;
         }
     }
 }
 
 // Flushes the replies so far where no line is pending, so that who waits for one before the next line is sent has it.
-fn hand_on<W: Write>(lines: &LineReader, output: &mut W) -> io::Result<()>
+fn hand_on<W: Write>(line: Option<usize>, output: &mut W) -> io::Result<()>
     ensures { Keeps (W.contents output.old) (W.contents output.new) }
 {
-    if lines.has_line() {
-        return Ok(());
+    match line {
+        Some(_) => Ok(()),
+        None => output.flush(),
     }
-    output.flush()
 }
 
-// Answers the next line, or says how the run ends.
+// Answers the next line, which is so long where it is pending, or says how the run ends.
 fn step<D: BlockDevice, A: Allocator + Copy, R: Read, W: Write>(
     store: &mut Store<D, A>,
     lines: &mut LineReader,
+    line: Option<usize>,
     input: &mut R,
     output: &mut W,
 ) -> Option<RunEnd>
+    requires { IfSome line (BeginsLine (pending lines.old)) }
     ensures steps { Takes Stands store.old store.new (λ s s'.
         StepsTo R.remaining W.contents result s s' input.old input.new output.old output.new
         (pending lines.old) (pending lines.new)) }
     ensures fewer { IfNone result (work_left lines.new < work_left lines.old) }
 {
-    match lines.find(input) {
+    match lines.find(line, input) {
         Ok(Found::Line(len)) => {
             let written = answer(store, parse_line(lines.front(len)), output);
             lines.take(len + 1);

@@ -1,9 +1,9 @@
--- What holds at each turn of the loop of `LineReader::find`.
+-- What holds at each turn of the loop of `LineReader::read_line`.
 use Rattle.std.proofs.Common.{◌≡◌, ◌≤◌, ℕ, ◌++◌, length, take}
 use Rattle.command_shell.specs.Lines.{IsOneLine}
 use Rattle.command_shell.specs.Pending.{pending, work_left}
 use Rattle.command_shell.specs.Reading.{BeginsLine, ReadsTo}
-use Rattle.command_shell.proofs.lines.LineReader.find.Given as goal
+use Rattle.command_shell.proofs.lines.LineReader.read_line.Given as goal
 
 abbrev pub invariant-loop-at : goal.invariant-loop-at
 invariant-loop-at g l = record {

@@ -1,11 +1,11 @@
--- The goals of `LineReader::find` that are proved by hand.
+-- The goals of `LineReader::read_line` that are proved by hand.
 use Rattle.std.proofs.Common.{◌≡◌, ℕ, List, ◌++◌, Option, Result, Ok, Err, MatchResult, ap, ◌∙◌, subst, append_assoc}
 use Rattle.command_shell.specs.Lines.{IsOneLine}
 use Rattle.std.specs.Io.KnownBytes.{IsAtEnd}
 use Rattle.command_shell.specs.Pending.{pending, Finds}
 use Rattle.command_shell.specs.Reading.{ReadsTo}
 use Rattle.command_shell.proofs.ReadLemmas.{reads_on}
-use Rattle.command_shell.proofs.lines.LineReader.find.Goals as goal
+use Rattle.command_shell.proofs.lines.LineReader.read_line.Goals as goal
 
 passed : {R T E : Type 0} {remaining : R → Option (List ℕ)} (old mid new : R) (result : Result T E) (p0 p1 : List ℕ) (Q : T → List ℕ → Type 0) → ReadsTo remaining old mid (λ more. p1 ≡ p0 ++ more) → MatchResult result (λ found. ReadsTo remaining mid new (λ more. Q found (p1 ++ more))) (λ _. ReadsTo remaining mid new (λ more. IsOneLine (p1 ++ more))) → MatchResult result (λ found. ReadsTo remaining old new (λ more. Q found (p0 ++ more))) (λ _. ReadsTo remaining old new (λ more. IsOneLine (p0 ++ more)))
 passed old mid new (Ok found) p0 p1 Q a b = reads_on a b (λ x y e q. subst (Q found) (ap (λ t. t ++ y) e ∙ append_assoc p0 x y) q)
