@@ -97,6 +97,7 @@ impl<D: BlockDevice, A: Allocator + Copy> Kept<D, A> {
 
         ensures shut { OnOk result (gate_of self.new.file ≡ Shut) }
         ensures written { OnOk result (self.new.written ≡ true) }
+        ensures still_written { self.old.written ≡ true → self.new.written ≡ true }
         ensures was_settled { gate_of self.old.file ≡ Shut → self.old.written ≡ true → (self.new ≡ self.old) × IsOk result }
         ensures lies { IsPageMap self.old.file → OnOk result (LiesIn self.new.file (blocks_of self.new.file)) }
         ensures table { self.new.table ≡ self.old.table }

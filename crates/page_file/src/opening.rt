@@ -63,6 +63,7 @@ pub fn check_opening<D: BlockDevice>(device: &mut D) -> Result<Header, Fault>
     ensures never { IfErr result (λ e. ¬ (e ≡ fault.NoPages)) }
     ensures shown { D.honest device.old → D.shown device.new ≡ D.shown device.old }
     ensures durable { D.honest device.old → OnOk result (Only (D.shown device.new) (D.may_leave device.new)) }
+    ensures refused_durable { D.honest device.old → IfErr result (λ f. IsOfDevice f ⊎ Only (D.shown device.new) (D.may_leave device.new)) }
     ensures stops { D.honest device.old → LeavesOnly D.moment D.left_since device.old device.new (D.may_leave device.old) }
     ensures honest { D.honest device.old ↔ D.honest device.new }
     ensures cause { HasCause (D.faults device.old) (D.faults device.new) result }

@@ -2,7 +2,7 @@
 
 use crate::changes::{change_store, change_table, point, scene_table, set_scene, stands_for};
 use crate::fixture::{CACHE, PLANE, are_same_blocks, closed, device_of, new_store, opened};
-use block_device::{FuseDevice, FuseMode, MemoryDevice};
+use block_device::{BlockDevice, FuseDevice, FuseMode, MemoryDevice};
 use layer_store::{Refusal, Store, create_store, open_store};
 use plain_table::ListTable;
 use std::alloc::Global;
@@ -115,6 +115,10 @@ fn reopening(
     if answer.is_err() {
         assert_eq!(rt; store.reopen(), Ok(()));
         assert!(rt; stands_for(&mut store, table), "{passes}");
+        // Once the catalog is written, the table is not written again.
+        if passes >= 16 {
+            assert_eq!(rt; device_of(store)?.blocks(), 9, "{passes}");
+        }
     }
     Ok(answer)
 }

@@ -1,8 +1,11 @@
 //! Boxes that touch, and what stays and what is written when a store is closed.
 
+use crate::changes::stands_for;
 use crate::fixture::{
-    CACHE, are_rows, are_same_blocks, copy_of, device_of, new_store, opened, opened_again, plane,
+    CACHE, are_rows, are_same_blocks, copy_of, device_of, new_store, opened, opened_again, patch,
+    plane,
 };
+use crate::images::image;
 use block_device::{BlockDevice, MemoryDevice};
 use layer_store::{RawBox, Refusal, Store};
 use plain_table::ListTable;
@@ -38,6 +41,27 @@ fn answers(store: &mut Store<MemoryDevice>) -> Result<bool, Refusal> {
             && are_rows(&first, &[(1, FIRST)])
             && are_rows(&second, &[(2, SECOND)]),
     )
+}
+
+#[test]
+fn comparisons_say_no(rt: HostRuntime) -> Result<(), Fail> {
+    let mut store = scene(rt.alloc())?;
+    let table = ListTable::new(rt.alloc());
+    assert!(rt; !stands_for(&mut store, &table));
+    let rows = store.window(b"a", POINT)?;
+    assert!(rt; !are_rows(&rows, &[(1, FIRST)]));
+    assert!(rt; !are_rows(&rows, &[(1, FIRST), (2, FAR)]));
+    assert!(rt; !are_rows(&rows, &[(1, FIRST), (3, SECOND)]));
+    store.insert(b"a", 3, plane(FIRST))?;
+    assert!(rt; !answers(&mut store)?);
+    let mut device = device_of(store)?;
+    let mut other = copy_of(rt.alloc(), &mut device)?;
+    assert!(rt; are_same_blocks(&mut other, &mut device)?);
+    patch(&mut other, 3, 4095, 1, 1)?;
+    assert!(rt; !are_same_blocks(&mut other, &mut device)?);
+    let mut store = opened(rt.alloc(), image(rt.alloc())?, CACHE)?;
+    assert!(rt; !crate::images::answers(&mut store, 2)?);
+    Ok(())
 }
 
 #[test]

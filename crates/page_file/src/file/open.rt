@@ -1,6 +1,6 @@
 //! The beginning of a file of pages: opened, or made anew.
 ghost use Rattle.std.specs.Prelude.{◌≡◌, ◌⊎◌, ◌↔◌, ◌≤◌, ◌<◌, ℕ, Some, None, length, IfOk, IfErr};
-ghost use Rattle.block_device.specs.Device.{LeavesOnly};
+ghost use Rattle.block_device.specs.Device.{Only, LeavesOnly};
 ghost use Rattle.page_file.specs.Fault.{HasCause, IsOfDevice, IsDamage, faults_after};
 ghost use Rattle.page_file.specs.File.{device_of, blocks_of, gate_of, next_of, pages, IsHonest, IsNewFile, IsPageMap, KeepsGate, KeepsMap, LiesIn};
 ghost use Rattle.page_file.specs.Layout.{catalog_block};
@@ -31,6 +31,9 @@ pub fn open_pages<D: BlockDevice>(device: D) -> Result<PageFile<D>, (Fault, D)>
     ensures stops { IfOk result (λ file. D.honest device → LeavesOnly D.moment D.left_since device (device_of file) (D.may_leave device)) }
     ensures refused_blocks { IfErr result (λ e. D.honest device → D.shown e.1 ≡ D.shown device) }
     ensures refused_stops { IfErr result (λ e. D.honest device → LeavesOnly D.moment D.left_since device e.1 (D.may_leave device)) }
+
+    // What a check refuses is durable: no stop brings back other blocks.
+    ensures refused_durable { IfErr result (λ e. D.honest device → IsOfDevice e.0 ⊎ Only (D.shown e.1) (D.may_leave e.1)) }
 
     ensures honest { IfOk result (λ file. D.honest device ↔ D.honest (device_of file)) }
     ensures refused_honest { IfErr result (λ e. D.honest device ↔ D.honest e.1) }
