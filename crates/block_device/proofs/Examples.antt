@@ -1,11 +1,12 @@
 -- Worked examples of the words of a device's contract: what a write makes of the blocks, what outcomes follow from
 -- others, which faults count, and when a fuse fails. No other proof rests on them. A definition that says another thing
 -- than docs/FORMAT.md, "The disk model of a stop", is refused here.
-use Rattle.std.proofs.Common.{◌≡◌, ◌∙◌, ◌⊎◌, ℕ, List, [], ◌∷◌, true, false, Result, Ok, Err, refl, ap, arith, inl, inr, ⊎_elim, ◌+◌, get_or, length, map, replicate}
+use Rattle.std.proofs.Common.{◌≡◌, ◌∙◌, ◌⊎◌, ℕ, ◌<◌, List, [], ◌∷◌, true, false, Result, Ok, Err, refl, ap, arith, inl, inr, ⊎_elim, ◌+◌, get_or, length, map, replicate}
 use Rattle.std.proofs.lemmas.List.{length-replicate}
 use Rattle.block_device.specs.Device.{IsBlock, Blocks, block_at, written, Torn, Follows, LeavesNoMore, Only, Elapses, LeavesOnly, one_more, Counts, HasRisen}
 use Rattle.block_device.specs.Fuse.{is_blown, fails_next, CallsBelow, faults_with}
 use Rattle.block_device.specs.Laws.{Both}
+use Rattle.block_device.specs.Outcomes.{repeated_block}
 use Rattle.block_device.specs.declared.device.DeviceError.{DeviceError}
 use Rattle.block_device.specs.declared.device.DeviceError.TheVariants.{Failed, Memory}
 use Rattle.block_device.specs.declared.fuse.FuseDevice.{FuseDevice}
@@ -16,14 +17,17 @@ use Rattle.block_device.specs.declared.fuse.FuseMode.TheVariants.{Once, Onward}
 abbrev pub block : ℕ → List ℕ
 block byte = replicate 4096 byte
 
-pub is_block : (byte : ℕ) → IsBlock (block byte)
-is_block byte = length-replicate 4096 byte
+pub is_block : (byte : ℕ) → byte < 256 → IsBlock (block byte)
+is_block = repeated_block
 
 one_byte_less_is_no_block : IsBlock (replicate 4095 0) → ⊥
-one_byte_less_is_no_block h = absurd (omega (arith, h, length-replicate {A = ℕ} 4095 0))
+one_byte_less_is_no_block h = absurd (omega (arith, h.size, length-replicate {A = ℕ} 4095 0))
 
 one_byte_more_is_no_block : IsBlock (replicate 4097 0) → ⊥
-one_byte_more_is_no_block h = absurd (omega (arith, h, length-replicate {A = ℕ} 4097 0))
+one_byte_more_is_no_block h = absurd (omega (arith, h.size, length-replicate {A = ℕ} 4097 0))
+
+a_greater_number_is_no_byte : IsBlock (255 ∷ 256 ∷ replicate 4094 0) → ⊥
+a_greater_number_is_no_byte h = absurd (omega (arith, h.bytes_fit 1))
 
 -- two blocks; of the tiny ones only the number counts
 abbrev two : Blocks
@@ -46,11 +50,11 @@ a_first_block_is_added = refl
 a_torn_write_may_have_done_nothing : (i : ℕ) (blocks : Blocks) → Torn i blocks blocks
 a_torn_write_may_have_done_nothing i blocks = inl refl
 
-a_torn_write_may_leave_any_bytes : (byte : ℕ) → Torn 1 two ((1 ∷ []) ∷ block byte ∷ [])
-a_torn_write_may_leave_any_bytes byte = inr (block byte, is_block byte, refl)
+a_torn_write_may_leave_any_bytes : (byte : ℕ) → byte < 256 → Torn 1 two ((1 ∷ []) ∷ block byte ∷ [])
+a_torn_write_may_leave_any_bytes byte lt = inr (block byte, is_block byte lt, refl)
 
 a_torn_write_may_have_added_its_block : Torn 2 two ((1 ∷ []) ∷ (2 ∷ []) ∷ block 9 ∷ [])
-a_torn_write_may_have_added_its_block = inr (block 9, is_block 9, refl)
+a_torn_write_may_have_added_its_block = inr (block 9, is_block 9 (omega arith), refl)
 
 a_torn_write_changes_no_other_block : Torn 1 two (block 9 ∷ (2 ∷ []) ∷ []) → ⊥
 a_torn_write_changes_no_other_block (inl same) = absurd (omega (arith, ap (λ c. get_or (block_at 0 c) 0 0) same))
@@ -62,7 +66,11 @@ a_torn_write_changes_no_two_blocks (inr w) = absurd (omega (arith, ap (λ c. get
 
 a_torn_write_leaves_no_block_of_another_length : Torn 1 two ((1 ∷ []) ∷ (9 ∷ []) ∷ []) → ⊥
 a_torn_write_leaves_no_block_of_another_length (inl same) = absurd (cc)
-a_torn_write_leaves_no_block_of_another_length (inr w) = absurd (omega (arith, w.1, ap (λ c. length (block_at 1 c)) w.2))
+a_torn_write_leaves_no_block_of_another_length (inr w) = absurd (omega (arith, w.1.size, ap (λ c. length (block_at 1 c)) w.2))
+
+a_torn_write_leaves_no_number_above_a_byte : Torn 1 two ((1 ∷ []) ∷ block 256 ∷ []) → ⊥
+a_torn_write_leaves_no_number_above_a_byte (inl same) = absurd (omega (arith, ap (λ c. get_or (block_at 1 c) 0 0) same))
+a_torn_write_leaves_no_number_above_a_byte (inr w) = absurd (omega (arith, w.1.bytes_fit 0, ap (λ c. get_or (block_at 1 c) 0 0) w.2))
 
 a_torn_write_takes_no_block_away : Torn 1 two ((1 ∷ []) ∷ []) → ⊥
 a_torn_write_takes_no_block_away (inl same) = absurd (cc)
@@ -81,7 +89,7 @@ abbrev other : Blocks
 other = (3 ∷ []) ∷ []
 
 an_outcome_follows_by_a_step : Follows (Torn 2) (are two) (are ((1 ∷ []) ∷ (2 ∷ []) ∷ block 9 ∷ []))
-an_outcome_follows_by_a_step c is = (two, refl, inr (block 9, is_block 9, is))
+an_outcome_follows_by_a_step c is = (two, refl, inr (block 9, is_block 9 (omega arith), is))
 
 each_new_outcome_follows : Follows (Torn 2) (are two) (either two other) → ⊥
 each_new_outcome_follows h = let from = h other (inr refl) in let d = from.1 in absurd (case from.0 d from.2)
@@ -106,7 +114,7 @@ these_and_others_are_not_these_only : Only two (either two other) → ⊥
 these_and_others_are_not_these_only h = let no = h other (inr refl) in absurd (cc)
 
 first_one_step_and_then_another : Both (Torn 0) (Torn 1) two (block 8 ∷ block 9 ∷ [])
-first_one_step_and_then_another = (block 8 ∷ (2 ∷ []) ∷ [], inr (block 8, is_block 8, refl), inr (block 9, is_block 9, refl))
+first_one_step_and_then_another = (block 8 ∷ (2 ∷ []) ∷ [], inr (block 8, is_block 8 (omega arith), refl), inr (block 9, is_block 9 (omega arith), refl))
 
 -- ---- moments
 

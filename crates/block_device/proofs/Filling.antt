@@ -1,7 +1,7 @@
 -- Blocks that are restored or filled after a stop.
 use Rattle.std.proofs.Common.{◌≡◌, ◌∙◌, ◌⊎◌, ℕ, suc, ◌+◌, ◌<◌, ◌≤◌, Bool, true, false, ◌||◌, nat_eq, List, [], ◌∷◌, length, take, set, get_or, replicate, refl, sym, ap, subst, arith, inl, inr, ⊎_elim, length-set}
 use Rattle.std.specs.List.{All}
-use Rattle.std.proofs.lemmas.List.{same_lists, get_or-set_same, get_or-set_other, get_or-take, length-take-le, get_or_default, get_or_past, length-replicate}
+use Rattle.std.proofs.lemmas.List.{same_lists, get_or-set_same, get_or-set_other, get_or-take, length-take-le, get_or_default, get_or_past}
 use Rattle.std.proofs.lemmas.Bool.{cases_lt, cases_eq, cases_Bool, eqb-true, or_cases, both_ways, false_from_ne_true}
 use Rattle.block_device.specs.declared.left.Left.{Left}
 use Rattle.block_device.specs.declared.left.Left.TheVariants as left
@@ -10,7 +10,7 @@ use Rattle.block_device.specs.Device.{Blocks, IsBlock, block_at}
 use Rattle.block_device.specs.History.{Event, IsHistory, MayLeave, at_sync, unsynced}
 use Rattle.block_device.specs.Memory.{IsLeft}
 use Rattle.block_device.specs.Kept.{IsKept, IsOld, FillsMarked, IsLeftFrom, is_in, is_logged}
-use Rattle.block_device.specs.Outcomes.{sync_le, sync_same, shown_left}
+use Rattle.block_device.specs.Outcomes.{repeated_block, sync_le, sync_same, shown_left}
 use Rattle.block_device.specs.Stop.{IsFilled}
 use Rattle.block_device.proofs.Numbers.{contains_from, is_in_from, not_in}
 use Rattle.block_device.proofs.Stops.{synced_left, filled_left}
@@ -105,10 +105,10 @@ left_is left.Synced blocks new marks log synced es kept is = is ∙ restores blo
 left_is (left.Filled byte) blocks new marks log synced es kept is = filled blocks new marks log synced es (replicate 4096 byte) kept is
 
 -- and one of the outcomes of a stop
-pub left_outcome : (l : Left) (blocks new : Blocks) (es : List Event) → All IsBlock blocks → IsHistory blocks es → IsLeft l blocks (at_sync blocks es) (unsynced es) new → MayLeave blocks es new
-left_outcome left.Written blocks new es sized h is = subst (λ (b : Blocks). MayLeave blocks es b) (sym is) (shown_left blocks es sized h)
-left_outcome left.Synced blocks new es sized h is = subst (λ (b : Blocks). MayLeave blocks es b) (sym is) (synced_left blocks es sized h)
-left_outcome (left.Filled byte) blocks new es sized h is = filled_left (replicate 4096 byte) blocks new es (length-replicate 4096 byte) sized h is
+pub left_outcome : (l : Left) → ((byte : ℕ) → l ≡ left.Filled byte → byte < 256) → (blocks new : Blocks) (es : List Event) → All IsBlock blocks → IsHistory blocks es → IsLeft l blocks (at_sync blocks es) (unsynced es) new → MayLeave blocks es new
+left_outcome left.Written fits blocks new es sized h is = subst (λ (b : Blocks). MayLeave blocks es b) (sym is) (shown_left blocks es sized h)
+left_outcome left.Synced fits blocks new es sized h is = subst (λ (b : Blocks). MayLeave blocks es b) (sym is) (synced_left blocks es sized h)
+left_outcome (left.Filled byte) fits blocks new es sized h is = filled_left (replicate 4096 byte) blocks new es (repeated_block byte (fits byte refl)) sized h is
 
 -- the log is of blocks that are there
 pub logged_there : (blocks : Blocks) (marks : List Bool) (log : List Write) (synced : ℕ) (es : List Event) → IsKept blocks marks log synced es → All (λ w. w.at < length blocks) log

@@ -50,16 +50,16 @@ the_first_of_two_was_not_appended : IsThere 0 None two → ⊥
 the_first_of_two_was_not_appended h = absurd (omega (arith, h))
 
 a_changed_block_is_there : IsThere 1 (Some (block 7)) two
-a_changed_block_is_there = (omega arith, is_block 7)
+a_changed_block_is_there = (omega arith, is_block 7 (omega arith))
 
 no_third_of_two_was_changed : IsThere 2 (Some (block 7)) two → ⊥
 no_third_of_two_was_changed h = absurd (omega (arith, h.0))
 
 a_changed_block_was_a_block : IsThere 1 (Some (tiny 7)) two → ⊥
-a_changed_block_was_a_block h = absurd (omega (arith, h.1))
+a_changed_block_was_a_block h = absurd (omega (arith, h.1.size))
 
 a_history : IsHistory two (Wrote 0 (Some (block 5)) ∷ Synced ∷ Wrote 1 None ∷ Wrote 0 None ∷ [])
-a_history = ((omega arith, is_block 5), (refl, (refl, tt)))
+a_history = ((omega arith, is_block 5 (omega arith)), (refl, (refl, tt)))
 
 no_history_appends_a_block_twice : IsHistory two (Wrote 1 None ∷ Wrote 1 None ∷ []) → ⊥
 no_history_appends_a_block_twice h = absurd (omega (arith, h.1.0))
@@ -72,19 +72,19 @@ one a = block a ∷ []
 abbrev both : ℕ → ℕ → Blocks
 both a b = block a ∷ block b ∷ []
 
-all_one : (a : ℕ) → All IsBlock (one a)
-all_one a = All-cons IsBlock (block a) [] (is_block a) (All-nil IsBlock)
+all_one : (a : ℕ) → a < 256 → All IsBlock (one a)
+all_one a lt = All-cons IsBlock (block a) [] (is_block a lt) (All-nil IsBlock)
 
-all_both : (a b : ℕ) → All IsBlock (both a b)
-all_both a b = All-cons IsBlock (block a) (one b) (is_block a) (all_one b)
+all_both : (a b : ℕ) → a < 256 → b < 256 → All IsBlock (both a b)
+all_both a b lt lt' = All-cons IsBlock (block a) (one b) (is_block a lt) (all_one b lt')
 
 not_0 : ¬ Contains {X = ℕ} (1 ∷ []) 0
 not_0 (zero, lt, e) = absurd (omega (arith, e))
 not_0 (suc i, lt, e) = absurd (omega (arith, lt))
 
 -- block 1 was written since the last sync, at which it was there, or was not
-an_unsynced_block_holds_any_bytes : (byte : ℕ) → IsOutcome (both 1 2) (both 1 3) (1 ∷ []) (both 1 byte)
-an_unsynced_block_holds_any_bytes byte = record { no_shorter = omega arith; no_longer = omega arith; whole = all_both 1 byte; others = same }
+an_unsynced_block_holds_any_bytes : (byte : ℕ) → byte < 256 → IsOutcome (both 1 2) (both 1 3) (1 ∷ []) (both 1 byte)
+an_unsynced_block_holds_any_bytes byte fits = record { no_shorter = omega arith; no_longer = omega arith; whole = all_both 1 byte (omega arith) fits; others = same }
   where
     same : (k : ℕ) → ¬ Contains (1 ∷ []) k → k < 2 → block_at k (both 1 byte) ≡ block_at k (both 1 2)
     same zero none lt = refl
@@ -92,7 +92,7 @@ an_unsynced_block_holds_any_bytes byte = record { no_shorter = omega arith; no_l
     same (suc (suc k)) none lt = absurd (omega (arith, lt))
 
 an_appended_block_may_be_missing : IsOutcome (both 1 2) (one 1) (1 ∷ []) (one 1)
-an_appended_block_may_be_missing = record { no_shorter = omega arith; no_longer = omega arith; whole = all_one 1; others = same }
+an_appended_block_may_be_missing = record { no_shorter = omega arith; no_longer = omega arith; whole = all_one 1 (omega arith); others = same }
   where
     same : (k : ℕ) → ¬ Contains (1 ∷ []) k → k < 1 → block_at k (one 1) ≡ block_at k (both 1 2)
     same zero none lt = refl
@@ -108,20 +108,20 @@ a_block_that_was_not_written_stays : IsOutcome (both 1 2) (both 1 3) (1 ∷ []) 
 a_block_that_was_not_written_stays h = absurd (omega (arith, ap (λ b. get_or b 0 0) (h.others 0 not_0 (omega arith))))
 
 each_block_has_4096_bytes : IsOutcome two two (0 ∷ 1 ∷ []) two → ⊥
-each_block_has_4096_bytes h = absurd (omega (arith, h.whole 0 [] (omega arith)))
+each_block_has_4096_bytes h = absurd (omega (arith, (h.whole 0 [] (omega arith)).size))
 
 -- it was written, and synced
 abbrev synced : List Event
 synced = Synced ∷ Wrote 0 (Some (block 1)) ∷ []
 
 after_a_sync_a_stop_leaves_what_is_read : MayLeave (one 2) synced (one 2)
-after_a_sync_a_stop_leaves_what_is_read = record { no_shorter = omega arith; no_longer = omega arith; whole = all_one 2; others = λ k none lt. refl }
+after_a_sync_a_stop_leaves_what_is_read = record { no_shorter = omega arith; no_longer = omega arith; whole = all_one 2 (omega arith); others = λ k none lt. refl }
 
 after_a_sync_a_stop_leaves_nothing_else : MayLeave (one 2) synced (one 9) → ⊥
 after_a_sync_a_stop_leaves_nothing_else h = absurd (omega (arith, ap (λ b. get_or b 0 0) (h.others 0 (λ none. absurd (omega (arith, none.1))) (omega arith))))
 
 before_the_sync_a_stop_left_any_bytes : LeftSince (one 2) synced 1 (one 9)
-before_the_sync_a_stop_left_any_bytes = inr (omega arith, inl (record { no_shorter = omega arith; no_longer = omega arith; whole = all_one 9; others = same }))
+before_the_sync_a_stop_left_any_bytes = inr (omega arith, inl (record { no_shorter = omega arith; no_longer = omega arith; whole = all_one 9 (omega arith); others = same }))
   where
     same : (k : ℕ) → ¬ Contains (0 ∷ []) k → k < 1 → block_at k (one 9) ≡ block_at k (one 2)
     same zero none lt = absurd (none (0, omega arith, refl))
@@ -136,7 +136,7 @@ abbrev in_turn : List Event
 in_turn = Synced ∷ Wrote 1 (Some (block 4)) ∷ Synced ∷ Wrote 0 (Some (block 9)) ∷ []
 
 at_an_earlier_moment_a_stop_left_the_blocks_of_that_moment : LeftSince (both 1 5) in_turn 1 (both 7 4)
-at_an_earlier_moment_a_stop_left_the_blocks_of_that_moment = inr (omega arith, inr (omega arith, inr (omega arith, inl (record { no_shorter = omega arith; no_longer = omega arith; whole = all_both 7 4; others = same }))))
+at_an_earlier_moment_a_stop_left_the_blocks_of_that_moment = inr (omega arith, inr (omega arith, inr (omega arith, inl (record { no_shorter = omega arith; no_longer = omega arith; whole = all_both 7 4 (omega arith) (omega arith); others = same }))))
   where
     same : (k : ℕ) → ¬ Contains (0 ∷ []) k → k < 2 → block_at k (both 7 4) ≡ block_at k (both 1 4)
     same zero none lt = absurd (none (0, omega arith, refl))
@@ -184,4 +184,4 @@ where_all_is_synced_nothing_is_filled : IsLeft (Filled 9) two two [] two
 where_all_is_synced_nothing_is_filled = record { as_many = refl; there = λ k one lt. absurd (omega (arith, one.1)); others = λ k none. refl }
 
 whole_blocks_are_filled : IsLeft (Filled 9) two two (1 ∷ []) (tiny 1 ∷ tiny 9 ∷ []) → ⊥
-whole_blocks_are_filled h = absurd (omega (arith, is_block 9, ap length (h.there 1 (0, omega arith, refl) (omega arith))))
+whole_blocks_are_filled h = absurd (omega (arith, (is_block 9 (omega arith)).size, ap length (h.there 1 (0, omega arith, refl) (omega arith))))

@@ -1,12 +1,13 @@
 -- The words of a device's contract: what a call does to the blocks, what a stop may leave, and how
 -- faults are counted (our disk model, docs/FORMAT.md, "The disk model of a stop").
-use Rattle.std.specs.Prelude.{◌≡◌, ◌<◌, ◌≤◌, ◌⊎◌, ◌+◌, ◌-◌, ◌^◌, ℕ, zero, suc, List, [], ◌∷◌, length, slice_index_or, Result, IsErrOf, min}
+use Rattle.std.specs.Prelude.{◌≡◌, ◌<◌, ◌≤◌, ◌⊎◌, ◌+◌, ◌-◌, ◌^◌, ℕ, zero, suc, List, [], ◌∷◌, length, slice_index, slice_index_or, Result, IsErrOf, min}
 use Rattle.block_device.specs.declared.device.DeviceError.{DeviceError}
 use Rattle.block_device.specs.declared.device.DeviceError.TheVariants.{Failed}
 
--- the bytes of one block
-abbrev pub IsBlock : List ℕ → Type 0
-IsBlock bytes = length bytes ≡ 4096
+-- the bytes of one block: 4096 numbers, each below 256
+pub record IsBlock (bytes : List ℕ) : Type 0 where
+  pub size : length bytes ≡ 4096
+  pub bytes_fit : (k : ℕ) → slice_index bytes k < 256
 
 -- the bytes of each block of a device
 abbrev pub Blocks : Type 0

@@ -1,8 +1,8 @@
 -- Laws of the outcomes of a stop of a device in memory.
-use Rattle.std.specs.Prelude.{◌≡◌, ℕ, suc, ◌+◌, ◌<◌, ◌≤◌, ◌^◌, List, [], ◌∷◌, length, Option, Some, None, refl}
+use Rattle.std.specs.Prelude.{◌≡◌, ℕ, zero, suc, ◌+◌, ◌<◌, ◌≤◌, ◌^◌, List, [], ◌∷◌, length, replicate, slice_index, Option, Some, None, refl}
 use Rattle.std.specs.List.{All, Contains}
 use Rattle.std.proofs.Common.{get_or, set, take, subst, inl, inr, ⊎_elim, sym, ◌∙◌, arith, lit<, length-set}
-use Rattle.std.proofs.lemmas.List.{get_or-set_same, get_or-set_other, get_or-take, length-take-le}
+use Rattle.std.proofs.lemmas.List.{get_or-set_same, get_or-set_other, get_or-take, length-replicate, length-take-le}
 use Rattle.std.proofs.lemmas.Bool.{cases_eq}
 use Rattle.block_device.specs.Device.{Blocks, IsBlock, block_at}
 use Rattle.block_device.specs.History.{Event, Wrote, Synced, undone, before, IsThere, IsHistory, MayLeave, LeftSince, at_sync, unsynced}
@@ -40,6 +40,15 @@ sync_same blocks (Synced ∷ es) k h none lt = refl
 sync_same blocks (Wrote i old ∷ es) k h none lt =
     sync_same (undone i old blocks) es k h.1 (not_later k i (unsynced es) none) lt
     ∙ undone_other i k old blocks h.0 (not_first k i (unsynced es) none) (omega (arith, lt, sync_le (undone i old blocks) es h.1))
+
+-- a block of one byte throughout
+repeated_fit : (n byte k : ℕ) → byte < 256 → slice_index (replicate n byte) k < 256
+repeated_fit zero byte k lt = omega arith
+repeated_fit (suc n) byte zero lt = lt
+repeated_fit (suc n) byte (suc k) lt = repeated_fit n byte k lt
+
+pub repeated_block : (byte : ℕ) → byte < 256 → IsBlock (replicate 4096 byte)
+repeated_block byte lt = record { size = length-replicate 4096 byte; bytes_fit = λ k. repeated_fit 4096 byte k lt }
 
 -- a block written or left out leaves blocks
 pub set_blocks : (i : ℕ) (b : List ℕ) (bs : Blocks) → IsBlock b → All IsBlock bs → All IsBlock (set bs i b)

@@ -5,8 +5,8 @@ use Rattle.std.proofs.Common.{◌≡◌, ◌∙◌, ℕ, zero, suc, List, [], �
 use Rattle.std.specs.List.{IsDistinct}
 use Rattle.std.proofs.lemmas.Bool.Decides.{nat_tests}
 use Rattle.block_bytes.specs.Numbers.{zeros, number_at}
-use Rattle.block_bytes.specs.Laws.{length-zeros}
 use Rattle.block_device.specs.Device.{Blocks, block_at, written}
+use Rattle.block_device.specs.Outcomes.{repeated_block}
 use Rattle.page_file.specs.Chains.{a_chain_is_distinct}
 use Rattle.page_file.specs.File.{IsHonest, IsPageMap, KeepsGate, KeepsMap, LiesIn, blocks_of, gate_of, next_of, pages}
 use Rattle.page_file.specs.Layout.{gate_block}
@@ -179,7 +179,8 @@ an_outcome_that_was_not_torn : TornFrom 2 (λ c. c ≡ closed) closed
 an_outcome_that_was_not_torn = (closed, refl, inl refl)
 
 an_outcome_with_a_torn_page : TornFrom 2 (λ c. c ≡ closed) (gate ∷ header 0 3 0 0 ∷ zeros ∷ [])
-an_outcome_with_a_torn_page = (closed, refl, inr (zeros, length-zeros, refl))
+unfolding zeros
+an_outcome_with_a_torn_page = (closed, refl, inr (zeros, repeated_block 0 (omega arith), refl))
 
 no_outcome_with_another_block_torn : TornFrom 2 (λ c. c ≡ closed) gate_torn → ⊥
 no_outcome_with_another_block_torn (d, is, inl same) = let no = same ∙ is in absurd (cc)

@@ -1,7 +1,8 @@
 -- What follows from the facts that the calls on a file promise, for the crates that stand on them.
-use Rattle.std.specs.Prelude.{◌≡◌, ◌⊎◌, ◌↔◌, ◌≤◌, ◌<◌, ◌^◌, ℕ, List, length, Some, None, refl}
+use Rattle.std.specs.Prelude.{◌≡◌, ◌⊎◌, ◌↔◌, ◌≤◌, ◌<◌, ◌^◌, ℕ, List, [], length, Some, None, refl}
+use Rattle.std.specs.List.{All}
 use Rattle.std.proofs.Common.{drop, ap, inl, inr, ⊎_elim, sym, ◌∙◌, subst, arith}
-use Rattle.block_device.specs.Device.{Blocks, LeavesOnly}
+use Rattle.block_device.specs.Device.{Blocks, IsBlock, LeavesOnly}
 use Rattle.page_file.specs.declared.file.PageFile.{PageFile}
 use Rattle.page_file.specs.declared.gate.Gate.{Gate}
 use Rattle.page_file.specs.declared.gate.Gate.TheVariants.{Shut, Open, Unsure}
@@ -11,7 +12,7 @@ use Rattle.page_file.specs.Stops.{AddsOnly, SameButGate, StopNow, StopSince}
 use Rattle.page_file.specs.Aside.{aside_lies, aside_passes}
 use Rattle.page_file.specs.Gated.{now_since}
 use Rattle.page_file.specs.Frames as kept
-use Rattle.page_file.specs.Given.{given_is_live, live_is_given}
+use Rattle.page_file.specs.Given.{given_is, given_is_live, live_is_given}
 use Rattle.page_file.specs.Layout.{kind_of}
 use Rattle.page_file.specs.Live.{catalog_lives, lives}
 
@@ -152,6 +153,14 @@ a_shut_file_passes file h shut = (kept.shut_lies file h shut).passes
 -- a live page was given out with its bytes
 pub a_live_page_is_given : {D : Type 0} {m : _} (file : PageFile D m) (n : ℕ) (page : List ℕ) → pages file n ≡ Some page → given file n ≡ Some page
 a_live_page_is_given {m = m} file n page e = live_is_given (m.shown file.device) file.header n page e
+
+-- each page given out is a block of the device, and so is each live one
+pub a_given_page_is_a_block : {D : Type 0} {m : _} (file : PageFile D m) (n : ℕ) (page : List ℕ) → IsHonest file → All IsBlock (blocks_of file) → given file n ≡ Some page → IsBlock page
+a_given_page_is_a_block file n page h whole e =
+    let g = given_is (blocks_of file) (next_of file) n page e in subst IsBlock (sym g.bytes) (whole n [] (omega (arith, g.below, file.room h)))
+
+pub a_live_page_is_a_block : {D : Type 0} {m : _} (file : PageFile D m) (n : ℕ) (page : List ℕ) → IsHonest file → All IsBlock (blocks_of file) → pages file n ≡ Some page → IsBlock page
+a_live_page_is_a_block file n page h whole e = a_given_page_is_a_block file n page h whole (a_live_page_is_given file n page e)
 
 -- one given out that is not of the free pages' kind is live
 pub a_page_in_use_is_live : {D : Type 0} {m : _} (file : PageFile D m) (n : ℕ) (page : List ℕ) → IsPageMap file → given file n ≡ Some page → ¬ (kind_of page ≡ 5) → pages file n ≡ Some page

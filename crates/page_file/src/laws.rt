@@ -1,6 +1,6 @@
 //! What follows from the promises of the calls, each law the contract of a function that does nothing.
 ghost use Rattle.std.specs.Prelude.{◌≡◌, ◌⊎◌, ◌↔◌, ◌≤◌, ◌<◌, ◌^◌, ℕ, List, Some, length};
-ghost use Rattle.block_device.specs.Device.{Blocks};
+ghost use Rattle.block_device.specs.Device.{Blocks, IsBlock};
 ghost use Rattle.page_file.specs.declared.file.PageFile.{PageFile};
 ghost use Rattle.page_file.specs.declared.gate.Gate.TheVariants.{Shut, Open};
 ghost use Rattle.page_file.specs.File.{IsHonest, IsLive, IsPageMap, KeepsGate, KeepsMap, LiesIn, blocks_of, device_of, gate_of, given, next_of, pages};
@@ -53,6 +53,12 @@ pub fn a_live_page_was_given_out<D: BlockDevice>()
 pub fn a_live_page_is_given<D: BlockDevice>()
     ensures given { (file : PageFile D ⟦<D as BlockDevice>⟧) (n : ℕ) (page : List ℕ) → pages file n ≡ Some page → given file n ≡ Some page }
     ensures live { (file : PageFile D ⟦<D as BlockDevice>⟧) (n : ℕ) (page : List ℕ) → IsPageMap file → given file n ≡ Some page → ¬ (kind_of page ≡ 5) → pages file n ≡ Some page }
+{}
+
+/// A page of an honest file is 4096 bytes.
+pub fn a_page_is_a_block<D: BlockDevice>()
+    ensures given { (file : PageFile D ⟦<D as BlockDevice>⟧) (n : ℕ) (page : List ℕ) → IsHonest file → given file n ≡ Some page → IsBlock page }
+    ensures live { (file : PageFile D ⟦<D as BlockDevice>⟧) (n : ℕ) (page : List ℕ) → IsHonest file → pages file n ≡ Some page → IsBlock page }
 {}
 
 /// No call keeps gate and map, and calls in turn do where each does.

@@ -1,5 +1,5 @@
 //! A stop of a device in memory.
-ghost use Rattle.std.specs.Prelude.{◌≡◌, ◌<◌, length, replicate};
+ghost use Rattle.std.specs.Prelude.{◌≡◌, ◌<◌, ℕ, length, replicate};
 ghost use Rattle.std.specs.List.{All};
 ghost use Rattle.block_device.specs.Device.{Only};
 ghost use Rattle.block_device.specs.Kept.{FillsMarked, IsLeftFrom};
@@ -53,7 +53,8 @@ fn leave<A: Allocator + Copy>(
 )
     requires marks { length marks.now ≡ length blocks.old.items }
     requires log { All (λ w. w.at < length blocks.old.items) log.now }
-    ensures { IsLeftFrom left marks.now log.now synced blocks.old.items blocks.new.items }
+    ensures blocks { IsLeftFrom left marks.now log.now synced blocks.old.items blocks.new.items }
+    ensures byte { (byte : ℕ) → left ≡ Left.Filled byte → byte < 256 }
 {
     match left {
         Left::Written => {}

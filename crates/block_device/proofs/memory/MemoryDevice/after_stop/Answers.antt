@@ -14,10 +14,10 @@ left : (g : given.Over) (c : goal.After-leave g) → IsLeft c.args.left c.args.s
 left g c =
     let d = c.args.self in
     left_is c.args.left d.blocks.items c.leave.new.blocks.items d.marks.items d.log d.synced (history d.past.notes) d.kept
-    (subst (λ (m : List Bool). IsLeftFrom c.args.left m d.log d.synced d.blocks.items c.leave.new.blocks.items) c.deref.ensures.value c.leave.ensures)
+    (subst (λ (m : List Bool). IsLeftFrom c.args.left m d.log d.synced d.blocks.items c.leave.new.blocks.items) c.deref.ensures.value c.leave.ensures.blocks)
 
 outcome : (g : given.Over) (c : goal.After-leave g) → MayLeave c.args.self.blocks.items (history c.args.self.past.notes) c.leave.new.blocks.items
-outcome g c = left_outcome c.args.left c.args.self.blocks.items c.leave.new.blocks.items (history c.args.self.past.notes) c.args.self.kept.whole c.args.self.kept.leads (left g c)
+outcome g c = left_outcome c.args.left c.leave.ensures.byte c.args.self.blocks.items c.leave.new.blocks.items (history c.args.self.past.notes) c.args.self.kept.whole c.args.self.kept.leads (left g c)
 
 pub leave-requires-clause-log : goal.leave-requires-clause-log
 leave-requires-clause-log g c =

@@ -15,13 +15,13 @@ added : (g : given.Over) (c : goal.After-saturating_add-self g)
 added g c =
     let old = c.args.self.now in
     appends old.blocks.items c.append.new.blocks.items old.marks.items c.append.new.beside.items old.log old.synced (history old.past.notes) (history c.appends.new.self.notes) c.args.i c.args.bytes.now
-    old.kept c.told-bytes (omega arith) c.in_ok-append.ensures.blocks c.in_ok-append.ensures.beside (ap history c.appends.ensures)
+    old.kept (record { size = c.told-bytes; bytes_fit = c.fits-bytes }) (omega arith) c.in_ok-append.ensures.blocks c.in_ok-append.ensures.beside (ap history c.appends.ensures)
 
 pub invariant_of-self-then-at-len-clause-kept : goal.invariant_of-self-then-at-len-clause-kept
 invariant_of-self-then-at-len-clause-kept g c =
     let old = c.args.self.now in
     appended_kept old.blocks.items c.append.new.blocks.items old.marks.items c.append.new.beside.items old.log old.synced (history old.past.notes) (history c.appends.new.self.notes) c.args.i c.args.bytes.now
-    old.kept c.told-bytes (omega arith) c.in_ok-append.ensures.blocks c.in_ok-append.ensures.beside (ap history c.appends.ensures)
+    old.kept (record { size = c.told-bytes; bytes_fit = c.fits-bytes }) (omega arith) c.in_ok-append.ensures.blocks c.in_ok-append.ensures.beside (ap history c.appends.ensures)
 
 pub returns-then-at-len-clause-written : goal.returns-then-at-len-clause-written
 returns-then-at-len-clause-written g c = λ _. (added g (goal.at.returns-then-at-len-clause-written g c).After-saturating_add-self).shown
@@ -44,14 +44,14 @@ changed_so : (g : given.Over) (c : goal.After-saturating_add-self-2 g)
 changed_so g c =
     let old = c.args.self.now in
     changes old.blocks.items old.marks.items c.keep.new.marks.items old.log c.keep.new.log old.synced (history old.past.notes) (history c.changes.new.self.notes) c.args.i c.index-old.result.now c.args.bytes.now
-    old.kept (there g c) (read_is g c) c.told-bytes c.in_ok-keep.ensures.kept (ap history c.changes.ensures)
+    old.kept (there g c) (read_is g c) (record { size = c.told-bytes; bytes_fit = c.fits-bytes }) c.in_ok-keep.ensures.kept (ap history c.changes.ensures)
 
 pub invariant_of-self-2-clause-kept : goal.invariant_of-self-2-clause-kept
 invariant_of-self-2-clause-kept g c =
     let old = c.args.self.now in
     let at = (goal.at.invariant_of-self-2-clause-kept g c).After-saturating_add-self-2 in
     changed old.blocks.items old.marks.items c.keep.new.marks.items old.log c.keep.new.log old.synced (history old.past.notes) (history c.changes.new.self.notes) c.args.i c.index-old.result.now c.args.bytes.now
-    old.kept (there g at) (read_is g at) c.told-bytes c.in_ok-keep.ensures.kept (ap history c.changes.ensures)
+    old.kept (there g at) (read_is g at) (record { size = c.told-bytes; bytes_fit = c.fits-bytes }) c.in_ok-keep.ensures.kept (ap history c.changes.ensures)
 
 pub invariant_of-self-2-clause-few : goal.invariant_of-self-2-clause-few
 invariant_of-self-2-clause-few g c = omega (arith, length-set c.args.self.now.blocks.items c.args.i c.args.bytes.now, c.args.self.now.few)
