@@ -1,14 +1,15 @@
--- The files of definitions, and of the lemmas that ghost fields and laws cite.
+-- Definitions, which clauses and ghost fields cite.
 pub mod Device
 pub mod Fuse
 pub mod History
 pub mod Kept
-pub mod KeptFact
-pub mod Laws
 pub mod Logged
 pub mod Memory
-pub mod Moments
 pub mod Noted
-pub mod Outcomes
 pub mod Stop
+-- Lemmas on them, which laws and callers cite.
+pub mod KeptFact
+pub mod Laws
+pub mod Moments
+pub mod Outcomes
 pub mod Written

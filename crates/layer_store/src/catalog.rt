@@ -10,10 +10,7 @@ ghost use Rattle.layer_store.specs.Catalog as catalog;
 ghost use Rattle.plain_table.specs.Table.{most_objects};
 
 use catalog_page::LayerRecord;
-use plain_table::{is_dims, is_fanout, is_layer_name};
-
-// How many objects the layers of a store have at most together.
-const MOST_OBJECTS: u64 = 1 << 30;
+use plain_table::{MOST_OBJECTS, is_dims, is_fanout, is_layer_name};
 
 /// Whether the catalog is good in a file of which `next` is one more than the greatest page number given out.
 pub fn is_good_catalog(records: &[LayerRecord], next: u32) -> bool

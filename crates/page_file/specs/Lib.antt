@@ -1,10 +1,11 @@
--- The files of definitions, and of the lemmas that callers cite, with those that these stand on.
+-- Definitions, which the clauses cite.
 pub mod Fault
 pub mod Layout
 pub mod Opening
 pub mod Pages
 pub mod Stops
 pub mod File
+-- Lemmas on them, up to those that laws and callers cite.
 pub mod Reading
 pub mod Written
 pub mod Gated

@@ -10,7 +10,7 @@ mod refusal;
 
 pub use boxes::{AnyBox, RawBox, RawPoint};
 pub use layer::Layer;
-pub use list_table::ListTable;
+pub use list_table::{ListTable, MOST_OBJECTS};
 pub use names::{is_dims, is_fanout, is_layer_name};
 pub use objects::Objects;
 pub use refusal::Refusal;

@@ -24,7 +24,7 @@ use std::marker::Model;
 const MOST_LAYERS: usize = 60;
 
 /// How many objects there may be in all layers together.
-const MOST_OBJECTS: u64 = 1 << 30;
+pub const MOST_OBJECTS: u64 = 1 << 30;
 
 /// Layers in a list. Contracts see the table that they are.
 ///

@@ -21,6 +21,7 @@ fn closed_scene(alloc: Global, passes: u64) -> Result<Fused, Refusal> {
 
 // A device of whose calls the one behind so many fails.
 fn fused(device: MemoryDevice, passes: u64) -> Fused {
+    // A fuse is made for fewer than 2^64 - 1 calls, and no test makes a thousand.
     FuseDevice::new(device, passes.min(1000), FuseMode::Once)
 }
 

@@ -94,6 +94,7 @@ fn read_layer<D: BlockDevice, A: Allocator + Copy>(
     if objects.count() as u64 != row.count {
         return Err(Fault::Damaged(CATALOG));
     }
+    // There is room for each name: a layer's has at most 24 bytes.
     let mut name = ArrayVec::new();
     name.try_extend_from_slice(&row.name).unwrap();
     Ok(Layer {

@@ -72,6 +72,7 @@ fn write_layer<D: BlockDevice, A: Allocator + Copy>(
     ensures cause { HasCause (D.faults (device_of file.old)) (D.faults (device_of file.new)) result }
 {
     let directory = write_objects(file, &layer.objects)?;
+    // There is room for each name: a layer's has at most 24 bytes.
     let mut name = ArrayVec::new();
     name.try_extend_from_slice(&layer.name).unwrap();
     Ok(LayerRecord {

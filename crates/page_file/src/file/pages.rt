@@ -36,6 +36,7 @@ impl<D: BlockDevice> PageFile<D> {
         ensures other_faults { IfErr result (λ f. IsOfDevice f ⊎ ((f ≡ fault.NoPages) ⊎ IsDamage f)) }
         ensures cause { HasCause (D.faults (device_of self.old)) (D.faults (device_of self.new)) result }
     {
+        // Each number is new: free pages are not given out again yet.
         let n = self.header.next;
         if n >= MAX_PAGES {
             return Err(Fault::NoPages);
@@ -87,6 +88,7 @@ impl<D: BlockDevice> PageFile<D> {
         ensures other_faults { IfErr result (λ f. IsOfDevice f ⊎ (f ≡ fault.Damaged n)) }
         ensures cause { HasCause (D.faults (device_of self.old)) (D.faults (device_of self.new)) result }
     {
+        // Where the page is live, not all are free; the last test keeps the count in bounds on a device that is not honest.
         if n < 3 || n >= self.header.next || self.header.count >= self.header.next - 3 {
             return Err(Fault::Damaged(n));
         }

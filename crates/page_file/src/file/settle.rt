@@ -93,6 +93,7 @@ impl<D: BlockDevice> PageFile<D> {
         ensures other_faults { IfErr result (λ f. IsOfDevice f ⊎ (f ≡ fault.Damaged 1)) }
         ensures cause { HasCause (D.faults (device_of self.old)) (D.faults (device_of self.new)) result }
     {
+        // A file has three blocks; a device that is not honest may have lost them.
         if self.device.blocks() < 2 {
             return Err(Fault::Damaged(1));
         }
