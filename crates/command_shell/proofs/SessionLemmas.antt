@@ -11,7 +11,7 @@ use Rattle.command_shell.specs.Commands.AreCommands.{none}
 use Rattle.command_shell.specs.Lines.{lines_of}
 use Rattle.command_shell.specs.Meanings.{Meaning, meaning_of}
 use Rattle.command_shell.specs.Reading.{Reads}
-use Rattle.command_shell.specs.Runs.{RunsFrom, StepsTo}
+use Rattle.command_shell.specs.Runs.{Runs, RunsFrom, StepsTo}
 use Rattle.command_shell.specs.Serving.{Wrote, WroteAs, Serves}
 use Rattle.command_shell.specs.Texts.{answer_text, texts_of}
 use Rattle.command_shell.specs.declared.session.RunEnd.{RunEnd}
@@ -36,6 +36,10 @@ appends_kept None b c text h k = tt
 appends_kept (Some a) None c text h k = elim h [ ]
 appends_kept (Some a) (Some b) None text h k = elim k [ ]
 appends_kept (Some a) (Some b) (Some c) text h k = k ∙ h
+
+wrote_kept : (whole : Bool) (a b c : Option (List ℕ)) (answers : List Answer) → Wrote whole a b answers → Keeps b c → Wrote whole a c answers
+wrote_kept true a b c answers h k = appends_kept a b c (texts_of answers) h k
+wrote_kept false a b c answers h k = record { before = h.before; last = h.last; are = h.are; shown = h.shown; is_part = h.is_part; written = appends_kept a b c (texts_of h.before ++ take h.shown (answer_text h.last)) h.written k }
 
 -- whole answers, and then answers that may break off
 wrote_more : (whole : Bool) (a b c : Option (List ℕ)) (x y : List Answer) → Appends a b (texts_of x) → Wrote whole b c y → Wrote whole a c (x ++ y)
@@ -73,8 +77,8 @@ module _ {R W : Type 0} {remaining : R → Option (List ℕ)} {contents : W → 
   serves_none ended s r r' w pending left h = record { text = []; requests = []; answers = []; reads = h; asked = none; lawful = refl; written = appends_none (contents w) }
 
   -- and the writer was flushed
-  pub serves_kept : (ended : Bool) (s s' : Standing) (r r' : R) (w w1 w2 : W) (pending left : List ℕ) → Serves remaining contents ended true s s' r r' w w1 pending left → Keeps (contents w1) (contents w2) → Serves remaining contents ended true s s' r r' w w2 pending left
-  serves_kept ended s s' r r' w w1 w2 pending left h k = record { text = h.text; requests = h.requests; answers = h.answers; reads = h.reads; asked = h.asked; lawful = h.lawful; written = appends_kept (contents w) (contents w1) (contents w2) (texts_of h.answers) h.written k }
+  pub serves_kept : (ended whole : Bool) (s s' : Standing) (r r' : R) (w w1 w2 : W) (pending left : List ℕ) → Serves remaining contents ended whole s s' r r' w w1 pending left → Keeps (contents w1) (contents w2) → Serves remaining contents ended whole s s' r r' w w2 pending left
+  serves_kept ended whole s s' r r' w w1 w2 pending left h k = record { text = h.text; requests = h.requests; answers = h.answers; reads = h.reads; asked = h.asked; lawful = h.lawful; written = wrote_kept whole (contents w) (contents w1) (contents w2) h.answers h.written k }
 
   -- whole commands, and then a part of a run
   pub serves_more : (ended whole : Bool) (old mid new : Standing) (r0 r1 r2 : R) (w0 w1 w2 : W) (pending left next : List ℕ) → Serves remaining contents false true old mid r0 r1 w0 w1 pending left → Serves remaining contents ended whole mid new r1 r2 w1 w2 left next → Serves remaining contents ended whole old new r0 r2 w0 w2 pending next
@@ -93,6 +97,12 @@ module _ {R W : Type 0} {remaining : R → Option (List ℕ)} {contents : W → 
   ends_run old mid new r0 r1 r2 w0 w1 w2 pending left p Finished h = serves_more true true old mid new r0 r1 r2 w0 w1 w2 pending left [] p h
   ends_run old mid new r0 r1 r2 w0 w1 w2 pending left p ReadFault h = (h.0, h.1, serves_more false true old mid new r0 r1 r2 w0 w1 w2 pending left h.0 p h.2)
   ends_run old mid new r0 r1 r2 w0 w1 w2 pending left p WriteFault h = (h.0, h.1, h.2, serves_more h.0 h.1 old mid new r0 r1 r2 w0 w1 w2 pending left h.2 p h.3)
+
+-- a run after which the writer was flushed
+pub runs_kept : {R W : Type 0} (remaining : R → Option (List ℕ)) (contents : W → Option (List ℕ)) (end : RunEnd) (s s' : Standing) (r r' : R) (w w1 w2 : W) → Runs remaining contents end s s' r r' w w1 → Keeps (contents w1) (contents w2) → Runs remaining contents end s s' r r' w w2
+runs_kept remaining contents Finished s s' r r' w w1 w2 h k = serves_kept true true s s' r r' w w1 w2 [] [] h k
+runs_kept remaining contents ReadFault s s' r r' w w1 w2 h k = (h.0, h.1, serves_kept false true s s' r r' w w1 w2 [] h.0 h.2 k)
+runs_kept remaining contents WriteFault s s' r r' w w1 w2 h k = (h.0, h.1, h.2, serves_kept h.0 h.1 s s' r r' w w1 w2 [] h.2 h.3 k)
 
 -- a text was taken, and its commands answered
 steps_after : {R W E : Type 0} {remaining : R → Option (List ℕ)} (contents : W → Option (List ℕ)) (s s' : Standing) (r r' : R) (w w' : W) (pending left text : List ℕ) (requests : List Request) (answers : List Answer) (ended : Bool) (end : Option RunEnd) (result : Result (Unit {0}) E) → MatchResult result (λ _. end ≡ cond ended (Some Finished) None) (λ _. end ≡ Some WriteFault) → Reads remaining ended r r' pending left text → AreCommands ended (lines_of text) requests → Session s requests answers s' → WroteAs (contents w) (contents w') result answers → StepsTo remaining contents end s s' r r' w w' pending left

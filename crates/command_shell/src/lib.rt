@@ -1,11 +1,12 @@
 //! The command shell of the store: command lines in, replies out (docs/COMMANDS.md).
 //!
 //! `run` answers the lines of a reader, and its contract is the theorem of a whole run. `parse_line` and
-//! `write_reply` are its two ends: a line's meaning and a reply's text.
+//! `write_reply` are its two ends: a line's meaning and a reply's text. `run_and_close` is what the program does.
 #![tactic(auto)]
 
 mod lines;
 mod parse;
+mod program;
 mod replies;
 mod reply_line;
 mod session;
@@ -14,5 +15,6 @@ mod tests;
 mod words;
 
 pub use parse::{Line, MAX_LINE, parse_line};
+pub use program::{Ended, run_and_close, tell_refusal};
 pub use replies::{Reply, write_reply};
 pub use session::{RunEnd, run};

@@ -5,6 +5,7 @@
 mod fakes;
 mod faults;
 mod lines;
+mod programs;
 mod replies;
 mod sessions;
 

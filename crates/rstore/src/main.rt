@@ -2,11 +2,10 @@
 #![tactic(auto)]
 
 use block_device::MemoryDevice;
-use command_shell::{Reply, RunEnd, run, write_reply};
-use layer_store::create_store;
-use std::alloc::Global;
+use command_shell::{run_and_close, tell_refusal};
+use layer_store::{Refusal, create_store};
 use std::io;
-use std::io::{BufWriter, Write};
+use std::io::BufWriter;
 use std::process::ExitCode;
 
 // How many pages the store caches.
@@ -15,28 +14,20 @@ const CACHED_PAGES: u32 = 64;
 /// Answers the commands of standard input over a store in memory, which is closed and lost at the end.
 ///
 /// Its status is 0 where all was read, each reply was written and the store was closed, and else 1.
-fn main(rt: HostRuntime) -> io::Result<ExitCode> {
+fn main(rt: HostRuntime) -> ExitCode {
     let device = MemoryDevice::new(rt.alloc());
-    let Ok(mut store) = create_store(rt.alloc(), device, CACHED_PAGES) else {
-        eprintln!(rt; "rstore: fail 16 Memory")?;
-        return Ok(ExitCode::FAILURE);
+    let Ok(store) = create_store(rt.alloc(), device, CACHED_PAGES) else {
+        tell_refusal(Refusal::Memory, &mut rt.stderr());
+        return ExitCode::FAILURE;
     };
     let Ok(mut output) = BufWriter::new(rt.alloc(), io::writer(&rt)) else {
-        eprintln!(rt; "rstore: fail 16 Memory")?;
-        return Ok(ExitCode::FAILURE);
+        tell_refusal(Refusal::Memory, &mut rt.stderr());
+        return ExitCode::FAILURE;
     };
     let mut input = rt.reader();
-    let end = run(&mut store, &mut input, &mut output);
-    // The replies so far are written, and the store is closed, however the run ended.
-    let flushed = output.flush();
-    if let Err((refusal, _)) = store.close() {
-        eprint!(rt; "rstore: ")?;
-        write_reply(&Reply::<Global>::Refused(refusal), &mut rt.stderr())?;
-        return Ok(ExitCode::FAILURE);
+    if run_and_close(store, &mut input, &mut output, &mut rt.stderr()).went_well {
+        ExitCode::SUCCESS
+    } else {
+        ExitCode::FAILURE
     }
-    if end == RunEnd::Finished && flushed.is_ok() {
-        return Ok(ExitCode::SUCCESS);
-    }
-    eprintln!(rt; "rstore: input or output failed")?;
-    Ok(ExitCode::FAILURE)
 }

@@ -14,7 +14,7 @@ loop-lines-init g c = takes_none _ (λ s. subst (λ (left : List ℕ). Serves g.
 -- the replies so far were flushed
 handed_on : {R W S : Type 0} {remaining : R → Option (List ℕ)} {contents : W → Option (List ℕ)} {Stands : S → Standing → Type 0} {old new : S} (r r' : R) (w w1 w2 : W) (pending left : List ℕ)
     → Takes Stands old new (λ s s'. Serves remaining contents false true s s' r r' w w1 pending left) → Keeps (contents w1) (contents w2) → Takes Stands old new (λ s s'. Serves remaining contents false true s s' r r' w w2 pending left)
-handed_on r r' w w1 w2 pending left h k = takes_on h (λ s s' p. serves_kept false s s' r r' w w1 w2 pending left p k)
+handed_on r r' w w1 w2 pending left h k = takes_on h (λ s s' p. serves_kept false true s s' r r' w w1 w2 pending left p k)
 
 pub returns-then-is_err : goal.returns-then-is_err
 returns-then-is_err g c = takes_on (handed_on c.args.input.now c.loop-lines.input c.args.output.now c.loop-lines.output c.hand_on.new.output [] (pending c.loop-lines.lines) c.loop-lines.invariant c.hand_on.ensures) (λ s s' p. (false, true, pending c.loop-lines.lines, p))

@@ -1,0 +1,77 @@
+//! A run of the program: its session, the closing of its store, and whether it went well.
+
+ghost use Rattle.std.specs.Prelude.{◌≡◌, true};
+ghost use Rattle.block_device.specs.Device.{Only};
+ghost use Rattle.plain_table.specs.Lawful.{Standing};
+ghost use Rattle.layer_store.specs.Standing.{Stands};
+ghost use Rattle.command_shell.specs.Runs.{RunsToClose};
+
+use crate::replies::{Reply, write_reply};
+use crate::session::{RunEnd, run};
+use block_device::BlockDevice;
+use layer_store::{Refusal, Store};
+use std::alloc::{Allocator, Global};
+use std::io;
+use std::io::{Read, Write};
+
+/// What is left of a run of the program.
+#[derive(Drop)]
+pub struct Ended<D: BlockDevice> {
+    /// Whether all was read, each reply was written, and the store was closed.
+    pub went_well: bool,
+    /// The store's device.
+    pub device: D,
+}
+
+/// Answers the lines of a reader, flushes the replies and closes the store, however the run ended. Where something
+/// failed, it says so in a line to `errors`, whose own faults are passed over.
+///
+/// Where all went well, all that the reader had was read, each of its commands was answered by a lawful session, and the
+/// device's blocks are an image of the table at its end; and a stop leaves nothing else.
+pub fn run_and_close<D: BlockDevice, A: Allocator + Copy, R: Read, W: Write, E: Write>(
+    store: Store<D, A>,
+    input: &mut R,
+    output: &mut W,
+    errors: &mut E,
+) -> Ended<D>
+    ensures run { (s : Standing) → Stands store s →
+        RunsToClose R.remaining W.contents result.went_well (D.shown result.device) s input.old input.new output.old output.new }
+    ensures durable { (s : Standing) → Stands store s → result.went_well ≡ true → Only (D.shown result.device) (D.may_leave result.device) }
+{
+    let mut store = store;
+    let end = run(&mut store, input, output);
+    let flushed = output.flush();
+    match store.close() {
+        Ok(device) => {
+            let went_well = is_whole(end, &flushed);
+            if !went_well {
+                let _ = errors.write_all(b"rstore: input or output failed\n");
+            }
+            Ended { went_well, device }
+        }
+        Err((refusal, device)) => {
+            tell_refusal(refusal, errors);
+            Ended {
+                went_well: false,
+                device,
+            }
+        }
+    }
+}
+
+// Whether all was read, and each reply was written.
+fn is_whole(end: RunEnd, flushed: &io::Result<()>) -> bool
+    ensures { result ≡ true → end ≡ RunEnd.Finished }
+{
+    match end {
+        RunEnd::Finished => flushed.is_ok(),
+        RunEnd::ReadFault | RunEnd::WriteFault => false,
+    }
+}
+
+/// Says in a line why a store was refused. A fault of the writer is passed over.
+pub fn tell_refusal<E: Write>(refusal: Refusal, errors: &mut E) {
+    if errors.write_all(b"rstore: ").is_ok() {
+        let _ = write_reply(&Reply::<Global>::Refused(refusal), errors);
+    }
+}

@@ -1,0 +1,123 @@
+//! Runs of the program: what it says of their end, and that the store is closed, however they ended.
+
+use super::fakes::{Parts, Short, Unflushed};
+use super::new_store;
+use crate::{run_and_close, tell_refusal};
+use block_device::{BlockDevice, FuseDevice, FuseMode, MemoryDevice};
+use layer_store::{Refusal, create_store, open_store};
+use std::alloc::Global;
+use std::cell::Cell;
+use std::test::Fail;
+
+const TEXT: &[u8] = b"create a 2 4\ninsert a 1 0 0 1 1\n";
+
+const FAILED: &[u8] = b"rstore: input or output failed\n";
+
+// Whether the device has a closed store with the layer of the text, and so many objects in it.
+fn is_closed(alloc: Global, device: MemoryDevice, objects: usize) -> Result<bool, Fail> {
+    let Ok(mut store) = open_store(alloc, device, 64) else {
+        return Ok(false);
+    };
+    let rows = store.window(b"a", layer_store::RawBox::Two([0, 0], [9, 9]))?;
+    Ok(rows.len() == objects)
+}
+
+#[test]
+fn a_good_run_says_nothing_and_is_closed(rt: HostRuntime) -> Result<(), Fail> {
+    let mut input = TEXT;
+    let mut output = Vec::new(rt.alloc());
+    let mut errors = Vec::new(rt.alloc());
+    let ended = run_and_close(new_store(rt.alloc())?, &mut input, &mut output, &mut errors);
+    assert!(rt; ended.went_well);
+    assert_eq!(rt; output.as_slice(), b"ok\nok\n".as_slice());
+    assert_eq!(rt; errors.as_slice(), b"".as_slice());
+    assert!(rt; is_closed(rt.alloc(), ended.device, 1)?);
+    Ok(())
+}
+
+#[test]
+fn a_run_whose_input_fails_is_closed(rt: HostRuntime) -> Result<(), Fail> {
+    let mut input = Parts {
+        parts: &[Some(TEXT), None],
+        calls: 0,
+    };
+    let mut output = Vec::new(rt.alloc());
+    let mut errors = Vec::new(rt.alloc());
+    let ended = run_and_close(new_store(rt.alloc())?, &mut input, &mut output, &mut errors);
+    assert!(rt; !ended.went_well);
+    assert_eq!(rt; output.as_slice(), b"ok\nok\n".as_slice());
+    assert_eq!(rt; errors.as_slice(), FAILED);
+    assert!(rt; is_closed(rt.alloc(), ended.device, 1)?);
+    Ok(())
+}
+
+#[test]
+fn a_run_whose_output_fails_is_closed(rt: HostRuntime) -> Result<(), Fail> {
+    let mut input = TEXT;
+    let mut output = Short {
+        written: Vec::new(rt.alloc()),
+        room: 3,
+        fails: true,
+    };
+    let mut errors = Vec::new(rt.alloc());
+    let ended = run_and_close(new_store(rt.alloc())?, &mut input, &mut output, &mut errors);
+    assert!(rt; !ended.went_well);
+    assert_eq!(rt; errors.as_slice(), FAILED);
+    assert!(rt; is_closed(rt.alloc(), ended.device, 1)?);
+    Ok(())
+}
+
+// All replies were taken, and the last flush fails: of a text in one part, the one behind it.
+#[test]
+fn a_run_whose_last_flush_fails_did_not_go_well(rt: HostRuntime) -> Result<(), Fail> {
+    for fails in [false, true] {
+        let unflushed = Cell::new(0);
+        let mut input = b"# nothing to answer".as_slice();
+        let mut output = Unflushed {
+            bytes: &unflushed,
+            fails,
+        };
+        let mut errors = Vec::new(rt.alloc());
+        let ended = run_and_close(new_store(rt.alloc())?, &mut input, &mut output, &mut errors);
+        assert_eq!(rt; ended.went_well, !fails);
+        let said = if fails { FAILED } else { b"".as_slice() };
+        assert_eq!(rt; errors.as_slice(), said);
+    }
+    Ok(())
+}
+
+// The device fails behind the making of the store.
+#[test]
+fn a_refused_closing_is_told(rt: HostRuntime) -> Result<(), Fail> {
+    let fuse = FuseDevice::new(MemoryDevice::new(rt.alloc()), 8, FuseMode::Onward);
+    let Ok(store) = create_store(rt.alloc(), fuse, 64) else {
+        return Err(Fail::from("make"));
+    };
+    let mut input = TEXT;
+    let mut output = Vec::new(rt.alloc());
+    let mut errors = Vec::new(rt.alloc());
+    let ended = run_and_close(store, &mut input, &mut output, &mut errors);
+    assert!(rt; !ended.went_well);
+    assert_eq!(rt; output.as_slice(), b"ok\nok\n".as_slice());
+    assert_eq!(rt; errors.as_slice(), b"rstore: fail 17 Device\n".as_slice());
+    assert_eq!(rt; ended.device.blocks(), 3);
+    Ok(())
+}
+
+#[test]
+fn a_refusal_is_told_in_a_line(rt: HostRuntime) -> Result<(), Fail> {
+    let mut errors = Vec::new(rt.alloc());
+    tell_refusal(Refusal::Damaged(7), &mut errors);
+    assert_eq!(rt;
+        errors.as_slice(),
+        b"rstore: fail 18 Damaged 7\n".as_slice()
+    );
+    let mut errors = Short {
+        written: Vec::new(rt.alloc()),
+        room: 3,
+        fails: true,
+    };
+    tell_refusal(Refusal::Memory, &mut errors);
+    assert_eq!(rt; errors.written.as_slice(), b"rst".as_slice());
+    Ok(())
+}
