@@ -97,11 +97,11 @@ impl<A: Allocator> Write for FailsOnce<A> {
     }
 }
 
-/// Counts in a cell the bytes that it took and did not flush. A flush fails, if it is to.
+/// Counts in a cell the bytes that it took and did not flush. So many flushes pass, and each later one fails.
 #[derive(Drop)]
 pub struct Unflushed<'a> {
     pub bytes: &'a Cell<usize>,
-    pub fails: bool,
+    pub passes: usize,
 }
 
 impl Write for Unflushed<'_> {
@@ -111,9 +111,10 @@ impl Write for Unflushed<'_> {
     }
 
     fn flush(&mut self) -> io::Result<()> {
-        if self.fails {
+        let Some(passes) = self.passes.checked_sub(1) else {
             return Err(io::Error::from(ErrorKind::Other));
-        }
+        };
+        self.passes = passes;
         self.bytes.set(0);
         Ok(())
     }

@@ -129,7 +129,7 @@ fn flushes_before_it_reads(rt: HostRuntime) -> Result<(), Fail> {
     };
     let mut output = Unflushed {
         bytes: &unflushed,
-        fails: false,
+        passes: 100,
     };
     let end = run(&mut store, &mut input, &mut output);
     assert_eq!(rt; end, RunEnd::Finished);
@@ -143,7 +143,7 @@ fn ends_where_a_flush_fails(rt: HostRuntime) -> Result<(), Fail> {
     let mut input = TEXT;
     let mut output = Unflushed {
         bytes: &unflushed,
-        fails: true,
+        passes: 0,
     };
     let end = run(&mut store, &mut input, &mut output);
     assert_eq!(rt; end, RunEnd::WriteFault);

@@ -67,20 +67,20 @@ fn a_run_whose_output_fails_is_closed(rt: HostRuntime) -> Result<(), Fail> {
     Ok(())
 }
 
-// All replies were taken, and the last flush fails: of a text in one part, the one behind it.
+// One flush comes before the only line is read, and one behind its reply.
 #[test]
 fn a_run_whose_last_flush_fails_did_not_go_well(rt: HostRuntime) -> Result<(), Fail> {
-    for fails in [false, true] {
+    for (passes, said) in [(1, FAILED), (2, b"".as_slice())] {
         let unflushed = Cell::new(0);
-        let mut input = b"# nothing to answer".as_slice();
+        let mut input = b"drop".as_slice();
         let mut output = Unflushed {
             bytes: &unflushed,
-            fails,
+            passes,
         };
         let mut errors = Vec::new(rt.alloc());
         let ended = run_and_close(new_store(rt.alloc())?, &mut input, &mut output, &mut errors);
-        assert_eq!(rt; ended.went_well, !fails);
-        let said = if fails { FAILED } else { b"".as_slice() };
+        assert_eq!(rt; ended.went_well, passes == 2);
+        assert_eq!(rt; unflushed.get() == 0, passes == 2);
         assert_eq!(rt; errors.as_slice(), said);
     }
     Ok(())
