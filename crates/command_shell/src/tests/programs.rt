@@ -1,6 +1,6 @@
 //! Runs of the program: what it says of their end, and that the store is closed, however they ended.
 
-use super::fakes::{Parts, Short, Unflushed};
+use super::fakes::{FailsOnce, Parts, Short, Unflushed};
 use super::new_store;
 use crate::{run_and_close, tell_refusal};
 use block_device::{BlockDevice, FuseDevice, FuseMode, MemoryDevice};
@@ -119,5 +119,11 @@ fn a_refusal_is_told_in_a_line(rt: HostRuntime) -> Result<(), Fail> {
     };
     tell_refusal(Refusal::Memory, &mut errors);
     assert_eq!(rt; errors.written.as_slice(), b"rst".as_slice());
+    let mut errors = FailsOnce {
+        written: Vec::new(rt.alloc()),
+        passes: Some(0),
+    };
+    tell_refusal(Refusal::Memory, &mut errors);
+    assert_eq!(rt; errors.written.as_slice(), b"".as_slice());
     Ok(())
 }
