@@ -26,6 +26,11 @@ newline_found xs (Some n) h = record {
   ends = drop-cons xs n 0 h.0.high ∙ ap (λ y. y ∷ drop (suc n) xs) (is_newline (get_or xs n 0) h.1);
 }
 
+-- where none was found
+pub none_found : (xs : List ℕ) (r : Option ℕ) → MatchOption r (IsOneLine xs) (BeginsLine xs) → r ≡ None → IsOneLine xs
+none_found xs None h e = h
+none_found xs (Some n) h e = absurd (cc)
+
 pub lines_join : (x y : List ℕ) → IsOneLine x → IsOneLine y → IsOneLine (x ++ y)
 lines_join [] y p q = q
 lines_join (a ∷ x) y p q = (p.0, lines_join x y p.1 q)

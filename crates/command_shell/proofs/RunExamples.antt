@@ -1,6 +1,6 @@
 -- Worked examples of whole runs: what may be said of one, and what may not.
 -- No other proof rests on them. A reader is the bytes that it has left, and a writer the bytes that it was given.
-use Rattle.std.proofs.Common.{◌≡◌, ℕ, List, [], ◌∷◌, ◌++◌, true, false, refl, sym, ap, ◌∙◌, Option, Some, codes, length, length-append, get_or, append_assoc, arith, subst}
+use Rattle.std.proofs.Common.{◌≡◌, ℕ, List, [], ◌∷◌, ◌++◌, true, false, refl, sym, ap, ◌∙◌, Option, Some, codes, length, length-append, get_or, append_assoc, arith, subst, inl, inr}
 use Rattle.std.specs.Fmt.{digits}
 use Rattle.std.specs.FinMap.{empty}
 use Rattle.plain_table.specs.Lawful.{Standing, Request, Session}
@@ -70,8 +70,7 @@ a_run_that_a_read_ended = (
 -- the line was answered, and four bytes of its reply were written
 a_run_that_a_write_ended : Runs known known WriteFault fresh fresh (codes "x\ny") (codes "y") [] (codes "fail")
 unfolding digits
-a_run_that_a_write_ended = (
-  false,
+a_run_that_a_write_ended = inl (
   false,
   [],
   record {
@@ -82,6 +81,23 @@ a_run_that_a_write_ended = (
     asked = one (BadCommand ∷ []) refl none;
     lawful = (fresh, a_bad_line_is_lawful fresh, refl);
     written = record { before = []; last = Refused refusal.BadLine; are = refl; shown = 4; is_part = omega arith; written = refl };
+  },
+)
+
+-- a flush failed: all that was read to its last newline is answered whole
+a_run_that_a_flush_ended : Runs known known WriteFault fresh fresh (codes "x\ny") [] [] (codes "fail 24 BadLine\n")
+unfolding digits
+a_run_that_a_flush_ended = inr (
+  codes "y",
+  (λ e. absurd (omega (arith, e)), tt),
+  record {
+    text = codes "x\n";
+    requests = BadCommand ∷ [];
+    answers = Refused refusal.BadLine ∷ [];
+    reads = record { stops = ends (codes "x"); read = record { more = codes "x\ny"; read = refl; so = refl } };
+    asked = one (BadCommand ∷ []) refl none;
+    lawful = (fresh, a_bad_line_is_lawful fresh, refl);
+    written = refl;
   },
 )
 

@@ -1,5 +1,5 @@
 -- A run, one command further.
-use Rattle.std.proofs.Common.{◌≡◌, ℕ, Bool, true, false, cond, List, [], ◌∷◌, ◌++◌, take, Option, Some, None, Result, Ok, Err, MatchResult, refl, sym, ap, ◌∙◌, subst, append_assoc}
+use Rattle.std.proofs.Common.{◌≡◌, ℕ, Bool, true, false, cond, List, [], ◌∷◌, ◌++◌, take, Option, Some, None, Result, Ok, Err, MatchResult, refl, sym, ap, ◌∙◌, subst, append_assoc, inl, inr, ⊎_elim}
 use Rattle.std.specs.Io.KnownBytes.{Appends, Keeps}
 use Rattle.std.specs.Prelude.{IfNone}
 use Rattle.std.proofs.lemmas.List.Concat.{flat_map-append}
@@ -11,7 +11,7 @@ use Rattle.command_shell.specs.Commands.AreCommands.{none}
 use Rattle.command_shell.specs.Lines.{lines_of}
 use Rattle.command_shell.specs.Meanings.{Meaning, meaning_of}
 use Rattle.command_shell.specs.Reading.{Reads}
-use Rattle.command_shell.specs.Runs.{Runs, RunsFrom, StepsTo}
+use Rattle.command_shell.specs.Runs.{AnswersAllLines, BreaksOffAnswer, Runs, RunsFrom, StepsTo}
 use Rattle.command_shell.specs.Serving.{Wrote, WroteAs, Serves}
 use Rattle.command_shell.specs.Texts.{answer_text, texts_of}
 use Rattle.command_shell.specs.declared.session.RunEnd.{RunEnd}
@@ -96,13 +96,19 @@ module _ {R W : Type 0} {remaining : R → Option (List ℕ)} {contents : W → 
   pub ends_run : (old mid new : Standing) (r0 r1 r2 : R) (w0 w1 w2 : W) (pending left : List ℕ) → Serves remaining contents false true old mid r0 r1 w0 w1 pending left → (end : RunEnd) → RunsFrom remaining contents end mid new r1 r2 w1 w2 left → RunsFrom remaining contents end old new r0 r2 w0 w2 pending
   ends_run old mid new r0 r1 r2 w0 w1 w2 pending left p Finished h = serves_more true true old mid new r0 r1 r2 w0 w1 w2 pending left [] p h
   ends_run old mid new r0 r1 r2 w0 w1 w2 pending left p ReadFault h = (h.0, h.1, serves_more false true old mid new r0 r1 r2 w0 w1 w2 pending left h.0 p h.2)
-  ends_run old mid new r0 r1 r2 w0 w1 w2 pending left p WriteFault h = (h.0, h.1, h.2, serves_more h.0 h.1 old mid new r0 r1 r2 w0 w1 w2 pending left h.2 p h.3)
+  ends_run old mid new r0 r1 r2 w0 w1 w2 pending left p WriteFault h = ⊎_elim
+      (λ (q : BreaksOffAnswer remaining contents mid new r1 r2 w1 w2 left). inl (q.0, q.1, serves_more q.0 false old mid new r0 r1 r2 w0 w1 w2 pending left q.1 p q.2))
+      (λ (q : AnswersAllLines remaining contents mid new r1 r2 w1 w2 left). inr (q.0, q.1, serves_more false true old mid new r0 r1 r2 w0 w1 w2 pending left q.0 p q.2))
+      h
 
 -- a run after which the writer was flushed
 pub runs_kept : {R W : Type 0} (remaining : R → Option (List ℕ)) (contents : W → Option (List ℕ)) (end : RunEnd) (s s' : Standing) (r r' : R) (w w1 w2 : W) → Runs remaining contents end s s' r r' w w1 → Keeps (contents w1) (contents w2) → Runs remaining contents end s s' r r' w w2
 runs_kept remaining contents Finished s s' r r' w w1 w2 h k = serves_kept true true s s' r r' w w1 w2 [] [] h k
 runs_kept remaining contents ReadFault s s' r r' w w1 w2 h k = (h.0, h.1, serves_kept false true s s' r r' w w1 w2 [] h.0 h.2 k)
-runs_kept remaining contents WriteFault s s' r r' w w1 w2 h k = (h.0, h.1, h.2, serves_kept h.0 h.1 s s' r r' w w1 w2 [] h.2 h.3 k)
+runs_kept remaining contents WriteFault s s' r r' w w1 w2 h k = ⊎_elim
+    (λ (q : BreaksOffAnswer remaining contents s s' r r' w w1 []). inl (q.0, q.1, serves_kept q.0 false s s' r r' w w1 w2 [] q.1 q.2 k))
+    (λ (q : AnswersAllLines remaining contents s s' r r' w w1 []). inr (q.0, q.1, serves_kept false true s s' r r' w w1 w2 [] q.0 q.2 k))
+    h
 
 -- a text was taken, and its commands answered
 steps_after : {R W E : Type 0} {remaining : R → Option (List ℕ)} (contents : W → Option (List ℕ)) (s s' : Standing) (r r' : R) (w w' : W) (pending left text : List ℕ) (requests : List Request) (answers : List Answer) (ended : Bool) (end : Option RunEnd) (result : Result (Unit {0}) E) → MatchResult result (λ _. end ≡ cond ended (Some Finished) None) (λ _. end ≡ Some WriteFault) → Reads remaining ended r r' pending left text → AreCommands ended (lines_of text) requests → Session s requests answers s' → WroteAs (contents w) (contents w') result answers → StepsTo remaining contents end s s' r r' w w' pending left
@@ -115,7 +121,7 @@ steps_after {remaining = remaining} contents s s' r r' w w' pending left text re
     subst P (sym e) (record { text = text; requests = requests; answers = answers; reads = h; asked = a; lawful = l; written = o })
 steps_after {remaining = remaining} contents s s' r r' w w' pending left text requests answers ended end (Err x) e h a l o =
     let P : Option RunEnd → Type 0 = λ x. StepsTo remaining contents x s s' r r' w w' pending left in
-    subst P (sym e) (ended, false, left, record { text = text; requests = requests; answers = answers; reads = h; asked = a; lawful = l; written = o })
+    subst P (sym e) (inl (ended, left, record { text = text; requests = requests; answers = answers; reads = h; asked = a; lawful = l; written = o }))
 
 -- the text ended, or could not be read further, behind the last line
 pub takes_end : {R W S : Type 0} {remaining : R → Option (List ℕ)} {contents : W → Option (List ℕ)} {Stands : S → Standing → Type 0} {old : S} (r r' : R) (w : W) (pending left : List ℕ) → Reads remaining true r r' pending [] []

@@ -1,10 +1,10 @@
 -- One write after another.
 use Rattle.std.proofs.Common.{◌≡◌, ℕ, ◌+◌, ◌<◌, List, ◌∷◌, ◌++◌, length, take, drop, suc, get_or, flat_map, Option, Some, None, Result, Ok, Err, sym, ap, ◌∙◌, append_assoc, length-append, arith}
 use Rattle.std.specs.Io.KnownBytes.{Appends}
-use Rattle.std.proofs.lemmas.List.{take-append-le, take-append-drop}
+use Rattle.std.proofs.lemmas.List.{take-append-le, take-append-drop, take_all}
 use Rattle.std.proofs.lemmas.List.Concat.{flat_map-append}
 use Rattle.std.proofs.Math.Seq.{take-append-add, take-add, drop-cons}
-use Rattle.command_shell.specs.Writing.{AppendsFront, Writes}
+use Rattle.command_shell.specs.Writing.{AppendsFront, AppendsSome, Writes}
 
 pub appends_more : (a b c : Option (List ℕ)) (x y : List ℕ) → Appends a b x → Appends b c y → Appends a c (x ++ y)
 appends_more None b c x y p q = tt
@@ -24,6 +24,11 @@ front_then a b c x y p f = (length x + f.0, omega (arith, f.1, length-append x y
 pub writes_then : {E T : Type 0} (a b c : Option (List ℕ)) (r : Result T E) (x y : List ℕ) → Appends a b x → Writes b c r y → Writes a c r (x ++ y)
 writes_then a b c (Ok v) x y p q = appends_more a b c x y p q
 writes_then a b c (Err e) x y p q = front_then a b c x y p q
+
+-- a write appends all of the text, or a front of it
+pub some_written : {E T : Type 0} (a b : Option (List ℕ)) (r : Result T E) (text : List ℕ) → Writes a b r text → AppendsSome a b text
+some_written a b (Ok v) text h = (length text, rw (take_all (length text) text (omega arith)) h)
+some_written a b (Err e) text h = (h.0, h.2)
 
 -- a piece of what is left
 pub taken_more : (xs : List ℕ) (i n : ℕ) → take i xs ++ take n (drop i xs) ≡ take (i + n) xs

@@ -62,3 +62,11 @@ abbrev pub reply_answer : {A : Type 0} → Reply A → Answer
 reply_answer reply.Done = Done
 reply_answer (reply.Refused r) = Refused r
 reply_answer (reply.Boxes rows) = Boxes (map row_of rows.items)
+
+-- what the program says where its store was refused: at its making, or at its closing
+abbrev pub told_refusal : Refusal → List ℕ
+told_refusal r = codes "rstore: " ++ refusal_text r
+
+-- what it says where reading or writing failed
+abbrev pub told_fault : List ℕ
+told_fault = codes "rstore: input or output failed\n"

@@ -1,12 +1,16 @@
 //! A run of the program: its session, the closing of its store, and whether it went well.
+#![tactic(auto, using(crate::proofs::WriteLemmas::front_more, crate::proofs::WriteLemmas::writes_then))]
 
 ghost use Rattle.std.specs.Prelude.{◌≡◌, true};
 ghost use Rattle.block_device.specs.Device.{Only};
 ghost use Rattle.plain_table.specs.Lawful.{Standing};
 ghost use Rattle.layer_store.specs.Standing.{Stands};
-ghost use Rattle.command_shell.specs.Runs.{RunsToClose};
+ghost use Rattle.command_shell.specs.Runs.{RunsToClose, TellsEnd};
+ghost use Rattle.command_shell.specs.Texts.{told_refusal};
+ghost use Rattle.command_shell.specs.Writing.{Writes};
 
 use crate::replies::{Reply, write_reply};
+use crate::reply_line::put;
 use crate::session::{RunEnd, run};
 use block_device::BlockDevice;
 use layer_store::{Refusal, Store};
@@ -36,6 +40,7 @@ pub fn run_and_close<D: BlockDevice, A: Allocator + Copy, R: Read, W: Write, E: 
 ) -> Ended<D>
     ensures run { (s : Standing) → Stands store s →
         RunsToClose R.remaining W.contents result.went_well (D.shown result.device) s input.old input.new output.old output.new }
+    ensures told { TellsEnd result.went_well (E.contents errors.old) (E.contents errors.new) }
     ensures durable { (s : Standing) → Stands store s → result.went_well ≡ true → Only (D.shown result.device) (D.may_leave result.device) }
 {
     let mut store = store;
@@ -45,12 +50,12 @@ pub fn run_and_close<D: BlockDevice, A: Allocator + Copy, R: Read, W: Write, E: 
         Ok(device) => {
             let went_well = is_whole(end, &flushed);
             if !went_well {
-                let _ = errors.write_all(b"rstore: input or output failed\n");
+                let _ = put(errors, b"rstore: input or output failed\n");
             }
             Ended { went_well, device }
         }
         Err((refusal, device)) => {
-            tell_refusal(refusal, errors);
+            let _ = tell_refusal(refusal, errors);
             Ended {
                 went_well: false,
                 device,
@@ -69,9 +74,10 @@ fn is_whole(end: RunEnd, flushed: &io::Result<()>) -> bool
     }
 }
 
-/// Says in a line why a store was refused. A fault of the writer is passed over.
-pub fn tell_refusal<E: Write>(refusal: Refusal, errors: &mut E) {
-    if errors.write_all(b"rstore: ").is_ok() {
-        let _ = write_reply(&Reply::<Global>::Refused(refusal), errors);
-    }
+/// Says in a line why a store was refused.
+pub fn tell_refusal<E: Write>(refusal: Refusal, errors: &mut E) -> io::Result<()>
+    ensures { Writes (E.contents errors.old) (E.contents errors.new) result (told_refusal refusal) }
+{
+    put(errors, b"rstore: ")?;
+    write_reply(&Reply::<Global>::Refused(refusal), errors)
 }

@@ -1,6 +1,6 @@
 //! The session of a reader's lines with a store, and how it ends.
 
-ghost use Rattle.std.specs.Prelude.{◌≡◌, ◌<◌, Some, None, MatchResult, IfNone, IfSome, if◌then◌else◌};
+ghost use Rattle.std.specs.Prelude.{◌≡◌, ◌<◌, Some, None, MatchResult, OnErr, IfNone, IfSome, if◌then◌else◌};
 ghost use Rattle.std.specs.Io.KnownBytes.{Keeps};
 ghost use Rattle.plain_table.specs.Answers.{done_answer, boxes_answer};
 ghost use Rattle.plain_table.specs.Lawful.{Takes};
@@ -28,7 +28,8 @@ pub enum RunEnd {
     Finished,
     /// The reader failed, or was called 2^62 times. Each command that was read to its last newline was answered.
     ReadFault,
-    /// The writer failed, in a write or a flush. The last reply may be written in part, and no line after it was answered.
+    /// The writer failed. Where a write did, the last reply is written in part, and no line after it was answered; where a
+    /// flush did, each command that was read to its last newline was answered.
     WriteFault,
 }
 
@@ -66,7 +67,8 @@ pub fn run<D: BlockDevice, A: Allocator + Copy, R: Read, W: Write>(
 
 // Flushes the replies so far where no line is pending, so that who waits for one before the next line is sent has it.
 fn hand_on<W: Write>(line: Option<usize>, output: &mut W) -> io::Result<()>
-    ensures { Keeps (W.contents output.old) (W.contents output.new) }
+    ensures kept { Keeps (W.contents output.old) (W.contents output.new) }
+    ensures none { OnErr result (line ≡ None) }
 {
     match line {
         Some(_) => Ok(()),

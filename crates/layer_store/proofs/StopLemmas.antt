@@ -20,7 +20,7 @@ use Rattle.plain_table.specs.Lawful.AfterStop.{Surely, Perhaps}
 use Rattle.plain_table.specs.Table.{Table}
 use Rattle.layer_store.specs.Image.{Holds, IsImage, IsLeftAfter, IsLeftOf}
 use Rattle.layer_store.specs.Keeping.{HoldsItsTable, Leaves, LeavesAtRest, RestsOn}
-use Rattle.layer_store.specs.Standing.{Stands, closed_since, device_in, standing_of}
+use Rattle.layer_store.specs.Standing.{Stands, blocks_in, closed_since, device_in, resting_on, standing_of}
 use Rattle.layer_store.specs.declared.kept.Kept.{Kept}
 use Rattle.layer_store.specs.declared.store.Store.{Store}
 use Rattle.layer_store.specs.Laws.{a_held_table_stays}
@@ -81,11 +81,15 @@ module _ {D : Type 0} {m : _} where
   pub rests_on_more : (file : PageFile D m) (ts : List Table) (t : Table) → RestsOn file ts → RestsOn file (t ∷ ts)
   rests_on_more file ts t rests = λ closed c same. or_this ts t c (rests closed c same)
 
+  -- a file whose blocks are an image of a table rests on it
+  pub rests_on_image : (file : PageFile D m) (t : Table) → IsImage (blocks_of file) t → RestsOn file (t ∷ [])
+  rests_on_image file t image = λ closed c same. ⊎_elim (λ refused. inl refused) (λ there. this_one [] t c there) (image_aside (blocks_of file) c t image same)
+
   -- ---- what a stop leaves of it
 
   -- the tables of which it may leave an image
   pub left_rests : (file : PageFile D m) (left : AfterStop) → LeavesAtRest file left → RestsOn file (tables_left left)
-  left_rests file (Surely t) there = λ closed c same. ⊎_elim (λ refused. inl refused) (λ image. this_one [] t c image) (image_aside (blocks_of file) c t there.0 same)
+  left_rests file (Surely t) there = rests_on_image file t there.0
   left_rests file (Perhaps ts) there = there
 
   -- a shut file that holds a table leaves its image
@@ -236,6 +240,22 @@ module _ {D A : Type 0} {m : _} where
         ap (λ (z : Standing). record { state = z.state; stops = seen; faults = z.faults; next = z.next }) stands.0,
         stands.1,
         leaves_from_now store.kept.file s.stops stands.1.map.honest (λ c left. here c stands.1.map.honest left) stands.2,
+      )
+
+  -- the same store, whose blocks are an image of the table
+  pub stands_on_image : (store : Store D A m) (s : Standing) (t : Table) → ((c : Blocks) → m.honest (device_in store) → m.left_since (device_in store) (m.moment (device_in store)) c → m.may_leave (device_in store) c) → Stands store s → IsImage (blocks_in store) t
+      → Stands store (resting_on s (m.moment (device_in store)) t)
+  unfolding Stands
+  stands_on_image store s t here stands image =
+      let seen : Stops = (resting_on s (m.moment (device_in store)) t).stops in (
+        ap (λ (z : Standing). record { state = z.state; stops = seen; faults = z.faults; next = z.next }) stands.0,
+        stands.1,
+        leaves_from_now store.kept.file (record { now = Perhaps (t ∷ []); since = s.stops.since; so_far = t ∷ s.stops.so_far }) stands.1.map.honest (λ c left. here c stands.1.map.honest left) (record {
+          now = rests_on_image store.kept.file t image;
+          begun = stands.2.begun;
+          so_far = λ c left. or_this s.stops.so_far t c (stands.2.so_far c left);
+          among = λ u there. contains_one u t s.stops.so_far there;
+        }),
       )
 
   -- the tables of which a closing of it may leave an image

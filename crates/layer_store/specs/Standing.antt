@@ -5,7 +5,7 @@ use Rattle.page_file.specs.File.{blocks_of, device_of, gate_of, next_of}
 use Rattle.page_file.specs.declared.file.PageFile.{PageFile}
 use Rattle.page_file.specs.declared.gate.Gate.TheVariants.{Shut}
 use Rattle.plain_table.specs.Lawful.{Reaches, Standing, State, Stops, tables_left}
-use Rattle.plain_table.specs.Lawful.AfterStop.{Surely}
+use Rattle.plain_table.specs.Lawful.AfterStop.{Surely, Perhaps}
 use Rattle.plain_table.specs.Lawful.State.{Alive, Dead}
 use Rattle.plain_table.specs.Table.{Table}
 use Rattle.layer_store.specs.Keeping.{IsSound, Leaves}
@@ -45,6 +45,10 @@ BeginsWith store moment t = Reaches Stands store (λ s. (s.state ≡ Alive t) ×
 -- the same standing, seen from this moment on
 abbrev pub from_now : Standing → ℕ → Standing
 from_now s moment = record { state = s.state; stops = record { now = s.stops.now; since = moment; so_far = tables_left s.stops.now }; faults = s.faults; next = s.next }
+
+-- the same standing, seen from this moment on, where a stop leaves an image of this table, or blocks that opening refuses
+abbrev pub resting_on : Standing → ℕ → Table → Standing
+resting_on s moment t = record { state = s.state; stops = record { now = Perhaps (t ∷ []); since = moment; so_far = t ∷ [] }; faults = s.faults; next = s.next }
 
 -- the store is sound, and has failed
 abbrev pub HasFailed : {D A : Type 0} {m : _} → Store D A m → Type 0

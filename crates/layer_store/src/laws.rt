@@ -6,7 +6,7 @@ ghost use Rattle.page_file.specs.declared.fault.Fault.{Fault};
 ghost use Rattle.plain_table.specs.Table.{Table};
 ghost use Rattle.plain_table.specs.Lawful.{Standing};
 ghost use Rattle.layer_store.specs.Image.{Holds, IsImage, IsLeftAfter, IsLeftOf, Refuses};
-ghost use Rattle.layer_store.specs.Standing.{Stands, device_in, from_now, standing_of};
+ghost use Rattle.layer_store.specs.Standing.{Stands, blocks_in, device_in, from_now, resting_on, standing_of};
 ghost use Rattle.layer_store.specs.declared.store.Store.{Store};
 
 use block_device::BlockDevice;
@@ -50,4 +50,11 @@ pub fn a_standing_is_of_its_store<D: BlockDevice, A: Allocator>()
 /// Each moment may be taken for the beginning: the tables so far are then those that a stop now may leave.
 pub fn a_standing_begins_at_each_call<D: BlockDevice, A: Allocator>()
     ensures { (store : Store D A ⟦<D as BlockDevice>⟧) (s : Standing) → Stands store s → Stands store (from_now s (D.moment (device_in store))) }
+{}
+
+/// Where the blocks of a store are an image of a table, a stop leaves of them no other table's, whatever closings were
+/// refused before.
+pub fn an_image_rests_on_its_table<D: BlockDevice, A: Allocator>()
+    ensures { (store : Store D A ⟦<D as BlockDevice>⟧) (s : Standing) (t : Table) → Stands store s → IsImage (blocks_in store) t →
+        Stands store (resting_on s (D.moment (device_in store)) t) }
 {}

@@ -17,11 +17,11 @@ const CACHED_PAGES: u32 = 64;
 fn main(rt: HostRuntime) -> ExitCode {
     let device = MemoryDevice::new(rt.alloc());
     let Ok(store) = create_store(rt.alloc(), device, CACHED_PAGES) else {
-        tell_refusal(Refusal::Memory, &mut rt.stderr());
+        let _ = tell_refusal(Refusal::Memory, &mut rt.stderr());
         return ExitCode::FAILURE;
     };
     let Ok(mut output) = BufWriter::new(rt.alloc(), io::writer(&rt)) else {
-        tell_refusal(Refusal::Memory, &mut rt.stderr());
+        let _ = tell_refusal(Refusal::Memory, &mut rt.stderr());
         return ExitCode::FAILURE;
     };
     let mut input = rt.reader();

@@ -22,9 +22,11 @@ fn has_a_thousand(store: &mut Store<MemoryDevice>) -> Result<bool, Refusal> {
 fn a_thousand_objects_come_back(rt: HostRuntime) -> Result<(), Fail> {
     let mut store = new_store(rt.alloc(), 8)?;
     store.create(b"b", 2, 4)?;
-    for number in 1..=1000u16 {
+    for number in 1..=999u16 {
         store.insert(b"b", u64::from(number), step(number))?;
     }
+    assert!(rt; !has_a_thousand(&mut store)?, "one is missing");
+    store.insert(b"b", 1000, step(1000))?;
     assert!(rt; has_a_thousand(&mut store)?);
     store.reopen()?;
     assert!(rt; has_a_thousand(&mut store)?, "after a reopening");
@@ -79,6 +81,8 @@ fn sixty_layers_come_back(rt: HostRuntime) -> Result<(), Fail> {
     assert!(rt; has_sixty_layers(&mut store)?, "after a reopening");
     let mut store = opened_again(rt.alloc(), store, CACHE)?;
     assert!(rt; has_sixty_layers(&mut store)?, "after a closing");
+    store.insert(&name_of(59), 60, bounds_of(59))?;
+    assert!(rt; !has_sixty_layers(&mut store)?, "a second object");
     Ok(())
 }
 
@@ -122,6 +126,7 @@ fn chains_of_any_length_come_back(rt: HostRuntime) -> Result<(), Fail> {
         assert!(rt; has_points(&mut store, count)?, "{count} after a reopening");
         let mut store = opened_again(rt.alloc(), store, CACHE)?;
         assert!(rt; has_points(&mut store, count)?, "{count} after a closing");
+        assert!(rt; !has_points(&mut store, count + 1)?, "{count} are not one more");
         let device = device_of(store)?;
         assert_eq!(rt; device.blocks(), 3 + pages, "{count}");
     }

@@ -1,9 +1,9 @@
 //! Boxes that touch, and what stays and what is written when a store is closed.
 
-use crate::changes::stands_for;
+use crate::changes::{answers_alike, stands_for};
 use crate::fixture::{
-    CACHE, are_rows, are_same_blocks, copy_of, device_of, new_store, opened, opened_again, patch,
-    plane,
+    CACHE, SPACE, are_rows, are_same_blocks, copy_of, device_of, new_store, opened, opened_again,
+    patch, plane, put,
 };
 use crate::images::image;
 use block_device::{BlockDevice, MemoryDevice};
@@ -46,8 +46,11 @@ fn answers(store: &mut Store<MemoryDevice>) -> Result<bool, Refusal> {
 #[test]
 fn comparisons_say_no(rt: HostRuntime) -> Result<(), Fail> {
     let mut store = scene(rt.alloc())?;
-    let table = ListTable::new(rt.alloc());
+    let mut table = ListTable::new(rt.alloc());
     assert!(rt; !stands_for(&mut store, &table));
+    // `b` is unknown to the store, and of two axes in the table
+    table.create(b"b", 2, 4)?;
+    assert!(rt; !answers_alike(&mut store, &table, 1, SPACE));
     let rows = store.window(b"a", POINT)?;
     assert!(rt; !are_rows(&rows, &[(1, FIRST)]));
     assert!(rt; !are_rows(&rows, &[(1, FIRST), (2, FAR)]));
@@ -59,8 +62,14 @@ fn comparisons_say_no(rt: HostRuntime) -> Result<(), Fail> {
     assert!(rt; are_same_blocks(&mut other, &mut device)?);
     patch(&mut other, 3, 4095, 1, 1)?;
     assert!(rt; !are_same_blocks(&mut other, &mut device)?);
+    let mut longer = copy_of(rt.alloc(), &mut device)?;
+    put(&mut longer, 4, &[0; 4096])?;
+    assert!(rt; !are_same_blocks(&mut device, &mut longer)?);
+    assert!(rt; !are_same_blocks(&mut longer, &mut device)?);
     let mut store = opened(rt.alloc(), image(rt.alloc())?, CACHE)?;
     assert!(rt; !crate::images::answers(&mut store, 2)?);
+    store.insert(b"a", 2020, plane(FAR))?;
+    assert!(rt; !crate::images::answers(&mut store, 1)?);
     Ok(())
 }
 

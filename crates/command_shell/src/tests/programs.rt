@@ -107,7 +107,7 @@ fn a_refused_closing_is_told(rt: HostRuntime) -> Result<(), Fail> {
 #[test]
 fn a_refusal_is_told_in_a_line(rt: HostRuntime) -> Result<(), Fail> {
     let mut errors = Vec::new(rt.alloc());
-    tell_refusal(Refusal::Damaged(7), &mut errors);
+    assert!(rt; tell_refusal(Refusal::Damaged(7), &mut errors).is_ok());
     assert_eq!(rt;
         errors.as_slice(),
         b"rstore: fail 18 Damaged 7\n".as_slice()
@@ -117,13 +117,13 @@ fn a_refusal_is_told_in_a_line(rt: HostRuntime) -> Result<(), Fail> {
         room: 3,
         fails: true,
     };
-    tell_refusal(Refusal::Memory, &mut errors);
+    assert!(rt; tell_refusal(Refusal::Memory, &mut errors).is_err());
     assert_eq!(rt; errors.written.as_slice(), b"rst".as_slice());
     let mut errors = FailsOnce {
         written: Vec::new(rt.alloc()),
         passes: Some(0),
     };
-    tell_refusal(Refusal::Memory, &mut errors);
+    assert!(rt; tell_refusal(Refusal::Memory, &mut errors).is_err());
     assert_eq!(rt; errors.written.as_slice(), b"".as_slice());
     Ok(())
 }

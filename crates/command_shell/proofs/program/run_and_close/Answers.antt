@@ -1,11 +1,17 @@
 -- A closing that is finished leaves an image of the session's table.
-use Rattle.std.proofs.Common.{◌≡◌, true, false, Ok, Err, refl}
+use Rattle.std.proofs.Common.{◌≡◌, ℕ, Bool, true, false, List, Option, Result, Ok, Err, inl, inr, refl, sym, subst}
+use Rattle.std.proofs.KnownBytes.{Keeps-refl}
 use Rattle.plain_table.specs.Lawful.{Standing, State}
 use Rattle.plain_table.specs.Lawful.State.{Alive, Dead}
 use Rattle.plain_table.specs.Table.{Table}
 use Rattle.layer_store.specs.Standing.{HasFailed, Stands, StandsFor}
 use Rattle.layer_store.specs.declared.store.Store.{Store}
+use Rattle.command_shell.specs.Runs.{TellsEnd}
+use Rattle.command_shell.specs.Texts.{told_fault}
+use Rattle.command_shell.specs.Writing.{Writes}
 use Rattle.command_shell.proofs.SessionLemmas.{runs_kept}
+use Rattle.command_shell.proofs.WriteLemmas.{some_written}
+use Rattle.command_shell.proofs.program.run_and_close.Goals.{then-not-went_well, else-not-went_well}
 use Rattle.command_shell.proofs.program.run_and_close.Goals as goal
 
 -- the table of a store that has not failed
@@ -55,3 +61,23 @@ returns-in-Err-clause-run g c = λ s stands.
       runs = runs_kept g.R.Read.remaining g.W.Write.contents c.run-end.result s left.next c.args.input.now c.run-end.new.input c.args.output.now c.run-end.new.output c.flush-flushed.new.self left.so c.flush-flushed.ensures.bytes;
       well = λ well. absurd (false_is_not_true well);
     }
+
+-- a line was written where the run did not go well, or nothing where it did
+told : {E T : Type 0} (went_well : Bool) (a b : Option (List ℕ)) (r : Result T E) → went_well ≡ false → Writes a b r told_fault → TellsEnd went_well a b
+told true a b r e h = absurd (cc)
+told false a b r e h = inl (some_written a b r told_fault h)
+
+untold : (went_well : Bool) (a : Option (List ℕ)) → went_well ≡ true → TellsEnd went_well a a
+untold true a e = Keeps-refl a
+untold false a e = absurd (cc)
+
+pub returns-after-not-went_well-clause-told : goal.returns-after-not-went_well-clause-told
+returns-after-not-went_well-clause-told g c =
+    let Says : g.row.E.Denot → Type 0 = λ errors. TellsEnd c.is_whole-went_well.result (g.E.Write.contents c.args.errors.now) (g.E.Write.contents errors) in
+    elim c.if-not-went_well.branch [
+      | then-not-went_well w ↦ subst Says (sym w.errors-is) (told _ _ _ w.put.result w.if-not-went_well.true w.put.ensures)
+      | else-not-went_well w ↦ subst Says (sym w.errors-is) (untold _ _ w.if-not-went_well.false)
+    ]
+
+pub returns-in-Err-clause-told : goal.returns-in-Err-clause-told
+returns-in-Err-clause-told g c = inr (_, some_written _ _ c.tell_refusal.result _ c.tell_refusal.ensures)
