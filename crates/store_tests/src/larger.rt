@@ -126,7 +126,10 @@ fn chains_of_any_length_come_back(rt: HostRuntime) -> Result<(), Fail> {
         assert!(rt; has_points(&mut store, count)?, "{count} after a reopening");
         let mut store = opened_again(rt.alloc(), store, CACHE)?;
         assert!(rt; has_points(&mut store, count)?, "{count} after a closing");
-        assert!(rt; !has_points(&mut store, count + 1)?, "{count} are not one more");
+        assert!(rt;
+            !has_points(&mut store, count + 1)?,
+            "{count} are not one more"
+        );
         let device = device_of(store)?;
         assert_eq!(rt; device.blocks(), 3 + pages, "{count}");
     }
