@@ -52,10 +52,11 @@ pub record KeepsGate {D : Type 0} {m : _} (old new : PageFile D m) : Type 0 wher
   pub blocks : IsHonest old → ¬ (gate_of old ≡ Open) → blocks_of new ≡ blocks_of old
   pub stops : IsHonest old → AddsOnly m.moment m.left_since old.device new.device (StopSince (gate_of old) (blocks_of old))
 
--- The map stays, and is as sound as it was.
+-- The map stays, and is as sound as it was; so do the pages given out that are not live.
 pub record KeepsMap {D : Type 0} {m : _} (old new : PageFile D m) : Type 0 where
   pub next : next_of new ≡ next_of old
   pub pages_stay : IsHonest old → (k : ℕ) → pages new k ≡ pages old k
+  pub given_stay : IsHonest old → (k : ℕ) → given new k ≡ given old k
   pub sound : IsPageMap old ↔ IsPageMap new
 
 -- Blocks in which the file lies, settled: opening refuses them by no check, and finds the same map, which

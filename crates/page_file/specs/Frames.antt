@@ -9,7 +9,8 @@ use Rattle.page_file.specs.declared.gate.Gate.{Gate}
 use Rattle.page_file.specs.declared.gate.Gate.TheVariants.{Shut, Open}
 use Rattle.page_file.specs.declared.header.Header.{Header}
 use Rattle.page_file.specs.File.{IsHonest, KeepsMap, LiesIn, gate_of}
-use Rattle.page_file.specs.Pages.{HasFreeChain, header_in, page_of}
+use Rattle.page_file.specs.Given.{given_same}
+use Rattle.page_file.specs.Pages.{HasFreeChain, given_pages, header_in, page_of}
 use Rattle.page_file.specs.Stops.{AddsOnly, SameButGate, StopNow, StopSince, TornFrom}
 use Rattle.page_file.specs.Gated.{fails, open_is_not_shut, open_stop, still_open, stop_open}
 use Rattle.page_file.specs.Live.{free_same, pages_same}
@@ -46,6 +47,7 @@ pub map_kept : {D : Type 0} {m : _} (old new : PageFile D m) → new.header ≡ 
 map_kept {m = m} old new header honest same = record {
   next = ap (λ (h : Header). h.next) header;
   pages_stay = λ h k. ap (λ (x : Header). page_of (m.shown new.device) x k) header ∙ pages_same (m.shown old.device) (m.shown new.device) old.header (same h) k;
+  given_stay = λ h k. ap (λ (x : Header). given_pages (m.shown new.device) x.next k) header ∙ given_same (m.shown old.device) (m.shown new.device) old.header.next (same h) k;
   sound = (
     λ p. record {
       honest = honest.0 p.honest;

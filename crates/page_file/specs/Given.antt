@@ -1,14 +1,15 @@
 -- Pages given out that are live: those that are not of the free pages' kind.
-use Rattle.std.proofs.Common.{◌≡◌, ◌∙◌, ℕ, ◌<◌, ◌≤◌, Bool, true, false, ◌&&◌, eqb, nat_le, nat_lt, List, Some, None, refl, sym, ap, arith, cond}
+use Rattle.std.proofs.Common.{◌≡◌, ◌∙◌, ℕ, ◌<◌, ◌≤◌, Bool, true, false, ◌&&◌, eqb, nat_le, nat_lt, List, length, Some, None, refl, sym, ap, arith, cond}
 use Rattle.std.specs.Set.{is_member}
 use Rattle.std.proofs.lemmas.Bool.Decides.{nat_tests}
 use Rattle.std.proofs.lemmas.Bool.{false_from_ne_true}
-use Rattle.block_device.specs.Device.{Blocks, block_at}
+use Rattle.block_device.specs.Device.{Blocks, Torn, block_at}
+use Rattle.block_device.specs.Written.{torn_other}
 use Rattle.page_file.specs.Layout.{kind_of}
 use Rattle.std.specs.Prelude.{is_some}
 use Rattle.page_file.specs.Chains.{chain_from}
 use Rattle.page_file.specs.Live.{page_live, lives}
-use Rattle.page_file.specs.Pages.{free_pages_of, given_pages, page_of, HasFreeChain}
+use Rattle.page_file.specs.Pages.{free_pages_of, given_pages, page_of, HasFreeChain, SameBut}
 use Rattle.page_file.specs.declared.header.Header.{Header}
 
 -- what is known of a page given out
@@ -30,6 +31,18 @@ is_given blocks next n low below =
     let a : nat_le 2 n ≡ true = grind (arith, nat_tests) in
     let b : nat_lt n next ≡ true = grind (arith, nat_tests) in
     ap (λ (t : Bool). cond (t && nat_lt n next) (Some (block_at n blocks)) None) a ∙ ap (λ (t : Bool). cond t (Some (block_at n blocks)) None) b
+
+-- the pages given out are the same, where the blocks from the catalog on are
+pub given_same : (old new : Blocks) (next : ℕ) → ((k : ℕ) → 2 ≤ k → block_at k new ≡ block_at k old) → (n : ℕ) → given_pages new next n ≡ given_pages old next n
+given_same old new next same n = case (nat_le 2 n) (nat_lt n next) refl
+  where
+    case : (t r : Bool) → nat_le 2 n ≡ t → cond (t && r) (Some (block_at n new)) None ≡ cond (t && r) (Some (block_at n old)) None
+    case false r e = refl
+    case true r e = ap (λ (b : List ℕ). cond r (Some b) None) (same n (let low : 2 ≤ n = grind (arith, nat_tests) in low))
+
+-- where a block is torn that was given out, the others are
+pub given_torn : (n : ℕ) (old new : Blocks) (next : ℕ) → Torn n old new → n ≤ length old → SameBut n (given_pages old next) (given_pages new next)
+given_torn n old new next torn le k ne = ap (λ (b : List ℕ). cond (nat_le 2 k && nat_lt k next) (Some b) None) (torn_other n k old new torn le ne)
 
 -- a live page was given out
 pub live_is_given : (blocks : Blocks) (h : Header) (n : ℕ) (page : List ℕ) → page_of blocks h n ≡ Some page → given_pages blocks h.next n ≡ Some page

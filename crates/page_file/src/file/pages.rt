@@ -50,13 +50,16 @@ impl<D: BlockDevice> PageFile<D> {
     /// that number, without a call of the device.
     ///
     /// After a refusal the page is still live and may hold any bytes; all others are as before. On an
-    /// honest device that is `Memory` or `Device`.
+    /// honest device that is `Memory` or `Device`. A page given out that is not live is written, too, and no other page
+    /// given out changes; which pages are live is then not said.
     pub fn write(&mut self, n: u32, bytes: &[u8; 4096]) -> Result<(), Fault>
         requires { gate_of self.old ≡ Open }
         ensures gate { KeepsGate self.old self.new }
         ensures written { IsHonest self.old → IsLive self.old n → OnOk result (pages self.new n ≡ Some bytes.now) }
         ensures live { IsHonest self.old → IsLive self.old n → IsLive self.new n }
         ensures others { IsHonest self.old → IsLive self.old n → SameBut n (pages self.old) (pages self.new) }
+        ensures given { IsHonest self.old → OnOk result (given self.new n ≡ Some bytes.now) }
+        ensures given_others { IsHonest self.old → SameBut n (given self.old) (given self.new) }
         ensures sound { IsPageMap self.old → IsLive self.old n → IsPageMap self.new }
         ensures next { next_of self.new ≡ next_of self.old }
         ensures outside { (n < 2) ⊎ (next_of self.old ≤ n) → (result ≡ Err (fault.Damaged n)) × (self.new ≡ self.old) }
@@ -75,12 +78,13 @@ impl<D: BlockDevice> PageFile<D> {
     /// without a call of the device.
     ///
     /// After a refusal the page may hold any bytes, and may be live or not; all others are as before.
-    /// With a sound map that is `Memory` or `Device`.
+    /// With a sound map that is `Memory` or `Device`. No other page given out changes, live or not.
     pub fn free(&mut self, n: u32) -> Result<(), Fault>
         requires { gate_of self.old ≡ Open }
         ensures gate { KeepsGate self.old self.new }
         ensures freed { IsHonest self.old → IsLive self.old n → OnOk result (pages self.new n ≡ None) }
         ensures others { IsHonest self.old → IsLive self.old n → SameBut n (pages self.old) (pages self.new) }
+        ensures given_others { IsHonest self.old → SameBut n (given self.old) (given self.new) }
         ensures sound { IsPageMap self.old → IsLive self.old n → IsPageMap self.new }
         ensures next { next_of self.new ≡ next_of self.old }
         ensures outside { (n < 3) ⊎ (next_of self.old ≤ n) → (result ≡ Err (fault.Damaged n)) × (self.new ≡ self.old) }

@@ -5,6 +5,7 @@ use Rattle.block_device.specs.Written.{block_at-written}
 use Rattle.page_file.specs.Layout.{free_block, kind_of, link_of}
 use Rattle.page_file.specs.Gated.{open_is_not_shut}
 use Rattle.page_file.specs.Frames.{adds_behind, stop_behind}
+use Rattle.page_file.specs.Given.{given_torn}
 use Rattle.page_file.specs.Live.{lives, others_same, free_torn, freed_free, freed_others, room_for_one}
 use Rattle.page_file.specs.Reading.{free_kind, free_link}
 use Rattle.page_file.specs.Settled.{more_free, sound_says}
@@ -104,3 +105,11 @@ returns-clause-sound g c = λ map live. let file = c.args.self.now in let d = g.
       free = freed_free c.args.n _ _ file.header (c.write_block.ensures.torn h) le l.not_free (omega (arith, c.if-n-lt3.false)) (ap link_of is ∙ free_link file.header.first small)
           l.below (ap kind_of is ∙ free_kind file.header.first) map.free;
     }
+
+pub returns-in_err-write_block-clause-given_others : goal.returns-in_err-write_block-clause-given_others
+returns-in_err-write_block-clause-given_others g c = λ h. let file = c.args.self.now in
+    given_torn c.args.n _ _ file.header.next (c.write_block.ensures.torn h) (omega (arith, file.room h))
+
+pub returns-clause-given_others : goal.returns-clause-given_others
+returns-clause-given_others g c = λ h. let file = c.args.self.now in
+    given_torn c.args.n _ _ file.header.next (c.write_block.ensures.torn h) (omega (arith, file.room h))

@@ -1,9 +1,10 @@
 -- The goals of `PageFile::write` that are proved by hand.
-use Rattle.std.proofs.Common.{◌≡◌, ◌≤◌, ℕ, List, Some, ap, ◌∙◌, arith, length, refl}
+use Rattle.std.proofs.Common.{◌≡◌, ◌<◌, ◌≤◌, ℕ, List, Some, ap, ◌∙◌, arith, length, refl}
 use Rattle.block_device.specs.Device.{block_at, written}
 use Rattle.block_device.specs.Written.{block_at-written}
 use Rattle.page_file.specs.Gated.{open_is_not_shut}
 use Rattle.page_file.specs.Frames.{adds_behind, stop_behind}
+use Rattle.page_file.specs.Given.{given_torn, is_given}
 use Rattle.page_file.specs.Live.{lives, lives_some, others_same, page_live, free_torn, torn_lives}
 use Rattle.page_file.proofs.Results.{on_ok_map}
 use Rattle.page_file.specs.Written.{torn_longer}
@@ -55,3 +56,16 @@ returns-clause-sound g c = λ map live. let file = c.args.self.now in let d = g.
       honest = c.write_block.ensures.honest.0 map.honest;
       free = free_torn c.args.n _ _ file.header (c.write_block.ensures.torn map.honest) (omega (arith, l.below, file.room map.honest)) l.not_free map.free;
     }
+
+pub returns-clause-given : goal.returns-clause-given
+returns-clause-given g c = λ h. let file = c.args.self.now in let d = g.D.BlockDevice in
+    let low : 2 ≤ c.args.n = omega arith in
+    let below : c.args.n < file.header.next = omega arith in
+    let le : c.args.n ≤ length (d.shown file.device) = omega (arith, below, file.room h) in
+    on_ok_map c.write_block.result (λ (w : d.shown c.write_block.new.device ≡ written c.args.n c.args.bytes.now (d.shown file.device)).
+    is_given (d.shown c.write_block.new.device) file.header.next c.args.n low below
+    ∙ ap (λ (b : List ℕ). Some b) (ap (block_at c.args.n) w ∙ block_at-written c.args.n _ (d.shown file.device) le)) (c.write_block.ensures.written h)
+
+pub returns-clause-given_others : goal.returns-clause-given_others
+returns-clause-given_others g c = λ h. let file = c.args.self.now in
+    given_torn c.args.n _ _ file.header.next (c.write_block.ensures.torn h) (omega (arith, file.room h))
