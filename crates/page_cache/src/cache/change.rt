@@ -1,0 +1,52 @@
+//! The gate opened for a change, and what was put synced.
+ghost use Rattle.std.specs.Prelude.{◌≡◌, ◌⊎◌, ◌↔◌, IsOk, IfErr, OnOk, OnErr};
+ghost use Rattle.block_device.specs.Device.{LeavesOnly, Only};
+ghost use Rattle.page_file.specs.Fault.{HasCause, IsDamage, IsOfDevice};
+ghost use Rattle.page_file.specs.Stops.{SameButGate};
+ghost use Rattle.page_file.specs.declared.gate.Gate.TheVariants.{Open, Unsure};
+ghost use Rattle.page_cache.specs.Cache.{IsHonest, IsUnchanged, KeepsGate, KeepsMap, blocks_of, device_of, gate_of, looks_of};
+
+use crate::cache::PageCache;
+use block_device::BlockDevice;
+use page_file::Fault;
+use std::alloc::Allocator;
+
+impl<D: BlockDevice, A: Allocator> PageCache<D, A> {
+    /// Opens the gate for a change: it is written open, alone, and synced, if it is not open already.
+    ///
+    /// After a refusal, which is `Memory` or `Device`, the gate is unsure. The map stays.
+    pub fn begin_change(&mut self) -> Result<(), Fault>
+        ensures open { OnOk result (gate_of self.new ≡ Open) }
+        ensures refused { OnErr result (gate_of self.new ≡ Unsure) }
+        ensures was_open { gate_of self.old ≡ Open → IsUnchanged self.old self.new × IsOk result }
+        ensures map { KeepsMap self.old self.new }
+        ensures blocks { IsHonest self.old → SameButGate (blocks_of self.new) (blocks_of self.old) }
+
+        // A stop leaves the blocks as they were, the gate aside.
+        ensures stops { IsHonest self.old → ¬ (gate_of self.old ≡ Open) →
+            LeavesOnly D.moment D.left_since (device_of self.old) (device_of self.new) (λ c. SameButGate c (blocks_of self.old)) }
+
+        ensures looks { looks_of self.new ≡ looks_of self.old }
+        ensures honest { IsHonest self.old ↔ IsHonest self.new }
+        ensures faults { IfErr result IsOfDevice }
+        ensures cause { HasCause (D.faults (device_of self.old)) (D.faults (device_of self.new)) result }
+    {
+        self.file.begin_change()
+    }
+
+    /// Writes what was put and is not yet on the device, and syncs: after an `Ok` a stop leaves the blocks as
+    /// they are. The gate and the map stay.
+    ///
+    /// On an honest device a refusal is `Memory` or `Device`; on another one a page may be damaged.
+    pub fn flush(&mut self) -> Result<(), Fault>
+        ensures gate { KeepsGate self.old self.new }
+        ensures map { KeepsMap self.old self.new }
+        ensures durable { IsHonest self.old → OnOk result (Only (blocks_of self.new) (D.may_leave (device_of self.new))) }
+        ensures looks { looks_of self.new ≡ looks_of self.old }
+        ensures faults { IsHonest self.old → IfErr result IsOfDevice }
+        ensures other_faults { IfErr result (λ f. IsOfDevice f ⊎ IsDamage f) }
+        ensures cause { HasCause (D.faults (device_of self.old)) (D.faults (device_of self.new)) result }
+    {
+        self.file.flush()
+    }
+}

@@ -1,0 +1,66 @@
+//! The beginning of a cache: put over a file, or checked again behind a closing.
+ghost use Rattle.std.specs.Prelude.{◌≡◌, ◌↔◌, ◌≤◌, ℕ, IfOk, IfErr};
+ghost use Rattle.block_device.specs.Device.{Blocks};
+ghost use Rattle.page_file.specs.Fault.{HasCause, IsOfDevice};
+ghost use Rattle.page_file.specs.File as below;
+ghost use Rattle.page_file.specs.declared.fault.Fault.TheVariants as fault;
+ghost use Rattle.page_file.specs.declared.gate.Gate.TheVariants.{Shut};
+ghost use Rattle.page_cache.specs.Cache.{IsHeld, IsHonest, IsPageMap, KeepsGate, KeepsMap, LiesIn, blocks_of, device_of, gate_of, given, looks_of, next_of, pages};
+
+use crate::cache::PageCache;
+use block_device::BlockDevice;
+use page_file::{Fault, PageFile};
+use std::alloc::Allocator;
+
+impl<D: BlockDevice, A: Allocator> PageCache<D, A> {
+    /// Puts a cache of at most `capacity` pages, 8 to 4096, over a file. It shows what the file shows, and holds
+    /// no page yet.
+    ///
+    /// A refusal is `Memory`, and the device of the file comes back as it is, without a call of it.
+    pub fn over(alloc: A, file: PageFile<D>, capacity: u32) -> Result<PageCache<D, A>, (Fault, D)>
+        requires few { 8 ≤ capacity }
+        requires many { capacity ≤ 4096 }
+        ensures device { IfOk result (λ cache. device_of cache ≡ below.device_of file) }
+        ensures gate { IfOk result (λ cache. gate_of cache ≡ below.gate_of file) }
+        ensures next { IfOk result (λ cache. next_of cache ≡ below.next_of file) }
+        ensures pages { IfOk result (λ cache. (k : ℕ) → pages cache k ≡ below.pages file k) }
+        ensures given { IfOk result (λ cache. (k : ℕ) → given cache k ≡ below.given file k) }
+        ensures sound { IfOk result (λ cache. IsPageMap cache ↔ below.IsPageMap file) }
+        ensures lies { IfOk result (λ cache. (blocks : Blocks) → LiesIn cache blocks ↔ below.LiesIn file blocks) }
+        ensures holds_none { IfOk result (λ cache. (n : ℕ) → ¬ (IsHeld cache n)) }
+        ensures looks { IfOk result (λ cache. looks_of cache ≡ 0) }
+        ensures refused { IfErr result (λ e. (e.0 ≡ fault.Memory) × (e.1 ≡ below.device_of file)) }
+    {
+        // One page is held so far, whatever the capacity.
+        let _ = capacity;
+        match Box::new(alloc, [0; 4096]) {
+            Ok(buffer) => Ok(PageCache {
+                file,
+                held: None,
+                buffer,
+                looks: 0,
+            }),
+            Err(_) => Err((Fault::Memory, file.abandon())),
+        }
+    }
+
+    /// Syncs the device, and reads and checks gate and header again, as opening does. The gate has to be
+    /// shut. No page is held afterwards: each is read anew.
+    ///
+    /// On an honest device the map is then what it was, and a refusal is `Memory` or `Device`; on another
+    /// one a check may fail.
+    pub fn check_again(&mut self) -> Result<(), Fault>
+        requires { gate_of self.old ≡ Shut }
+        ensures gate { KeepsGate self.old self.new }
+        ensures map { IsHonest self.old → KeepsMap self.old self.new }
+        ensures blocks { IsHonest self.old → blocks_of self.new ≡ blocks_of self.old }
+        ensures forgets { (n : ℕ) → ¬ (IsHeld self.new n) }
+        ensures looks { looks_of self.new ≡ looks_of self.old }
+        ensures faults { IsHonest self.old → IfErr result IsOfDevice }
+        ensures never { IfErr result (λ e. ¬ (e ≡ fault.NoPages)) }
+        ensures cause { HasCause (D.faults (device_of self.old)) (D.faults (device_of self.new)) result }
+    {
+        self.held = None;
+        self.file.check_again()
+    }
+}

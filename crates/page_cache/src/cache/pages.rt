@@ -1,0 +1,149 @@
+//! The pages: given out, put, freed and lent.
+ghost use Rattle.std.specs.Prelude.{◌≡◌, ◌⊎◌, ◌≤◌, ◌<◌, ◌+◌, ◌^◌, ℕ, Some, None, Err, IsErrOf, IsOk, IfOk, IfErr, OnOk, OnErr};
+ghost use Rattle.std.specs.Borrow.{sem};
+ghost use Rattle.block_bytes.specs.Numbers.{zeros};
+ghost use Rattle.page_file.specs.Fault.{HasCause, IsOfDevice, IsDamage};
+ghost use Rattle.page_file.specs.Pages.{SameBut};
+ghost use Rattle.page_file.specs.declared.fault.Fault.TheVariants as fault;
+ghost use Rattle.page_file.specs.declared.gate.Gate.TheVariants.{Open};
+ghost use Rattle.page_cache.specs.Cache.{IsHeld, IsHonest, IsLive, IsLookedAt, IsPageMap, IsUnchanged, KeepsGate, KeepsMap, device_of, gate_of, given, looks_of, next_of, pages};
+ghost use Rattle.page_cache.specs.Loan.{EndsLookedAt};
+
+use crate::cache::PageCache;
+use block_device::BlockDevice;
+use page_file::Fault;
+use std::alloc::Allocator;
+
+impl<D: BlockDevice, A: Allocator> PageCache<D, A> {
+    /// Lends a page that was given out, and counts a look. A number outside 2 to the last one given out is
+    /// `Damaged` with that number, without a call of the device, and a page that is held is lent without one.
+    ///
+    /// A refusal counts no look; on an honest device that of a page given out is `Memory` or `Device`. Map, gate and
+    /// next number stay, also after a refusal.
+    pub fn page(&mut self, n: u32) -> Result<&[u8; 4096], Fault>
+        ensures* looked_at { sem 𝓛 (EndsLookedAt D.row A.row D.BlockDevice A.Allocator self.entry n result) }
+        ensures bytes { IsHonest self.old → IsLive self.old n → IfOk result (λ page. pages self.old n ≡ Some page.now) }
+        ensures given_bytes { IsHonest self.old → IfOk result (λ page. given self.old n ≡ Some page.now) }
+        ensures held { IsHeld self.old n → IsOk result }
+        ensures outside { (n < 2) ⊎ (next_of self.old ≤ n) → IsErrOf result (fault.Damaged n) }
+        ensures faults { IsHonest self.old → 2 ≤ n → n < next_of self.old → IfErr result IsOfDevice }
+        ensures other_faults { IfErr result (λ f. IsOfDevice f ⊎ IsDamage f) }
+    {
+        self.look(n)?;
+        Ok(&self.buffer)
+    }
+
+    // Brings a page into the buffer, and counts a look.
+    fn look(&mut self, n: u32) -> Result<(), Fault>
+        ensures looked_at { IsLookedAt self.old self.new n result }
+        ensures given_bytes { IsHonest self.old → OnOk result (given self.old n ≡ Some self.new.buffer.value) }
+        ensures held { IsHeld self.old n → IsOk result }
+        ensures outside { (n < 2) ⊎ (next_of self.old ≤ n) → result ≡ Err (fault.Damaged n) }
+        ensures faults { IsHonest self.old → 2 ≤ n → n < next_of self.old → IfErr result IsOfDevice }
+        ensures other_faults { IfErr result (λ f. IsOfDevice f ⊎ (f ≡ fault.Damaged n)) }
+    {
+        self.load(n)?;
+        self.looks = self.looks.saturating_add(1);
+        Ok(())
+    }
+
+    // Brings a page into the buffer, if it is not there.
+    #[tactic(auto, using(page_file::specs::Laws::no_call_keeps_the_gate, page_file::specs::Laws::no_call_keeps_the_map))]
+    fn load(&mut self, n: u32) -> Result<(), Fault>
+        ensures gate { KeepsGate self.old self.new }
+        ensures map { KeepsMap self.old self.new }
+        ensures given_bytes { IsHonest self.old → OnOk result (given self.old n ≡ Some self.new.buffer.value) }
+        ensures holds { OnOk result (IsHeld self.new n) }
+        ensures held { IsHeld self.old n → (device_of self.new ≡ device_of self.old) × IsOk result }
+        ensures looks { looks_of self.new ≡ looks_of self.old }
+        ensures outside { (n < 2) ⊎ (next_of self.old ≤ n) → (result ≡ Err (fault.Damaged n)) × (device_of self.new ≡ device_of self.old) }
+        ensures faults { IsHonest self.old → 2 ≤ n → n < next_of self.old → IfErr result IsOfDevice }
+        ensures other_faults { IfErr result (λ f. IsOfDevice f ⊎ (f ≡ fault.Damaged n)) }
+        ensures cause { HasCause (D.faults (device_of self.old)) (D.faults (device_of self.new)) result }
+    {
+        if self.held == Some(n) {
+            return Ok(());
+        }
+        // After a refusal the buffer holds anything.
+        self.held = None;
+        self.file.read(n, &mut self.buffer)?;
+        self.held = Some(n);
+        Ok(())
+    }
+
+    /// Writes a live page, and holds it. The gate has to be open. A number outside 2 to the last one given out is
+    /// `Damaged` with that number, without a call of the device.
+    ///
+    /// After a refusal the page is still live and may hold any bytes; all others are as before. On an
+    /// honest device that is `Memory` or `Device`.
+    pub fn put(&mut self, n: u32, bytes: &[u8; 4096]) -> Result<(), Fault>
+        requires { gate_of self.old ≡ Open }
+        ensures gate { KeepsGate self.old self.new }
+        ensures written { IsHonest self.old → IsLive self.old n → OnOk result (pages self.new n ≡ Some bytes.now) }
+        ensures live { IsHonest self.old → IsLive self.old n → IsLive self.new n }
+        ensures others { IsHonest self.old → IsLive self.old n → SameBut n (pages self.old) (pages self.new) }
+        ensures sound { IsPageMap self.old → IsLive self.old n → IsPageMap self.new }
+        ensures next { next_of self.new ≡ next_of self.old }
+        ensures looks { looks_of self.new ≡ looks_of self.old }
+        ensures holds { OnOk result (IsHeld self.new n) }
+        ensures outside { (n < 2) ⊎ (next_of self.old ≤ n) → (result ≡ Err (fault.Damaged n)) × IsUnchanged self.old self.new }
+        ensures faults { IsHonest self.old → IsLive self.old n → IfErr result IsOfDevice }
+        ensures other_faults { IfErr result (λ f. IsOfDevice f ⊎ IsDamage f) }
+        ensures cause { HasCause (D.faults (device_of self.old)) (D.faults (device_of self.new)) result }
+    {
+        // After a refusal the page may hold any bytes, so it is not held.
+        self.held = None;
+        self.file.write(n, bytes)?;
+        *self.buffer = *bytes;
+        self.held = Some(n);
+        Ok(())
+    }
+
+    /// Gives out a page of zeros that was not live. The gate has to be open.
+    ///
+    /// After a refusal one page that was not live may hold any bytes, and may be live; all others are as
+    /// before. `NoPages` comes only where all numbers up to 2^31 - 1 were given out.
+    pub fn allocate(&mut self) -> Result<u32, Fault>
+        requires { gate_of self.old ≡ Open }
+        ensures gate { KeepsGate self.old self.new }
+        ensures fresh { IsPageMap self.old → IfOk result (λ n. (pages self.old n ≡ None) × (pages self.new n ≡ Some zeros) × SameBut n (pages self.old) (pages self.new)) }
+        ensures refused { IsPageMap self.old → OnErr result ((n : ℕ) × (pages self.old n ≡ None) × SameBut n (pages self.old) (pages self.new)) }
+        ensures sound { IsPageMap self.old → IsPageMap self.new }
+        ensures number { IfOk result (λ n. (3 ≤ n) × (n < next_of self.new)) }
+        ensures next { (next_of self.old ≤ next_of self.new) × (next_of self.new ≤ next_of self.old + 1) }
+        ensures looks { looks_of self.new ≡ looks_of self.old }
+        ensures no_pages { IsErrOf result fault.NoPages → next_of self.old ≡ 2 ^ 31 }
+        ensures full { next_of self.old ≡ 2 ^ 31 → (result ≡ Err fault.NoPages) × IsUnchanged self.old self.new }
+        ensures faults { IsPageMap self.old → IfErr result (λ f. IsOfDevice f ⊎ (f ≡ fault.NoPages)) }
+        ensures other_faults { IfErr result (λ f. IsOfDevice f ⊎ ((f ≡ fault.NoPages) ⊎ IsDamage f)) }
+        ensures cause { HasCause (D.faults (device_of self.old)) (D.faults (device_of self.new)) result }
+    {
+        // A page that is not live may be held, and it may be that one which is given out.
+        self.held = None;
+        self.file.allocate()
+    }
+
+    /// Frees a live page other than the catalog: it is no longer live. The gate has to be open. A number outside
+    /// 3 to the last one given out is `Damaged` with that number, without a call of the device.
+    ///
+    /// After a refusal the page may hold any bytes, and may be live or not; all others are as before.
+    /// With a sound map that is `Memory` or `Device`.
+    pub fn free(&mut self, n: u32) -> Result<(), Fault>
+        requires { gate_of self.old ≡ Open }
+        ensures gate { KeepsGate self.old self.new }
+        ensures freed { IsHonest self.old → IsLive self.old n → OnOk result (pages self.new n ≡ None) }
+        ensures others { IsHonest self.old → IsLive self.old n → SameBut n (pages self.old) (pages self.new) }
+        ensures sound { IsPageMap self.old → IsLive self.old n → IsPageMap self.new }
+        ensures next { next_of self.new ≡ next_of self.old }
+        ensures looks { looks_of self.new ≡ looks_of self.old }
+        ensures outside { (n < 3) ⊎ (next_of self.old ≤ n) → (result ≡ Err (fault.Damaged n)) × IsUnchanged self.old self.new }
+        ensures faults { IsPageMap self.old → IsLive self.old n → ¬ (n ≡ 2) → IfErr result IsOfDevice }
+        ensures other_faults { IfErr result (λ f. IsOfDevice f ⊎ IsDamage f) }
+        ensures cause { HasCause (D.faults (device_of self.old)) (D.faults (device_of self.new)) result }
+    {
+        if self.held == Some(n) {
+            self.held = None;
+        }
+        self.file.free(n)
+    }
+}
