@@ -1,0 +1,73 @@
+-- The laws of what pages spell: which bytes are read, and what entries are.
+use Rattle.std.proofs.Common.{◌≡◌, ℕ, ◌+◌, ◌^◌, ◌<◌, ◌≤◌, List, Option, Some, None, refl, sym, ◌∙◌, ap, subst, arith, inl, inr}
+use Rattle.std.proofs.lemmas.List.FromFn.{fill_by_all}
+use Rattle.block_bytes.specs.Numbers.{number_at, AreBytes}
+use Rattle.block_bytes.specs.Laws.{number_at-same, number_at-lt}
+use Rattle.box_math.specs.Bounds.{IsBox}
+use Rattle.box_bytes.specs.Laws.{box_at-is_box}
+use Rattle.node_page.specs.Layout.{Item, Content, low_place, high_place, reference_place, item_at, items_at, IsEntry, Spells, node_at, IsNamed}
+use Rattle.node_page.specs.PageLaws.{ReadsWhatIsSpelled, ReadsNamedBytes, SpellsNodes}
+use Rattle.node_page.proofs.Places.{item_same}
+use Rattle.node_page.proofs.Reading.{spells, spelled, spellable, size_of, item_of_node, length-items_at, get_or-items_at}
+use Rattle.node_page.proofs.Writing.{nothing}
+
+module _ (dims count : ℕ) (a b : List ℕ) (same : (k : ℕ) → IsNamed dims count k → number_at 1 k a ≡ number_at 1 k b) where
+  head_same : (n at : ℕ) → at + n ≤ 5 → number_at n at a ≡ number_at n at b
+  head_same n at h = number_at-same n at a b (λ k le lt. same k (inl (omega arith)))
+
+  one_same : (place : ℕ) → place < count → item_at dims a place ≡ item_at dims b place
+  one_same place lt = item_same dims place a b (λ k of. same k (inr (place, lt, of)))
+
+  all_same : items_at dims a count ≡ items_at dims b count
+  unfolding items_at
+  all_same = fill_by_all (item_at dims b) (items_at dims a count) count nothing (length-items_at dims a count) (λ k lt. get_or-items_at dims a count k nothing lt ∙ one_same k lt)
+
+  spells_same : (c : Content) → count ≡ number_at 2 2 a → Spells dims a c → Spells dims b c
+  spells_same c is s =
+      let count_same : number_at 2 2 a ≡ number_at 2 2 b = head_same 2 2 (omega arith) in
+      let few = s.head.few in
+      record {
+        head = record {
+          kind = sym (head_same 1 0 (omega arith)) ∙ s.head.kind;
+          dims_is = sym (head_same 1 1 (omega arith)) ∙ s.head.dims_is;
+          level_is = sym (head_same 1 4 (omega arith)) ∙ s.head.level_is;
+          few = omega arith;
+          some = λ above. let some = s.head.some above in omega arith;
+        };
+        each = λ place lt. subst (IsEntry dims c.level) (one_same place (omega arith)) (s.each place (omega arith));
+        entries = s.entries ∙ ap (items_at dims a) (sym is) ∙ all_same ∙ ap (items_at dims b) (is ∙ count_same);
+      }
+
+same_options : {X : Type 0} (o p : Option X) → ((x : X) → o ≡ Some x → p ≡ Some x) → ((x : X) → p ≡ Some x → o ≡ Some x) → o ≡ p
+same_options (Some x) p f g = sym (f x refl)
+same_options None (Some y) f g = g y refl
+same_options None None f g = refl
+
+pub reads_named : ReadsNamedBytes
+reads_named dims a b same =
+    let n = number_at 2 2 a in
+    let count : n ≡ number_at 2 2 b = head_same dims n a b same 2 2 (omega arith) in
+    same_options (node_at dims a) (node_at dims b)
+    (λ c is. spelled dims b c (spells_same dims n a b same c refl (spells dims a c is)))
+    (λ c is. spelled dims a c (spells_same dims n b a (λ k named. sym (same k named)) c count (spells dims b c is)))
+
+pub reads_spelled : ReadsWhatIsSpelled
+reads_spelled dims page c = (spells dims page c, spelled dims page c)
+
+-- an entry in a page of bytes has a box and a number of eight bytes
+item_fits : (dims level place : ℕ) (page : List ℕ) → AreBytes page → IsEntry dims level (item_at dims page place) → IsBox dims (item_at dims page place).bounds × ((item_at dims page place).reference < 2 ^ 64)
+unfolding item_at
+item_fits dims level place page bytes is =
+    let small : number_at 8 (reference_place dims place) page < 256 ^ 8 = number_at-lt 8 (reference_place dims place) page bytes in
+    (box_at-is_box dims page (low_place place) (high_place place) 800 bytes is.ordered, omega arith)
+
+pub spells_nodes : SpellsNodes
+spells_nodes dims page c bytes s =
+    let size = size_of dims page c s in
+    let fits : (k : ℕ) → k < number_at 2 2 page → IsBox dims (item_at dims page k).bounds × ((item_at dims page k).reference < 2 ^ 64) = λ k lt. item_fits dims c.level k page bytes (s.each k lt) in
+    record {
+      spellable = spellable dims page c s;
+      byte = let level = s.head.level_is in let small : number_at 1 4 page < 256 ^ 1 = number_at-lt 1 4 page bytes in omega arith;
+      boxes = λ k other lt. subst (λ (item : Item). IsBox dims item.bounds) (sym (item_of_node dims page c k other s lt)) (fits k (omega arith)).0;
+      references = λ k other lt. subst (λ (item : Item). item.reference < 2 ^ 64) (sym (item_of_node dims page c k other s lt)) (fits k (omega arith)).1;
+    }

@@ -1,0 +1,143 @@
+-- What a page spells, and the test of it.
+use Rattle.std.proofs.Common.{◌≡◌, ◌≢◌, ℕ, zero, suc, ◌+◌, ◌^◌, ◌<◌, ◌≤◌, ◌&&◌, ◌||◌, ◌==◌, Bool, true, nat_le, nat_lt, List, [], ◌∷◌, ◌++◌, length, get_or, Option, Some, None, IfSome, IfNone, option_map, refl, sym, ◌∙◌, ap, subst, arith, below_more}
+use Rattle.std.proofs.lemmas.Bool.Decides.{nat_tests}
+use Rattle.std.proofs.lemmas.Option.{cond_some}
+use Rattle.std.proofs.lemmas.List.FromFn.{map-range_with_len_more, length-map-range_with_len, get_or-map-range_with_len}
+use Rattle.block_bytes.specs.Numbers.{number_at}
+use Rattle.box_math.specs.Bounds.{all_over, ordered_test}
+use Rattle.box_math.proofs.TestLaws.{ordered_test_true}
+use Rattle.node_page.specs.declared.node.Node.{Node}
+use Rattle.node_page.specs.Layout.{Item, Content, content_of, item_at, items_at, IsReference, IsSpellable, IsEntry, HasNodeHead, Spells, entry_test, node_test, node_at}
+
+pub items_at-none : (dims : ℕ) (page : List ℕ) → items_at dims page 0 ≡ []
+unfolding items_at
+items_at-none dims page = refl
+
+pub items_at-more : (dims : ℕ) (page : List ℕ) (n : ℕ) → items_at dims page (n + 1) ≡ items_at dims page n ++ item_at dims page n ∷ []
+unfolding items_at
+items_at-more dims page n = map-range_with_len_more (item_at dims page) 0 n n (omega arith)
+
+pub length-items_at : (dims : ℕ) (page : List ℕ) (n : ℕ) → length (items_at dims page n) ≡ n
+unfolding items_at
+length-items_at dims page n = length-map-range_with_len (item_at dims page) 0 n
+
+pub get_or-items_at : (dims : ℕ) (page : List ℕ) (n i : ℕ) (other : Item) → i < n → get_or (items_at dims page n) i other ≡ item_at dims page i
+unfolding items_at
+get_or-items_at dims page n i other lt = get_or-map-range_with_len (item_at dims page) 0 n i i other lt (omega arith)
+
+-- how many entries there are, and which
+pub ruleset counts = (length-items_at, get_or-items_at)
+
+-- ---- the test of an entry, and of a page
+
+all_over-each : (n : ℕ) (t : ℕ → Bool) → all_over n t ≡ true → (k : ℕ) → k < n → t k ≡ true
+all_over-each zero t h = λ k lt. absurd (omega arith)
+all_over-each (suc n) t h =
+    let both : (all_over n t ≡ true) × (t n ≡ true) = grind (arith, nat_tests) in
+    λ k lt. below_more (λ j. t j ≡ true) n (all_over-each n t both.0) both.1 k (omega arith)
+
+all_over-from : (n : ℕ) (t : ℕ → Bool) → ((k : ℕ) → k < n → t k ≡ true) → all_over n t ≡ true
+all_over-from zero t each = refl
+all_over-from (suc n) t each =
+    let before : all_over n t ≡ true = all_over-from n t (λ k lt. each k (omega arith)) in
+    let last : t n ≡ true = each n (omega arith) in
+    grind (arith, nat_tests)
+
+refers_means : (level r : ℕ) (b : Bool) → (b && (level == 0 || (nat_le 3 r && nat_lt r (2 ^ 31)))) ≡ true → (b ≡ true) × IsReference level r
+refers_means level r b h = (grind (arith, nat_tests), λ above. (grind (arith, nat_tests), grind (arith, nat_tests)))
+
+refers_test : (level r : ℕ) (b : Bool) → b ≡ true → IsReference level r → (b && (level == 0 || (nat_le 3 r && nat_lt r (2 ^ 31)))) ≡ true
+refers_test zero r b holds refers = grind (arith, nat_tests)
+refers_test (suc level) r b holds refers = let both = refers (omega arith) in grind (arith, nat_tests, both.0, both.1)
+
+entry_means : (dims level : ℕ) (item : Item) → entry_test dims level item ≡ true → IsEntry dims level item
+entry_means dims level item h =
+    let parts = refers_means level item.reference (ordered_test dims item.bounds.low item.bounds.high) h in
+    record { ordered = (ordered_test_true dims item.bounds.low item.bounds.high).0 parts.0; refers = parts.1 }
+
+entry_passes : (dims level : ℕ) (item : Item) → IsEntry dims level item → entry_test dims level item ≡ true
+entry_passes dims level item is = refers_test level item.reference (ordered_test dims item.bounds.low item.bounds.high) ((ordered_test_true dims item.bounds.low item.bounds.high).1 is.ordered) is.refers
+
+head_means : (k d dims n l : ℕ) (b : Bool) → (k == 2 && d == dims && nat_le n 100 && (l == 0 || nat_le 1 n) && b) ≡ true → (k ≡ 2) × (d ≡ dims) × (n ≤ 100) × (0 < l → 1 ≤ n) × (b ≡ true)
+head_means k d dims n l b h = (grind (arith, nat_tests), grind (arith, nat_tests), grind (arith, nat_tests), λ above. grind (arith, nat_tests), grind (arith, nat_tests))
+
+head_test : (k d dims n l : ℕ) (b : Bool) → k ≡ 2 → d ≡ dims → n ≤ 100 → (0 < l → 1 ≤ n) → b ≡ true → (k == 2 && d == dims && nat_le n 100 && (l == 0 || nat_le 1 n) && b) ≡ true
+head_test k d dims n zero b kind is few some holds = grind (arith, nat_tests)
+head_test k d dims n (suc l) b kind is few some holds = let more = some (omega arith) in grind (arith, nat_tests)
+
+-- where the page spells a node, reading it gives that node
+pub spelled : (dims : ℕ) (page : List ℕ) (c : Content) → Spells dims page c → node_at dims page ≡ Some c
+unfolding node_at node_test
+spelled dims page c s =
+    let n = number_at 2 2 page in
+    let l = number_at 1 4 page in
+    let level : l ≡ c.level = s.head.level_is in
+    let test : ℕ → Bool = λ place. entry_test dims l (item_at dims page place) in
+    let each : all_over n test ≡ true =
+    all_over-from n test (λ place lt. entry_passes dims l (item_at dims page place) (subst (λ (m : ℕ). IsEntry dims m (item_at dims page place)) (sym level) (s.each place lt))) in
+    let passes = head_test (number_at 1 0 page) (number_at 1 1 page) dims n l (all_over n test) s.head.kind s.head.dims_is s.head.few (λ above. s.head.some (omega arith)) each in
+    rw passes (ap (λ (m : ℕ). Some (record { level = m; entries = items_at dims page n })) level ∙ ap (λ (es : List Item). Some (record { level = c.level; entries = es })) (sym s.entries))
+
+-- and what reading gives is spelled so
+pub spells : (dims : ℕ) (page : List ℕ) (c : Content) → node_at dims page ≡ Some c → Spells dims page c
+unfolding node_at node_test
+spells dims page c h =
+    let n = number_at 2 2 page in
+    let l = number_at 1 4 page in
+    let test = all_over n (λ place. entry_test dims l (item_at dims page place)) in
+    let parts = cond_some (number_at 1 0 page == 2 && number_at 1 1 page == dims && nat_le n 100 && (l == 0 || nat_le 1 n) && test) (record { level = l; entries = items_at dims page n }) c h in
+    let means = head_means (number_at 1 0 page) (number_at 1 1 page) dims n l test parts.0 in
+    let level : l ≡ c.level = ap (λ (x : Content). x.level) parts.1 in
+    record {
+      head = record { kind = means.0; dims_is = means.1; level_is = level; few = means.2; some = λ above. means.3 (omega arith) };
+      each = λ place lt. subst (λ (m : ℕ). IsEntry dims m (item_at dims page place)) level
+          (entry_means dims l (item_at dims page place) (all_over-each n (λ k. entry_test dims l (item_at dims page k)) means.4 place lt));
+      entries = sym (ap (λ (x : Content). x.entries) parts.1);
+    }
+
+-- ---- what readers of a page that spells a node know
+
+pub size_of : (dims : ℕ) (page : List ℕ) (c : Content) → Spells dims page c → number_at 2 2 page ≡ length c.entries
+size_of dims page c s = sym (ap length s.entries ∙ length-items_at dims page (number_at 2 2 page))
+
+pub item_of_node : (dims : ℕ) (page : List ℕ) (c : Content) (place : ℕ) (other : Item) → Spells dims page c → place < length c.entries → get_or c.entries place other ≡ item_at dims page place
+item_of_node dims page c place other s lt =
+    let size = size_of dims page c s in
+    ap (λ (es : List Item). get_or es place other) s.entries ∙ get_or-items_at dims page (number_at 2 2 page) place other (omega arith)
+
+-- what a page spells can be spelled
+pub spellable : (dims : ℕ) (page : List ℕ) (c : Content) → Spells dims page c → IsSpellable c
+spellable dims page c s =
+    let size = size_of dims page c s in
+    let few = s.head.few in
+    record {
+      few = omega arith;
+      some = λ above. let some = s.head.some above in omega arith;
+      refers = λ k other lt. subst (λ (item : Item). IsReference c.level item.reference) (sym (item_of_node dims page c k other s lt)) (s.each k (omega arith)).refers;
+    }
+
+-- ---- decoding
+
+-- without its head the page spells no node of the level
+pub no_head : (dims level : ℕ) (page : List ℕ) → (HasNodeHead dims level page → ⊥) → (c : Content) → node_at dims page ≡ Some c → c.level ≢ level
+no_head dims level page none c is = λ same. none (subst (λ (l : ℕ). HasNodeHead dims l page) same (spells dims page c is).head)
+
+-- nor with a place that holds no entry of it
+pub no_place : (dims level place : ℕ) (page : List ℕ) → place < number_at 2 2 page → (IsEntry dims level (item_at dims page place) → ⊥) → (c : Content) → node_at dims page ≡ Some c → c.level ≢ level
+no_place dims level place page lt none c is = λ same. none (subst (λ (l : ℕ). IsEntry dims l (item_at dims page place)) same ((spells dims page c is).each place lt))
+
+-- with its head and an entry in each place it spells a node
+pub all_places : (dims level count : ℕ) (page : List ℕ) (items : List Item) → HasNodeHead dims level page → count ≡ number_at 2 2 page → items ≡ items_at dims page count
+    → ((place : ℕ) → place < count → IsEntry dims level (item_at dims page place)) → node_at dims page ≡ Some (record { level = level; entries = items })
+all_places dims level count page items head same is each =
+    spelled dims page (record { level = level; entries = items }) (record {
+      head = head;
+      each = λ place lt. each place (omega arith);
+      entries = is ∙ ap (items_at dims page) same;
+    })
+
+-- where the page spells the node, one that is decoded is that, and none is none of its level
+pub comes_back : {D : ℕ} (o : Option (Node D)) (c : Content) (found : Option Content) → found ≡ Some c → IfSome o (λ node. found ≡ Some (content_of node))
+    → IfNone o ((other : Content) → found ≡ Some other → other.level ≢ c.level) → option_map content_of o ≡ Some c
+comes_back (Some node) c found is some none = sym some ∙ is
+comes_back None c found is some none = absurd (none c is refl)

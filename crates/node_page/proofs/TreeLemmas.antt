@@ -1,0 +1,136 @@
+-- What holds of trees in pages.
+use Rattle.std.proofs.Common.{◌≡◌, ℕ, ◌-◌, ◌<◌, ◌≤◌, true, false, Some, cond, eqb, List, ◌∷◌, refl, sym, ap, subst, ◌∙◌, ⊎_elim, arith}
+use Rattle.std.proofs.lemmas.Bool.{cases_eq}
+use Rattle.std.proofs.lemmas.Bool.Decides.{nat_tests}
+use Rattle.box_math.specs.Bounds.{Bounds}
+use Rattle.node_page.specs.Layout.{Content, Item}
+use Rattle.node_page.specs.Trees.{PageMap, Tree, Row, end, more, object, child, HasNode, RowStands, Stands, node_in, row_items, occurs, occurs_in}
+use Rattle.node_page.specs.TreeLaws.{OneTreeStands, EqualPagesStand, ReplacedNodeStands, with_node, tree_with_node}
+
+occurs_here : (page : ℕ) → ◌≡◌ {A = ℕ} (cond (eqb page page) 1 0) 1
+occurs_here page = grind (arith, nat_tests)
+
+-- a page spells one node
+pub same_content : (dims : ℕ) (pages : PageMap) (page : ℕ) (a b : Content) → node_in dims (pages page) ≡ Some a → node_in dims (pages page) ≡ Some b → a ≡ b
+same_content dims pages page a b h k = cc
+
+same_level : (dims : ℕ) (pages : PageMap) (page level level' : ℕ) (a b : Row) → HasNode dims pages page level a → HasNode dims pages page level' b → level ≡ level'
+same_level dims pages page level level' a b h k = ap (λ (x : Content). x.level) (same_content dims pages page _ _ h k)
+
+-- a node stays where its bytes do
+pub node_stays : (dims : ℕ) (old new : PageMap) (page level : ℕ) (row : Row) → new page ≡ old page → HasNode dims old page level row → HasNode dims new page level row
+node_stays dims old new page level row same h = ap (node_in dims) same ∙ h
+
+-- and so do the trees below one
+pub row_stays : (dims : ℕ) (old new : PageMap) (level : ℕ) (row : Row) → ((n : ℕ) → 0 < occurs n row → new n ≡ old n) → RowStands dims old level row → RowStands dims new level row
+row_stays dims old new level end same h = h
+row_stays dims old new level (more (object bounds id) rest) same h = (h.0, row_stays dims old new level rest same h.1)
+row_stays dims old new level (more (child bounds page below) rest) same h = (
+  h.0,
+  node_stays dims old new page (level - 1) below (same page (omega (arith, occurs_here page))) h.1,
+  row_stays dims old new (level - 1) below (λ n p. same n (omega arith)) h.2,
+  row_stays dims old new level rest (λ n p. same n (omega arith)) h.3,
+)
+
+-- ---- one tree stands
+
+-- the same first entry, and the same others
+same_first : (b b' : Bounds) (r r' : ℕ) (xs ys : List Item) → ◌≡◌ {A = List Item} (record { bounds = b; reference = r } ∷ xs) (record { bounds = b'; reference = r' } ∷ ys) → (b ≡ b') × (r ≡ r') × (xs ≡ ys)
+same_first b b' r r' xs ys h =
+    let item : ◌≡◌ {A = Item} (record { bounds = b; reference = r }) (record { bounds = b'; reference = r' }) = cc in
+    (ap (λ (x : Item). x.bounds) item, ap (λ (x : Item). x.reference) item, cc)
+
+same_object : (b b' : Bounds) (r r' : ℕ) (xs ys : Row) → b ≡ b' → r ≡ r' → xs ≡ ys → more (object b r) xs ≡ more (object b' r') ys
+same_object b b' r r' xs ys e f h = cc
+
+same_child : (b b' : Bounds) (r r' : ℕ) (u v xs ys : Row) → b ≡ b' → r ≡ r' → u ≡ v → xs ≡ ys → more (child b r u) xs ≡ more (child b' r' v) ys
+same_child b b' r r' u v xs ys e f g h = cc
+
+one_row : (dims : ℕ) (pages : PageMap) (level : ℕ) (a b : Row) → ◌≡◌ {A = List Item} (row_items a) (row_items b) → RowStands dims pages level a → RowStands dims pages level b → a ≡ b
+one_row dims pages level end end same h k = refl
+one_row dims pages level end (more (object bounds' id') rest') same h k = absurd (cc)
+one_row dims pages level end (more (child bounds' page' below') rest') same h k = absurd (cc)
+one_row dims pages level (more (object bounds id) rest) end same h k = absurd (cc)
+one_row dims pages level (more (object bounds id) rest) (more (object bounds' id') rest') same h k =
+    let parts = same_first bounds bounds' id id' (row_items rest) (row_items rest') same in
+    same_object bounds bounds' id id' rest rest' parts.0 parts.1 (one_row dims pages level rest rest' parts.2 h.1 k.1)
+one_row dims pages level (more (object bounds id) rest) (more (child bounds' page' below') rest') same h k = absurd (omega (arith, h.0, k.0))
+one_row dims pages level (more (child bounds page below) rest) end same h k = absurd (cc)
+one_row dims pages level (more (child bounds page below) rest) (more (object bounds' id') rest') same h k = absurd (omega (arith, h.0, k.0))
+one_row dims pages level (more (child bounds page below) rest) (more (child bounds' page' below') rest') same h k =
+    let parts = same_first bounds bounds' page page' (row_items rest) (row_items rest') same in
+    let node : HasNode dims pages page' (level - 1) below = subst (λ n. HasNode dims pages n (level - 1) below) parts.1 h.1 in
+    let content = same_content dims pages page' (record { level = level - 1; entries = row_items below }) (record { level = level - 1; entries = row_items below' }) node k.1 in
+    let belows = one_row dims pages (level - 1) below below' (ap (λ (x : Content). x.entries) content) h.2 k.2 in
+    same_child bounds bounds' page page' below below' rest rest' parts.0 parts.1 belows (one_row dims pages level rest rest' parts.2 h.3 k.3)
+
+same_tree : (page page' level level' : ℕ) (a b : Row) → page ≡ page' → level ≡ level' → a ≡ b → ◌≡◌ {A = Tree} (record { page = page; level = level; row = a }) (record { page = page'; level = level'; row = b })
+same_tree page page' level level' a b e f h = cc
+
+pub one_tree_stands : OneTreeStands
+one_tree_stands dims pages s t at_page at_level first second =
+    let there : HasNode dims pages t.page s.level s.row = subst (λ n. HasNode dims pages n s.level s.row) at_page first.root in
+    let here : HasNode dims pages t.page t.level s.row = subst (λ l. HasNode dims pages t.page l s.row) at_level there in
+    let content = same_content dims pages t.page (record { level = t.level; entries = row_items s.row }) (record { level = t.level; entries = row_items t.row }) here second.root in
+    same_tree s.page t.page s.level t.level s.row t.row at_page at_level
+    (one_row dims pages t.level s.row t.row (ap (λ (x : Content). x.entries) content) (subst (λ l. RowStands dims pages l s.row) at_level first.below) second.below)
+
+pub equal_pages_stand : EqualPagesStand
+equal_pages_stand dims old new t same stands = record {
+  root = node_stays dims old new t.page t.level t.row (same t.page (omega (arith, occurs_here t.page))) stands.root;
+  below = row_stays dims old new t.level t.row (λ n p. same n (omega arith)) stands.below;
+  distinct = stands.distinct;
+}
+
+-- ---- one node is replaced
+
+items_with_node : (page : ℕ) (now row : Row) → ◌≡◌ {A = List Item} (row_items (with_node page now row)) (row_items row)
+items_with_node page now end = refl
+items_with_node page now (more (object bounds id) rest) = ap (λ (xs : List Item). record { bounds = bounds; reference = id } ∷ xs) (items_with_node page now rest)
+items_with_node page now (more (child bounds q below) rest) = ap (λ (xs : List Item). record { bounds = bounds; reference = q } ∷ xs) (items_with_node page now rest)
+
+has_with_node : (dims : ℕ) (pages : PageMap) (at level page : ℕ) (now row : Row) → HasNode dims pages at level row → HasNode dims pages at level (with_node page now row)
+has_with_node dims pages at level page now row h = h ∙ ap (λ (xs : List Item). Some (record { level = level; entries = xs })) (sym (items_with_node page now row))
+
+module _ (dims : ℕ) (old new : PageMap) (page level : ℕ) (was now : Row) (before : HasNode dims old page level was) (off : (n : ℕ) → ¬ (n ≡ page) → new n ≡ old n)
+    (there : HasNode dims new page level now) (stands : RowStands dims new level now) where
+  row_with_node : (l : ℕ) (row : Row) → RowStands dims old l row → RowStands dims new l (with_node page now row)
+  row_with_node l end h = h
+  row_with_node l (more (object bounds id) rest) h = (h.0, row_with_node l rest h.1)
+  row_with_node l (more (child bounds q below) rest) h =
+      let later = row_with_node l rest h.3 in
+      let inner = row_with_node (l - 1) below h.2 in
+      ⊎_elim
+      (λ is.
+      let test : eqb q page ≡ true = grind (arith, nat_tests) in
+      let levels : level ≡ l - 1 = same_level dims old page level (l - 1) was below before (subst (λ n. HasNode dims old n (l - 1) below) is h.1) in
+      rw test (h.0, subst (λ n. HasNode dims new n (l - 1) now) (sym is) (subst (λ k. HasNode dims new page k now) levels there), subst (λ k. RowStands dims new k now) levels stands, later))
+      (λ differs.
+      let test : eqb q page ≡ false = grind (arith, nat_tests) in
+      rw test (h.0, has_with_node dims new q (l - 1) page now below (node_stays dims old new q (l - 1) below (off q differs) h.1), inner, later))
+      (cases_eq q page)
+
+  with_node_stands : (t : Tree) → Stands dims old t → ((n : ℕ) → occurs_in n (tree_with_node t page now) ≤ 1) → Stands dims new (tree_with_node t page now)
+  with_node_stands t whole once =
+      ⊎_elim
+      (λ is.
+      let test : eqb t.page page ≡ true = grind (arith, nat_tests) in
+      let levels : level ≡ t.level = same_level dims old page level t.level was t.row before (subst (λ n. HasNode dims old n t.level t.row) is whole.root) in
+      record {
+        root = rw test (subst (λ n. HasNode dims new n t.level now) (sym is) (subst (λ k. HasNode dims new page k now) levels there));
+        below = rw test (subst (λ k. RowStands dims new k now) levels stands);
+        distinct = once;
+      })
+      (λ differs.
+      let test : eqb t.page page ≡ false = grind (arith, nat_tests) in
+      record {
+        root = rw test (has_with_node dims new t.page t.level page now t.row (node_stays dims old new t.page t.level t.row (off t.page differs) whole.root));
+        below = rw test (row_with_node t.level t.row whole.below);
+        distinct = once;
+      })
+      (cases_eq t.page page)
+
+pub a_replaced_node_stands : ReplacedNodeStands
+a_replaced_node_stands dims old new t page level was now whole before off there stands once = with_node_stands dims old new page level was now before off there stands t whole once
+
+pub ruleset tree_laws = (one_tree_stands, equal_pages_stand)

@@ -1,0 +1,96 @@
+-- The entries of a node, written one after the other.
+use Rattle.std.proofs.Common.{◌≡◌, ℕ, ◌+◌, ◌*◌, ◌^◌, ◌<◌, ◌≤◌, List, [], length, get_or, sym, ◌∙◌, subst, arith, below_more, inl, inr, ⊎_elim}
+use Rattle.std.proofs.lemmas.List.FromFn.{fill_by_all}
+use Rattle.block_bytes.specs.Numbers.{number_at, IsApart}
+use Rattle.box_math.specs.Bounds.{IsBox, IsOrdered}
+use Rattle.box_bytes.specs.Corners.{Keeps}
+use Rattle.node_page.specs.Layout.{Item, low_place, high_place, reference_place, item_at, items_at, IsSpellable, IsClearOfEntry, IsHead, Spells, IsNamed}
+use Rattle.node_page.proofs.Places.{le_or_lt, item_stays}
+
+-- a byte that is not among n bytes is apart from them
+outside : (n at k : ℕ) → ((at ≤ k) × (k < at + n) → ⊥) → IsApart 1 k n at
+outside n at k h =
+    ⊎_elim (λ (le : at + n ≤ k). inr le) (λ (lt : k < at + n). ⊎_elim (λ (le : at ≤ k). absurd (h (le, lt))) (λ (below : k < at). inl (omega arith)) (le_or_lt at k)) (le_or_lt (at + n) k)
+
+-- a byte that is not named is behind the head, and outside each entry
+unnamed_behind : (dims count k : ℕ) → (IsNamed dims count k → ⊥) → 5 ≤ k
+unnamed_behind dims count k unnamed = ⊎_elim (λ (le : 5 ≤ k). le) (λ (lt : k < 5). absurd (unnamed (inl lt))) (le_or_lt 5 k)
+
+unnamed_outside : (dims count place k : ℕ) → place < count → (IsNamed dims count k → ⊥) → IsClearOfEntry dims place 1 k
+unnamed_outside dims count place k lt unnamed = record {
+  bounds = record {
+    lows = λ a h. outside 4 (low_place place + 800 * a) k (λ among. unnamed (inr (place, lt, inl (a, h, among.0, among.1))));
+    highs = λ a h. outside 4 (high_place place + 800 * a) k (λ among. unnamed (inr (place, lt, inr (inl (a, h, among.0, among.1)))));
+  };
+  reference = outside 8 (reference_place dims place) k (λ among. unnamed (inr (place, lt, inr (inr among))));
+}
+
+named_more : (dims count k : ℕ) → IsNamed dims count k → IsNamed dims (count + 1) k
+named_more dims count k (inl h) = inl h
+named_more dims count k (inr h) = let lt = h.1 in inr (h.0, omega arith, h.2)
+
+head_clear : (dims place n at : ℕ) → at + n ≤ 5 → IsClearOfEntry dims place n at
+head_clear dims place n at h = record { bounds = record { lows = λ a l. inl (omega arith); highs = λ a l. inl (omega arith) }; reference = inl (omega arith) }
+
+-- any entry
+pub nothing : Item
+nothing = record { bounds = record { low = []; high = [] }; reference = 0 }
+
+-- a page in which the head and the first entries are written, and nothing else
+pub record Written (dims level : ℕ) (items : List Item) (place : ℕ) (page : List ℕ) : Type 0 where
+  pub size : length page ≡ 4096
+  pub head : IsHead dims level (length items) page
+  pub each : (k : ℕ) → k < place → (other : Item) → get_or items k other ≡ item_at dims page k
+  pub ordered : (k : ℕ) → k < place → IsOrdered dims (item_at dims page k).bounds.low (item_at dims page k).bounds.high
+  pub rest : (k : ℕ) → (IsNamed dims place k → ⊥) → number_at 1 k page ≡ 0
+
+pub written_first : (dims level : ℕ) (items : List Item) (page : List ℕ) → length page ≡ 4096 → IsHead dims level (length items) page → ((k : ℕ) → 5 ≤ k → number_at 1 k page ≡ 0) → Written dims level items 0 page
+written_first dims level items page size head none = record {
+  size = size;
+  head = head;
+  each = λ k lt other. absurd (omega arith);
+  ordered = λ k lt. absurd (omega arith);
+  rest = λ k unnamed. none k (unnamed_behind dims 0 k unnamed);
+}
+
+pub written_more : (dims level : ℕ) (items : List Item) (place : ℕ) (old new : List ℕ) (item : Item) → Written dims level items place old → place < 100 → length new ≡ 4096
+    → item_at dims new place ≡ item → IsBox dims item.bounds → ((other : Item) → get_or items place other ≡ item) → Keeps (IsClearOfEntry dims place) old new → Written dims level items (place + 1) new
+written_more dims level items place old new item w within size is box there keeps = record {
+  size = size;
+  head = record {
+    kind = keeps 1 0 (head_clear dims place 1 0 (omega arith)) ∙ w.head.kind;
+    dims_is = keeps 1 1 (head_clear dims place 1 1 (omega arith)) ∙ w.head.dims_is;
+    count_is = keeps 2 2 (head_clear dims place 2 2 (omega arith)) ∙ w.head.count_is;
+    level_is = keeps 1 4 (head_clear dims place 1 4 (omega arith)) ∙ w.head.level_is;
+  };
+  each = below_more (λ k. (other : Item) → get_or items k other ≡ item_at dims new k) place
+      (λ k lt other. w.each k lt other ∙ sym (item_stays dims place k old new lt within keeps)) (λ other. there other ∙ sym is);
+  ordered = below_more (λ k. IsOrdered dims (item_at dims new k).bounds.low (item_at dims new k).bounds.high) place
+      (λ k lt. subst (λ (x : Item). IsOrdered dims x.bounds.low x.bounds.high) (sym (item_stays dims place k old new lt within keeps)) (w.ordered k lt))
+      (subst (λ (x : Item). IsOrdered dims x.bounds.low x.bounds.high) (sym is) (λ axis lt. (box.spans axis lt).ordered));
+  rest = λ k unnamed. keeps 1 k (unnamed_outside dims (place + 1) place k (omega arith) unnamed) ∙ w.rest k (λ named. unnamed (named_more dims place k named));
+}
+
+pub written_spells : (dims level : ℕ) (items : List Item) (place : ℕ) (page : List ℕ) → Written dims level items place page → length items ≤ place → IsSpellable (record { level = level; entries = items })
+    → Spells dims page (record { level = level; entries = items })
+unfolding items_at
+written_spells dims level items place page w all s =
+    let count : number_at 2 2 page ≡ length items = w.head.count_is in
+    let few = s.few in
+    record {
+      head = record { kind = w.head.kind; dims_is = w.head.dims_is; level_is = w.head.level_is; few = omega arith; some = λ above. let some = s.some above in omega arith };
+      each = λ k lt. record {
+        ordered = w.ordered k (omega arith);
+        refers = λ above. subst (λ (x : Item). (3 ≤ x.reference) × (x.reference < 2 ^ 31)) (w.each k (omega arith) nothing) (s.refers k nothing (omega arith) above);
+      };
+      entries = fill_by_all (item_at dims page) items (number_at 2 2 page) nothing (sym count) (λ k lt. w.each k (omega arith) nothing);
+    }
+
+-- what is written in all places, of which none is left
+pub written_rest : (dims level : ℕ) (items : List Item) (place : ℕ) (page : List ℕ) → Written dims level items place page → place ≤ length items
+    → (k : ℕ) → (IsNamed dims (length items) k → ⊥) → number_at 1 k page ≡ 0
+written_rest dims level items place page w few k unnamed = w.rest k (λ named. unnamed (named_upto named))
+  where
+    named_upto : IsNamed dims place k → IsNamed dims (length items) k
+    named_upto (inl h) = inl h
+    named_upto (inr h) = let lt = h.1 in inr (h.0, omega arith, h.2)

@@ -1,0 +1,131 @@
+-- How a page spells a node of a tree (our format, docs/FORMAT.md): byte 0 is 2, byte 1 the dimension, at 2 the count,
+-- byte 4 the level, and from 16 on columns of 100 places: lows and highs of each axis by turns, and then references.
+use Rattle.std.specs.Prelude.{◌≡◌, ℕ, ◌+◌, ◌*◌, ◌^◌, ◌<◌, ◌≤◌, ◌&&◌, ◌||◌, ◌==◌, ◌⊎◌, Bool, nat_le, nat_lt, List, length, All, map, Option, Some, None, if◌then◌else◌}
+use Rattle.std.specs.List.{range_with_len}
+use Rattle.block_bytes.specs.Numbers.{number_at, IsApart}
+use Rattle.box_math.specs.Bounds.{Bounds, IsDims, IsBox, IsOrdered, ordered_test, all_over}
+use Rattle.box_bytes.specs.Corners.{box_at, IsClearOfBox, IsOfCorner}
+use Rattle.node_page.specs.declared.node.Entry.{Entry}
+use Rattle.node_page.specs.declared.node.Node.{Node}
+
+-- an entry: a box, and the identifier of an object or the page of a child
+pub record Item : Type 0 where
+  pub bounds : Bounds
+  pub reference : ℕ
+
+-- what a node holds: its level, 0 for a leaf, and its entries
+pub record Content : Type 0 where
+  pub level : ℕ
+  pub entries : List Item
+
+-- the entry as contracts see it, without its dimension
+abbrev pub item_of : {D : ℕ} → Entry D → Item
+item_of entry = record { bounds = entry.bounds; reference = entry.reference }
+
+-- what the node holds
+abbrev pub content_of : {D : ℕ} → Node D → Content
+content_of node = record { level = node.level; entries = map item_of node.entries.items }
+
+-- a reference of a node on this level: any on level 0, and above it the page of a child, from 3 on and below 2^31
+abbrev pub IsReference : ℕ → ℕ → Type 0
+IsReference level reference = 0 < level → (3 ≤ reference) × (reference < 2 ^ 31)
+
+-- a node that a page can spell: at most 100 entries, at least one above the leaves, each with a reference of the level
+-- (their boxes need no word, since a box has its lows at most its highs)
+pub record IsSpellable (c : Content) : Type 0 where
+  pub few : length c.entries ≤ 100
+  pub some : 0 < c.level → 1 ≤ length c.entries
+  pub refers : All (λ item. IsReference c.level item.reference) c.entries
+
+-- a node of so many axes: one that a page can spell, whose level is a byte, and whose entries have boxes of 32-bit
+-- coordinates and references of 64 bits
+pub record IsNode (dims : ℕ) (c : Content) : Type 0 where
+  pub spellable : IsSpellable c
+  pub byte : c.level < 256
+  pub boxes : All (λ item. IsBox dims item.bounds) c.entries
+  pub references : All (λ item. item.reference < 2 ^ 64) c.entries
+
+-- ---- one entry
+
+-- where the low on the first axis of the entry in a place stands; that on each further axis stands 800 bytes on
+abbrev pub low_place : ℕ → ℕ
+low_place place = 16 + 4 * place
+
+-- where its high on the first axis stands; that on each further axis stands 800 bytes on
+abbrev pub high_place : ℕ → ℕ
+high_place place = 416 + 4 * place
+
+-- where its reference stands, behind the columns of all axes
+abbrev pub reference_place : ℕ → ℕ → ℕ
+reference_place dims place = 16 + 800 * dims + 8 * place
+
+-- the entry in a place
+unfoldable pub item_at : ℕ → List ℕ → ℕ → Item
+item_at dims page place = record { bounds = box_at dims page (low_place place) (high_place place) 800; reference = number_at 8 (reference_place dims place) page }
+
+-- the entries in the first places
+unfoldable pub items_at : ℕ → List ℕ → ℕ → List Item
+items_at dims page count = map (item_at dims page) (range_with_len 0 count)
+
+-- an entry of a node on this level: each low is at most its high, and the reference is one of the level
+pub record IsEntry (dims level : ℕ) (item : Item) : Type 0 where
+  pub ordered : IsOrdered dims item.bounds.low item.bounds.high
+  pub refers : IsReference level item.reference
+
+-- n bytes from a place lie outside an entry
+pub record IsClearOfEntry (dims place n at : ℕ) : Type 0 where
+  pub bounds : IsClearOfBox dims (low_place place) (high_place place) 800 n at
+  pub reference : IsApart n at 8 (reference_place dims place)
+
+-- a byte of an entry: of its lows, of its highs or of its reference
+abbrev pub IsOfEntry : ℕ → ℕ → ℕ → Type 0
+IsOfEntry dims place k =
+    IsOfCorner dims (low_place place) 800 k ⊎ IsOfCorner dims (high_place place) 800 k
+    ⊎ ((reference_place dims place ≤ k) × (k < reference_place dims place + 8))
+
+-- ---- the page
+
+-- the first bytes of a node page
+pub record IsHead (dims level count : ℕ) (page : List ℕ) : Type 0 where
+  pub kind : number_at 1 0 page ≡ 2
+  pub dims_is : number_at 1 1 page ≡ dims
+  pub count_is : number_at 2 2 page ≡ count
+  pub level_is : number_at 1 4 page ≡ level
+
+-- the page begins as a node page of this dimension and level does
+pub record HasNodeHead (dims level : ℕ) (page : List ℕ) : Type 0 where
+  pub kind : number_at 1 0 page ≡ 2
+  pub dims_is : number_at 1 1 page ≡ dims
+  pub level_is : number_at 1 4 page ≡ level
+  pub few : number_at 2 2 page ≤ 100
+  pub some : 0 < level → 1 ≤ number_at 2 2 page
+
+-- the page spells this node
+pub record Spells (dims : ℕ) (page : List ℕ) (c : Content) : Type 0 where
+  pub head : HasNodeHead dims c.level page
+  pub each : (place : ℕ) → place < number_at 2 2 page → IsEntry dims c.level (item_at dims page place)
+  pub entries : c.entries ≡ items_at dims page (number_at 2 2 page)
+
+-- the first places of the page hold so many entries of a node on this level
+pub record IsLaidOut (dims level count : ℕ) (page : List ℕ) : Type 0 where
+  pub dims_is : IsDims dims
+  pub few : count ≤ 100
+  pub each : (place : ℕ) → place < count → IsEntry dims level (item_at dims page place)
+
+-- whether an entry is one of a node on this level
+abbrev pub entry_test : ℕ → ℕ → Item → Bool
+entry_test dims level item = ordered_test dims item.bounds.low item.bounds.high && (level == 0 || (nat_le 3 item.reference && nat_lt item.reference (2 ^ 31)))
+
+-- whether the page spells a node
+unfoldable pub node_test : ℕ → List ℕ → Bool
+node_test dims page =
+    number_at 1 0 page == 2 && number_at 1 1 page == dims && nat_le (number_at 2 2 page) 100 && (number_at 1 4 page == 0 || nat_le 1 (number_at 2 2 page))
+    && all_over (number_at 2 2 page) (λ place. entry_test dims (number_at 1 4 page) (item_at dims page place))
+
+-- the node that the page spells, if it spells one
+unfoldable pub node_at : ℕ → List ℕ → Option Content
+node_at dims page = if node_test dims page then Some (record { level = number_at 1 4 page; entries = items_at dims page (number_at 2 2 page) }) else None
+
+-- a byte of the head or of one of the first entries
+abbrev pub IsNamed : ℕ → ℕ → ℕ → Type 0
+IsNamed dims count k = (k < 5) ⊎ ((place : ℕ) × (place < count) × IsOfEntry dims place k)

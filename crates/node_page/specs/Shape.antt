@@ -1,0 +1,40 @@
+-- The shape of a tree (Guttman 1984; Beckmann, Kriegel, Schneider and Seeger 1990).
+use Rattle.std.specs.Prelude.{ℕ, ◌*◌, ◌/◌, ◌<◌, ◌≤◌, max, ⊤}
+use Rattle.box_math.specs.Bounds.{Bounds, IsBox, Within}
+use Rattle.node_page.specs.Trees.{Row, end, more, object, child, Tree, row_length}
+
+-- the least count of entries of a node of a tree whose nodes have at most so many: 40 in a hundred (Beckmann et al. 1990)
+abbrev pub least_entries : ℕ → ℕ
+least_entries most = max 2 (2 * most / 5)
+
+-- each box of a node is within the given one
+abbrev pub RowWithin : ℕ → Row → Bounds → Type 0
+RowWithin dims end b = ⊤
+RowWithin dims (more (object bounds id) rest) b = Within dims bounds b × RowWithin dims rest b
+RowWithin dims (more (child bounds page below) rest) b = Within dims bounds b × RowWithin dims rest b
+
+-- the least box that encloses the boxes of a node: it does, and is within each that does
+pub record IsLeastBox (dims : ℕ) (b : Bounds) (row : Row) : Type 0 where
+  pub box : IsBox dims b
+  pub encloses : RowWithin dims row b
+  pub least : (c : Bounds) → IsBox dims c → RowWithin dims row c → Within dims b c
+
+-- each node below has from the least to the most entries, and the box above it is the least
+abbrev pub RowHasShape : ℕ → ℕ → Row → Type 0
+RowHasShape dims most end = ⊤
+RowHasShape dims most (more (object bounds id) rest) = RowHasShape dims most rest
+RowHasShape dims most (more (child bounds page below) rest) =
+    (least_entries most ≤ row_length below) × (row_length below ≤ most) × IsLeastBox dims bounds below × RowHasShape dims most below × RowHasShape dims most rest
+
+-- The shape of an R-tree: so are the nodes below the root. A root that is a leaf has at most the most entries, and one that is
+-- none has two to the most.
+pub record HasShape (dims most : ℕ) (t : Tree) : Type 0 where
+  pub few : row_length t.row ≤ most
+  pub some : 0 < t.level → 2 ≤ row_length t.row
+  pub below : RowHasShape dims most t.row
+
+-- the same, but a root that is no leaf may have one entry
+pub record HasLooseShape (dims most : ℕ) (t : Tree) : Type 0 where
+  pub few : row_length t.row ≤ most
+  pub some : 0 < t.level → 1 ≤ row_length t.row
+  pub below : RowHasShape dims most t.row

@@ -1,0 +1,96 @@
+-- Trees of nodes, and the pages that they stand in (Guttman 1984; our rule, docs/FORMAT.md, "Trees of pages").
+use Rattle.std.specs.Prelude.{◌≡◌, ℕ, zero, suc, ◌+◌, ◌-◌, ◌<◌, ◌≤◌, List, [], ◌∷◌, ◌++◌, Option, Some, None, ⊤, if◌then◌else◌, ◌==◌}
+use Rattle.box_math.specs.Bounds.{Bounds}
+use Rattle.node_page.specs.Layout.{Content, Item, node_at}
+
+-- The entries of a node in order of position: on level 0 boxes with identifiers, and above it boxes with trees one level
+-- lower. A tree below is its page and its own entries.
+mutual
+  pub data Row : Type 0 where
+    end : Row
+    more : Branch → Row → Row
+
+  pub data Branch : Type 0 where
+    object : Bounds → ℕ → Branch
+    child : Bounds → ℕ → Row → Branch
+
+-- a tree: the page and the level of its root, and the root's entries
+pub record Tree : Type 0 where
+  pub page : ℕ
+  pub level : ℕ
+  pub row : Row
+
+-- the entries as a page has them: an object's reference is its identifier, and that of a child its page
+abbrev pub row_items : Row → List Item
+row_items end = []
+row_items (more (object bounds id) rest) = record { bounds = bounds; reference = id } ∷ row_items rest
+row_items (more (child bounds page below) rest) = record { bounds = bounds; reference = page } ∷ row_items rest
+
+-- how many entries there are
+abbrev pub row_length : Row → ℕ
+row_length end = 0
+row_length (more branch rest) = 1 + row_length rest
+
+-- ---- what a tree holds
+
+-- the objects in the leaves from left to right, each an identifier and its box
+abbrev pub objects_in : Row → List (ℕ × Bounds)
+objects_in end = []
+objects_in (more (object bounds id) rest) = (id, bounds) ∷ objects_in rest
+objects_in (more (child bounds page below) rest) = objects_in below ++ objects_in rest
+
+-- the identifiers of a leaf, by position
+abbrev pub ids_in : Row → List ℕ
+ids_in end = []
+ids_in (more (object bounds id) rest) = id ∷ ids_in rest
+ids_in (more (child bounds page below) rest) = ids_in rest
+
+-- the identifiers of each leaf below a node of this level, from left to right; a node on level 0 is a leaf itself
+abbrev pub leaf_ids : ℕ → Row → List (List ℕ)
+leaf_ids zero row = ids_in row ∷ []
+leaf_ids (suc level) end = []
+leaf_ids (suc level) (more (object bounds id) rest) = leaf_ids (suc level) rest
+leaf_ids (suc level) (more (child bounds page below) rest) = leaf_ids level below ++ leaf_ids (suc level) rest
+
+-- how often a page occurs below a node
+abbrev pub occurs : ℕ → Row → ℕ
+occurs n end = 0
+occurs n (more (object bounds id) rest) = occurs n rest
+occurs n (more (child bounds page below) rest) = (if page == n then 1 else 0) + occurs n below + occurs n rest
+
+-- and in the whole tree
+abbrev pub occurs_in : ℕ → Tree → ℕ
+occurs_in n t = (if t.page == n then 1 else 0) + occurs n t.row
+
+-- ---- the pages that it stands in
+
+-- the bytes of each page that is there
+abbrev pub PageMap : Type 0
+PageMap = ℕ → Option (List ℕ)
+
+-- the node that a page spells, if it is there and spells one
+abbrev pub node_in : ℕ → Option (List ℕ) → Option Content
+node_in dims None = None
+node_in dims (Some page) = node_at dims page
+
+-- a page spells the node of this level with these entries
+abbrev pub HasNode : ℕ → PageMap → ℕ → ℕ → Row → Type 0
+HasNode dims pages page level row = node_in dims (pages page) ≡ Some (record { level = level; entries = row_items row })
+
+-- the trees below a node of this level stand in the pages: its entries are objects on level 0, and children above it
+abbrev pub RowStands : ℕ → PageMap → ℕ → Row → Type 0
+RowStands dims pages level end = ⊤
+RowStands dims pages level (more (object bounds id) rest) = (level ≡ 0) × RowStands dims pages level rest
+RowStands dims pages level (more (child bounds page below) rest) =
+    (0 < level) × HasNode dims pages page (level - 1) below × RowStands dims pages (level - 1) below × RowStands dims pages level rest
+
+-- a node with the entries stands at the page, and the trees below it
+pub record StandsAt (dims : ℕ) (pages : PageMap) (page level : ℕ) (row : Row) : Type 0 where
+  pub node : HasNode dims pages page level row
+  pub below : RowStands dims pages level row
+
+-- the pages stand for the tree: each node is spelled at its page, and no page is in it twice
+pub record Stands (dims : ℕ) (pages : PageMap) (t : Tree) : Type 0 where
+  pub root : HasNode dims pages t.page t.level t.row
+  pub below : RowStands dims pages t.level t.row
+  pub distinct : (n : ℕ) → occurs_in n t ≤ 1

@@ -1,0 +1,54 @@
+//! One entry in its place of a node page: a low and a high in the columns of each axis, and a reference behind them.
+
+ghost use Rattle.std.specs.Prelude.{◌≡◌, ◌<◌, ◌↔◌, IsSome, IfSome, IsTrue};
+ghost use Rattle.box_math.specs.Bounds.{IsDims, IsBox};
+ghost use Rattle.box_bytes.specs.Corners.{Keeps};
+ghost use Rattle.node_page.specs.Layout.{item_of, item_at, IsReference, IsEntry, IsClearOfEntry};
+
+use crate::node::Entry;
+use block_bytes::{read_u64, write_u64};
+use box_bytes::{read_box, write_box};
+
+// Whether a node of the level may refer so: above the leaves to pages from 3 on and below 2^31.
+#[inline]
+fn is_reference(level: u8, reference: u64) -> bool
+    ensures { IsTrue result ↔ IsReference level reference }
+{
+    level == 0 || (reference >= 3 && reference < 1 << 31)
+}
+
+/// The entry in the place, or `None` where it is none of that level: where it has a low above its high, or its
+/// reference is no page of a child above the leaves.
+#[inline]
+pub(crate) fn read_entry<const D: usize>(
+    page: &[u8; 4096],
+    place: usize,
+    level: u8,
+) -> Option<Entry<D>>
+    requires dims { IsDims D }
+    requires within { place < 100 }
+    ensures value { IfSome result (λ entry. item_of entry ≡ item_at D page.now place) }
+    ensures some { IsSome result ↔ IsEntry D level (item_at D page.now place) }
+{
+    let reference = read_u64(page, 16 + 800 * D + 8 * place);
+    if !is_reference(level, reference) {
+        return None;
+    }
+    match read_box(page, 16 + 4 * place, 416 + 4 * place, 800) {
+        Some(bounds) => Some(Entry { bounds, reference }),
+        None => None,
+    }
+}
+
+/// Writes the entry into the place.
+pub(crate) fn write_entry<const D: usize>(page: &mut [u8; 4096], place: usize, entry: &Entry<D>)
+    requires dims { IsDims D }
+    requires within { place < 100 }
+    ensures is_box { IsBox D entry.now.bounds }
+    ensures written { item_at D page.new place ≡ item_of entry.now }
+    ensures others { Keeps (IsClearOfEntry D place) page.old page.new }
+{
+    let reference = entry.reference;
+    write_box(page, 16 + 4 * place, 416 + 4 * place, 800, &entry.bounds);
+    write_u64(page, 16 + 800 * D + 8 * place, reference);
+}

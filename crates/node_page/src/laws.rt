@@ -1,0 +1,62 @@
+//! What pages spell, and which trees stand in pages: each law is the contract of a function that does nothing, but
+//! for `a_node_comes_back`, which encodes and decodes.
+
+ghost use Rattle.std.specs.Prelude.{◌≡◌, Some, option_map};
+ghost use Rattle.box_math.specs.Bounds.{IsDims};
+ghost use Rattle.node_page.specs.Layout.{content_of, IsSpellable};
+ghost use Rattle.node_page.specs.PageLaws.{ReadsWhatIsSpelled, ReadsNamedBytes, SpellsNodes, HasOnePage};
+ghost use Rattle.node_page.specs.TreeLaws.{OneTreeStands, EqualPagesStand, ReplacedNodeStands};
+
+use crate::node::Node;
+use crate::page::{decode, encode};
+
+/// Reading gives exactly what is spelled, so a page spells at most one node of a dimension.
+pub fn what_is_spelled_is_read()
+    ensures { ReadsWhatIsSpelled }
+{}
+
+/// Only the named bytes of a page are read: its head, and the entries below its count.
+pub fn named_bytes_are_read()
+    ensures { ReadsNamedBytes }
+{}
+
+/// What a page spells is a node: its level is a byte, it has at most 100 entries, at least one above the leaves, each
+/// with a box of 32-bit coordinates, its lows at most its highs, and with a reference below 2^64, above the leaves
+/// the page of a child.
+pub fn what_is_spelled_is_a_node()
+    ensures { SpellsNodes }
+{}
+
+/// A node has one page: two that spell it, with zeros in all bytes that it does not name, have the same bytes.
+/// So `encode` leaves nothing open.
+pub fn a_node_has_one_page()
+    ensures { HasOnePage }
+{}
+
+/// A node that is encoded is decoded again.
+pub fn a_node_comes_back<const D: usize>(node: &Node<D>, page: &mut [u8; 4096]) -> Option<Node<D>>
+    requires dims { IsDims D }
+    requires spellable { IsSpellable (content_of node.now) }
+    ensures { option_map content_of result ≡ Some (content_of node.now) }
+{
+    encode(node, page);
+    decode(page, node.level)
+}
+
+/// At most one tree stands at a page and level.
+#[tactic(auto, using(crate::proofs::TreeLemmas::tree_laws))]
+pub fn at_most_one_tree_stands()
+    ensures { OneTreeStands }
+{}
+
+/// Pages that are equal where a tree's are stand for it too.
+#[tactic(auto, using(crate::proofs::TreeLemmas::tree_laws))]
+pub fn equal_pages_stand_for_a_tree()
+    ensures { EqualPagesStand }
+{}
+
+/// Where one page of a tree is written with a node of its level whose trees stand, the pages stand for the tree with
+/// that node replaced, unless a page would be in it twice.
+pub fn a_replaced_node_stands()
+    ensures { ReplacedNodeStands }
+{}

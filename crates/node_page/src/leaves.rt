@@ -1,0 +1,100 @@
+//! The leaves of a tree of pages, from left to right.
+
+ghost use Rattle.std.specs.Prelude.{◌≡◌, ◌⊎◌, ◌++◌, ◌∷◌, [], IfOk, IfErr, OnOk};
+ghost use Rattle.box_math.specs.Bounds.{IsDims};
+ghost use Rattle.page_file.specs.Fault.{HasCause, IsDamage, IsOfDevice};
+ghost use Rattle.page_file.specs.declared.fault.Fault.TheVariants as fault;
+ghost use Rattle.page_cache.specs.Cache.{IsHonest, KeepsGate, KeepsMap, device_of, pages};
+ghost use Rattle.node_page.specs.Layout.{content_of};
+ghost use Rattle.node_page.specs.Lists.{lists_of, references_of};
+ghost use Rattle.node_page.specs.Trees.{Row, StandsAt, Stands, Tree, leaf_ids};
+
+use crate::node::{Node, Root};
+use crate::nodes::read_node;
+use block_device::BlockDevice;
+use page_cache::PageCache;
+use page_file::Fault;
+use std::alloc::Allocator;
+
+/// The identifiers of each leaf of a tree, by position, and the leaves from left to right. It has one list for a root
+/// that is a leaf, be it empty.
+///
+/// On an honest device, where the pages stand for a tree at that page and level, a refusal is `Memory` or `Device`. Map and
+/// gate stay, also after a refusal.
+pub fn leaf_lists<const D: usize, B: BlockDevice, A: Allocator, H: Allocator + Copy>(
+    alloc: H,
+    cache: &mut PageCache<B, A>,
+    root: Root,
+) -> Result<Vec<Vec<u64, H>, H>, Fault>
+    requires { IsDims D }
+    ensures gate { KeepsGate cache.old cache.new }
+    ensures map { KeepsMap cache.old cache.new }
+    ensures lists { IsHonest cache.old → (t : Tree) → t.page ≡ root.page → t.level ≡ root.level → Stands D (pages cache.old) t →
+        IfOk result (λ lists. lists_of lists ≡ leaf_ids t.level t.row) }
+    ensures stands { IsHonest cache.old → (t : Tree) → t.page ≡ root.page → t.level ≡ root.level → Stands D (pages cache.old) t →
+        IfErr result IsOfDevice }
+    ensures other_faults { IfErr result (λ f. IsOfDevice f ⊎ IsDamage f) }
+    ensures cause { HasCause (B.faults (device_of cache.old)) (B.faults (device_of cache.new)) result }
+{
+    let mut lists = Vec::new(alloc);
+    add_leaves::<D, B, A, H>(alloc, cache, root, &mut lists)?;
+    Ok(lists)
+}
+
+// Appends the identifiers of each leaf below a node.
+fn add_leaves<const D: usize, B: BlockDevice, A: Allocator, H: Allocator + Copy>(
+    alloc: H,
+    cache: &mut PageCache<B, A>,
+    root: Root,
+    lists: &mut Vec<Vec<u64, H>, H>,
+) -> Result<(), Fault>
+    requires { IsDims D }
+    ensures gate { KeepsGate cache.old cache.new }
+    ensures map { KeepsMap cache.old cache.new }
+    ensures lists { IsHonest cache.old → (row : Row) → StandsAt D (pages cache.old) root.page root.level row →
+        OnOk result (lists_of lists.new ≡ lists_of lists.old ++ leaf_ids root.level row) }
+    ensures stands { IsHonest cache.old → (row : Row) → StandsAt D (pages cache.old) root.page root.level row → IfErr result IsOfDevice }
+    ensures other_faults { IfErr result (λ f. IsOfDevice f ⊎ IsDamage f) }
+    ensures cause { HasCause (B.faults (device_of cache.old)) (B.faults (device_of cache.new)) result }
+{
+    let node = read_node::<D, B, A>(cache, root.page, root.level)?;
+    if root.level == 0 {
+        return add_leaf(alloc, &node, lists);
+    }
+    for entry in node.entries.as_slice() {
+        let below = Root {
+            page: entry.reference as u32,
+            level: root.level - 1,
+        };
+        add_leaves::<D, B, A, H>(alloc, cache, below, lists)?;
+    }
+    Ok(())
+}
+
+// Appends the identifiers of a leaf.
+fn add_leaf<const D: usize, H: Allocator + Copy>(
+    alloc: H,
+    leaf: &Node<D>,
+    lists: &mut Vec<Vec<u64, H>, H>,
+) -> Result<(), Fault>
+    ensures lists { OnOk result (lists_of lists.new ≡ lists_of lists.old ++ references_of (content_of leaf.now) ∷ []) }
+    ensures memory { IfErr result (λ f. f ≡ fault.Memory) }
+{
+    lists.push(ids_of(alloc, leaf)?)?;
+    Ok(())
+}
+
+// The references of a leaf, which are its identifiers, by position.
+fn ids_of<const D: usize, H: Allocator + Copy>(
+    alloc: H,
+    leaf: &Node<D>,
+) -> Result<Vec<u64, H>, Fault>
+    ensures ids { IfOk result (λ ids. ids.items ≡ references_of (content_of leaf.now)) }
+    ensures memory { IfErr result (λ f. f ≡ fault.Memory) }
+{
+    let mut ids = Vec::new(alloc);
+    for entry in leaf.entries.as_slice() {
+        ids.push(entry.reference)?;
+    }
+    Ok(ids)
+}

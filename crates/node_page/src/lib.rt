@@ -1,0 +1,21 @@
+//! Node pages: nodes of a tree as the bytes of a page (docs/FORMAT.md).
+#![tactic(auto)]
+
+mod entries;
+mod head;
+pub mod laws;
+mod leaves;
+mod node;
+mod nodes;
+mod page;
+#[cfg(test)]
+mod tests;
+#[cfg(test)]
+mod tree_tests;
+mod view;
+
+pub use leaves::leaf_lists;
+pub use node::{Entry, Node, Root};
+pub use nodes::{read_node, write_node};
+pub use page::{decode, encode};
+pub use view::NodeView;

@@ -1,0 +1,80 @@
+//! Nodes at the pages of a cache.
+
+ghost use Rattle.std.specs.Prelude.{◌≡◌, ◌⊎◌, ◌≤◌, ◌<◌, Some, Err, All, IfOk, IfErr, OnOk};
+ghost use Rattle.block_device.specs.Device.{one_more};
+ghost use Rattle.box_math.specs.Bounds.{IsBox, IsDims};
+ghost use Rattle.page_file.specs.Fault.{HasCause, IsDamage, IsOfDevice};
+ghost use Rattle.page_file.specs.Pages.{SameBut};
+ghost use Rattle.page_file.specs.declared.fault.Fault.TheVariants as fault;
+ghost use Rattle.page_file.specs.declared.gate.Gate.TheVariants.{Open};
+ghost use Rattle.page_cache.specs.Cache.{IsHonest, IsLive, IsPageMap, IsUnchanged, KeepsGate, KeepsMap, device_of, gate_of, looks_of, next_of, pages};
+ghost use Rattle.node_page.specs.Layout.{Content, IsSpellable, content_of};
+ghost use Rattle.node_page.specs.Trees.{node_in};
+
+use crate::node::Node;
+use crate::page::{decode, encode};
+use block_bytes::zero_block;
+use block_device::BlockDevice;
+use page_cache::PageCache;
+use page_file::Fault;
+use std::alloc::Allocator;
+
+/// Reads the node of that level at a page, in one look. A page that spells none of that dimension and level is
+/// `Damaged` with its number.
+///
+/// On an honest device a refusal where there is such a node is `Memory` or `Device`. Map and gate stay, also after a
+/// refusal.
+pub fn read_node<const D: usize, B: BlockDevice, A: Allocator>(
+    cache: &mut PageCache<B, A>,
+    page: u32,
+    level: u8,
+) -> Result<Node<D>, Fault>
+    requires { IsDims D }
+    ensures gate { KeepsGate cache.old cache.new }
+    ensures map { KeepsMap cache.old cache.new }
+    ensures node { IsHonest cache.old → IsLive cache.old page → IfOk result (λ node. node_in D (pages cache.old page) ≡ Some (content_of node)) }
+    ensures level { IfOk result (λ node. node.level ≡ level) }
+    ensures spellable { IfOk result (λ node. IsSpellable (content_of node)) }
+    ensures boxes { IfOk result (λ node. All (λ item. IsBox D item.bounds) (content_of node).entries) }
+    ensures looks { OnOk result (looks_of cache.new ≡ one_more (looks_of cache.old)) }
+    ensures there { IsHonest cache.old → (c : Content) → node_in D (pages cache.old page) ≡ Some c → c.level ≡ level → IfErr result IsOfDevice }
+    ensures faults { IsHonest cache.old → IfErr result (λ f. IsOfDevice f ⊎ (f ≡ fault.Damaged page)) }
+    ensures other_faults { IfErr result (λ f. IsOfDevice f ⊎ IsDamage f) }
+    ensures cause { HasCause (B.faults (device_of cache.old)) (B.faults (device_of cache.new)) result }
+{
+    match decode(cache.page(page)?, level) {
+        Some(node) => Ok(node),
+        None => Err(Fault::Damaged(page)),
+    }
+}
+
+/// Writes a node into a live page. The gate has to be open. The node has at most 100 entries, and one that is no leaf
+/// has at least one, all of which refer to pages from 3 to 2^31 - 1.
+///
+/// A number outside 2 to the last one given out is `Damaged` with that number, and changes nothing. After another refusal,
+/// which on an honest device is `Memory` or `Device`, the page is still live and may hold any bytes; all others are as
+/// before.
+pub fn write_node<const D: usize, B: BlockDevice, A: Allocator>(
+    cache: &mut PageCache<B, A>,
+    page: u32,
+    node: &Node<D>,
+) -> Result<(), Fault>
+    requires dims { IsDims D }
+    requires open { gate_of cache.old ≡ Open }
+    requires spellable { IsSpellable (content_of node.now) }
+    ensures gate { KeepsGate cache.old cache.new }
+    ensures written { IsHonest cache.old → IsLive cache.old page → OnOk result (node_in D (pages cache.new page) ≡ Some (content_of node.now)) }
+    ensures live { IsHonest cache.old → IsLive cache.old page → IsLive cache.new page }
+    ensures others { IsHonest cache.old → IsLive cache.old page → SameBut page (pages cache.old) (pages cache.new) }
+    ensures sound { IsPageMap cache.old → IsLive cache.old page → IsPageMap cache.new }
+    ensures next { next_of cache.new ≡ next_of cache.old }
+    ensures looks { looks_of cache.new ≡ looks_of cache.old }
+    ensures outside { (page < 2) ⊎ (next_of cache.old ≤ page) → (result ≡ Err (fault.Damaged page)) × IsUnchanged cache.old cache.new }
+    ensures faults { IsHonest cache.old → IsLive cache.old page → IfErr result IsOfDevice }
+    ensures other_faults { IfErr result (λ f. IsOfDevice f ⊎ IsDamage f) }
+    ensures cause { HasCause (B.faults (device_of cache.old)) (B.faults (device_of cache.new)) result }
+{
+    let mut bytes = zero_block();
+    encode(node, &mut bytes);
+    cache.put(page, &bytes)
+}

@@ -1,0 +1,51 @@
+//! A node as the bytes of a page.
+
+ghost use Rattle.std.specs.Prelude.{◌≡◌, ◌≢◌, ℕ, Some, All, length, IfSome, IfNone};
+ghost use Rattle.block_bytes.specs.Numbers.{number_at};
+ghost use Rattle.box_math.specs.Bounds.{IsDims, IsBox};
+ghost use Rattle.node_page.specs.Layout.{Content, content_of, node_at, IsSpellable, IsNamed};
+
+use crate::entries::{read_entry, write_entry};
+use crate::head::{count_at, has_node_head, write_head};
+use crate::node::Node;
+use arrayvec::ArrayVec;
+
+/// The node that the page spells, or `None` where it spells none of that dimension and level: where its kind is not
+/// 2, its dimension or its level is another, its count is above 100, or 0 above the leaves, some entry has a low
+/// above its high, or some reference above the leaves is below 3, or 2^31 or more.
+pub fn decode<const D: usize>(page: &[u8; 4096], level: u8) -> Option<Node<D>>
+    requires { IsDims D }
+    ensures spelled { IfSome result (λ node. node_at D page.now ≡ Some (content_of node)) }
+    ensures level { IfSome result (λ node. node.level ≡ level) }
+    ensures spellable { IfSome result (λ node. IsSpellable (content_of node)) }
+    ensures boxes { IfSome result (λ node. All (λ item. IsBox D item.bounds) (content_of node).entries) }
+    ensures none { IfNone result ((c : Content) → node_at D page.now ≡ Some c → c.level ≢ level) }
+{
+    if !has_node_head::<D>(page, level) {
+        return None;
+    }
+    let count = count_at(page);
+    let mut entries = ArrayVec::new();
+    for place in 0..count {
+        match read_entry(page, place, level) {
+            Some(entry) => entries.push(entry),
+            None => return None,
+        }
+    }
+    Some(Node { level, entries })
+}
+
+/// Makes the page the one that spells the node, with zeros in all bytes that it does not name. The node has at most
+/// 100 entries, and one that is no leaf has at least one, all of which refer to pages from 3 to 2^31 - 1.
+pub fn encode<const D: usize>(node: &Node<D>, page: &mut [u8; 4096])
+    requires dims { IsDims D }
+    requires spellable { IsSpellable (content_of node.now) }
+    ensures spelled { node_at D page.new ≡ Some (content_of node.now) }
+    ensures rest { (k : ℕ) → (IsNamed D (length node.now.entries.items) k → ⊥) → number_at 1 k page.new ≡ 0 }
+{
+    let count = node.entries.len();
+    write_head::<D>(page, node.level, count as u16);
+    for place in 0..count {
+        write_entry(page, place, &node.entries[place]);
+    }
+}
