@@ -1,8 +1,11 @@
 #!/usr/bin/env bash
 # The statuses of the program, of which its one run in the gate shows the first: 0 where all went well, and else 1 with a
-# line that says why. It prints nothing where they are right.
+# line that says why. It prints nothing where they are right. It looks at the programs that `rt ci` made, by both
+# compilers; where there is none, one is made.
 set -eu
 cd "$(dirname "$0")/.."
+program=crates/rstore/out/rstore
+[ -x "$program" ] || ./rstore </dev/null >/dev/null
 errors=$(mktemp)
 trap 'rm -f "$errors"' EXIT
 
@@ -22,16 +25,20 @@ told() {
     fi
 }
 
-status=0
-./rstore </dev/null >/dev/null || status=$?
-expect 0 "$status" "a run without a line"
+for made in "$program" "$program.by-rattle"; do
+    [ -x "$made" ] || continue
 
-status=0
-./rstore </ 2>"$errors" || status=$?
-expect 1 "$status" "a run that cannot read"
-told "a run that cannot read"
+    status=0
+    "$made" </dev/null >/dev/null || status=$?
+    expect 0 "$status" "a run of $made without a line"
 
-status=0
-./rstore <<<'create a 2 4' >/dev/full 2>"$errors" || status=$?
-expect 1 "$status" "a run that cannot write"
-told "a run that cannot write"
+    status=0
+    "$made" </ 2>"$errors" || status=$?
+    expect 1 "$status" "a run of $made that cannot read"
+    told "a run of $made that cannot read"
+
+    status=0
+    "$made" <<<'create a 2 4' >/dev/full 2>"$errors" || status=$?
+    expect 1 "$status" "a run of $made that cannot write"
+    told "a run of $made that cannot write"
+done
