@@ -53,7 +53,7 @@ module _ {D : Type 0} {m : _} where
   pub live_table : (file : PageFile D m) (t : Table) → IsPageMap file → Holds (given file) (next_of file) t → Holds (pages file) (next_of file) t
   live_table file t map h = record {
     records = h.records;
-    spelled = same_catalog (pages file 2) refl (the_catalog_is_live file map) ∙ h.spelled;
+    spelled = same_catalog (pages file 2) refl (the_catalog_is_live file) ∙ h.spelled;
     good = h.good;
     layers = other_layers (given file) (pages file) h.records (entries t) (λ dims n objects. a_given_chain_is_live file dims n objects map) h.layers;
   }

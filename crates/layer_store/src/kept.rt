@@ -64,6 +64,7 @@ impl<D: BlockDevice, A: Allocator + Copy> Kept<D, A> {
             LeavesOnly D.moment D.left_since (device_of self.old.file) (device_of self.new.file) (IsLeftOf ts) }
         ensures rests { (ts : List Table) → IsHonest self.old.file → RestsOn self.old.file ts → RestsOn self.new.file ts }
 
+        ensures refused { OnErr result (¬ (gate_of self.new.file ≡ Shut)) }
         ensures written { OnOk result (self.new.written ≡ true) }
         ensures was_written { self.old.written ≡ true → (self.new ≡ self.old) × IsOk result }
         ensures honest { IsHonest self.old.file ↔ IsHonest self.new.file }
@@ -96,6 +97,7 @@ impl<D: BlockDevice, A: Allocator + Copy> Kept<D, A> {
         ensures rests { (ts : List Table) → IsSound self.old → RestsOn self.old.file ts → RestsOn self.new.file (self.old.table ∷ ts) }
 
         ensures shut { OnOk result (gate_of self.new.file ≡ Shut) }
+        ensures refused { OnErr result (¬ (gate_of self.new.file ≡ Shut)) }
         ensures written { OnOk result (self.new.written ≡ true) }
         ensures still_written { self.old.written ≡ true → self.new.written ≡ true }
         ensures was_settled { gate_of self.old.file ≡ Shut → self.old.written ≡ true → (self.new ≡ self.old) × IsOk result }

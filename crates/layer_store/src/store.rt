@@ -1,11 +1,11 @@
 //! The store: its commands, and its closing.
 
-ghost use Rattle.std.specs.Prelude.{◌≡◌, ◌⊎◌, ◌≤◌, ◌+◌, ◌^◌, ◌∷◌, length, Ok, Err, IsOk, IfOk, IfErr, OnErr, OnOk};
+ghost use Rattle.std.specs.Prelude.{◌≡◌, ◌⊎◌, ◌≤◌, ◌+◌, ◌^◌, ◌∷◌, length, Ok, Err, IsOk, IsErrOf, IfOk, IfErr, OnErr, OnOk};
 ghost use Rattle.block_device.specs.Device.{LeavesOnly, Only};
 ghost use Rattle.plain_table.specs.Answers.{done_answer, boxes_answer};
 ghost use Rattle.plain_table.specs.Commands.Command.{Create, Insert, Window, Reopen};
 ghost use Rattle.plain_table.specs.Lawful.{AnswersInMemory, Takes, LawfulStep, Standing, tables_left};
-ghost use Rattle.plain_table.specs.Lawful.State.{Alive};
+ghost use Rattle.plain_table.specs.Lawful.State.{Alive, Dead};
 ghost use Rattle.plain_table.specs.Lawful.Request.{Asks};
 ghost use Rattle.plain_table.specs.Table.{Table};
 ghost use Rattle.plain_table.specs.declared.refusal.Refusal.TheVariants as refusal;
@@ -112,6 +112,14 @@ impl<D: BlockDevice, A: Allocator + Copy> Store<D, A> {
         ensures quiet { (t : Table) → StandsFor self.old t → IsSettled self.old →
             LeavesOnly D.moment D.left_since (device_in self.old) (device_in self.new) (λ c. c ≡ blocks_in self.old) }
 
+        ensures no_pages { IsErrOf result refusal.NoPages → next_of (file_in self.new) ≡ 2 ^ 31 }
+
+        // One that has failed stays so, on any device.
+        ensures dead { state_of self.old ≡ Dead → (result ≡ Err (refusal.StoreFailed 19)) × (self.new ≡ self.old) }
+
+        // One that is refused behind its closing has failed.
+        ensures ends { OnErr result (IsSettled self.new → state_of self.new ≡ Dead) }
+
         // It takes no more page numbers than the objects fill pages.
         ensures few { (t : Table) → StandsFor self.old t → OnOk result (next_of (file_in self.new) ≤ next_of (file_in self.old) + pages_filled t) }
 
@@ -155,6 +163,7 @@ impl<D: BlockDevice, A: Allocator + Copy> Store<D, A> {
         ensures quiet { (t : Table) → StandsFor self t → IsSettled self → result ≡ Ok (device_in self) }
 
         ensures refused { (t : Table) → StandsFor self t → IfErr result (λ e. IsMemoryOrDevice e.0 ⊎ ((e.0 ≡ refusal.NoPages) × (2 ^ 31 ≤ length (D.shown e.1)))) }
+        ensures dead { state_of self ≡ Dead → result ≡ Err (refusal.StoreFailed 19, device_in self) }
         ensures failed { HasFailed self → result ≡ Err (refusal.StoreFailed 19, device_in self) }
         ensures no_fault { IfOk result (λ device. D.faults device ≡ D.faults (device_in self)) }
         ensures cause { IfErr result (λ e. D.faults e.1 ≡ faults_after e.0 (D.faults (device_in self))) }

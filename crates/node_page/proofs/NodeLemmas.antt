@@ -16,6 +16,11 @@ pub at_error : {T : Type 0} (r : Result T Fault) (f : Fault) (P : Fault → Type
 at_error (Ok x) f P is p = tt
 at_error (Err e) f P is p = subst P (sym is) p
 
+-- it is that refusal
+pub is_refusal : {T : Type 0} (r : Result T Fault) (f d : Fault) → IsErrAnd r (λ e. e ≡ f) → f ≡ d → r ≡ Err d
+is_refusal (Ok x) f d is same = elim is [ ]
+is_refusal (Err e) f d is same = ap (λ (x : Fault). Err x) (is ∙ same)
+
 -- what an answer says, said in another way
 pub on_ok : {T E X Y : Type 0} (r : Result T E) → (X → Y) → OnOk r X → OnOk r Y
 on_ok (Ok x) f h = f h
@@ -34,11 +39,6 @@ page_refused n next f inside outside = ⊎_elim
 -- the node of a page that is there is the one that it spells
 pub node_of_page : (dims : ℕ) (page : Option (List ℕ)) (bytes : List ℕ) (c : Option Content) → page ≡ Some bytes → node_at dims bytes ≡ c → node_in dims page ≡ c
 node_of_page dims page bytes c there spelled = ap (node_in dims) there ∙ spelled
-
--- a page with a node is there
-pub page_of_node : (dims : ℕ) (page : Option (List ℕ)) (c : Content) → node_in dims page ≡ Some c → IsSome page
-page_of_node dims None c e = absurd (cc)
-page_of_node dims (Some bytes) c e = refl
 
 -- a leaf of at most 100 entries can be spelled
 pub leaf_spellable : {dims : ℕ} (leaf : Node dims) → leaf.level ≡ 0 → length leaf.entries.items ≤ 100 → IsSpellable (content_of leaf)

@@ -1,9 +1,11 @@
 -- Worked examples of trees: what they hold, and which stand in no pages. No other proof rests on them.
-use Rattle.std.proofs.Common.{◌≡◌, ℕ, [], ◌∷◌, refl, arith, pos}
-use Rattle.box_math.specs.Bounds.{Bounds, IsBox, Within}
-use Rattle.node_page.specs.Shape.{HasLooseShape, HasShape, IsLeastBox, least_entries}
+use Rattle.std.proofs.lemmas.Bool.{cases_eq}
+use Rattle.std.proofs.lemmas.Bool.Decides.{nat_tests}
+use Rattle.std.proofs.Common.{zero, suc, Bool, true, false, cond, eqb, ◌+◌, ◌<◌, ◌≤◌, ◌≤ℤ◌, ⊎_elim, subst, ◌≡◌, ℕ, [], ◌∷◌, refl, arith, pos}
+use Rattle.box_math.specs.Bounds.{Bounds, IsBox, IsSpan, Within, on_axis}
+use Rattle.node_page.specs.Shape.{RowWithin, HasLooseShape, HasShape, IsLeastBox, least_entries}
 use Rattle.node_page.specs.TreeLaws.{tree_with_node}
-use Rattle.node_page.specs.Trees.{PageMap, Row, end, more, object, child, Tree, RowStands, Stands, objects_in, occurs_in, row_items}
+use Rattle.node_page.specs.Trees.{HasNode, PageMap, Row, leaf_ids, end, more, object, child, Tree, RowStands, Stands, objects_in, occurs_in, row_items}
 
 -- the box of one point of the plane
 abbrev point : ℕ → ℕ → Bounds
@@ -39,8 +41,32 @@ a_leaf_is_replaced : tree_with_node tree 4 left ≡ record { page = 5; level = 1
 a_leaf_is_replaced = refl
 
 -- and so is the root
-the_root_is_replaced : tree_with_node tree 5 left ≡ record { page = 5; level = 1; row = left }
+the_root_is_replaced : tree_with_node tree 5 (more (child (box 2 2 3 2) 4 right) end) ≡ record { page = 5; level = 1; row = more (child (box 2 2 3 2) 4 right) end }
 the_root_is_replaced = refl
+
+-- the leaves, and a leaf that is a root
+its_leaves : (leaf_ids 1 tree.row ≡ (7 ∷ 5 ∷ []) ∷ (6 ∷ 8 ∷ []) ∷ []) × (leaf_ids 0 left ≡ (7 ∷ 5 ∷ []) ∷ []) × (leaf_ids 0 end ≡ [] ∷ [])
+its_leaves = (refl, refl, refl)
+
+-- ---- what stands
+
+-- where its three nodes are spelled, the tree stands
+it_stands : (dims : ℕ) (pages : PageMap) → HasNode dims pages 5 1 tree.row → HasNode dims pages 3 0 left → HasNode dims pages 4 0 right → Stands dims pages tree
+it_stands dims pages root first second = record {
+  root = root;
+  below = (omega arith, first, (refl, (refl, tt)), (omega arith, second, (refl, (refl, tt)), tt));
+  distinct = λ n. ⊎_elim
+      (λ (is : 3 ≡ n). subst (λ k. occurs_in k tree ≤ 1) is (omega arith))
+      (λ (not_3 : ¬ (3 ≡ n)). ⊎_elim
+      (λ (is : 4 ≡ n). subst (λ k. occurs_in k tree ≤ 1) is (omega arith))
+      (λ (not_4 : ¬ (4 ≡ n)). let a : eqb 3 n ≡ false = grind (arith, nat_tests) in let b : eqb 4 n ≡ false = grind (arith, nat_tests) in rw (a, b) (at_most_one (eqb 5 n)))
+      (cases_eq 4 n))
+      (cases_eq 3 n);
+}
+  where
+    at_most_one : (b : Bool) → cond b 1 0 + 0 ≤ 1
+    at_most_one true = omega arith
+    at_most_one false = omega arith
 
 -- ---- what stands nowhere
 
@@ -58,8 +84,43 @@ a_child_of_a_leaf_stands_nowhere dims pages h = absurd (omega (arith, h.0))
 
 -- ---- shapes
 
-some_least_entries : (least_entries 4 ≡ 2) × (least_entries 50 ≡ 20) × (least_entries 100 ≡ 40)
-some_least_entries = (refl, refl, refl)
+-- the least count is rounded down
+some_least_entries : (least_entries 4 ≡ 2) × (least_entries 8 ≡ 3) × (least_entries 50 ≡ 20) × (least_entries 99 ≡ 39)
+some_least_entries = (refl, refl, refl, refl)
+
+on_two_axes : (P : ℕ → Type 0) → P 0 → P 1 → (axis : ℕ) → axis < 2 → P axis
+on_two_axes P p q zero lt = p
+on_two_axes P p q (suc zero) lt = q
+on_two_axes P p q (suc (suc n)) lt = absurd (omega (arith, lt))
+
+-- on an axis the first box is within the second
+abbrev WithinOn : Bounds → Bounds → ℕ → Type 0
+WithinOn a b axis = (on_axis b.low axis ≤ℤ on_axis a.low axis) × (on_axis a.high axis ≤ℤ on_axis b.high axis)
+
+within : (a b : Bounds) → WithinOn a b 0 → WithinOn a b 1 → Within 2 a b
+within a b p q = on_two_axes (WithinOn a b) p q
+
+-- the least box around two points: it encloses them, and any that does
+around_left : RowWithin 2 left (box 0 0 0 1)
+around_left = (within (point 0 0) (box 0 0 0 1) (omega arith, omega arith) (omega arith, omega arith), (within (point 0 1) (box 0 0 0 1) (omega arith, omega arith) (omega arith, omega arith), tt))
+
+least_around_left : (c : Bounds) → RowWithin 2 left c → Within 2 (box 0 0 0 1) c
+least_around_left c h = within (box 0 0 0 1) c (h.0 0 (omega arith)) ((h.0 1 (omega arith)).0, (h.1.0 1 (omega arith)).1)
+
+left_is_a_box : IsBox 2 (box 0 0 0 1)
+left_is_a_box = record {
+  lows = refl;
+  highs = refl;
+  spans = on_two_axes (λ axis. IsSpan (on_axis (box 0 0 0 1).low axis) (on_axis (box 0 0 0 1).high axis))
+      (record { low_fits = omega arith; high_fits = omega arith; ordered = omega arith })
+      (record { low_fits = omega arith; high_fits = omega arith; ordered = omega arith });
+}
+
+least_is_left : IsLeastBox 2 (box 0 0 0 1) left
+least_is_left = record { box = left_is_a_box; encloses = around_left; least = λ c is h. least_around_left c h }
+
+a_larger_box_is_not_least : IsLeastBox 2 (box 0 0 0 2) left → ⊥
+a_larger_box_is_not_least h = absurd (omega (arith, (h.least (box 0 0 0 1) left_is_a_box around_left 1 (omega arith)).1))
 
 -- the box of one entry is the least around it
 one_box_is_least : (dims : ℕ) (b : Bounds) (id : ℕ) → IsBox dims b → Within dims b b → IsLeastBox dims b (more (object b id) end)
@@ -74,7 +135,14 @@ a_loose_root_of_no_child dims h = absurd (omega (arith, h.some (omega arith)))
 
 -- an empty root that is a leaf has the shape
 an_empty_leaf_has_shape : (dims : ℕ) → HasShape dims 4 (record { page = 5; level = 0; row = end })
-an_empty_leaf_has_shape dims = record { few = omega arith; some = λ h. absurd (omega (arith, h)); below = tt }
+an_empty_leaf_has_shape dims = record { levels = tt; few = omega arith; some = λ h. absurd (omega (arith, h)); below = tt }
+
+-- an object beside a child, and children of a leaf, have no shape
+leaves_on_two_levels : (dims : ℕ) (b c : Bounds) → HasShape dims 4 (record { page = 5; level = 1; row = more (child b 3 left) (more (object c 1) end) }) → ⊥
+leaves_on_two_levels dims b c h = absurd (omega (arith, h.levels.2.0))
+
+children_of_a_leaf : (dims : ℕ) → HasShape dims 4 (record { page = 5; level = 0; row = tree.row }) → ⊥
+children_of_a_leaf dims h = absurd (omega (arith, h.levels.0))
 
 -- a leaf below the root has the least count of entries
 a_leaf_of_one_object : (dims : ℕ) (b c : Bounds) → HasShape dims 4 (record { page = 5; level = 1; row = more (child b 3 (more (object c 1) end)) (more (child b 4 left) end) }) → ⊥

@@ -1,11 +1,11 @@
 -- What holds of trees in pages.
-use Rattle.std.proofs.Common.{◌≡◌, ℕ, ◌-◌, ◌<◌, ◌≤◌, true, false, Some, cond, eqb, List, ◌∷◌, refl, sym, ap, subst, ◌∙◌, ⊎_elim, arith}
+use Rattle.std.proofs.Common.{◌≡◌, ℕ, ◌+◌, ◌-◌, ◌<◌, ◌≤◌, true, false, Option, Some, None, IsSome, cond, eqb, List, ◌∷◌, refl, sym, ap, subst, ◌∙◌, ⊎_elim, arith}
 use Rattle.std.proofs.lemmas.Bool.{cases_eq}
 use Rattle.std.proofs.lemmas.Bool.Decides.{nat_tests}
 use Rattle.box_math.specs.Bounds.{Bounds}
 use Rattle.node_page.specs.Layout.{Content, Item}
-use Rattle.node_page.specs.Trees.{PageMap, Tree, Row, end, more, object, child, HasNode, RowStands, Stands, node_in, row_items, occurs, occurs_in}
-use Rattle.node_page.specs.TreeLaws.{OneTreeStands, EqualPagesStand, ReplacedNodeStands, with_node, tree_with_node}
+use Rattle.node_page.specs.Trees.{PageMap, Tree, Row, end, more, object, child, HasNode, RowOnLevel, RowStands, Stands, node_in, row_items, occurs, occurs_in}
+use Rattle.node_page.specs.TreeLaws.{OneTreeStands, EqualPagesStand, LevelsAreKept, PagesAreThere, ReplacedNodeStands, with_node, tree_with_node}
 
 occurs_here : (page : ℕ) → ◌≡◌ {A = ℕ} (cond (eqb page page) 1 0) 1
 occurs_here page = grind (arith, nat_tests)
@@ -68,12 +68,52 @@ same_tree : (page page' level level' : ℕ) (a b : Row) → page ≡ page' → l
 same_tree page page' level level' a b e f h = cc
 
 pub one_tree_stands : OneTreeStands
-one_tree_stands dims pages s t at_page at_level first second =
+one_tree_stands dims pages s t at_page first second =
     let there : HasNode dims pages t.page s.level s.row = subst (λ n. HasNode dims pages n s.level s.row) at_page first.root in
+    let at_level = same_level dims pages t.page s.level t.level s.row t.row there second.root in
     let here : HasNode dims pages t.page t.level s.row = subst (λ l. HasNode dims pages t.page l s.row) at_level there in
     let content = same_content dims pages t.page (record { level = t.level; entries = row_items s.row }) (record { level = t.level; entries = row_items t.row }) here second.root in
     same_tree s.page t.page s.level t.level s.row t.row at_page at_level
     (one_row dims pages t.level s.row t.row (ap (λ (x : Content). x.entries) content) (subst (λ l. RowStands dims pages l s.row) at_level first.below) second.below)
+
+-- ---- its pages, and its levels
+
+-- a page with a node is there
+pub page_of_node : (dims : ℕ) (page : Option (List ℕ)) (c : Content) → node_in dims page ≡ Some c → IsSome page
+page_of_node dims None c e = absurd (cc)
+page_of_node dims (Some bytes) c e = refl
+
+below_there : (dims : ℕ) (pages : PageMap) (level : ℕ) (row : Row) (n : ℕ) → RowStands dims pages level row → 0 < occurs n row → IsSome (pages n)
+below_there dims pages level end n h some = absurd (omega (arith, some))
+below_there dims pages level (more (object bounds id) rest) n h some = below_there dims pages level rest n h.1 some
+below_there dims pages level (more (child bounds page below) rest) n h some = ⊎_elim
+    (λ (is : page ≡ n). subst (λ k. IsSome (pages k)) is (page_of_node dims (pages page) _ h.1))
+    (λ differs.
+    let test : eqb page n ≡ false = grind (arith, nat_tests) in
+    let seen : 0 < 0 + occurs n below + occurs n rest = rw test at some in
+    let others : 0 < occurs n below + occurs n rest = omega (arith, seen) in
+    ⊎_elim
+    (λ (none : occurs n below ≡ 0). below_there dims pages level rest n h.3 (omega (arith, none, others)))
+    (λ (more_below : ¬ (occurs n below ≡ 0)). below_there dims pages (level - 1) below n h.2 (omega (arith, more_below)))
+    (cases_eq (occurs n below) 0))
+    (cases_eq page n)
+
+pub pages_are_there : PagesAreThere
+pages_are_there dims pages t n stands some = ⊎_elim
+    (λ (is : t.page ≡ n). subst (λ k. IsSome (pages k)) is (page_of_node dims (pages t.page) _ stands.root))
+    (λ differs.
+    let test : eqb t.page n ≡ false = grind (arith, nat_tests) in
+    let seen : 0 < 0 + occurs n t.row = rw test at some in
+    below_there dims pages t.level t.row n stands.below (omega (arith, seen)))
+    (cases_eq t.page n)
+
+row_on_level : (dims : ℕ) (pages : PageMap) (level : ℕ) (row : Row) → RowStands dims pages level row → RowOnLevel level row
+row_on_level dims pages level end h = tt
+row_on_level dims pages level (more (object bounds id) rest) h = (h.0, row_on_level dims pages level rest h.1)
+row_on_level dims pages level (more (child bounds page below) rest) h = (h.0, row_on_level dims pages (level - 1) below h.2, row_on_level dims pages level rest h.3)
+
+pub levels_are_kept : LevelsAreKept
+levels_are_kept dims pages t stands = row_on_level dims pages t.level t.row stands.below
 
 pub equal_pages_stand : EqualPagesStand
 equal_pages_stand dims old new t same stands = record {
@@ -133,4 +173,4 @@ module _ (dims : ℕ) (old new : PageMap) (page level : ℕ) (was now : Row) (be
 pub a_replaced_node_stands : ReplacedNodeStands
 a_replaced_node_stands dims old new t page level was now whole before off there stands once = with_node_stands dims old new page level was now before off there stands t whole once
 
-pub ruleset tree_laws = (one_tree_stands, equal_pages_stand)
+pub ruleset tree_laws = (one_tree_stands, equal_pages_stand, pages_are_there, levels_are_kept)

@@ -1,10 +1,18 @@
 -- The laws of trees in pages.
-use Rattle.std.specs.Prelude.{◌≡◌, ℕ, ◌<◌, ◌≤◌, if◌then◌else◌, ◌==◌}
-use Rattle.node_page.specs.Trees.{PageMap, Tree, Row, end, more, object, child, HasNode, RowStands, Stands, occurs_in}
+use Rattle.std.specs.Prelude.{◌≡◌, ℕ, ◌<◌, ◌≤◌, if◌then◌else◌, ◌==◌, IsSome}
+use Rattle.node_page.specs.Trees.{PageMap, Tree, Row, end, more, object, child, HasNode, RowOnLevel, RowStands, Stands, occurs_in}
 
--- at most one tree stands at a page and level
+-- at most one tree stands at a page
 abbrev pub OneTreeStands : Type 0
-OneTreeStands = (dims : ℕ) (pages : PageMap) (s t : Tree) → s.page ≡ t.page → s.level ≡ t.level → Stands dims pages s → Stands dims pages t → s ≡ t
+OneTreeStands = (dims : ℕ) (pages : PageMap) (s t : Tree) → s.page ≡ t.page → Stands dims pages s → Stands dims pages t → s ≡ t
+
+-- each page of a tree that stands is there
+abbrev pub PagesAreThere : Type 0
+PagesAreThere = (dims : ℕ) (pages : PageMap) (t : Tree) (n : ℕ) → Stands dims pages t → 0 < occurs_in n t → IsSome (pages n)
+
+-- all leaves of a tree that stands are on level 0
+abbrev pub LevelsAreKept : Type 0
+LevelsAreKept = (dims : ℕ) (pages : PageMap) (t : Tree) → Stands dims pages t → RowOnLevel t.level t.row
 
 -- pages that are equal where the tree's are stand for it too
 abbrev pub EqualPagesStand : Type 0
@@ -16,7 +24,7 @@ with_node page new end = end
 with_node page new (more (object bounds id) rest) = more (object bounds id) (with_node page new rest)
 with_node page new (more (child bounds q below) rest) = more (child bounds q (if q == page then new else with_node page new below)) (with_node page new rest)
 
--- and the whole tree so
+-- the same for a whole tree
 abbrev pub tree_with_node : Tree → ℕ → Row → Tree
 tree_with_node t page new = record { page = t.page; level = t.level; row = if t.page == page then new else with_node page new t.row }
 

@@ -31,6 +31,12 @@ abbrev pub row_length : Row → ℕ
 row_length end = 0
 row_length (more branch rest) = 1 + row_length rest
 
+-- the entries are those of a node on this level: objects on level 0, and above it children, each one level lower
+abbrev pub RowOnLevel : ℕ → Row → Type 0
+RowOnLevel level end = ⊤
+RowOnLevel level (more (object bounds id) rest) = (level ≡ 0) × RowOnLevel level rest
+RowOnLevel level (more (child bounds page below) rest) = (0 < level) × RowOnLevel (level - 1) below × RowOnLevel level rest
+
 -- ---- what a tree holds
 
 -- the objects in the leaves from left to right, each an identifier and its box

@@ -5,7 +5,7 @@ ghost use Rattle.std.specs.Prelude.{◌≡◌, Some, option_map};
 ghost use Rattle.box_math.specs.Bounds.{IsDims};
 ghost use Rattle.node_page.specs.Layout.{content_of, IsSpellable};
 ghost use Rattle.node_page.specs.PageLaws.{ReadsWhatIsSpelled, ReadsNamedBytes, SpellsNodes, HasOnePage};
-ghost use Rattle.node_page.specs.TreeLaws.{OneTreeStands, EqualPagesStand, ReplacedNodeStands};
+ghost use Rattle.node_page.specs.TreeLaws.{EqualPagesStand, LevelsAreKept, OneTreeStands, PagesAreThere, ReplacedNodeStands};
 
 use crate::node::Node;
 use crate::page::{decode, encode};
@@ -43,10 +43,22 @@ pub fn a_node_comes_back<const D: usize>(node: &Node<D>, page: &mut [u8; 4096]) 
     decode(page, node.level)
 }
 
-/// At most one tree stands at a page and level.
+/// At most one tree stands at a page, whose node has the level of its root.
 #[tactic(auto, using(crate::proofs::TreeLemmas::tree_laws))]
 pub fn at_most_one_tree_stands()
     ensures { OneTreeStands }
+{}
+
+/// Each page of a tree that stands is there, so one that was not live is in no such tree.
+#[tactic(auto, using(crate::proofs::TreeLemmas::tree_laws))]
+pub fn pages_of_a_tree_are_there()
+    ensures { PagesAreThere }
+{}
+
+/// In a tree that stands all leaves are on level 0.
+#[tactic(auto, using(crate::proofs::TreeLemmas::tree_laws))]
+pub fn leaves_of_a_tree_are_on_level_0()
+    ensures { LevelsAreKept }
 {}
 
 /// Pages that are equal where a tree's are stand for it too.

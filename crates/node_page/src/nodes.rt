@@ -1,13 +1,13 @@
 //! Nodes at the pages of a cache.
 
-ghost use Rattle.std.specs.Prelude.{◌≡◌, ◌⊎◌, ◌≤◌, ◌<◌, Some, Err, All, IfOk, IfErr, OnOk};
+ghost use Rattle.std.specs.Prelude.{◌≡◌, ◌⊎◌, ◌≤◌, ◌<◌, Some, Err, All, IfOk, IfErr, IsErrOf, OnErr, OnOk};
 ghost use Rattle.block_device.specs.Device.{one_more};
 ghost use Rattle.box_math.specs.Bounds.{IsBox, IsDims};
 ghost use Rattle.page_file.specs.Fault.{HasCause, IsDamage, IsOfDevice};
 ghost use Rattle.page_file.specs.Pages.{SameBut};
 ghost use Rattle.page_file.specs.declared.fault.Fault.TheVariants as fault;
 ghost use Rattle.page_file.specs.declared.gate.Gate.TheVariants.{Open};
-ghost use Rattle.page_cache.specs.Cache.{IsHonest, IsLive, IsPageMap, IsUnchanged, KeepsGate, KeepsMap, device_of, gate_of, looks_of, next_of, pages};
+ghost use Rattle.page_cache.specs.Cache.{IsHonest, IsLive, IsPageMap, IsUnchanged, KeepsGate, KeepsMap, device_of, gate_of, given, looks_of, next_of, pages};
 ghost use Rattle.node_page.specs.Layout.{Content, IsSpellable, content_of};
 ghost use Rattle.node_page.specs.Trees.{node_in};
 
@@ -19,8 +19,9 @@ use page_cache::PageCache;
 use page_file::Fault;
 use std::alloc::Allocator;
 
-/// Reads the node of that level at a page, in one look. A page that spells none of that dimension and level is
-/// `Damaged` with its number.
+/// Reads the node of that level at a page that was given out, in one look, or at most one where it is refused. A page
+/// that spells none of that dimension and level is `Damaged` with its number, and so is a number outside 2 to the last
+/// one given out, without a call of the device.
 ///
 /// On an honest device a refusal where there is such a node is `Memory` or `Device`. Map and gate stay, also after a
 /// refusal.
@@ -33,10 +34,14 @@ pub fn read_node<const D: usize, B: BlockDevice, A: Allocator>(
     ensures gate { KeepsGate cache.old cache.new }
     ensures map { KeepsMap cache.old cache.new }
     ensures node { IsHonest cache.old → IsLive cache.old page → IfOk result (λ node. node_in D (pages cache.old page) ≡ Some (content_of node)) }
+    ensures given_node { IsHonest cache.old → IfOk result (λ node. node_in D (given cache.old page) ≡ Some (content_of node)) }
     ensures level { IfOk result (λ node. node.level ≡ level) }
     ensures spellable { IfOk result (λ node. IsSpellable (content_of node)) }
     ensures boxes { IfOk result (λ node. All (λ item. IsBox D item.bounds) (content_of node).entries) }
     ensures looks { OnOk result (looks_of cache.new ≡ one_more (looks_of cache.old)) }
+    ensures refused_looks { OnErr result ((looks_of cache.new ≡ looks_of cache.old) ⊎ (looks_of cache.new ≡ one_more (looks_of cache.old))) }
+    ensures outside { (page < 2) ⊎ (next_of cache.old ≤ page) → IsErrOf result (fault.Damaged page) }
+    ensures quiet { (page < 2) ⊎ (next_of cache.old ≤ page) → device_of cache.new ≡ device_of cache.old }
     ensures there { IsHonest cache.old → (c : Content) → node_in D (pages cache.old page) ≡ Some c → c.level ≡ level → IfErr result IsOfDevice }
     ensures faults { IsHonest cache.old → IfErr result (λ f. IsOfDevice f ⊎ (f ≡ fault.Damaged page)) }
     ensures other_faults { IfErr result (λ f. IsOfDevice f ⊎ IsDamage f) }

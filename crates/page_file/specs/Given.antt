@@ -1,5 +1,5 @@
 -- Pages given out that are live: those that are not of the free pages' kind.
-use Rattle.std.proofs.Common.{◌≡◌, ◌∙◌, ℕ, ◌<◌, ◌≤◌, Bool, true, false, ◌&&◌, eqb, nat_le, nat_lt, List, length, Some, None, refl, sym, ap, arith, cond}
+use Rattle.std.proofs.Common.{◌≡◌, ◌∙◌, ℕ, ◌+◌, ◌<◌, ◌≤◌, Bool, true, false, ◌&&◌, eqb, nat_le, nat_lt, List, length, Some, None, refl, sym, ap, arith, cond}
 use Rattle.std.specs.Set.{is_member}
 use Rattle.std.proofs.lemmas.Bool.Decides.{nat_tests}
 use Rattle.std.proofs.lemmas.Bool.{false_from_ne_true}
@@ -43,6 +43,15 @@ given_same old new next same n = case (nat_le 2 n) (nat_lt n next) refl
 -- where a block is torn that was given out, the others are
 pub given_torn : (n : ℕ) (old new : Blocks) (next : ℕ) → Torn n old new → n ≤ length old → SameBut n (given_pages old next) (given_pages new next)
 given_torn n old new next torn le k ne = ap (λ (b : List ℕ). cond (nat_le 2 k && nat_lt k next) (Some b) None) (torn_other n k old new torn le ne)
+
+-- where the block behind those given out is torn, and its page may be given out, the others are the same
+below_more : (k n : ℕ) → ¬ (k ≡ n) → nat_lt k (n + 1) ≡ nat_lt k n
+below_more k n ne = grind (arith, nat_tests)
+
+pub given_more : (next : ℕ) (old new : Blocks) → Torn next old new → next ≤ length old → SameBut next (given_pages old next) (given_pages new (next + 1))
+given_more next old new torn le k ne =
+    ap (λ (t : Bool). cond (nat_le 2 k && t) (Some (block_at k new)) None) (below_more k next ne)
+    ∙ ap (λ (b : List ℕ). cond (nat_le 2 k && nat_lt k next) (Some b) None) (torn_other next k old new torn le ne)
 
 -- a live page was given out
 pub live_is_given : (blocks : Blocks) (h : Header) (n : ℕ) (page : List ℕ) → page_of blocks h n ≡ Some page → given_pages blocks h.next n ≡ Some page

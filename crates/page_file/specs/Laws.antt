@@ -42,8 +42,8 @@ pub a_number_given_out_has_its_block : {D : Type 0} {m : _} (file : PageFile D m
 a_number_given_out_has_its_block file h = file.room h
 
 -- the catalog is live
-pub the_catalog_is_live : {D : Type 0} {m : _} (file : PageFile D m) → IsPageMap file → IsLive file 2
-the_catalog_is_live {m = m} file map = catalog_lives (m.shown file.device) file.header file.sound map.free
+pub the_catalog_is_live : {D : Type 0} {m : _} (file : PageFile D m) → IsLive file 2
+the_catalog_is_live {m = m} file = catalog_lives (m.shown file.device) file.header file.sound
 
 -- of what differs from a file's blocks in the gate alone, opening refuses it or finds the same file
 pub a_gate_aside_is_refused_or_the_same : {D : Type 0} {m : _} (file : PageFile D m) (blocks c : Blocks) → LiesIn file blocks → SameButGate c blocks → IsRefused c ⊎ LiesIn file c

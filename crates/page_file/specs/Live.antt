@@ -1,5 +1,5 @@
 -- The map of live pages, where a block was written, a page given out or freed.
-use Rattle.std.proofs.Common.{◌≡◌, ◌∙◌, ℕ, zero, suc, ◌<◌, ◌≤◌, ◌+◌, ◌-◌, Bool, true, false, ◌&&◌, ◌||◌, not, nat_le, nat_lt, eqb, List, ◌∷◌, length, Option, Some, None, refl, sym, ap, arith, ⊎_elim, subst, cond}
+use Rattle.std.proofs.Common.{◌≡◌, ◌∙◌, ℕ, zero, suc, ◌<◌, ◌≤◌, ◌+◌, ◌-◌, Bool, true, false, ◌&&◌, ◌||◌, not, nat_le, nat_lt, eqb, List, [], ◌∷◌, length, Option, Some, None, refl, sym, ap, arith, ⊎_elim, subst, cond}
 use Rattle.std.specs.Prelude.{IsSome}
 use Rattle.std.specs.List.{IsDistinct, list_any}
 use Rattle.std.specs.Set.{is_member}
@@ -218,10 +218,17 @@ room_for_one blocks h n f low l =
 pub new_free : (blocks : Blocks) → HasFreeChain blocks new_header
 new_free blocks = refl
 
--- the catalog is not free
-pub catalog_lives : (blocks : Blocks) (h : Header) → is_sound h ≡ true → HasFreeChain blocks h → IsSome (page_of blocks h 2)
-catalog_lives blocks h sound f = lives_some blocks h 2 (record { low = omega arith; below = grind (arith, nat_tests); not_free = not_in (is_member eqb (free_pages_of blocks h) 2) refl })
-  where
-    not_in : (t : Bool) → is_member eqb (free_pages_of blocks h) 2 ≡ t → t ≡ false
-    not_in false e = refl
-    not_in true e = absurd (omega (arith, (chain_within blocks h.next h.count h.first f 2 e).0))
+-- no page below 3 is free, whatever the chain is
+low_case : (t : Bool) (n k : ℕ) (rest : List ℕ) → (t ≡ false → ¬ (k ≡ n)) → is_member eqb rest k ≡ false → is_member eqb (cond t [] (n ∷ rest)) k ≡ false
+low_case true n k rest apart none = refl
+low_case false n k rest apart none = ap (λ (t : Bool). t || is_member eqb rest k) (eq_other k n (apart refl)) ∙ none
+
+low_is_not_free : (blocks : Blocks) (count n k : ℕ) → k < 3 → is_member eqb (chain blocks count n) k ≡ false
+low_is_not_free blocks zero n k low = refl
+low_is_not_free blocks (suc count) n k low =
+    low_case (nat_lt n 3) n k (chain blocks count (link_of (block_at n blocks))) (λ high same. let t : nat_lt n 3 ≡ false = high in absurd (grind (arith, nat_tests)))
+    (low_is_not_free blocks count (link_of (block_at n blocks)) k low)
+
+-- so the catalog is live
+pub catalog_lives : (blocks : Blocks) (h : Header) → is_sound h ≡ true → IsSome (page_of blocks h 2)
+catalog_lives blocks h sound = lives_some blocks h 2 (record { low = omega arith; below = grind (arith, nat_tests); not_free = low_is_not_free blocks h.count h.first 2 (omega arith) })

@@ -44,7 +44,7 @@ pub fn a_file_opened_again_is_the_same<D: BlockDevice>()
 #[tactic(auto, using(crate::specs::Laws::a_live_page_was_given_out, crate::specs::Laws::the_catalog_is_live))]
 pub fn a_live_page_was_given_out<D: BlockDevice>()
     ensures given { (file : PageFile D ⟦<D as BlockDevice>⟧) (n : ℕ) → IsLive file n → (2 ≤ n) × (n < next_of file) × (next_of file ≤ 2 ^ 31) }
-    ensures catalog { (file : PageFile D ⟦<D as BlockDevice>⟧) → IsPageMap file → IsLive file 2 }
+    ensures catalog { (file : PageFile D ⟦<D as BlockDevice>⟧) → IsLive file 2 }
 {}
 
 /// The live pages are pages given out, and of those given out all are live that are not of the free pages'

@@ -82,12 +82,14 @@ impl<D: BlockDevice, A: Allocator> PageCache<D, A> {
         ensures written { IsHonest self.old → IsLive self.old n → OnOk result (pages self.new n ≡ Some bytes.now) }
         ensures live { IsHonest self.old → IsLive self.old n → IsLive self.new n }
         ensures others { IsHonest self.old → IsLive self.old n → SameBut n (pages self.old) (pages self.new) }
+        ensures given { IsHonest self.old → OnOk result (given self.new n ≡ Some bytes.now) }
+        ensures given_others { IsHonest self.old → SameBut n (given self.old) (given self.new) }
         ensures sound { IsPageMap self.old → IsLive self.old n → IsPageMap self.new }
         ensures next { next_of self.new ≡ next_of self.old }
         ensures looks { looks_of self.new ≡ looks_of self.old }
         ensures holds { OnOk result (IsHeld self.new n) }
         ensures outside { (n < 2) ⊎ (next_of self.old ≤ n) → (result ≡ Err (fault.Damaged n)) × IsUnchanged self.old self.new }
-        ensures faults { IsHonest self.old → IsLive self.old n → IfErr result IsOfDevice }
+        ensures faults { IsHonest self.old → 2 ≤ n → n < next_of self.old → IfErr result IsOfDevice }
         ensures other_faults { IfErr result (λ f. IsOfDevice f ⊎ IsDamage f) }
         ensures cause { HasCause (D.faults (device_of self.old)) (D.faults (device_of self.new)) result }
     {
@@ -107,13 +109,14 @@ impl<D: BlockDevice, A: Allocator> PageCache<D, A> {
         requires { gate_of self.old ≡ Open }
         ensures gate { KeepsGate self.old self.new }
         ensures fresh { IsPageMap self.old → IfOk result (λ n. (pages self.old n ≡ None) × (pages self.new n ≡ Some zeros) × SameBut n (pages self.old) (pages self.new)) }
+        ensures given_others { IsHonest self.old → IfOk result (λ n. SameBut n (given self.old) (given self.new)) }
+        ensures given_refused { IsHonest self.old → OnErr result ((n : ℕ) × SameBut n (given self.old) (given self.new)) }
         ensures refused { IsPageMap self.old → OnErr result ((n : ℕ) × (pages self.old n ≡ None) × SameBut n (pages self.old) (pages self.new)) }
         ensures sound { IsPageMap self.old → IsPageMap self.new }
         ensures number { IfOk result (λ n. (3 ≤ n) × (n < next_of self.new)) }
         ensures next { (next_of self.old ≤ next_of self.new) × (next_of self.new ≤ next_of self.old + 1) }
         ensures looks { looks_of self.new ≡ looks_of self.old }
         ensures no_pages { IsErrOf result fault.NoPages → next_of self.old ≡ 2 ^ 31 }
-        ensures full { next_of self.old ≡ 2 ^ 31 → (result ≡ Err fault.NoPages) × IsUnchanged self.old self.new }
         ensures faults { IsPageMap self.old → IfErr result (λ f. IsOfDevice f ⊎ (f ≡ fault.NoPages)) }
         ensures other_faults { IfErr result (λ f. IsOfDevice f ⊎ ((f ≡ fault.NoPages) ⊎ IsDamage f)) }
         ensures cause { HasCause (D.faults (device_of self.old)) (D.faults (device_of self.new)) result }
@@ -133,6 +136,7 @@ impl<D: BlockDevice, A: Allocator> PageCache<D, A> {
         ensures gate { KeepsGate self.old self.new }
         ensures freed { IsHonest self.old → IsLive self.old n → OnOk result (pages self.new n ≡ None) }
         ensures others { IsHonest self.old → IsLive self.old n → SameBut n (pages self.old) (pages self.new) }
+        ensures given_others { IsHonest self.old → SameBut n (given self.old) (given self.new) }
         ensures sound { IsPageMap self.old → IsLive self.old n → IsPageMap self.new }
         ensures next { next_of self.new ≡ next_of self.old }
         ensures looks { looks_of self.new ≡ looks_of self.old }

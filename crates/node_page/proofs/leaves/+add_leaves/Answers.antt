@@ -7,7 +7,8 @@ use Rattle.node_page.specs.Layout.{content_of, item_of}
 use Rattle.node_page.specs.Lists.{lists_of}
 use Rattle.node_page.specs.Trees.{PageMap}
 use Rattle.node_page.proofs.LeafLemmas.{all_read, below_here, child_page, entries_there, leaf_there, one_more_read}
-use Rattle.node_page.proofs.NodeLemmas.{at_error, on_ok, page_of_node}
+use Rattle.node_page.proofs.TreeLemmas.{page_of_node}
+use Rattle.node_page.proofs.NodeLemmas.{at_error, on_ok}
 use Rattle.node_page.proofs.leaves.+add_leaves.Goals as goal
 
 pub returns-then-root-eq0-clause-lists : goal.returns-then-root-eq0-clause-lists

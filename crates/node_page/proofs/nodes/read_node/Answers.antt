@@ -4,7 +4,8 @@ use Rattle.page_file.specs.Fault.{IsOfDevice}
 use Rattle.page_file.specs.declared.fault.Fault.TheVariants as fault
 use Rattle.page_cache.specs.Cache.{next_of, pages}
 use Rattle.page_cache.specs.Laws.{a_live_page_was_given_out}
-use Rattle.node_page.proofs.NodeLemmas.{at_error, node_of_page, page_of_node, page_refused}
+use Rattle.node_page.proofs.TreeLemmas.{page_of_node}
+use Rattle.node_page.proofs.NodeLemmas.{at_error, is_refusal, node_of_page, page_refused}
 use Rattle.node_page.proofs.nodes.read_node.Goals as goal
 
 pub returns-in_err-page-clause-there : goal.returns-in_err-page-clause-there
@@ -27,3 +28,10 @@ returns-in-None-clause-there g c = λ h content there level.
     let live = page_of_node g.row.D (pages c.args.cache.now c.args.page) content there in
     let spelled = sym (node_of_page g.row.D (pages c.args.cache.now c.args.page) _ _ (c.in_ok-page.ensures.bytes h live) refl) ∙ there in
     absurd (c.in-None.ensures.none content spelled level)
+
+pub returns-in_err-page-clause-outside : goal.returns-in_err-page-clause-outside
+returns-in_err-page-clause-outside g c = λ outside.
+    is_refusal c.from_residual.result c.in_err-page.field-0.0 (fault.Damaged c.args.page) c.from_residual.ensures.1 (let is = c.in_err-page.ensures.outside outside in cc)
+
+pub returns-in-Some-clause-outside : goal.returns-in-Some-clause-outside
+returns-in-Some-clause-outside g c = λ outside. let is = c.in_ok-page.ensures.outside outside in absurd (cc)

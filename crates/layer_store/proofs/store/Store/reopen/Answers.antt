@@ -207,3 +207,7 @@ returns-in-Ok-clause-few g c = λ t stands.
     let few = settled.few live.sound.map in
     let filled = ap pages_filled live.table in
     omega (arith, next, few, filled)
+
+-- a closing that is refused leaves no shut gate
+pub returns-in-Err-clause-ends : goal.returns-in-Err-clause-ends
+returns-in-Err-clause-ends g c = λ closed. absurd (c.in-Err.ensures.refused (is_settled (record { kept = c.settle.new.self; failed = c.args.self.now.failed }) closed).0)

@@ -5,6 +5,7 @@ use Rattle.block_device.specs.Device.{block_at}
 use Rattle.block_device.specs.Written.{block_at-written}
 use Rattle.page_file.specs.Gated.{open_is_not_shut}
 use Rattle.page_file.specs.Frames.{adds_behind, stop_behind}
+use Rattle.page_file.specs.Given.{given_more, given_torn}
 use Rattle.page_file.specs.Live.{fresh_free, fresh_lives, fresh_none, fresh_others, one_page_more, page_live, refused_free, refused_others}
 use Rattle.page_file.proofs.Results.{on_err_any}
 use Rattle.page_file.specs.Settled.{more_given, sound_says}
@@ -79,3 +80,10 @@ returns-clause-sound g c = λ map. let file = c.args.self.now in record {
   honest = c.write_block.ensures.honest.0 map.honest;
   free = fresh_free _ _ file.header (sound_says file.header file.sound).start (file.room map.honest) map.free (c.write_block.ensures.torn map.honest);
 }
+
+pub returns-clause-given_others : goal.returns-clause-given_others
+returns-clause-given_others g c = λ h. let file = c.args.self.now in given_more file.header.next _ _ (c.write_block.ensures.torn h) (file.room h)
+
+pub returns-in_err-write_block-clause-given_refused : goal.returns-in_err-write_block-clause-given_refused
+returns-in_err-write_block-clause-given_refused g c = λ h. let file = c.args.self.now in
+    on_err_any c.from_residual.result (file.header.next, given_torn file.header.next _ _ file.header.next (c.write_block.ensures.torn h) (file.room h))
