@@ -14,7 +14,8 @@ fn square(n: u64) -> u128
 #[tactic(auto, using(crate::proofs::Signed::signed_reads))]
 impl<const D: usize> BBox<D> {
     ghost use Rattle.box_math.specs.Bounds.{on_axis, IsDims};
-    ghost use Rattle.box_math.specs.Measures.{volume_of, overlap_of, margin_of, point_dist2_of, centre2_of, centre_dist2_of};
+    ghost use Rattle.box_math.specs.Measures.{volume_of, overlap_of, margin_of};
+    ghost use Rattle.box_math.specs.Measures.{point_dist2_of, centre2_of, centre_dist2_of};
 
     /// The product of the sides, high less low: 0 where some side is 0.
     pub fn volume(&self) -> u128
