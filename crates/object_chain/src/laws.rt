@@ -1,7 +1,8 @@
 //! What chains are, as laws of all maps of pages: each law is the contract of a function that does nothing,
 //! but for the last, which writes and reads.
 
-ghost use Rattle.std.specs.Prelude.{◌≡◌, ◌⊎◌, ℕ, ◌<◌, ◌^◌, List, [], Some, None, All, IsTrue, IfOk, IfErr, IsErrOf, slice_index};
+ghost use Rattle.std.specs.Prelude.{◌≡◌, ◌⊎◌, ℕ, ◌<◌, ◌^◌, List, [], Some, None, All, IsTrue, IfOk, IfErr, IsErrOf};
+ghost use Rattle.std.specs.Prelude.{slice_index};
 ghost use Rattle.std.specs.FinMap.{is_sorted};
 ghost use Rattle.std.specs.Ordering.{nat_cmp};
 ghost use Rattle.block_bytes.specs.Numbers.{number_at};
@@ -22,7 +23,8 @@ use std::alloc::Allocator;
 
 /// A chain holds one list of objects.
 pub fn a_chain_holds_one_list()
-    ensures { (pages : PageMap) (dims n : ℕ) (a b : List (ℕ × Bounds)) → HoldsObjects pages dims n a → HoldsObjects pages dims n b → a ≡ b }
+    ensures { (pages : PageMap) (dims n : ℕ) (a b : List (ℕ × Bounds)) → HoldsObjects pages dims n a
+        → HoldsObjects pages dims n b → a ≡ b }
 {}
 
 /// Page 0 is the chain of no objects.
@@ -33,7 +35,8 @@ pub fn page_0_holds_nothing()
 
 /// A whole chain breaks nowhere.
 pub fn a_whole_chain_breaks_nowhere()
-    ensures { (pages : PageMap) (dims n bad : ℕ) (objects : List (ℕ × Bounds)) → HoldsObjects pages dims n objects → BreaksAt pages dims n bad → ⊥ }
+    ensures { (pages : PageMap) (dims n bad : ℕ) (objects : List (ℕ × Bounds)) → HoldsObjects pages dims n objects
+        → BreaksAt pages dims n bad → ⊥ }
 {}
 
 /// A chain breaks at one page at most, so it is known which page is answered as damaged.
@@ -44,7 +47,8 @@ pub fn a_chain_breaks_at_one_page()
 /// A chain stays where its pages stay.
 #[tactic(auto, using(crate::specs::Laws::a_chain_stays))]
 pub fn a_chain_stays()
-    ensures { (old new : PageMap) (dims n : ℕ) (objects : List (ℕ × Bounds)) → KeepsPages old new → HoldsObjects old dims n objects → HoldsObjects new dims n objects }
+    ensures { (old new : PageMap) (dims n : ℕ) (objects : List (ℕ × Bounds)) → KeepsPages old new
+        → HoldsObjects old dims n objects → HoldsObjects new dims n objects }
 {}
 
 /// Each page of a chain is of the buckets' kind, so the chain is one of each map that has all pages of that
@@ -61,21 +65,25 @@ pub fn a_chain_has_bucket_pages()
 #[tactic(auto, using(crate::specs::Laws::new_pages_stay, crate::specs::Laws::new_pages_are_apart))]
 pub fn new_pages_stay()
     ensures there { (old new : PageMap) → KeepsPages (new_pages old new) new }
-    ensures apart { (old new later : PageMap) → ((k : ℕ) → old k ≡ None → later k ≡ new k) → KeepsPages (new_pages old new) (new_pages old later) }
+    ensures apart { (old new later : PageMap) → ((k : ℕ) → old k ≡ None → later k ≡ new k)
+        → KeepsPages (new_pages old new) (new_pages old later) }
 {}
 
 /// A chain of live pages is one of pages given out, and in a sound map the other way round.
 #[tactic(auto, using(crate::specs::Laws::a_live_chain_is_given, crate::specs::Laws::a_given_chain_is_live))]
 pub fn a_live_chain_is_given<B: BlockDevice>()
-    ensures given { (file : PageFile B ⟦<B as BlockDevice>⟧) (dims n : ℕ) (objects : List (ℕ × Bounds)) → HoldsObjects (pages file) dims n objects → HoldsObjects (given file) dims n objects }
-    ensures live { (file : PageFile B ⟦<B as BlockDevice>⟧) (dims n : ℕ) (objects : List (ℕ × Bounds)) → IsPageMap file → HoldsObjects (given file) dims n objects → HoldsObjects (pages file) dims n objects }
+    ensures given { (file : PageFile B ⟦<B as BlockDevice>⟧) (dims n : ℕ) (objects : List (ℕ × Bounds))
+        → HoldsObjects (pages file) dims n objects → HoldsObjects (given file) dims n objects }
+    ensures live { (file : PageFile B ⟦<B as BlockDevice>⟧) (dims n : ℕ) (objects : List (ℕ × Bounds)) → IsPageMap file
+        → HoldsObjects (given file) dims n objects → HoldsObjects (pages file) dims n objects }
 {}
 
 /// The objects of a chain ascend by identifier and, where pages are of bytes, have boxes of 32-bit
 /// coordinates.
 #[tactic(auto, using(crate::specs::Laws::objects_ascend, crate::specs::Laws::objects_have_boxes))]
 pub fn objects_ascend_and_have_boxes()
-    ensures ascend { (pages : PageMap) (dims n : ℕ) (objects : List (ℕ × Bounds)) → HoldsObjects pages dims n objects → IsTrue (is_sorted nat_cmp objects) }
+    ensures ascend { (pages : PageMap) (dims n : ℕ) (objects : List (ℕ × Bounds)) → HoldsObjects pages dims n objects
+        → IsTrue (is_sorted nat_cmp objects) }
     ensures boxes { (pages : PageMap) (dims n : ℕ) (objects : List (ℕ × Bounds)) →
         ((k : ℕ) (page : List ℕ) → pages k ≡ Some page → (i : ℕ) → slice_index page i < 256) →
         HoldsObjects pages dims n objects → All (λ object. IsBox dims object.1) objects }

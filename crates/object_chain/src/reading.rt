@@ -40,7 +40,9 @@ pub(crate) fn append<const D: usize, A: Allocator + Copy>(
     requires ascending { IsTrue (is_sorted nat_cmp rows.items) }
     ensures appended { IfOk result (λ all. all.items ≡ rows.items ++ objects.now) }
     ensures ascending { IfOk result (λ all. IsTrue (is_sorted nat_cmp all.items)) }
-    ensures refused { IfErr result (λ f. (f ≡ fault.Memory) ⊎ ((f ≡ fault.Damaged n) × ¬ (IsTrue (is_sorted nat_cmp (rows.items ++ objects.now))))) }
+    ensures refused { IfErr result
+        (λ f. (f ≡ fault.Memory)
+        ⊎ ((f ≡ fault.Damaged n) × ¬ (IsTrue (is_sorted nat_cmp (rows.items ++ objects.now))))) }
 {
     let mut all = rows;
     for object in objects {
@@ -62,10 +64,14 @@ fn append_page<const D: usize, A: Allocator + Copy>(
 ) -> Result<Vec<(u64, BBox<D>), A>, Fault>
     requires dims { IsDims D }
     requires ascending { IsTrue (is_sorted nat_cmp rows.items) }
-    ensures appended { IfOk result (λ all. (b : Content) × (bucket_at D page.now ≡ Some b) × GoesOn rows.items b × (all.items ≡ rows.items ++ b.entries)) }
+    ensures appended { IfOk result
+        (λ all. (b : Content) × (bucket_at D page.now ≡ Some b) × GoesOn rows.items b
+        × (all.items ≡ rows.items ++ b.entries)) }
     ensures ascending { IfOk result (λ all. IsTrue (is_sorted nat_cmp all.items)) }
     ensures longer { IfOk result (λ all. (length rows.items < length all.items) × (length all.items < 2 ^ 64)) }
-    ensures refused { IfErr result (λ f. (f ≡ fault.Memory) ⊎ ((f ≡ fault.Damaged n) × ((b : Content) → bucket_at D page.now ≡ Some b → ¬ (GoesOn rows.items b)))) }
+    ensures refused { IfErr result
+        (λ f. (f ≡ fault.Memory)
+        ⊎ ((f ≡ fault.Damaged n) × ((b : Content) → bucket_at D page.now ≡ Some b → ¬ (GoesOn rows.items b)))) }
 {
     let Some(bucket) = decode::<D>(page) else {
         return Err(Fault::Damaged(n));
@@ -94,7 +100,8 @@ pub fn read_chain<const D: usize, B: BlockDevice, A: Allocator + Copy>(
     ensures blocks { IsHonest file.old → blocks_of file.new ≡ blocks_of file.old }
     ensures holds { IsHonest file.old → IfOk result (λ rows. HoldsObjects (given file.old) D first rows.items) }
     ensures ascending { IfOk result (λ rows. IsTrue (is_sorted nat_cmp rows.items)) }
-    ensures damaged { IsHonest file.old → IfErr result (λ f. IsOfDevice f ⊎ ((n : ℕ) × (f ≡ fault.Damaged n) × BreaksAt (given file.old) D first n)) }
+    ensures damaged { IsHonest file.old
+        → IfErr result (λ f. IsOfDevice f ⊎ ((n : ℕ) × (f ≡ fault.Damaged n) × BreaksAt (given file.old) D first n)) }
     ensures never { IfErr result (λ f. IsOfDevice f ⊎ IsDamage f) }
     ensures cause { HasCause (B.faults (device_of file.old)) (B.faults (device_of file.new)) result }
 {

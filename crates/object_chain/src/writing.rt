@@ -45,7 +45,8 @@ fn write_bucket<const D: usize, B: BlockDevice>(
     requires few { length objects.now ≤ 100 }
     requires open { gate_of file.old ≡ Open }
     ensures gate { KeepsGate file.old file.new }
-    ensures written { IsPageMap file.old → IfOk result (λ n. bucket_in (pages file.new) D n ≡ Some (record { next = next; entries = objects.now })) }
+    ensures written { IsPageMap file.old
+        → IfOk result (λ n. bucket_in (pages file.new) D n ≡ Some (record { next = next; entries = objects.now })) }
     ensures number { IfOk result (λ n. (3 ≤ n) × (n < next_of file.new)) }
     ensures fresh { IsPageMap file.old → IfOk result (λ n. pages file.old n ≡ None) }
     ensures others { IsPageMap file.old → KeepsPages (pages file.old) (pages file.new) }
@@ -79,7 +80,8 @@ pub fn write_chain<const D: usize, B: BlockDevice>(
     requires open { gate_of file.old ≡ Open }
     ensures gate { KeepsGate file.old file.new }
     ensures chain { IsPageMap file.old → IfOk result (λ n. HoldsObjects (pages file.new) D n objects.now) }
-    ensures fresh { IsPageMap file.old → IfOk result (λ n. HoldsObjects (new_pages (pages file.old) (pages file.new)) D n objects.now) }
+    ensures fresh { IsPageMap file.old
+        → IfOk result (λ n. HoldsObjects (new_pages (pages file.old) (pages file.new)) D n objects.now) }
     ensures first { IfOk result (λ n. (n ≡ 0) ⊎ ((3 ≤ n) × (n < next_of file.new))) }
     ensures others { IsPageMap file.old → KeepsPages (pages file.old) (pages file.new) }
     ensures sound { IsPageMap file.old → IsPageMap file.new }
