@@ -1,9 +1,9 @@
 -- The lines of texts, and the commands of lines, one text behind another.
 use Rattle.std.proofs.Common.{◌≡◌, ◌≢◌, ℕ, ◌<◌, ltb, Bool, true, false, cond, ◌==◌, List, [], ◌∷◌, ◌++◌, length, refl, sym, ap, ◌∙◌, arith, append_assoc, subst}
 use Rattle.std.proofs.lemmas.Bool.Decides.{nat_tests}
-use Rattle.plain_table.specs.Lawful.{Request}
-use Rattle.command_shell.specs.Commands.{AsksAlone, AreCommands}
-use Rattle.command_shell.specs.Commands.AreCommands.{none, one}
+use Rattle.store_law.specs.States.{Request}
+use Rattle.command_shell.specs.TextCommands.{AsksAlone, AreCommands}
+use Rattle.command_shell.specs.TextCommands.AreCommands.{none, one}
 use Rattle.command_shell.specs.Lines.{newline, onto_first, lines_of, IsOneLine, IsWhole}
 use Rattle.command_shell.specs.Lines.IsWhole.{none as whole_none, ends}
 use Rattle.command_shell.specs.Meanings.{meaning_of}

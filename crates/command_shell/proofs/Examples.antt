@@ -3,18 +3,18 @@
 use Rattle.std.proofs.Common.{◌≡◌, ℕ, List, [], ◌∷◌, ◌++◌, Bool, true, refl, sym, ap, ap₂, ◌∙◌, pos, negsuc, Some, None, codes, replicate, map, length, length-append, get_or, arith}
 use Rattle.std.specs.Fmt.{digits}
 use Rattle.plain_table.specs.Commands.Command.{Create, Insert, Window, Reopen}
-use Rattle.plain_table.specs.Lawful.{Request}
-use Rattle.plain_table.specs.Lawful.Request.{BadCommand, Asks as Wants}
+use Rattle.store_law.specs.States.{Request}
+use Rattle.store_law.specs.States.Request.{BadCommand, Asks}
 use Rattle.plain_table.specs.Step.Answer.{Done, Refused, Boxes}
 use Rattle.plain_table.specs.declared.boxes.RawBox.TheVariants.{Two, Three}
 use Rattle.plain_table.specs.declared.refusal.Refusal.TheVariants as refusal
-use Rattle.command_shell.specs.Commands.{AreCommands, AsksAlone}
-use Rattle.command_shell.specs.Commands.AreCommands.{none, one}
+use Rattle.command_shell.specs.TextCommands.{AreCommands, AsksAlone}
+use Rattle.command_shell.specs.TextCommands.AreCommands.{none, one}
 use Rattle.command_shell.specs.Lines.{lines_of, words_of, IsWhole}
 use Rattle.command_shell.specs.Lines.IsWhole.{none as nothing, ends}
 use Rattle.command_shell.specs.Meanings.{Meaning, meaning_of, words_mean}
-use Rattle.command_shell.specs.Meanings.Meaning.{Blank, Bad, Asks}
-use Rattle.command_shell.specs.Numbers.{number_of, coordinate_of}
+use Rattle.command_shell.specs.Meanings.Meaning.{Blank, Bad, Means}
+use Rattle.command_shell.specs.Numbers.{number_in, coordinate_of}
 use Rattle.command_shell.specs.Texts.{answer_text, texts_of}
 
 abbrev a : List ℕ
@@ -68,15 +68,15 @@ other_bytes_are_parts_of_words = refl
 
 -- ---- numbers
 
-numbers : map number_of (codes "0" ∷ codes "7" ∷ codes "0007" ∷ codes "18446744073709551615" ∷ codes "00018446744073709551615" ∷ [])
+numbers : map number_in (codes "0" ∷ codes "7" ∷ codes "0007" ∷ codes "18446744073709551615" ∷ codes "00018446744073709551615" ∷ [])
     ≡ Some 0 ∷ Some 7 ∷ Some 7 ∷ Some 18446744073709551615 ∷ Some 18446744073709551615 ∷ []
 numbers = refl
 
-no_numbers : map number_of ([] ∷ codes "+5" ∷ codes "-0" ∷ codes "5a" ∷ codes "0x5" ∷ codes "5." ∷ codes "18446744073709551616" ∷ codes "99999999999999999999999" ∷ []) ≡ replicate 8 None
+no_numbers : map number_in ([] ∷ codes "+5" ∷ codes "-0" ∷ codes "5a" ∷ codes "0x5" ∷ codes "5." ∷ codes "18446744073709551616" ∷ codes "99999999999999999999999" ∷ []) ≡ replicate 8 None
 no_numbers = refl
 
 -- the bytes beside `0` and `9`
-no_digits : map (λ byte. number_of (49 ∷ byte ∷ [])) (47 ∷ 58 ∷ []) ≡ None ∷ None ∷ []
+no_digits : map (λ byte. number_in (49 ∷ byte ∷ [])) (47 ∷ 58 ∷ []) ≡ None ∷ None ∷ []
 no_digits = refl
 
 coordinates : map coordinate_of (codes "0" ∷ codes "-0" ∷ codes "00" ∷ codes "-1" ∷ codes "-007" ∷ codes "2147483647" ∷ codes "-2147483648" ∷ [])
@@ -88,32 +88,32 @@ no_coordinates = refl
 
 -- ---- what lines mean
 
-create_names_a_layer_its_axes_and_its_fanout : meaning_of (codes "create a 2 4") ≡ Asks (Create a 2 4)
+create_names_a_layer_its_axes_and_its_fanout : meaning_of (codes "create a 2 4") ≡ Means (Create a 2 4)
 create_names_a_layer_its_axes_and_its_fanout = refl
 
-blanks_and_leading_zeros_do_not_matter : meaning_of (codes " \tcreate a\t0002  4 \r") ≡ Asks (Create a 2 4)
+blanks_and_leading_zeros_do_not_matter : meaning_of (codes " \tcreate a\t0002  4 \r") ≡ Means (Create a 2 4)
 blanks_and_leading_zeros_do_not_matter = refl
 
-a_layer_is_any_word : meaning_of (codes "create #A+ 18446744073709551615 0") ≡ Asks (Create (codes "#A+") 18446744073709551615 0)
+a_layer_is_any_word : meaning_of (codes "create #A+ 18446744073709551615 0") ≡ Means (Create (codes "#A+") 18446744073709551615 0)
 a_layer_is_any_word = refl
 
-insert_gives_all_lows_and_then_all_highs : meaning_of (codes "insert a 7 1 -2 3 -4") ≡ Asks (Insert a 7 (Two (pos 1 ∷ negsuc 1 ∷ []) (pos 3 ∷ negsuc 3 ∷ [])))
+insert_gives_all_lows_and_then_all_highs : meaning_of (codes "insert a 7 1 -2 3 -4") ≡ Means (Insert a 7 (Two (pos 1 ∷ negsuc 1 ∷ []) (pos 3 ∷ negsuc 3 ∷ [])))
 insert_gives_all_lows_and_then_all_highs = refl
 
-insert_in_space : meaning_of (codes "insert a 7 1 2 3 4 5 6") ≡ Asks (Insert a 7 (Three (pos 1 ∷ pos 2 ∷ pos 3 ∷ []) (pos 4 ∷ pos 5 ∷ pos 6 ∷ [])))
+insert_in_space : meaning_of (codes "insert a 7 1 2 3 4 5 6") ≡ Means (Insert a 7 (Three (pos 1 ∷ pos 2 ∷ pos 3 ∷ []) (pos 4 ∷ pos 5 ∷ pos 6 ∷ [])))
 insert_in_space = refl
 
-window_gives_a_box : meaning_of (codes "window window 1 2 3 4") ≡ Asks (Window (codes "window") (Two (pos 1 ∷ pos 2 ∷ []) (pos 3 ∷ pos 4 ∷ [])))
+window_gives_a_box : meaning_of (codes "window window 1 2 3 4") ≡ Means (Window (codes "window") (Two (pos 1 ∷ pos 2 ∷ []) (pos 3 ∷ pos 4 ∷ [])))
 window_gives_a_box = refl
 
-reopen_is_one_word : map meaning_of (codes "reopen" ∷ codes "\t reopen \r" ∷ []) ≡ replicate 2 (Asks Reopen)
+reopen_is_one_word : map meaning_of (codes "reopen" ∷ codes "\t reopen \r" ∷ []) ≡ replicate 2 (Means Reopen)
 reopen_is_one_word = refl
 
 bad_reopens : map meaning_of (codes "reopen a" ∷ codes "reopen reopen" ∷ codes "reopen #" ∷ codes "REOPEN" ∷ codes "reopens" ∷ codes "reope" ∷ codes "re open" ∷ []) ≡ replicate 7 Bad
 bad_reopens = refl
 
 -- the store refuses it, not the language
-a_low_above_its_high_is_a_box : meaning_of (codes "window a 1 1 0 0") ≡ Asks (Window a (Two (pos 1 ∷ pos 1 ∷ []) (pos 0 ∷ pos 0 ∷ [])))
+a_low_above_its_high_is_a_box : meaning_of (codes "window a 1 1 0 0") ≡ Means (Window a (Two (pos 1 ∷ pos 1 ∷ []) (pos 0 ∷ pos 0 ∷ [])))
 a_low_above_its_high_is_a_box = refl
 
 blank_lines_and_comments : map meaning_of ([] ∷ codes " \t\r" ∷ codes "#" ∷ codes "# create a 2 4" ∷ codes " \t#create a 2 4" ∷ codes "##" ∷ []) ≡ replicate 6 Blank
@@ -141,8 +141,8 @@ a_line_of_4096_bytes_is_read line fits = rw fits refl
 -- ---- the requests of a text
 
 -- the last line has no newline, and a comment and an empty line ask nothing
-a_text_asks_line_by_line : AreCommands true (lines_of (codes "create a 2 4\n# more\n\ndrop a\ncreate b 3 5")) (Wants (Create a 2 4) ∷ BadCommand ∷ Wants (Create b 3 5) ∷ [])
-a_text_asks_line_by_line = one (Wants (Create a 2 4) ∷ []) refl (one [] refl (one [] refl (one (BadCommand ∷ []) refl (one (Wants (Create b 3 5) ∷ []) refl none))))
+a_text_asks_line_by_line : AreCommands true (lines_of (codes "create a 2 4\n# more\n\ndrop a\ncreate b 3 5")) (Asks (Create a 2 4) ∷ BadCommand ∷ Asks (Create b 3 5) ∷ [])
+a_text_asks_line_by_line = one (Asks (Create a 2 4) ∷ []) refl (one [] refl (one [] refl (one (BadCommand ∷ []) refl (one (Asks (Create b 3 5) ∷ []) refl none))))
 
 no_text_asks_nothing : (ended : Bool) → AreCommands ended (lines_of []) []
 no_text_asks_nothing ended = none
@@ -151,7 +151,7 @@ no_text_asks_nothing ended = none
 asked_alone : (m : Meaning) (rs ss : List Request) → AsksAlone m rs → AsksAlone m ss → rs ≡ ss
 asked_alone Blank rs ss h g = h ∙ sym g
 asked_alone Bad rs ss h g = h ∙ sym g
-asked_alone (Asks c) rs ss h g = h ∙ sym g
+asked_alone (Means c) rs ss h g = h ∙ sym g
 
 -- lines ask one list of requests, and no other
 pub one_reading : {ended : Bool} {lines : List (List ℕ)} {rs ss : List Request} → AreCommands ended lines rs → AreCommands ended lines ss → rs ≡ ss

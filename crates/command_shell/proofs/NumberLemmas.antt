@@ -6,7 +6,7 @@ use Rattle.std.specs.Str.Parse.{digits_value, digits_value_after}
 use Rattle.std.proofs.lemmas.Bool.Decides.{nat_tests}
 use Rattle.std.proofs.lemmas.List.{drop_all}
 use Rattle.std.proofs.Math.Seq.{drop-cons}
-use Rattle.command_shell.specs.Numbers.{is_numeral, number_of}
+use Rattle.command_shell.specs.Numbers.{is_numeral, number_in}
 
 -- digits that follow a number make it no less
 pub digits_value_after-ge : (n : ℕ) (cs : List ℕ) → n ≤ digits_value_after 10 n cs
@@ -31,7 +31,7 @@ module _ (word : List ℕ) (i value byte : ℕ) (below : i < length word) (is : 
   value_here = sym (ap (digits_value_after 10 value) here) ∙ so_far.value_is
 
   -- a value that is too large
-  pub too_large : 2 ^ 64 ≤ value * 10 + digit_value byte → None ≡ number_of word
+  pub too_large : 2 ^ 64 ≤ value * 10 + digit_value byte → None ≡ number_in word
   too_large h =
       let ge = digits_value_after-ge (value * 10 + digit_value byte) (drop (suc i) word) in
       let e : 2 ^ 64 ≤ digits_value 10 word = omega (arith, ge, value_here) in
@@ -39,7 +39,7 @@ module _ (word : List ℕ) (i value byte : ℕ) (below : i < length word) (is : 
       unless (is_numeral word) (ltb (digits_value 10 word) (2 ^ 64)) (digits_value 10 word) t
 
 -- the whole word
-pub all_read : (word : List ℕ) (i value : ℕ) → 0 < length word → length word ≤ i → IsReadTo word i value → Some value ≡ number_of word
+pub all_read : (word : List ℕ) (i value : ℕ) → 0 < length word → length word ≤ i → IsReadTo word i value → Some value ≡ number_in word
 all_read word i value some all so_far =
     let none : drop i word ≡ [] = drop_all i word all in
     let v : value ≡ digits_value 10 word = sym (ap (digits_value_after 10 value) none) ∙ so_far.value_is in

@@ -3,20 +3,21 @@
 use Rattle.std.proofs.Common.{◌≡◌, ℕ, List, [], ◌∷◌, ◌++◌, true, false, refl, sym, ap, ◌∙◌, Option, Some, codes, length, length-append, get_or, append_assoc, arith, subst, inl, inr}
 use Rattle.std.specs.Fmt.{digits}
 use Rattle.std.specs.FinMap.{empty}
-use Rattle.plain_table.specs.Lawful.{Standing, Request, Session}
-use Rattle.plain_table.specs.Laws.{a_bad_line_is_lawful}
-use Rattle.plain_table.specs.Lawful.Request.{BadCommand}
-use Rattle.plain_table.specs.Lawful.AfterStop.{Surely}
-use Rattle.plain_table.specs.Lawful.State.{Alive}
+use Rattle.store_law.specs.Sessions.{SessionState, Session}
+use Rattle.store_law.specs.States.{Request}
+use Rattle.store_law.specs.Laws.{a_bad_line_is_lawful}
+use Rattle.store_law.specs.States.Request.{BadCommand}
+use Rattle.store_law.specs.Stops.AfterStop.{Surely}
+use Rattle.store_law.specs.States.StoreState.{Alive}
 use Rattle.plain_table.specs.Step.{Answer}
 use Rattle.plain_table.specs.Step.Answer.{Refused}
 use Rattle.plain_table.specs.declared.refusal.Refusal.TheVariants as refusal
-use Rattle.command_shell.specs.Commands.{AreCommands}
-use Rattle.command_shell.specs.Commands.AreCommands.{none, one}
+use Rattle.command_shell.specs.TextCommands.{AreCommands}
+use Rattle.command_shell.specs.TextCommands.AreCommands.{none, one}
 use Rattle.command_shell.specs.Lines.{lines_of, IsWhole}
 use Rattle.command_shell.specs.Lines.IsWhole.{none as nothing, ends}
 use Rattle.command_shell.specs.Runs.{Runs}
-use Rattle.command_shell.specs.Serving.{BreaksOff}
+use Rattle.command_shell.specs.Serving.{BreaksOff, RunState, run_state}
 use Rattle.command_shell.specs.Texts.{texts_of}
 use Rattle.command_shell.specs.declared.session.RunEnd.TheVariants.{Finished, ReadFault, WriteFault}
 use Rattle.command_shell.proofs.CommandLemmas.{append_none}
@@ -25,20 +26,21 @@ use Rattle.command_shell.proofs.Examples.{one_reading}
 abbrev Bytes : Type 0
 Bytes = List ℕ
 
-abbrev known : Bytes → Option (List ℕ)
-known bytes = Some bytes
+-- a run with this unread, and this written so far
+abbrev at : SessionState → Bytes → Bytes → RunState
+at s unread written = run_state s (Some unread) (Some written)
 
 -- a store with no layer
-abbrev fresh : Standing
+abbrev fresh : SessionState
 fresh = record { state = Alive empty; stops = record { now = Surely empty; since = 0; so_far = empty ∷ [] }; faults = 0; next = 3 }
 
 -- ---- what is a run
 
-a_run_on_no_text : Runs known known Finished fresh fresh (codes "") [] [] []
+a_run_on_no_text : Runs Finished (at fresh (codes "") []) (at fresh [] [])
 a_run_on_no_text = record { text = []; requests = []; answers = []; reads = record { stops = (refl, refl); read = record { more = []; read = refl; so = refl } }; asked = none; lawful = refl; written = refl }
 
 -- the last line has no newline, and the comment no reply
-a_run_on_two_bad_lines : Runs known known Finished fresh fresh (codes "x\n# y\nz") [] [] (codes "fail 24 BadLine\nfail 24 BadLine\n")
+a_run_on_two_bad_lines : Runs Finished (at fresh (codes "x\n# y\nz") []) (at fresh [] (codes "fail 24 BadLine\nfail 24 BadLine\n"))
 unfolding digits
 a_run_on_two_bad_lines = record {
   text = codes "x\n# y\nz";
@@ -51,7 +53,7 @@ a_run_on_two_bad_lines = record {
 }
 
 -- the line that was not read to its newline is not answered
-a_run_that_a_read_ended : Runs known known ReadFault fresh fresh (codes "x\ny") [] [] (codes "fail 24 BadLine\n")
+a_run_that_a_read_ended : Runs ReadFault (at fresh (codes "x\ny") []) (at fresh [] (codes "fail 24 BadLine\n"))
 unfolding digits
 a_run_that_a_read_ended = (
   codes "y",
@@ -68,7 +70,7 @@ a_run_that_a_read_ended = (
 )
 
 -- the line was answered, and four bytes of its reply were written
-a_run_that_a_write_ended : Runs known known WriteFault fresh fresh (codes "x\ny") (codes "y") [] (codes "fail")
+a_run_that_a_write_ended : Runs WriteFault (at fresh (codes "x\ny") []) (at fresh (codes "y") (codes "fail"))
 unfolding digits
 a_run_that_a_write_ended = inl (
   false,
@@ -85,7 +87,7 @@ a_run_that_a_write_ended = inl (
 )
 
 -- a flush failed: all that was read to its last newline is answered whole
-a_run_that_a_flush_ended : Runs known known WriteFault fresh fresh (codes "x\ny") [] [] (codes "fail 24 BadLine\n")
+a_run_that_a_flush_ended : Runs WriteFault (at fresh (codes "x\ny") []) (at fresh [] (codes "fail 24 BadLine\n"))
 unfolding digits
 a_run_that_a_flush_ended = inr (
   codes "y",
@@ -107,13 +109,13 @@ nothing_in_front : (xs ys : List ℕ) → [] ≡ xs ++ ys → xs ≡ []
 nothing_in_front [] ys e = refl
 nothing_in_front (x ∷ xs) ys e = absurd (cc)
 
-no_answers : (s s' : Standing) (requests : List Request) (answers : List Answer) → Session s requests answers s' → requests ≡ [] → (answers ≡ []) × (s' ≡ s)
+no_answers : (s s' : SessionState) (requests : List Request) (answers : List Answer) → Session s requests answers s' → requests ≡ [] → (answers ≡ []) × (s' ≡ s)
 no_answers s s' [] [] h e = (refl, h)
 no_answers s s' [] (a ∷ as') h e = absurd h
 no_answers s s' (r ∷ rs) answers h e = absurd (cc)
 
 -- no text gets no reply, and changes nothing
-a_run_on_no_text_does_nothing : (s s' : Standing) (left written : List ℕ) → Runs known known Finished s s' [] left [] written → (written ≡ []) × (s' ≡ s)
+a_run_on_no_text_does_nothing : (s s' : SessionState) (left written : List ℕ) → Runs Finished (at s [] []) (at s' left written) → (written ≡ []) × (s' ≡ s)
 a_run_on_no_text_does_nothing s s' left written run =
     let more = nothing_in_front run.reads.read.more left run.reads.read.read in
     let text = nothing_in_front run.text [] (sym more ∙ run.reads.read.so) in
@@ -121,13 +123,13 @@ a_run_on_no_text_does_nothing s s' left written run =
     (run.written ∙ ap texts_of answered.0, answered.1)
 
 -- a bad line has one answer, and changes nothing
-one_bad_line : (s s' : Standing) (answers : List Answer) → Session s (BadCommand ∷ []) answers s' → answers ≡ Refused refusal.BadLine ∷ []
+one_bad_line : (s s' : SessionState) (answers : List Answer) → Session s (BadCommand ∷ []) answers s' → answers ≡ Refused refusal.BadLine ∷ []
 one_bad_line s s' [] h = absurd h
 one_bad_line s s' (a ∷ []) h = ap (λ x. x ∷ []) h.1.answer.0
 one_bad_line s s' (a ∷ b ∷ as') h = absurd h.2
 
 -- a last line without its newline is answered
-a_run_answers_its_last_line : (s s' : Standing) (left written : List ℕ) → Runs known known Finished s s' (codes "x") left [] written → written ≡ codes "fail 24 BadLine\n"
+a_run_answers_its_last_line : (s s' : SessionState) (left written : List ℕ) → Runs Finished (at s (codes "x") []) (at s' left written) → written ≡ codes "fail 24 BadLine\n"
 unfolding digits
 a_run_answers_its_last_line s s' left written run =
     let more : codes "x" ≡ run.reads.read.more = run.reads.read.read ∙ ap (λ l. run.reads.read.more ++ l) run.reads.stops.1 ∙ append_none _ in
@@ -153,7 +155,7 @@ whole_front rest nothing e = refl
 whole_front rest (ends line) e = absurd (no_whole_front line rest e)
 
 -- a line without its newline is not answered where a read failed behind it
-a_read_fault_answers_no_unfinished_line : (s s' : Standing) (left written : List ℕ) → Runs known known ReadFault s s' (codes "x") left [] written → (written ≡ []) × (s' ≡ s)
+a_read_fault_answers_no_unfinished_line : (s s' : SessionState) (left written : List ℕ) → Runs ReadFault (at s (codes "x") []) (at s' left written) → (written ≡ []) × (s' ≡ s)
 a_read_fault_answers_no_unfinished_line s s' left written (unread, part, run) =
     let all : codes "x" ≡ run.text ++ (unread ++ left) = run.reads.read.read ∙ ap (λ m. m ++ left) run.reads.read.so ∙ append_assoc run.text unread left in
     let text = whole_front (unread ++ left) run.reads.stops all in

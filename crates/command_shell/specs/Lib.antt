@@ -8,6 +8,6 @@ pub mod Writing
 pub mod Reading
 pub mod Pending
 pub mod Answering
-pub mod Commands
+pub mod TextCommands
 pub mod Serving
 pub mod Runs

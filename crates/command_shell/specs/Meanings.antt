@@ -3,27 +3,27 @@ use Rattle.std.specs.Prelude.{ℕ, ◌==◌, nat_lt, List, [], ◌∷◌, length
 use Rattle.plain_table.specs.Commands.{Command}
 use Rattle.plain_table.specs.Commands.Command.{Create, Insert, Window, Reopen}
 use Rattle.command_shell.specs.Lines.{words_of}
-use Rattle.command_shell.specs.Numbers.{number_of, box_of}
+use Rattle.command_shell.specs.Numbers.{number_in, box_of}
 
 -- what a line is: a blank line or a comment, a line that is none of the language, or a command
 pub data Meaning : Type 0 where
   Blank : Meaning
   Bad : Meaning
-  Asks : Command → Meaning
+  Means : Command → Meaning
 
 -- a command, or a bad line where there is none
 abbrev pub asked : Option Command → Meaning
-asked (Some c) = Asks c
+asked (Some c) = Means c
 asked None = Bad
 
 -- `create LAYER NUM NUM`: the number of axes, and the fanout
 abbrev pub create_of : List (List ℕ) → Option Command
-create_of (layer ∷ dims ∷ fanout ∷ []) = option_and_then (λ d. option_map (λ f. Create layer d f) (number_of fanout)) (number_of dims)
+create_of (layer ∷ dims ∷ fanout ∷ []) = option_and_then (λ d. option_map (λ f. Create layer d f) (number_in fanout)) (number_in dims)
 create_of ws = None
 
 -- `insert LAYER NUM BOX`: the identifier, and the box
 abbrev pub insert_of : List (List ℕ) → Option Command
-insert_of (layer ∷ id ∷ ws) = option_and_then (λ n. option_map (λ b. Insert layer n b) (box_of ws)) (number_of id)
+insert_of (layer ∷ id ∷ ws) = option_and_then (λ n. option_map (λ b. Insert layer n b) (box_of ws)) (number_in id)
 insert_of ws = None
 
 -- `window LAYER BOX`

@@ -11,8 +11,8 @@ abbrev pub is_numeral : List ℕ → Bool
 is_numeral w = nat_lt 0 (length w) && list_all is_ascii_digit w
 
 -- a number: digits with a value below 2^64
-abbrev pub number_of : List ℕ → Option ℕ
-number_of w = if is_numeral w && nat_lt (digits_value 10 w) (2 ^ 64) then Some (digits_value 10 w) else None
+abbrev pub number_in : List ℕ → Option ℕ
+number_in w = if is_numeral w && nat_lt (digits_value 10 w) (2 ^ 64) then Some (digits_value 10 w) else None
 
 -- the byte that makes a coordinate negative
 abbrev pub minus : ℕ
@@ -29,8 +29,8 @@ positive_of n = if nat_lt n (2 ^ 31) then Some (pos n) else None
 -- a coordinate: a number of 32 bits, which a minus may stand before
 abbrev pub coordinate_of : List ℕ → Option ℤ
 coordinate_of w =
-    if slice_index w 0 == minus then option_and_then negative_of (number_of (drop 1 w))
-    else option_and_then positive_of (number_of w)
+    if slice_index w 0 == minus then option_and_then negative_of (number_in (drop 1 w))
+    else option_and_then positive_of (number_in w)
 
 -- coordinates, one for each word
 abbrev pub coordinates_of : List (List ℕ) → Option (List ℤ)

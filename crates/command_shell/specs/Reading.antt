@@ -17,10 +17,10 @@ pub record BeginsLine (bytes : List ℕ) (n : ℕ) : Type 0 where
   pub line : IsOneLine (take n bytes)
   pub ends : drop n bytes ≡ newline ∷ drop (suc n) bytes
 
--- the reader gave some bytes, of which P holds
-pub record ReadsTo {R : Type 0} (remaining : R → Option (List ℕ)) (old new : R) (P : List ℕ → Type 0) : Type 0 where
+-- the reader gave some bytes of those that it had, of which P holds
+pub record ReadsTo (old new : Option (List ℕ)) (P : List ℕ → Type 0) : Type 0 where
   pub more : List ℕ
-  pub read : Consumes (remaining old) (remaining new) more
+  pub read : Consumes old new more
   pub so : P more
 
 -- where the text that was taken stops: behind a newline, or, where it has ended, at the end of all that the reader had
@@ -29,6 +29,6 @@ StopsAt false at_end text left = IsWhole text
 StopsAt true at_end text left = (left ≡ []) × at_end
 
 -- From bytes that were pending, and what the reader gave behind them, this text was taken, and some bytes are left.
-pub record Reads {R : Type 0} (remaining : R → Option (List ℕ)) (ended : Bool) (old new : R) (pending left text : List ℕ) : Type 0 where
-  pub stops : StopsAt ended (IsAtEnd (remaining new)) text left
-  pub read : ReadsTo remaining old new (λ more. pending ++ more ≡ text ++ left)
+pub record Reads (ended : Bool) (old new : Option (List ℕ)) (pending left text : List ℕ) : Type 0 where
+  pub stops : StopsAt ended (IsAtEnd new) text left
+  pub read : ReadsTo old new (λ more. pending ++ more ≡ text ++ left)

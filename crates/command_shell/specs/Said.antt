@@ -2,7 +2,7 @@
 use Rattle.std.specs.Prelude.{Option, Some, None}
 use Rattle.plain_table.specs.Commands.Command.{Create, Insert, Window, Reopen}
 use Rattle.command_shell.specs.Meanings.{Meaning}
-use Rattle.command_shell.specs.Meanings.Meaning.{Blank, Bad, Asks}
+use Rattle.command_shell.specs.Meanings.Meaning.{Blank, Bad, Means}
 use Rattle.command_shell.specs.declared.parse.Line.{Line}
 use Rattle.command_shell.specs.declared.parse.Line.TheVariants as line
 
@@ -10,10 +10,10 @@ use Rattle.command_shell.specs.declared.parse.Line.TheVariants as line
 abbrev pub said : Line → Meaning
 said line.Blank = Blank
 said line.Bad = Bad
-said (line.Create layer dims fanout) = Asks (Create layer.now dims fanout)
-said (line.Insert layer id bounds) = Asks (Insert layer.now id bounds)
-said (line.Window layer bounds) = Asks (Window layer.now bounds)
-said line.Reopen = Asks Reopen
+said (line.Create layer dims fanout) = Means (Create layer.now dims fanout)
+said (line.Insert layer id bounds) = Means (Insert layer.now id bounds)
+said (line.Window layer bounds) = Means (Window layer.now bounds)
+said line.Reopen = Means Reopen
 
 -- the same of a line that may be missing, which is bad
 abbrev pub said_or_bad : Option Line → Meaning

@@ -1,9 +1,10 @@
 -- What a part of a run reads, answers and writes.
 use Rattle.std.specs.Prelude.{ℕ, ◌≡◌, ◌<◌, Bool, true, false, List, [], ◌∷◌, ◌++◌, length, take, Option, Result, MatchResult}
 use Rattle.std.specs.Io.KnownBytes.{Appends}
-use Rattle.plain_table.specs.Lawful.{Standing, Request, Session}
+use Rattle.store_law.specs.Sessions.{SessionState, Session}
+use Rattle.store_law.specs.States.{Request}
 use Rattle.plain_table.specs.Step.{Answer}
-use Rattle.command_shell.specs.Commands.{AreCommands}
+use Rattle.command_shell.specs.TextCommands.{AreCommands}
 use Rattle.command_shell.specs.Lines.{lines_of}
 use Rattle.command_shell.specs.Reading.{Reads}
 use Rattle.command_shell.specs.Texts.{answer_text, texts_of}
@@ -26,13 +27,24 @@ Wrote false old new answers = BreaksOff old new answers
 abbrev pub WroteAs : {E T : Type 0} → Option (List ℕ) → Option (List ℕ) → Result T E → List Answer → Type 0
 WroteAs old new result answers = MatchResult result (λ _. Wrote true old new answers) (λ _. Wrote false old new answers)
 
+-- What is known at a point of a run: the state of the session, what the reader still has, and what the writer was given,
+-- where reader and writer make their bytes known.
+pub record RunState : Type 0 where
+  pub session : SessionState
+  pub unread : Option (List ℕ)
+  pub written : Option (List ℕ)
+
+-- the state of a run with these
+abbrev pub run_state : SessionState → Option (List ℕ) → Option (List ℕ) → RunState
+run_state session unread written = record { session = session; unread = unread; written = written }
+
 -- A text was taken, its commands were answered by a lawful session, and the answers were written.
 -- `ended` says whether the text is all that there was, `whole` whether the last answer was written wholly.
-pub record Serves {R W : Type 0} (remaining : R → Option (List ℕ)) (contents : W → Option (List ℕ)) (ended whole : Bool) (old new : Standing) (reader reader' : R) (writer writer' : W) (pending left : List ℕ) : Type 0 where
+pub record Serves (ended whole : Bool) (before after : RunState) (pending left : List ℕ) : Type 0 where
   pub text : List ℕ
   pub requests : List Request
   pub answers : List Answer
-  pub reads : Reads remaining ended reader reader' pending left text
+  pub reads : Reads ended before.unread after.unread pending left text
   pub asked : AreCommands ended (lines_of text) requests
-  pub lawful : Session old requests answers new
-  pub written : Wrote whole (contents writer) (contents writer') answers
+  pub lawful : Session before.session requests answers after.session
+  pub written : Wrote whole before.written after.written answers

@@ -3,7 +3,7 @@ use Rattle.std.specs.Prelude.{ℕ, List, [], ◌∷◌, ◌++◌, length, codes,
 use Rattle.std.specs.Fmt.{signed_decimal}
 use Rattle.box_math.specs.Bounds.{Bounds}
 use Rattle.plain_table.specs.Answers.{row_of}
-use Rattle.plain_table.specs.Refusals.{number_of, name_of}
+use Rattle.plain_table.specs.Refusals.{refusal_name, refusal_number}
 use Rattle.plain_table.specs.Step.{Answer}
 use Rattle.plain_table.specs.Step.Answer.{Done, Refused, Boxes}
 use Rattle.plain_table.specs.declared.refusal.Refusal.{Refusal}
@@ -41,7 +41,7 @@ detail_text r = []
 
 -- `fail`, the refusal's number and its name
 abbrev pub refusal_text : Refusal → List ℕ
-refusal_text r = codes "fail " ++ decimal (number_of r) ++ space ∷ name_of r ++ detail_text r ++ newline ∷ []
+refusal_text r = codes "fail " ++ decimal (refusal_number r) ++ space ∷ refusal_name r ++ detail_text r ++ newline ∷ []
 
 -- `ok` and how many rows follow
 abbrev pub count_text : ℕ → List ℕ

@@ -62,7 +62,7 @@ impl LineReader {
     // Reads once, behind what is pending. It answers how many bytes came, none only at the end.
     fn fill<R: Read>(&mut self, reader: &mut R) -> io::Result<usize>
         requires { length (pending self.old) < CAPACITY }
-        ensures ok { IfOk result (λ n. ReadsTo R.remaining reader.old reader.new
+        ensures ok { IfOk result (λ n. ReadsTo (R.remaining reader.old) (R.remaining reader.new)
             (λ more. (length more ≡ n) × (pending self.new ≡ pending self.old ++ more))) }
         ensures end { IfOk result (λ n. n ≡ 0 → IsAtEnd (R.remaining reader.new)) }
         ensures err { OnErr result (Keeps (R.remaining reader.old) (R.remaining reader.new)) }
@@ -129,9 +129,9 @@ impl LineReader {
     pub fn find<R: Read>(&mut self, line: Option<usize>, reader: &mut R) -> io::Result<Found>
         requires { IfSome line (BeginsLine (pending self.old)) }
         ensures found { MatchResult result
-            (λ found. ReadsTo R.remaining reader.old reader.new (λ more.
+            (λ found. ReadsTo (R.remaining reader.old) (R.remaining reader.new) (λ more.
             Finds (IsAtEnd (R.remaining reader.new)) found (pending self.old ++ more) (pending self.new)))
-            (λ _. ReadsTo R.remaining reader.old reader.new (λ more. IsOneLine (pending self.old ++ more))) }
+            (λ _. ReadsTo (R.remaining reader.old) (R.remaining reader.new) (λ more. IsOneLine (pending self.old ++ more))) }
         ensures lazy { (n : ℕ) → BeginsLine (pending self.old) n → reader.new ≡ reader.old }
         ensures fewer { IfOk result (λ found. work_left self.new + work_done found ≤ work_left self.old) }
     {
@@ -144,9 +144,9 @@ impl LineReader {
     // Finds the next line by looking for it, and by reading where it is not pending.
     fn read_line<R: Read>(&mut self, reader: &mut R) -> io::Result<Found>
         ensures found { MatchResult result
-            (λ found. ReadsTo R.remaining reader.old reader.new (λ more.
+            (λ found. ReadsTo (R.remaining reader.old) (R.remaining reader.new) (λ more.
             Finds (IsAtEnd (R.remaining reader.new)) found (pending self.old ++ more) (pending self.new)))
-            (λ _. ReadsTo R.remaining reader.old reader.new (λ more. IsOneLine (pending self.old ++ more))) }
+            (λ _. ReadsTo (R.remaining reader.old) (R.remaining reader.new) (λ more. IsOneLine (pending self.old ++ more))) }
         ensures lazy { (n : ℕ) → BeginsLine (pending self.old) n → reader.new ≡ reader.old }
         ensures fewer { IfOk result (λ found. work_left self.new + work_done found ≤ work_left self.old) }
     {
@@ -187,9 +187,9 @@ impl LineReader {
         requires long { MAX_LINE < length (pending self.old) }
         requires line { IsOneLine (pending self.old) }
         ensures found { MatchResult result
-            (λ found. ReadsTo R.remaining reader.old reader.new (λ more.
+            (λ found. ReadsTo (R.remaining reader.old) (R.remaining reader.new) (λ more.
             Finds (IsAtEnd (R.remaining reader.new)) found (pending self.old ++ more) (pending self.new)))
-            (λ _. ReadsTo R.remaining reader.old reader.new (λ more. IsOneLine (pending self.old ++ more))) }
+            (λ _. ReadsTo (R.remaining reader.old) (R.remaining reader.new) (λ more. IsOneLine (pending self.old ++ more))) }
         ensures fewer { IfOk result (λ found. work_left self.new + work_done found ≤ work_left self.old) }
     {
         let len = self.pending().len();

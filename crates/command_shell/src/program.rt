@@ -3,9 +3,10 @@
 
 ghost use Rattle.std.specs.Prelude.{◌≡◌, true};
 ghost use Rattle.block_device.specs.Device.{Only};
-ghost use Rattle.plain_table.specs.Lawful.{Standing};
-ghost use Rattle.layer_store.specs.Standing.{Stands};
+ghost use Rattle.store_law.specs.Sessions.{SessionState};
+ghost use Rattle.layer_store.specs.Representation.{Represents};
 ghost use Rattle.command_shell.specs.Runs.{RunsToClose, TellsEnd};
+ghost use Rattle.command_shell.specs.Serving.{run_state};
 ghost use Rattle.command_shell.specs.Texts.{told_refusal};
 ghost use Rattle.command_shell.specs.Writing.{Writes};
 
@@ -38,10 +39,12 @@ pub fn run_and_close<D: BlockDevice, A: Allocator + Copy, R: Read, W: Write, E: 
     output: &mut W,
     errors: &mut E,
 ) -> Ended<D>
-    ensures run { (s : Standing) → Stands store s →
-        RunsToClose R.remaining W.contents result.went_well (D.shown result.device) s input.old input.new output.old output.new }
+    ensures run { (s : SessionState) → Represents store s → (s' : SessionState) ×
+        RunsToClose result.went_well (D.shown result.device)
+        (run_state s (R.remaining input.old) (W.contents output.old))
+        (run_state s' (R.remaining input.new) (W.contents output.new)) }
     ensures told { TellsEnd result.went_well (E.contents errors.old) (E.contents errors.new) }
-    ensures durable { (s : Standing) → Stands store s → result.went_well ≡ true → Only (D.shown result.device) (D.may_leave result.device) }
+    ensures durable { (s : SessionState) → Represents store s → result.went_well ≡ true → Only (D.shown result.device) (D.may_leave result.device) }
 {
     let mut store = store;
     let end = run(&mut store, input, output);

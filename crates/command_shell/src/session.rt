@@ -3,13 +3,14 @@
 ghost use Rattle.std.specs.Prelude.{◌≡◌, ◌<◌, Some, None, MatchResult, OnErr, IfNone, IfSome, if◌then◌else◌};
 ghost use Rattle.std.specs.Io.KnownBytes.{Keeps};
 ghost use Rattle.plain_table.specs.Answers.{done_answer, boxes_answer};
-ghost use Rattle.plain_table.specs.Lawful.{Takes};
-ghost use Rattle.layer_store.specs.Standing.{Stands};
+ghost use Rattle.store_law.specs.Sessions.{Takes};
+ghost use Rattle.layer_store.specs.Representation.{Represents};
 ghost use Rattle.command_shell.specs.Answering.{AnswersLine, Replies, reply_answers};
 ghost use Rattle.command_shell.specs.Pending.{pending, work_left};
 ghost use Rattle.command_shell.specs.Reading.{BeginsLine};
 ghost use Rattle.command_shell.specs.Runs.{Runs, StepsTo};
 ghost use Rattle.command_shell.specs.Said.{said};
+ghost use Rattle.command_shell.specs.Serving.{run_state};
 ghost use Rattle.command_shell.specs.Texts.{reply_answer};
 
 use crate::lines::{Found, LineReader};
@@ -50,8 +51,9 @@ pub fn run<D: BlockDevice, A: Allocator + Copy, R: Read, W: Write>(
     input: &mut R,
     output: &mut W,
 ) -> RunEnd
-    ensures { Takes Stands store.old store.new (λ s s'.
-        Runs R.remaining W.contents result s s' input.old input.new output.old output.new) }
+    ensures { Takes Represents store.old store.new (λ s s'. Runs result
+        (run_state s (R.remaining input.old) (W.contents output.old))
+        (run_state s' (R.remaining input.new) (W.contents output.new))) }
 {
     let mut lines = LineReader::new();
     loop {
@@ -85,8 +87,9 @@ fn step<D: BlockDevice, A: Allocator + Copy, R: Read, W: Write>(
     output: &mut W,
 ) -> Option<RunEnd>
     requires { IfSome line (BeginsLine (pending lines.old)) }
-    ensures steps { Takes Stands store.old store.new (λ s s'.
-        StepsTo R.remaining W.contents result s s' input.old input.new output.old output.new
+    ensures steps { Takes Represents store.old store.new (λ s s'. StepsTo result
+        (run_state s (R.remaining input.old) (W.contents output.old))
+        (run_state s' (R.remaining input.new) (W.contents output.new))
         (pending lines.old) (pending lines.new)) }
     ensures fewer { IfNone result (work_left lines.new < work_left lines.old) }
 {
@@ -126,8 +129,8 @@ fn answer<D: BlockDevice, A: Allocator + Copy, W: Write>(
     line: Line<'_>,
     output: &mut W,
 ) -> io::Result<()>
-    ensures { Takes Stands store.old store.new (λ s s'.
-        AnswersLine W.contents (said line.entry) s s' output.old output.new result) }
+    ensures { Takes Represents store.old store.new (λ s s'.
+        AnswersLine (said line.entry) s s' (W.contents output.old) (W.contents output.new) result) }
 {
     match reply_to(store, line) {
         None => Ok(()),
@@ -140,7 +143,7 @@ fn reply_to<D: BlockDevice, A: Allocator + Copy>(
     store: &mut Store<D, A>,
     line: Line<'_>,
 ) -> Option<Reply<A>>
-    ensures { Takes Stands store.old store.new (λ s s'. Replies (said line.entry) s s' (reply_answers result)) }
+    ensures { Takes Represents store.old store.new (λ s s'. Replies (said line.entry) s s' (reply_answers result)) }
 {
     match line {
         Line::Blank => None,

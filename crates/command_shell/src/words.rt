@@ -4,7 +4,7 @@ ghost use Rattle.std.specs.Prelude.{◌≡◌, ◌+◌, ◌*◌, ◌^◌, ◌<�
 ghost use Rattle.std.specs.List.{prefix_len};
 ghost use Rattle.std.specs.Char.{is_ascii_digit, digit_value};
 ghost use Rattle.command_shell.specs.Lines.{is_blank, words_of};
-ghost use Rattle.command_shell.specs.Numbers.{number_of, coordinate_of};
+ghost use Rattle.command_shell.specs.Numbers.{number_in, coordinate_of};
 
 use std::marker::Model;
 
@@ -79,7 +79,7 @@ fn is_blank(byte: u8) -> bool
 
 /// The number that a word is: digits with a value below 2^64.
 pub fn number(word: &[u8]) -> Option<u64>
-    ensures { result ≡ number_of word.now }
+    ensures { result ≡ number_in word.now }
 {
     if word.is_empty() {
         return None;

@@ -16,8 +16,8 @@ use Rattle.plain_table.specs.Table.{Table, Layer}
 use Rattle.plain_table.specs.declared.refusal.Refusal.TheVariants as refusal
 use Rattle.plain_table.proofs.Examples.{layer}
 use Rattle.layer_store.specs.Catalog.{has_no_tree, is_good_catalog, is_layer_record, is_page_or_none, names_ascend, objects_named}
-use Rattle.layer_store.specs.Faults.{IsMemoryOrDevice, HasCause, faults_after, as_refusal}
-use Rattle.layer_store.specs.Image.{Holds, IsImage, IsLeftOf, HoldsLayer, HoldsLayers, IsBroken, IsDamaged, Refuses}
+use Rattle.layer_store.specs.Faults.{IsMemoryOrDevice, HasRefusalCause, faults_after_refusal, as_refusal}
+use Rattle.layer_store.specs.Image.{Holds, IsImage, IsRefusedOrImageOf, HoldsLayer, HoldsLayers, IsBroken, IsDamaged, OpeningRefuses}
 use Rattle.layer_store.specs.Laws.{an_image_is_of_one_table, blocks_are_refused_in_one_way}
 use Rattle.layer_store.specs.Starting.{is_cache}
 
@@ -40,34 +40,34 @@ one_page_more_is_none = refl
 damage_keeps_its_page : as_refusal (fault.Damaged 7) ≡ refusal.Damaged 7
 damage_keeps_its_page = refl
 
-a_refusal_of_the_device_counts : faults_after refusal.Device 4 ≡ 5
+a_refusal_of_the_device_counts : faults_after_refusal refusal.Device 4 ≡ 5
 a_refusal_of_the_device_counts = refl
 
-the_greatest_count_stays : faults_after refusal.Device 18446744073709551615 ≡ 18446744073709551615
+the_greatest_count_stays : faults_after_refusal refusal.Device 18446744073709551615 ≡ 18446744073709551615
 the_greatest_count_stays = refl
 
-an_end_by_the_device_counts : faults_after (refusal.StoreFailed 17) 4 ≡ 5
+an_end_by_the_device_counts : faults_after_refusal (refusal.StoreFailed 17) 4 ≡ 5
 an_end_by_the_device_counts = refl
 
-an_end_by_memory_does_not : faults_after (refusal.StoreFailed 16) 4 ≡ 4
+an_end_by_memory_does_not : faults_after_refusal (refusal.StoreFailed 16) 4 ≡ 4
 an_end_by_memory_does_not = refl
 
-a_dead_store_does_not : faults_after (refusal.StoreFailed 19) 4 ≡ 4
+a_dead_store_does_not : faults_after_refusal (refusal.StoreFailed 19) 4 ≡ 4
 a_dead_store_does_not = refl
 
-want_of_memory_does_not : faults_after refusal.Memory 4 ≡ 4
+want_of_memory_does_not : faults_after_refusal refusal.Memory 4 ≡ 4
 want_of_memory_does_not = refl
 
-success_has_no_fault : HasCause {T = ℕ} 4 4 (Ok 0)
+success_has_no_fault : HasRefusalCause {T = ℕ} 4 4 (Ok 0)
 success_has_no_fault = record { ok = refl; refused = tt }
 
-success_hides_no_fault : HasCause {T = ℕ} 4 5 (Ok 0) → ⊥
+success_hides_no_fault : HasRefusalCause {T = ℕ} 4 5 (Ok 0) → ⊥
 success_hides_no_fault h = absurd (omega (arith, h.ok))
 
-want_of_memory_hides_no_fault : HasCause {T = ℕ} 4 5 (Err refusal.Memory) → ⊥
+want_of_memory_hides_no_fault : HasRefusalCause {T = ℕ} 4 5 (Err refusal.Memory) → ⊥
 want_of_memory_hides_no_fault h = absurd (omega (arith, h.refused))
 
-the_device_is_not_blamed_without_one : HasCause {T = ℕ} 4 4 (Err refusal.Device) → ⊥
+the_device_is_not_blamed_without_one : HasRefusalCause {T = ℕ} 4 4 (Err refusal.Device) → ⊥
 the_device_is_not_blamed_without_one h = absurd (omega (arith, h.refused))
 
 want_of_pages_is_neither : IsMemoryOrDevice refusal.NoPages → ⊥
@@ -192,23 +192,23 @@ the_catalog_is_blamed_for_a_wrong_count pages = inr (refl, ([], page_0_holds_not
 and_not_for_a_right_one : (pages : PageMap) → (objects : List (ℕ × Bounds)) × HoldsObjects pages 2 0 objects × ¬ (length objects ≡ 0) → ⊥
 and_not_for_a_right_one pages m = m.2 (ap length (a_chain_holds_one_list pages 2 0 m.0 [] m.1 (page_0_holds_nothing pages 2)))
 
-no_blocks_are_no_store : Refuses [] fault.NotAStore
+no_blocks_are_no_store : OpeningRefuses [] fault.NotAStore
 unfolding failed_check
 no_blocks_are_no_store = inl refl
 
-and_nothing_else : Refuses [] fault.NotClosed → ⊥
+and_nothing_else : OpeningRefuses [] fault.NotClosed → ⊥
 and_nothing_else h = let no = blocks_are_refused_in_one_way [] fault.NotAStore fault.NotClosed no_blocks_are_no_store h in absurd (cc)
 
 -- ---- what a stop may leave
 
-refused_blocks_may_be_left_of_any_tables : (ts : List Table) → IsLeftOf ts []
+refused_blocks_may_be_left_of_any_tables : (ts : List Table) → IsRefusedOrImageOf ts []
 unfolding failed_check
 refused_blocks_may_be_left_of_any_tables ts = inl refl
 
-an_image_may_be_left_of_its_table : (c : Blocks) (t u : Table) → IsImage c t → IsLeftOf (u ∷ t ∷ []) c
+an_image_may_be_left_of_its_table : (c : Blocks) (t u : Table) → IsImage c t → IsRefusedOrImageOf (u ∷ t ∷ []) c
 an_image_may_be_left_of_its_table c t u image = inr (t, (1, omega arith, refl), image)
 
-an_image_of_another_table_may_not : (c : Blocks) (t u : Table) → IsImage c u → ¬ (t ≡ u) → IsLeftOf (t ∷ []) c → ⊥
+an_image_of_another_table_may_not : (c : Blocks) (t u : Table) → IsImage c u → ¬ (t ≡ u) → IsRefusedOrImageOf (t ∷ []) c → ⊥
 an_image_of_another_table_may_not c t u image other (inl refused) = let no : false ≡ true = sym (ap is_some image.passes) ∙ refused in absurd (cc)
 an_image_of_another_table_may_not c t u image other (inr (x, (zero, lt, is), there)) = other (is ∙ an_image_is_of_one_table c x u there image)
 an_image_of_another_table_may_not c t u image other (inr (x, (suc i, lt, is), there)) = absurd (omega (arith, lt))

@@ -17,10 +17,10 @@ use Rattle.object_chain.specs.Chain.{KeepsPages, PageMap, new_pages, pages_for}
 use Rattle.object_chain.specs.Laws.{a_chain_stays}
 use Rattle.object_chain.proofs.Frames.{is_new, new_pages_kept, not_before}
 use Rattle.page_file.specs.Pages.{SameBut}
-use Rattle.plain_table.specs.InMemory.{entry_of}
-use Rattle.plain_table.specs.Laws.{listed_are_entries}
-use Rattle.plain_table.specs.Listed.{IsListed, table_from}
-use Rattle.plain_table.specs.declared.layer.Layer.{Layer as KeptLayer}
+use Rattle.list_table.specs.InMemory.{entry_of}
+use Rattle.list_table.specs.Laws.{listed_are_entries}
+use Rattle.list_table.specs.Listed.{IsListed, table_from}
+use Rattle.list_table.specs.declared.layer.ListedLayer.{ListedLayer}
 use Rattle.plain_table.specs.Table.{Table, Layer, most_objects, object_count}
 use Rattle.layer_store.specs.Catalog.{by_name, is_good_catalog, is_layer_record, names_ascend, objects_named}
 use Rattle.layer_store.specs.Image.{Holds, HoldsLayer, HoldsLayers}
@@ -132,7 +132,7 @@ more_filled old mid new rs rs' r before this e =
 layer_stays : (old new : PageMap) (r : Record) (e : List ℕ × Layer) → KeepsPages old new → HoldsLayer old r e → HoldsLayer new r e
 layer_stays old new r e keeps h = (layers_stay old new (r ∷ []) (e ∷ []) keeps (h, tt)).0
 
-pub one_more_held : {A : Type 0} (old mid new : PageMap) (rs rs' : List LayerRecord) (layers : List (KeptLayer A)) (i : ℕ) (r : LayerRecord) (l : KeptLayer A) → KeepsPages old mid → KeepsPages mid new → rs' ≡ rs ++ r ∷ [] → i < length layers → l ≡ get_or layers i l
+pub one_more_held : {A : Type 0} (old mid new : PageMap) (rs rs' : List LayerRecord) (layers : List (ListedLayer A)) (i : ℕ) (r : LayerRecord) (l : ListedLayer A) → KeepsPages old mid → KeepsPages mid new → rs' ≡ rs ++ r ∷ [] → i < length layers → l ≡ get_or layers i l
     → HoldsLayers (new_pages old mid) (map record_of rs) (map entry_of (take i layers)) → HoldsLayer (new_pages mid new) (record_of r) (entry_of l) → HoldsLayers (new_pages old new) (map record_of rs') (map entry_of (take (i + 1) layers))
 one_more_held {A = A} old mid new rs rs' layers i r l first then more lt is before this =
     let all = layers_more (new_pages old new) (map record_of rs) (map entry_of (take i layers)) (record_of r) (entry_of l)
@@ -141,11 +141,11 @@ one_more_held {A = A} old mid new rs rs' layers i r l first then more lt is befo
     let records : map record_of rs' ≡ map record_of rs ++ record_of r ∷ [] = ap (map record_of) more ∙ map-append record_of rs (r ∷ []) in
     let next : i + 1 ≡ suc i = omega arith in
     let taken : map entry_of (take (i + 1) layers) ≡ map entry_of (take i layers) ++ entry_of l ∷ [] =
-    ap (map entry_of) (ap (λ (k : ℕ). take k layers) next ∙ take-suc layers i l lt ∙ ap (λ (x : KeptLayer A). take i layers ++ x ∷ []) (sym is)) ∙ map-append entry_of (take i layers) (l ∷ []) in
+    ap (map entry_of) (ap (λ (k : ℕ). take k layers) next ∙ take-suc layers i l lt ∙ ap (λ (x : ListedLayer A). take i layers ++ x ∷ []) (sym is)) ∙ map-append entry_of (take i layers) (l ∷ []) in
     subst (λ (es : List (List ℕ × Layer)). HoldsLayers (new_pages old new) (map record_of rs') es) (sym taken)
     (subst (λ (xs : List Record). HoldsLayers (new_pages old new) xs (map entry_of (take i layers) ++ entry_of l ∷ [])) (sym records) all)
 
 -- all layers of a list are those of its table
-pub all_held : {A : Type 0} (pages : PageMap) (rs : List Record) (layers : List (KeptLayer A)) (t : Table) (i count : ℕ) → length layers ≤ i → t ≡ table_from layers → IsListed layers count → HoldsLayers pages rs (map entry_of (take i layers)) → HoldsLayers pages rs (entries t)
+pub all_held : {A : Type 0} (pages : PageMap) (rs : List Record) (layers : List (ListedLayer A)) (t : Table) (i count : ℕ) → length layers ≤ i → t ≡ table_from layers → IsListed layers count → HoldsLayers pages rs (map entry_of (take i layers)) → HoldsLayers pages rs (entries t)
 all_held pages rs layers t i count le is listed h =
     subst (HoldsLayers pages rs) (ap (map entry_of) (take_all i layers le) ∙ sym (listed_are_entries layers count listed) ∙ ap entries (sym is)) h

@@ -16,12 +16,12 @@ use Rattle.page_file.specs.Pages.{given_pages}
 use Rattle.catalog_page.specs.Layout.{Record, record_of}
 use Rattle.catalog_page.specs.declared.layer_record.LayerRecord.{LayerRecord}
 use Rattle.object_chain.specs.Chain.{PageMap}
-use Rattle.plain_table.specs.InMemory.{entry_of}
-use Rattle.plain_table.specs.Laws.{listed_are_entries}
-use Rattle.plain_table.specs.Listed.{IsListed, table_from}
-use Rattle.plain_table.specs.Objects.{entries_of}
+use Rattle.list_table.specs.InMemory.{entry_of}
+use Rattle.list_table.specs.Laws.{listed_are_entries}
+use Rattle.list_table.specs.Listed.{IsListed, table_from}
+use Rattle.list_table.specs.Objects.{entries_of}
 use Rattle.plain_table.specs.Table.{Table, Layer, is_dims, is_fanout, is_layer_name, most_layers, most_objects, object_count}
-use Rattle.plain_table.specs.declared.layer.Layer.{Layer as KeptLayer}
+use Rattle.list_table.specs.declared.layer.ListedLayer.{ListedLayer}
 use Rattle.layer_store.specs.Catalog.{by_name, has_no_tree, is_good_catalog, is_layer_record, is_page_or_none, names_ascend, objects_named}
 use Rattle.layer_store.specs.Image.{Holds, HoldsLayer, HoldsLayers, IsBroken, IsDamaged, catalog_in}
 use Rattle.layer_store.proofs.HeldLemmas.{layers_more}
@@ -105,17 +105,17 @@ record_counts [] = refl
 record_counts (r ∷ rs) = ap (λ (t : List ℕ). r.count ∷ t) (record_counts rs)
 
 module _ {A : Type 0} where
-  entry_names : (ls : List (KeptLayer A)) → map (λ (e : List ℕ × Layer). e.0) (map entry_of ls) ≡ map (λ (l : KeptLayer A). l.name.items) ls
+  entry_names : (ls : List (ListedLayer A)) → map (λ (e : List ℕ × Layer). e.0) (map entry_of ls) ≡ map (λ (l : ListedLayer A). l.name.items) ls
   entry_names [] = refl
   entry_names (l ∷ ls) = ap (λ (t : List (List ℕ)). l.name.items ∷ t) (entry_names ls)
 
-  entry_counts : (ls : List (KeptLayer A)) → map (λ (l : Layer). len l.objects) (map (λ (e : List ℕ × Layer). e.1) (map entry_of ls)) ≡ map (λ (l : KeptLayer A). length (entries_of l.objects)) ls
+  entry_counts : (ls : List (ListedLayer A)) → map (λ (l : Layer). len l.objects) (map (λ (e : List ℕ × Layer). e.1) (map entry_of ls)) ≡ map (λ (l : ListedLayer A). length (entries_of l.objects)) ls
   entry_counts [] = refl
   entry_counts (l ∷ ls) = λ j. (len-entries (from_sorted {R = nat_cmp} (entries_of l.objects)) ∙ ap length (kept_entries (entries_of l.objects) l.ascending)) j ∷ entry_counts ls j
 
   -- layers with the names and counts of a good catalog are a list of layers
-  pub read_listed : (next : ℕ) (rs : List LayerRecord) (ls : List (KeptLayer A)) (count : ℕ) → is_good_catalog next (map record_of rs) ≡ true → length rs ≤ most_layers
-      → map (λ (l : KeptLayer A). l.name.items) ls ≡ map (λ (r : LayerRecord). r.name.items) rs → map (λ (l : KeptLayer A). length (entries_of l.objects)) ls ≡ map (λ (r : LayerRecord). r.count) rs
+  pub read_listed : (next : ℕ) (rs : List LayerRecord) (ls : List (ListedLayer A)) (count : ℕ) → is_good_catalog next (map record_of rs) ≡ true → length rs ≤ most_layers
+      → map (λ (l : ListedLayer A). l.name.items) ls ≡ map (λ (r : LayerRecord). r.name.items) rs → map (λ (l : ListedLayer A). length (entries_of l.objects)) ls ≡ map (λ (r : LayerRecord). r.count) rs
       → count ≡ objects_named (map record_of rs) → IsListed ls count
   read_listed next rs ls count good few names counts so =
       let order = first_so (names_ascend (map record_of rs)) (nat_le (objects_named (map record_of rs)) most_objects) (second_so (list_all (is_layer_record next) (map record_of rs)) (names_ascend (map record_of rs) && nat_le (objects_named (map record_of rs)) most_objects) good) in
@@ -130,11 +130,11 @@ module _ {A : Type 0} where
         ascending = ascend;
         counted = so ∙ sym total;
         within = omega (arith, so, room_of next (map record_of rs) good);
-        few = omega (arith, few, ap length names, length-map ls (λ (l : KeptLayer A). l.name.items), length-map rs (λ (r : LayerRecord). r.name.items));
+        few = omega (arith, few, ap length names, length-map ls (λ (l : ListedLayer A). l.name.items), length-map rs (λ (r : LayerRecord). r.name.items));
       }
 
   -- one more layer read
-  pub one_more_read : (pages : PageMap) (rs : List LayerRecord) (ls ls' : List (KeptLayer A)) (i : ℕ) (r : LayerRecord) (l : KeptLayer A) → ls' ≡ ls ++ l ∷ [] → i < length rs → r ≡ get_or rs i r
+  pub one_more_read : (pages : PageMap) (rs : List LayerRecord) (ls ls' : List (ListedLayer A)) (i : ℕ) (r : LayerRecord) (l : ListedLayer A) → ls' ≡ ls ++ l ∷ [] → i < length rs → r ≡ get_or rs i r
       → HoldsLayers pages (map record_of (take i rs)) (map entry_of ls) → HoldsLayer pages (record_of r) (entry_of l) → HoldsLayers pages (map record_of (take (i + 1) rs)) (map entry_of ls')
   one_more_read pages rs ls ls' i r l more lt is before this =
       let all = layers_more pages (map record_of (take i rs)) (map entry_of ls) (record_of r) (entry_of l) before this in
@@ -144,13 +144,13 @@ module _ {A : Type 0} where
       (subst (λ (xs : List Record). HoldsLayers pages xs (map entry_of ls ++ entry_of l ∷ [])) (sym taken) all)
 
   -- and named, or counted
-  pub one_more_named : {X : Type 0} (f : KeptLayer A → X) (h : LayerRecord → X) (rs : List LayerRecord) (ls ls' : List (KeptLayer A)) (i : ℕ) (r : LayerRecord) (l : KeptLayer A) → ls' ≡ ls ++ l ∷ [] → i < length rs → r ≡ get_or rs i r
+  pub one_more_named : {X : Type 0} (f : ListedLayer A → X) (h : LayerRecord → X) (rs : List LayerRecord) (ls ls' : List (ListedLayer A)) (i : ℕ) (r : LayerRecord) (l : ListedLayer A) → ls' ≡ ls ++ l ∷ [] → i < length rs → r ≡ get_or rs i r
       → map f ls ≡ map h (take i rs) → f l ≡ h r → map f ls' ≡ map h (take (i + 1) rs)
   one_more_named f h rs ls ls' i r l more lt is before this =
       ap (map f) more ∙ map-append f ls (l ∷ []) ∙ (λ j. before j ++ this j ∷ []) ∙ sym (map-append h (take i rs) (r ∷ [])) ∙ ap (map h) (sym (taken_more rs i r lt is))
 
   -- all layers read are the table that the pages hold
-  pub all_read : (pages : PageMap) (next i count : ℕ) (rs : List LayerRecord) (ls : List (KeptLayer A)) (t : Table) → catalog_in pages ≡ Some (map record_of rs) → is_good_catalog next (map record_of rs) ≡ true → length rs ≤ i
+  pub all_read : (pages : PageMap) (next i count : ℕ) (rs : List LayerRecord) (ls : List (ListedLayer A)) (t : Table) → catalog_in pages ≡ Some (map record_of rs) → is_good_catalog next (map record_of rs) ≡ true → length rs ≤ i
       → IsListed ls count → t ≡ table_from ls → HoldsLayers pages (map record_of (take i rs)) (map entry_of ls) → Holds pages next t
   all_read pages next i count rs ls t spelled good le listed is h = record {
     records = map record_of rs;

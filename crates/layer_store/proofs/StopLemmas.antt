@@ -15,16 +15,17 @@ use Rattle.page_file.specs.Stops.{AddsOnly, SameButGate, StopSince}
 use Rattle.page_file.specs.declared.file.PageFile.{PageFile}
 use Rattle.page_file.specs.declared.gate.Gate.{Gate}
 use Rattle.page_file.specs.declared.gate.Gate.TheVariants.{Shut, Open}
-use Rattle.plain_table.specs.Lawful.{AfterStop, Standing, Stops, tables_left}
-use Rattle.plain_table.specs.Lawful.AfterStop.{Surely, Perhaps}
+use Rattle.store_law.specs.Sessions.{SessionState}
+use Rattle.store_law.specs.Stops.{AfterStop, Stops, tables_left}
+use Rattle.store_law.specs.Stops.AfterStop.{Surely, Perhaps}
 use Rattle.plain_table.specs.Table.{Table}
-use Rattle.layer_store.specs.Image.{Holds, IsImage, IsLeftAfter, IsLeftOf}
-use Rattle.layer_store.specs.Keeping.{HoldsItsTable, Leaves, LeavesAtRest, RestsOn}
-use Rattle.layer_store.specs.Standing.{Stands, blocks_in, closed_since, device_in, resting_on, standing_of}
-use Rattle.layer_store.specs.declared.kept.Kept.{Kept}
+use Rattle.layer_store.specs.Image.{Holds, IsImage, MayRemain, IsRefusedOrImageOf}
+use Rattle.layer_store.specs.StoredTable.{HoldsItsTable, Leaves, LeavesAtRest, RestLeavesOneOf}
+use Rattle.layer_store.specs.Representation.{IsOfStore, Represents, blocks_in, closed_since, device_in, resting_on}
+use Rattle.layer_store.specs.declared.stored_table.StoredTable.{StoredTable}
 use Rattle.layer_store.specs.declared.store.Store.{Store}
 use Rattle.layer_store.specs.Laws.{a_held_table_stays}
-use Rattle.layer_store.proofs.KeepLemmas.{image_of, new_image}
+use Rattle.layer_store.proofs.StoredTableLemmas.{image_of, new_image}
 
 -- of an image but for the gate, opening refuses the blocks, or they are an image of the same table
 pub image_aside : (blocks c : Blocks) (t : Table) → IsImage blocks t → SameButGate c blocks → IsRefused c ⊎ IsImage c t
@@ -51,20 +52,20 @@ new_left moment left_since old new Q = leaves_weaker moment left_since old new (
 
 -- ---- a file at rest
 
-or_this : (ts : List Table) (t : Table) (c : Blocks) → IsLeftOf ts c → IsLeftOf (t ∷ ts) c
+or_this : (ts : List Table) (t : Table) (c : Blocks) → IsRefusedOrImageOf ts c → IsRefusedOrImageOf (t ∷ ts) c
 or_this ts t c (inl refused) = inl refused
 or_this ts t c (inr (u, (i, lt, is), image)) = inr (u, (suc i, omega (arith, lt), is), image)
 
-this_one : (ts : List Table) (t : Table) (c : Blocks) → IsImage c t → IsLeftOf (t ∷ ts) c
+this_one : (ts : List Table) (t : Table) (c : Blocks) → IsImage c t → IsRefusedOrImageOf (t ∷ ts) c
 this_one ts t c image = inr (t, (0, omega arith, refl), image)
 
 -- no table was closed
-pub leaves_or : {D : Type 0} (moment : D → ℕ) (left_since : D → ℕ → Blocks → Type 0) (old new : D) (ts : List Table) (t : Table) → LeavesOnly moment left_since old new (IsLeftOf ts) → LeavesOnly moment left_since old new (IsLeftOf (t ∷ ts))
-leaves_or moment left_since old new ts t = leaves_weaker moment left_since old new (IsLeftOf ts) (IsLeftOf (t ∷ ts)) (or_this ts t)
+pub leaves_or : {D : Type 0} (moment : D → ℕ) (left_since : D → ℕ → Blocks → Type 0) (old new : D) (ts : List Table) (t : Table) → LeavesOnly moment left_since old new (IsRefusedOrImageOf ts) → LeavesOnly moment left_since old new (IsRefusedOrImageOf (t ∷ ts))
+leaves_or moment left_since old new ts t = leaves_weaker moment left_since old new (IsRefusedOrImageOf ts) (IsRefusedOrImageOf (t ∷ ts)) (or_this ts t)
 
 module _ {D : Type 0} {m : _} where
   -- what a stop at rest leaves
-  pub rest_leaves : (file : PageFile D m) (ts : List Table) → IsHonest file → RestsOn file ts → (c : Blocks) → m.may_leave file.device c → IsLeftOf ts c
+  pub rest_leaves : (file : PageFile D m) (ts : List Table) → IsHonest file → RestLeavesOneOf file ts → (c : Blocks) → m.may_leave file.device c → IsRefusedOrImageOf ts c
   rest_leaves file ts honest rests c left = ⊎_elim
       (λ (opened : gate_of file ≡ Open). inl (subst (λ (gate : Gate). StopSince gate (blocks_of file) c) opened (a_stop_follows_the_gate file c honest left)))
       (λ (closed : ¬ (gate_of file ≡ Open)). rests closed c (a_stop_now_leaves_all_but_the_gate file c honest closed left))
@@ -75,20 +76,20 @@ module _ {D : Type 0} {m : _} where
   shut_is_durable file honest shut = λ c left. subst (λ (gate : Gate). StopSince gate (blocks_of file) c) shut (a_stop_follows_the_gate file c honest left)
 
   -- a file that holds the table rests on it, whatever it rested on
-  pub rests_on_table : (file : PageFile D m) (ts : List Table) (t : Table) → IsPageMap file → Holds (pages file) (next_of file) t → RestsOn file (t ∷ ts)
+  pub rests_on_table : (file : PageFile D m) (ts : List Table) (t : Table) → IsPageMap file → Holds (pages file) (next_of file) t → RestLeavesOneOf file (t ∷ ts)
   rests_on_table file ts t map held = λ closed c same. ⊎_elim (λ refused. inl refused) (λ lies. this_one ts t c (image_of file c t map lies held)) (a_gate_aside_finds_the_file file c map.honest closed same)
 
-  pub rests_on_more : (file : PageFile D m) (ts : List Table) (t : Table) → RestsOn file ts → RestsOn file (t ∷ ts)
+  pub rests_on_more : (file : PageFile D m) (ts : List Table) (t : Table) → RestLeavesOneOf file ts → RestLeavesOneOf file (t ∷ ts)
   rests_on_more file ts t rests = λ closed c same. or_this ts t c (rests closed c same)
 
   -- a file whose blocks are an image of a table rests on it
-  pub rests_on_image : (file : PageFile D m) (t : Table) → IsImage (blocks_of file) t → RestsOn file (t ∷ [])
+  pub rests_on_image : (file : PageFile D m) (t : Table) → IsImage (blocks_of file) t → RestLeavesOneOf file (t ∷ [])
   rests_on_image file t image = λ closed c same. ⊎_elim (λ refused. inl refused) (λ there. this_one [] t c there) (image_aside (blocks_of file) c t image same)
 
   -- ---- what a stop leaves of it
 
   -- the tables of which it may leave an image
-  pub left_rests : (file : PageFile D m) (left : AfterStop) → LeavesAtRest file left → RestsOn file (tables_left left)
+  pub left_rests : (file : PageFile D m) (left : AfterStop) → LeavesAtRest file left → RestLeavesOneOf file (tables_left left)
   left_rests file (Surely t) there = rests_on_image file t there.0
   left_rests file (Perhaps ts) there = there
 
@@ -97,47 +98,47 @@ module _ {D : Type 0} {m : _} where
   shut_leaves file t honest shut image = (image, shut_is_durable file honest shut)
 
   -- what a stop may leave
-  pub at_rest_leaves : (file : PageFile D m) (left : AfterStop) → IsHonest file → LeavesAtRest file left → (c : Blocks) → m.may_leave file.device c → IsLeftAfter left c
+  pub at_rest_leaves : (file : PageFile D m) (left : AfterStop) → IsHonest file → LeavesAtRest file left → (c : Blocks) → m.may_leave file.device c → MayRemain left c
   at_rest_leaves file (Surely t) honest there c stop = subst (λ (blocks : Blocks). IsImage blocks t) (sym (there.1 c stop)) there.0
   at_rest_leaves file (Perhaps ts) honest there c stop = rest_leaves file ts honest there c stop
 
   -- ---- a closing
 
   -- no call was made
-  pub none_made : (file : PageFile D m) (ts : List Table) → IsHonest file → ((c : Blocks) → m.left_since file.device (m.moment file.device) c → m.may_leave file.device c) → RestsOn file ts → LeavesOnly m.moment m.left_since file.device file.device (IsLeftOf ts)
-  none_made file ts honest now rests = started m.moment m.left_since file.device (IsLeftOf ts) (λ c left. rest_leaves file ts honest rests c (now c left))
+  pub none_made : (file : PageFile D m) (ts : List Table) → IsHonest file → ((c : Blocks) → m.left_since file.device (m.moment file.device) c → m.may_leave file.device c) → RestLeavesOneOf file ts → LeavesOnly m.moment m.left_since file.device file.device (IsRefusedOrImageOf ts)
+  none_made file ts honest now rests = started m.moment m.left_since file.device (IsRefusedOrImageOf ts) (λ c left. rest_leaves file ts honest rests c (now c left))
 
   -- the gate was opened, was open, or was not opened
   pub gate_opened : (old new : PageFile D m) (ts : List Table) → IsHonest old → ((c : Blocks) → m.left_since old.device (m.moment old.device) c → m.may_leave old.device c) → (gate_of old ≡ Open → new ≡ old)
-      → (¬ (gate_of old ≡ Open) → LeavesOnly m.moment m.left_since old.device new.device (λ c. SameButGate c (blocks_of old))) → RestsOn old ts → LeavesOnly m.moment m.left_since old.device new.device (IsLeftOf ts)
+      → (¬ (gate_of old ≡ Open) → LeavesOnly m.moment m.left_since old.device new.device (λ c. SameButGate c (blocks_of old))) → RestLeavesOneOf old ts → LeavesOnly m.moment m.left_since old.device new.device (IsRefusedOrImageOf ts)
   gate_opened old new ts honest now was_open stops rests = ⊎_elim
-      (λ (opened : gate_of old ≡ Open). subst (λ (file : PageFile D m). LeavesOnly m.moment m.left_since old.device file.device (IsLeftOf ts)) (sym (was_open opened)) (none_made old ts honest now rests))
-      (λ (closed : ¬ (gate_of old ≡ Open)). leaves_weaker m.moment m.left_since old.device new.device (λ c. SameButGate c (blocks_of old)) (IsLeftOf ts) (λ c same. rests closed c same) (stops closed))
+      (λ (opened : gate_of old ≡ Open). subst (λ (file : PageFile D m). LeavesOnly m.moment m.left_since old.device file.device (IsRefusedOrImageOf ts)) (sym (was_open opened)) (none_made old ts honest now rests))
+      (λ (closed : ¬ (gate_of old ≡ Open)). leaves_weaker m.moment m.left_since old.device new.device (λ c. SameButGate c (blocks_of old)) (IsRefusedOrImageOf ts) (λ c same. rests closed c same) (stops closed))
       (is_open (gate_of old))
 
   -- and pages were written behind it
-  pub pages_written : (old mid new : PageFile D m) (ts : List Table) → IsHonest mid → gate_of mid ≡ Open → LeavesOnly m.moment m.left_since old.device mid.device (IsLeftOf ts) → KeepsGate mid new → LeavesOnly m.moment m.left_since old.device new.device (IsLeftOf ts)
+  pub pages_written : (old mid new : PageFile D m) (ts : List Table) → IsHonest mid → gate_of mid ≡ Open → LeavesOnly m.moment m.left_since old.device mid.device (IsRefusedOrImageOf ts) → KeepsGate mid new → LeavesOnly m.moment m.left_since old.device new.device (IsRefusedOrImageOf ts)
   pages_written old mid new ts honest opened before keeps =
-      leaves_weaker m.moment m.left_since old.device new.device (λ c. IsLeftOf ts c ⊎ StopSince (gate_of mid) (blocks_of mid) c) (IsLeftOf ts)
-      (λ c. ⊎_elim (λ (p : IsLeftOf ts c). p) (λ stop. inl (subst (λ (gate : Gate). StopSince gate (blocks_of mid) c) opened stop)))
-      (stops_of_a_run_go_on old.device mid new (IsLeftOf ts) honest before keeps)
+      leaves_weaker m.moment m.left_since old.device new.device (λ c. IsRefusedOrImageOf ts c ⊎ StopSince (gate_of mid) (blocks_of mid) c) (IsRefusedOrImageOf ts)
+      (λ c. ⊎_elim (λ (p : IsRefusedOrImageOf ts c). p) (λ stop. inl (subst (λ (gate : Gate). StopSince gate (blocks_of mid) c) opened stop)))
+      (stops_of_a_run_go_on old.device mid new (IsRefusedOrImageOf ts) honest before keeps)
 
   -- and the file was settled, or not, and holds the table
-  pub table_closed : (old mid new : D) (file : PageFile D m) (Q : Blocks → Type 0) (ts : List Table) (t : Table) → LeavesOnly m.moment m.left_since old mid (IsLeftOf ts) → LeavesOnly m.moment m.left_since mid new (λ c. IsRefused c ⊎ (Q c × LiesIn file c))
-      → IsPageMap file → Holds (pages file) (next_of file) t → LeavesOnly m.moment m.left_since old new (IsLeftOf (t ∷ ts))
+  pub table_closed : (old mid new : D) (file : PageFile D m) (Q : Blocks → Type 0) (ts : List Table) (t : Table) → LeavesOnly m.moment m.left_since old mid (IsRefusedOrImageOf ts) → LeavesOnly m.moment m.left_since mid new (λ c. IsRefused c ⊎ (Q c × LiesIn file c))
+      → IsPageMap file → Holds (pages file) (next_of file) t → LeavesOnly m.moment m.left_since old new (IsRefusedOrImageOf (t ∷ ts))
   table_closed old mid new file Q ts t written settled map held =
-      leaves_then m.moment m.left_since old mid new (IsLeftOf (t ∷ ts)) (leaves_or m.moment m.left_since old mid ts t written)
-      (leaves_weaker m.moment m.left_since mid new (λ c. IsRefused c ⊎ (Q c × LiesIn file c)) (IsLeftOf (t ∷ ts))
+      leaves_then m.moment m.left_since old mid new (IsRefusedOrImageOf (t ∷ ts)) (leaves_or m.moment m.left_since old mid ts t written)
+      (leaves_weaker m.moment m.left_since mid new (λ c. IsRefused c ⊎ (Q c × LiesIn file c)) (IsRefusedOrImageOf (t ∷ ts))
       (λ c. ⊎_elim (λ refused. inl refused) (λ there. this_one ts t c (image_of file c t map there.1 held))) settled)
 
   -- a file whose gate is shut was read
-  pub then_read : (old : D) (mid new : PageFile D m) (ts : List Table) (t : Table) → IsHonest mid → gate_of mid ≡ Shut → IsImage (blocks_of mid) t → LeavesOnly m.moment m.left_since old mid.device (IsLeftOf (t ∷ ts)) → KeepsGate mid new
-      → LeavesOnly m.moment m.left_since old new.device (IsLeftOf (t ∷ ts))
+  pub then_read : (old : D) (mid new : PageFile D m) (ts : List Table) (t : Table) → IsHonest mid → gate_of mid ≡ Shut → IsImage (blocks_of mid) t → LeavesOnly m.moment m.left_since old mid.device (IsRefusedOrImageOf (t ∷ ts)) → KeepsGate mid new
+      → LeavesOnly m.moment m.left_since old new.device (IsRefusedOrImageOf (t ∷ ts))
   then_read old mid new ts t honest shut image closed keeps =
-      leaves_weaker m.moment m.left_since old new.device (λ c. IsLeftOf (t ∷ ts) c ⊎ StopSince (gate_of mid) (blocks_of mid) c) (IsLeftOf (t ∷ ts))
-      (λ c. ⊎_elim (λ (p : IsLeftOf (t ∷ ts) c). p)
+      leaves_weaker m.moment m.left_since old new.device (λ c. IsRefusedOrImageOf (t ∷ ts) c ⊎ StopSince (gate_of mid) (blocks_of mid) c) (IsRefusedOrImageOf (t ∷ ts))
+      (λ c. ⊎_elim (λ (p : IsRefusedOrImageOf (t ∷ ts) c). p)
       (λ stop. this_one ts t c (subst (λ (blocks : Blocks). IsImage blocks t) (sym (subst (λ (gate : Gate). StopSince gate (blocks_of mid) c) shut stop)) image)))
-      (stops_of_a_run_go_on old mid new (IsLeftOf (t ∷ ts)) honest closed keeps)
+      (stops_of_a_run_go_on old mid new (IsRefusedOrImageOf (t ∷ ts)) honest closed keeps)
 
   -- and nothing else was done
   pub read_alone : (old new : PageFile D m) → IsHonest old → ((c : Blocks) → m.left_since old.device (m.moment old.device) c → m.may_leave old.device c) → gate_of old ≡ Shut → KeepsGate old new
@@ -161,7 +162,7 @@ contains_one x y xs (zero, lt, is) = (0, omega arith, is)
 contains_one x y xs (suc k, lt, is) = absurd (omega (arith, lt))
 
 -- one more of which a table is left
-left_among : (ts us : List Table) (c : Blocks) → ((t : Table) → Contains ts t → Contains us t) → IsLeftOf ts c → IsLeftOf us c
+left_among : (ts us : List Table) (c : Blocks) → ((t : Table) → Contains ts t → Contains us t) → IsRefusedOrImageOf ts c → IsRefusedOrImageOf us c
 left_among ts us c among (inl refused) = inl refused
 left_among ts us c among (inr (u, there, image)) = inr (u, among u there, image)
 
@@ -171,7 +172,7 @@ either_among t ts us among u (suc k, lt, is) = contains_more u t us (among u (k,
 
 module _ {D : Type 0} {m : _} where
   -- after a closing of the table, refused or not
-  pub closing_leaves : (old new : PageFile D m) (t : Table) (stops : Stops) (now : AfterStop) → LeavesOnly m.moment m.left_since old.device new.device (IsLeftOf (t ∷ tables_left stops.now)) → Leaves old stops → LeavesAtRest new now
+  pub closing_leaves : (old new : PageFile D m) (t : Table) (stops : Stops) (now : AfterStop) → LeavesOnly m.moment m.left_since old.device new.device (IsRefusedOrImageOf (t ∷ tables_left stops.now)) → Leaves old stops → LeavesAtRest new now
       → ((u : Table) → Contains (tables_left now) u → Contains (t ∷ tables_left stops.now) u) → Leaves new (record { now = now; since = stops.since; so_far = t ∷ stops.so_far })
   closing_leaves old new t stops now closing was rest within = record {
     now = rest;
@@ -183,7 +184,7 @@ module _ {D : Type 0} {m : _} where
   }
 
   -- a finished one
-  pub closing_finished : (old new : PageFile D m) (t : Table) (stops : Stops) → LeavesOnly m.moment m.left_since old.device new.device (IsLeftOf (t ∷ tables_left stops.now)) → Leaves old stops → LeavesAtRest new (Surely t)
+  pub closing_finished : (old new : PageFile D m) (t : Table) (stops : Stops) → LeavesOnly m.moment m.left_since old.device new.device (IsRefusedOrImageOf (t ∷ tables_left stops.now)) → Leaves old stops → LeavesAtRest new (Surely t)
       → Leaves new (record { now = Surely t; since = stops.since; so_far = t ∷ stops.so_far })
   closing_finished old new t stops closing was rest = closing_leaves old new t stops (Surely t) closing was rest (λ u there. contains_one u t (tables_left stops.now) there)
 
@@ -208,9 +209,9 @@ module _ {D : Type 0} {m : _} where
 
 module _ {D A : Type 0} {m : _} where
   -- a table was closed, and its file read
-  pub closed_and_read : (old mid : Kept D A m) (new : PageFile D m) (ts : List Table) → IsPageMap mid.file → HoldsItsTable mid → LiesIn mid.file (blocks_of mid.file) → mid.table ≡ old.table → gate_of mid.file ≡ Shut
-      → LeavesOnly m.moment m.left_since old.file.device mid.file.device (IsLeftOf (old.table ∷ ts)) → KeepsGate mid.file new → blocks_of new ≡ blocks_of mid.file
-      → LeavesOnly m.moment m.left_since old.file.device new.device (IsLeftOf (old.table ∷ ts)) × LeavesAtRest new (Surely old.table)
+  pub closed_and_read : (old mid : StoredTable D A m) (new : PageFile D m) (ts : List Table) → IsPageMap mid.file → HoldsItsTable mid → LiesIn mid.file (blocks_of mid.file) → mid.table ≡ old.table → gate_of mid.file ≡ Shut
+      → LeavesOnly m.moment m.left_since old.file.device mid.file.device (IsRefusedOrImageOf (old.table ∷ ts)) → KeepsGate mid.file new → blocks_of new ≡ blocks_of mid.file
+      → LeavesOnly m.moment m.left_since old.file.device new.device (IsRefusedOrImageOf (old.table ∷ ts)) × LeavesAtRest new (Surely old.table)
   closed_and_read old mid new ts map held lies table shut closing keeps blocks =
       let image = subst (IsImage (blocks_of mid.file)) table (image_of mid.file (blocks_of mid.file) mid.table map lies held) in (
         then_read old.file.device mid.file new ts old.table map.honest shut image closing keeps,
@@ -218,47 +219,47 @@ module _ {D A : Type 0} {m : _} where
       )
 
   -- what a stop between calls leaves of a store
-  pub left_of_store : (store : Store D A m) (s : Standing) → Stands store s → (c : Blocks) → m.may_leave (device_in store) c → IsLeftAfter s.stops.now c
-  unfolding Stands
-  left_of_store store s stands c stop = at_rest_leaves store.kept.file s.stops.now stands.1.map.honest stands.2.now c stop
+  pub left_of_store : (store : Store D A m) (s : SessionState) → Represents store s → (c : Blocks) → m.may_leave (device_in store) c → MayRemain s.stops.now c
+  unfolding Represents
+  left_of_store store s represents c stop = at_rest_leaves store.stored.file s.stops.now represents.1.map.honest represents.2.now c stop
 
-  pub standing_is : (store : Store D A m) (s : Standing) → Stands store s → s ≡ standing_of store s.stops
-  unfolding Stands
-  standing_is store s stands = stands.0
+  pub session_state_is : (store : Store D A m) (s : SessionState) → Represents store s → IsOfStore store s
+  unfolding Represents
+  session_state_is store s represents = represents.0
 
   -- and what one so far left
-  pub left_so_far : (store : Store D A m) (s : Standing) → Stands store s → (c : Blocks) → m.left_since (device_in store) s.stops.since c → IsLeftOf s.stops.so_far c
-  unfolding Stands
-  left_so_far store s stands c stop = stands.2.so_far c stop
+  pub left_so_far : (store : Store D A m) (s : SessionState) → Represents store s → (c : Blocks) → m.left_since (device_in store) s.stops.since c → IsRefusedOrImageOf s.stops.so_far c
+  unfolding Represents
+  left_so_far store s represents c stop = represents.2.so_far c stop
 
   -- the same store, seen from now on
-  pub stands_from_now : (store : Store D A m) (s : Standing) → ((c : Blocks) → m.honest (device_in store) → m.left_since (device_in store) (m.moment (device_in store)) c → m.may_leave (device_in store) c) → Stands store s
-      → Stands store (record { state = s.state; stops = record { now = s.stops.now; since = m.moment (device_in store); so_far = tables_left s.stops.now }; faults = s.faults; next = s.next })
-  unfolding Stands
-  stands_from_now store s here stands =
+  pub represents_from_now : (store : Store D A m) (s : SessionState) → ((c : Blocks) → m.honest (device_in store) → m.left_since (device_in store) (m.moment (device_in store)) c → m.may_leave (device_in store) c) → Represents store s
+      → Represents store (record { state = s.state; stops = record { now = s.stops.now; since = m.moment (device_in store); so_far = tables_left s.stops.now }; faults = s.faults; next = s.next })
+  unfolding Represents
+  represents_from_now store s here represents =
       let seen : Stops = record { now = s.stops.now; since = m.moment (device_in store); so_far = tables_left s.stops.now } in (
-        ap (λ (z : Standing). record { state = z.state; stops = seen; faults = z.faults; next = z.next }) stands.0,
-        stands.1,
-        leaves_from_now store.kept.file s.stops stands.1.map.honest (λ c left. here c stands.1.map.honest left) stands.2,
+        record { state = represents.0.state; faults = represents.0.faults; next = represents.0.next },
+        represents.1,
+        leaves_from_now store.stored.file s.stops represents.1.map.honest (λ c left. here c represents.1.map.honest left) represents.2,
       )
 
   -- the same store, whose blocks are an image of the table
-  pub stands_on_image : (store : Store D A m) (s : Standing) (t : Table) → ((c : Blocks) → m.honest (device_in store) → m.left_since (device_in store) (m.moment (device_in store)) c → m.may_leave (device_in store) c) → Stands store s → IsImage (blocks_in store) t
-      → Stands store (resting_on s (m.moment (device_in store)) t)
-  unfolding Stands
-  stands_on_image store s t here stands image =
+  pub represents_on_image : (store : Store D A m) (s : SessionState) (t : Table) → ((c : Blocks) → m.honest (device_in store) → m.left_since (device_in store) (m.moment (device_in store)) c → m.may_leave (device_in store) c) → Represents store s → IsImage (blocks_in store) t
+      → Represents store (resting_on s (m.moment (device_in store)) t)
+  unfolding Represents
+  represents_on_image store s t here represents image =
       let seen : Stops = (resting_on s (m.moment (device_in store)) t).stops in (
-        ap (λ (z : Standing). record { state = z.state; stops = seen; faults = z.faults; next = z.next }) stands.0,
-        stands.1,
-        leaves_from_now store.kept.file (record { now = Perhaps (t ∷ []); since = s.stops.since; so_far = t ∷ s.stops.so_far }) stands.1.map.honest (λ c left. here c stands.1.map.honest left) (record {
-          now = rests_on_image store.kept.file t image;
-          begun = stands.2.begun;
-          so_far = λ c left. or_this s.stops.so_far t c (stands.2.so_far c left);
+        record { state = represents.0.state; faults = represents.0.faults; next = represents.0.next },
+        represents.1,
+        leaves_from_now store.stored.file (record { now = Perhaps (t ∷ []); since = s.stops.since; so_far = t ∷ s.stops.so_far }) represents.1.map.honest (λ c left. here c represents.1.map.honest left) (record {
+          now = rests_on_image store.stored.file t image;
+          begun = represents.2.begun;
+          so_far = λ c left. or_this s.stops.so_far t c (represents.2.so_far c left);
           among = λ u there. contains_one u t s.stops.so_far there;
         }),
       )
 
   -- the tables of which a closing of it may leave an image
-  pub rests_of_store : (store : Store D A m) (s : Standing) → Stands store s → RestsOn store.kept.file (tables_left s.stops.now)
-  unfolding Stands
-  rests_of_store store s stands = left_rests store.kept.file s.stops.now stands.2.now
+  pub rests_of_store : (store : Store D A m) (s : SessionState) → Represents store s → RestLeavesOneOf store.stored.file (tables_left s.stops.now)
+  unfolding Represents
+  rests_of_store store s represents = left_rests store.stored.file s.stops.now represents.2.now

@@ -12,22 +12,25 @@ use Rattle.page_file.specs.declared.file.PageFile.{PageFile}
 use Rattle.page_file.specs.declared.gate.Gate.TheVariants.{Shut}
 use Rattle.plain_table.specs.Commands.{Command}
 use Rattle.plain_table.specs.Commands.Command.{Reopen}
-use Rattle.plain_table.specs.Lawful.{AfterStop, AnsweredInMemory, AnswersInMemory, Stops, after_closing, after_command, after_request, blames_device, is_end, tables_left, IsEnd, IsFault, IsSpent, Lawful, LawfulFrom, LawfulStep, MayWrite, Standing, Takes}
-use Rattle.plain_table.specs.Lawful.AfterStop.{Surely, Perhaps}
-use Rattle.plain_table.specs.Lawful.Request.{Asks}
-use Rattle.plain_table.specs.Lawful.State.{Alive, Dead}
-use Rattle.plain_table.specs.Laws.{a_table_in_memory_blames_no_device, memory_is_lawful}
+use Rattle.list_table.specs.InMemory.{AnsweredInMemory}
+use Rattle.store_law.specs.Lawful.{blames_device, IsEnd, IsFault, IsSpent, Lawful, LawfulFrom, MayWrite}
+use Rattle.store_law.specs.Sessions.{LawfulStep, SessionState, Takes}
+use Rattle.store_law.specs.Stops.{AfterStop, Stops, after_closing, after_command, after_request, is_end, tables_left}
+use Rattle.store_law.specs.Stops.AfterStop.{Surely, Perhaps}
+use Rattle.store_law.specs.States.Request.{Asks}
+use Rattle.store_law.specs.States.{StoreState}
+use Rattle.store_law.specs.States.StoreState.{Alive, Dead}
+use Rattle.layer_store.proofs.MemoryLemmas.{a_table_in_memory_blames_no_device, memory_is_lawful}
 use Rattle.plain_table.specs.Step.{Answer}
 use Rattle.plain_table.specs.Step.Answer.{Done, Refused}
 use Rattle.plain_table.specs.Table.{Table}
 use Rattle.plain_table.specs.declared.refusal.Refusal.{Refusal}
 use Rattle.plain_table.specs.declared.refusal.Refusal.TheVariants as refusal
-use Rattle.layer_store.specs.Faults.{IsMemoryOrDevice, as_refusal}
-use Rattle.layer_store.specs.Faults as store
+use Rattle.layer_store.specs.Faults.{HasRefusalCause, IsMemoryOrDevice, as_refusal, faults_after_refusal}
 use Rattle.layer_store.specs.Image.{Holds}
-use Rattle.layer_store.specs.Keeping.{IsSound, Leaves}
-use Rattle.layer_store.specs.Standing.{BeginsWith, HasFailed, IsSettled, Stands, StandsFor, closed_since, standing_of, state_of}
-use Rattle.layer_store.specs.declared.kept.Kept.{Kept}
+use Rattle.layer_store.specs.StoredTable.{IsSound, Leaves}
+use Rattle.layer_store.specs.Representation.{AnswersInMemory, BeginsWith, HasFailed, IsInState, IsOfStore, IsSettled, Represents, RepresentsTable, closed_since}
+use Rattle.layer_store.specs.declared.stored_table.StoredTable.{StoredTable}
 use Rattle.layer_store.specs.declared.store.Store.{Store}
 
 -- one more has risen
@@ -82,12 +85,12 @@ memory_or_device f (inr e) = inr (ap as_refusal e)
 -- ---- the count of faults
 
 -- a refusal of which no device is the cause
-pub blameless : (r : Refusal) (before : ℕ) → blames_device r ≡ false → store.faults_after r before ≡ before
+pub blameless : (r : Refusal) (before : ℕ) → blames_device r ≡ false → faults_after_refusal r before ≡ before
 blameless r before e = ap (λ (blamed : Bool). cond blamed (one_more before) before) e
 
 -- what is answered from a table in memory
 pub cause_in_memory : {X : Type 0} (before now : ℕ) (result : Result X Refusal) (answer : Result X Refusal → Answer) (t u : Table) (c : Command) → ((r : Refusal) → answer (Err r) ≡ Refused r) → AnsweredInMemory t c (answer result) u → now ≡ before
-    → store.HasCause before now result
+    → HasRefusalCause before now result
 cause_in_memory before now (Ok x) answer t u c refusing answered same = record { ok = same; refused = tt }
 cause_in_memory before now (Err r) answer t u c refusing answered same = record {
   ok = tt;
@@ -158,8 +161,47 @@ state_dead true t e = refl
 state_dead false t e = absurd (cc)
 
 module _ {D A : Type 0} {m : _} where
+  -- the state of a session that is the store's, with what stops leave
+  abbrev session_state_of : Store D A m → Stops → SessionState
+  session_state_of store stops = record {
+    state = cond store.failed Dead (Alive store.stored.table);
+    stops = stops;
+    faults = m.faults (device_of store.stored.file);
+    next = next_of store.stored.file;
+  }
+
+  is_of_store : (store : Store D A m) (stops : Stops) → IsOfStore store (session_state_of store stops)
+  unfolding IsInState
+  is_of_store store stops = record { state = refl; faults = refl; next = refl }
+
+  -- a state of a session that is the store's is that one
+  is_session_state : (store : Store D A m) (s : SessionState) → IsOfStore store s → s ≡ session_state_of store s.stops
+  unfolding IsInState
+  is_session_state store s h = λ i. record { state = h.state i; stops = s.stops; faults = h.faults i; next = h.next i }
+
+  -- a store that has failed is dead, and so the other way
+  pub dead_so : (store : Store D A m) → store.failed ≡ true → IsInState store Dead
+  unfolding IsInState
+  dead_so store failed = sym (ap (λ (b : Bool). cond b Dead (Alive store.stored.table)) failed)
+
+  pub is_dead : (store : Store D A m) → IsInState store Dead → store.failed ≡ true
+  unfolding IsInState
+  is_dead store h = state_dead store.failed store.stored.table (sym h)
+
+  pub alive_so : (store : Store D A m) (t : Table) → store.failed ≡ false → store.stored.table ≡ t → IsInState store (Alive t)
+  unfolding IsInState
+  alive_so store t going is = sym (ap (λ (b : Bool). cond b Dead (Alive store.stored.table)) going ∙ ap Alive is)
+
+  pub in_one_state : (store : Store D A m) (s t : StoreState) → IsInState store s → IsInState store t → s ≡ t
+  unfolding IsInState
+  in_one_state store s t h k = h ∙ sym k
+
+  pub in_some_state : (store : Store D A m) → (s : StoreState) × IsInState store s
+  unfolding IsInState
+  in_some_state store = (cond store.failed Dead (Alive store.stored.table), refl)
+
   -- the file of a store that answered from its table is as it was
-  pub sound_after : (old new : Kept D A m) → new.file ≡ old.file → (new.written ≡ true → (old.written ≡ true) × (new.table ≡ old.table)) → IsSound old → IsSound new
+  pub sound_after : (old new : StoredTable D A m) → new.file ≡ old.file → (new.written ≡ true → (old.written ≡ true) × (new.table ≡ old.table)) → IsSound old → IsSound new
   sound_after old new file written sound = record {
     map = subst IsPageMap (sym file) sound.map;
     held = λ w. let was = written w in
@@ -167,115 +209,125 @@ module _ {D A : Type 0} {m : _} where
   }
 
   -- a store that is sound and has not failed
-  pub begins : (store : Store D A m) (moment : ℕ) → IsSound store.kept → store.failed ≡ false → Leaves store.kept.file (closed_since moment store.kept.table) → BeginsWith store moment store.kept.table
-  unfolding Stands
+  pub begins : (store : Store D A m) (moment : ℕ) → IsSound store.stored → store.failed ≡ false → Leaves store.stored.file (closed_since moment store.stored.table) → BeginsWith store moment store.stored.table
+  unfolding Represents
   begins store moment sound failed left = record {
-    next = standing_of store (closed_since moment store.kept.table);
-    stands = (refl, sound, left);
-    so = (ap (λ (b : Bool). cond b Dead (Alive store.kept.table)) failed, refl);
+    next = session_state_of store (closed_since moment store.stored.table);
+    represents = (is_of_store store (closed_since moment store.stored.table), sound, left);
+    so = (ap (λ (b : Bool). cond b Dead (Alive store.stored.table)) failed, refl);
   }
 
   -- neither the count of faults nor that of page numbers fell
   abbrev NoFewer : Store D A m → Store D A m → Type 0
-  NoFewer old new = (m.faults (device_of old.kept.file) ≤ m.faults (device_of new.kept.file)) × (next_of old.kept.file ≤ next_of new.kept.file)
+  NoFewer old new = (m.faults (device_of old.stored.file) ≤ m.faults (device_of new.stored.file)) × (next_of old.stored.file ≤ next_of new.stored.file)
 
   -- a command of a live store
-  pub takes_step : (old new : Store D A m) (c : Command) (a : Answer) → old.failed ≡ false → new.failed ≡ false → (IsSound old.kept → IsSound new.kept) → (IsSound old.kept → NoFewer old new)
-      → (IsSound old.kept → (stops : Stops) → Leaves old.kept.file stops → Leaves new.kept.file (after_command old.kept.table stops c a))
-      → (IsSound old.kept → LawfulFrom (HasRisen (m.faults (device_of old.kept.file)) (m.faults (device_of new.kept.file))) (IsSpent (next_of new.kept.file)) old.kept.table c a (Alive new.kept.table))
-      → Takes Stands old new (λ s s'. LawfulStep s (Asks c) a s')
-  unfolding Stands
-  takes_step old new c a o n sound more leaves lawful = λ s stands.
-      let stops = after_command old.kept.table s.stops c a in record {
-        next = standing_of new stops;
-        stands = (refl, sound stands.1, leaves stands.1 s.stops stands.2);
-        so = subst (λ (z : Standing). LawfulStep z (Asks c) a (standing_of new stops)) (sym stands.0) (record {
-          answer = alive_step _ _ old.failed new.failed old.kept.table new.kept.table c a o n (lawful stands.1);
-          stops = live_stops old.failed old.kept.table s.stops c a o;
-          faults = (more stands.1).0;
-          next = (more stands.1).1;
+  pub takes_step : (old new : Store D A m) (c : Command) (a : Answer) → old.failed ≡ false → new.failed ≡ false → (IsSound old.stored → IsSound new.stored) → (IsSound old.stored → NoFewer old new)
+      → (IsSound old.stored → (stops : Stops) → Leaves old.stored.file stops → Leaves new.stored.file (after_command old.stored.table stops c a))
+      → (IsSound old.stored → LawfulFrom (HasRisen (m.faults (device_of old.stored.file)) (m.faults (device_of new.stored.file))) (IsSpent (next_of new.stored.file)) old.stored.table c a (Alive new.stored.table))
+      → Takes Represents old new (λ s s'. LawfulStep s (Asks c) a s')
+  unfolding Represents
+  takes_step old new c a o n sound more leaves lawful = λ s represents.
+      let stops = after_command old.stored.table s.stops c a in record {
+        next = session_state_of new stops;
+        represents = (is_of_store new stops, sound represents.1, leaves represents.1 s.stops represents.2);
+        so = subst (λ (z : SessionState). LawfulStep z (Asks c) a (session_state_of new stops)) (sym (is_session_state old s represents.0)) (record {
+          answer = alive_step _ _ old.failed new.failed old.stored.table new.stored.table c a o n (lawful represents.1);
+          stops = live_stops old.failed old.stored.table s.stops c a o;
+          faults = (more represents.1).0;
+          next = (more represents.1).1;
         });
       }
 
   -- one answered from the table in memory
-  pub takes_in_memory : (old new : Store D A m) (c : Command) (a : Answer) → old.failed ≡ false → new.failed ≡ false → AnsweredInMemory old.kept.table c a new.kept.table → new.kept.file ≡ old.kept.file
-      → (new.kept.written ≡ true → (old.kept.written ≡ true) × (new.kept.table ≡ old.kept.table)) → ((stops : Stops) → after_command old.kept.table stops c a ≡ stops) → Takes Stands old new (λ s s'. LawfulStep s (Asks c) a s')
-  takes_in_memory old new c a o n answered file written same = takes_step old new c a o n (sound_after old.kept new.kept file written)
+  pub takes_in_memory : (old new : Store D A m) (c : Command) (a : Answer) → old.failed ≡ false → new.failed ≡ false → AnsweredInMemory old.stored.table c a new.stored.table → new.stored.file ≡ old.stored.file
+      → (new.stored.written ≡ true → (old.stored.written ≡ true) × (new.stored.table ≡ old.stored.table)) → ((stops : Stops) → after_command old.stored.table stops c a ≡ stops) → Takes Represents old new (λ s s'. LawfulStep s (Asks c) a s')
+  takes_in_memory old new c a o n answered file written same = takes_step old new c a o n (sound_after old.stored new.stored file written)
       (λ sound. (let same = ap (λ (f : PageFile D m). m.faults (device_of f)) file in omega (arith, same), let same = ap (λ (f : PageFile D m). next_of f) file in omega (arith, same)))
-      (λ sound stops there. subst (Leaves new.kept.file) (sym (same stops)) (subst (λ (f : PageFile D m). Leaves f stops) (sym file) there))
-      (λ sound. memory_is_lawful _ _ old.kept.table new.kept.table c a answered)
+      (λ sound stops there. subst (Leaves new.stored.file) (sym (same stops)) (subst (λ (f : PageFile D m). Leaves f stops) (sym file) there))
+      (λ sound. memory_is_lawful _ _ old.stored.table new.stored.table c a answered)
 
   -- a command of a store that failed
-  pub takes_nothing : (store : Store D A m) (c : Command) → store.failed ≡ true → Takes Stands store store (λ s s'. LawfulStep s (Asks c) (Refused (refusal.StoreFailed 19)) s')
-  unfolding Stands
-  takes_nothing store c failed = λ s stands. record {
-    next = standing_of store s.stops;
-    stands = (refl, stands.1, stands.2);
-    so = subst (λ (z : Standing). LawfulStep z (Asks c) (Refused (refusal.StoreFailed 19)) (standing_of store s.stops)) (sym stands.0) (record {
-      answer = dead_step _ _ store.failed store.kept.table c failed;
-      stops = dead_stops store.failed store.kept.table s.stops c (Refused (refusal.StoreFailed 19)) failed;
+  pub takes_nothing : (store : Store D A m) (c : Command) → store.failed ≡ true → Takes Represents store store (λ s s'. LawfulStep s (Asks c) (Refused (refusal.StoreFailed 19)) s')
+  unfolding Represents
+  takes_nothing store c failed = λ s represents. record {
+    next = session_state_of store s.stops;
+    represents = (is_of_store store s.stops, represents.1, represents.2);
+    so = subst (λ (z : SessionState). LawfulStep z (Asks c) (Refused (refusal.StoreFailed 19)) (session_state_of store s.stops)) (sym (is_session_state store s represents.0)) (record {
+      answer = dead_step _ _ store.failed store.stored.table c failed;
+      stops = dead_stops store.failed store.stored.table s.stops c (Refused (refusal.StoreFailed 19)) failed;
       faults = omega arith;
       next = omega arith;
     });
   }
 
-  pub answers_in_memory : (old new : Store D A m) (c : Command) (a : Answer) → old.failed ≡ false → new.failed ≡ false → AnsweredInMemory old.kept.table c a new.kept.table → AnswersInMemory (state_of old) c a (state_of new)
-  answers_in_memory old new c a o n answered = alive_memory old.failed new.failed old.kept.table new.kept.table c a o n answered
+  pub answers_in_memory : (old new : Store D A m) (c : Command) (a : Answer) → old.failed ≡ false → new.failed ≡ false → AnsweredInMemory old.stored.table c a new.stored.table → Takes IsInState old new (λ s s'. AnswersInMemory s c a s')
+  unfolding IsInState
+  answers_in_memory old new c a o n answered = λ s is. record {
+    next = cond new.failed Dead (Alive new.stored.table);
+    represents = refl;
+    so = subst (λ (x : StoreState). AnswersInMemory x c a (cond new.failed Dead (Alive new.stored.table))) (sym is) (alive_memory old.failed new.failed old.stored.table new.stored.table c a o n answered);
+  }
 
-  pub answers_nothing : (store : Store D A m) (c : Command) → store.failed ≡ true → AnswersInMemory (state_of store) c (Refused (refusal.StoreFailed 19)) (state_of store)
-  answers_nothing store c failed = dead_memory store.failed store.kept.table c failed
+  pub answers_nothing : (store : Store D A m) (c : Command) → store.failed ≡ true → Takes IsInState store store (λ s s'. AnswersInMemory s c (Refused (refusal.StoreFailed 19)) s')
+  unfolding IsInState
+  answers_nothing store c failed = λ s is. record {
+    next = cond store.failed Dead (Alive store.stored.table);
+    represents = refl;
+    so = subst (λ (x : StoreState). AnswersInMemory x c (Refused (refusal.StoreFailed 19)) (cond store.failed Dead (Alive store.stored.table))) (sym is) (dead_memory store.failed store.stored.table c failed);
+  }
 
   -- the last command of a live store
-  pub takes_last : (old new : Store D A m) (c : Command) (a : Answer) → old.failed ≡ false → new.failed ≡ true → (IsSound old.kept → IsSound new.kept) → (IsSound old.kept → NoFewer old new)
-      → (IsSound old.kept → (stops : Stops) → Leaves old.kept.file stops → Leaves new.kept.file (after_command old.kept.table stops c a))
-      → (IsSound old.kept → LawfulFrom (HasRisen (m.faults (device_of old.kept.file)) (m.faults (device_of new.kept.file))) (IsSpent (next_of new.kept.file)) old.kept.table c a Dead)
-      → Takes Stands old new (λ s s'. LawfulStep s (Asks c) a s')
-  unfolding Stands
-  takes_last old new c a o n sound more leaves lawful = λ s stands.
-      let stops = after_command old.kept.table s.stops c a in record {
-        next = standing_of new stops;
-        stands = (refl, sound stands.1, leaves stands.1 s.stops stands.2);
-        so = subst (λ (z : Standing). LawfulStep z (Asks c) a (standing_of new stops)) (sym stands.0) (record {
-          answer = last_step _ _ old.failed new.failed old.kept.table new.kept.table c a o n (lawful stands.1);
-          stops = live_stops old.failed old.kept.table s.stops c a o;
-          faults = (more stands.1).0;
-          next = (more stands.1).1;
+  pub takes_last : (old new : Store D A m) (c : Command) (a : Answer) → old.failed ≡ false → new.failed ≡ true → (IsSound old.stored → IsSound new.stored) → (IsSound old.stored → NoFewer old new)
+      → (IsSound old.stored → (stops : Stops) → Leaves old.stored.file stops → Leaves new.stored.file (after_command old.stored.table stops c a))
+      → (IsSound old.stored → LawfulFrom (HasRisen (m.faults (device_of old.stored.file)) (m.faults (device_of new.stored.file))) (IsSpent (next_of new.stored.file)) old.stored.table c a Dead)
+      → Takes Represents old new (λ s s'. LawfulStep s (Asks c) a s')
+  unfolding Represents
+  takes_last old new c a o n sound more leaves lawful = λ s represents.
+      let stops = after_command old.stored.table s.stops c a in record {
+        next = session_state_of new stops;
+        represents = (is_of_store new stops, sound represents.1, leaves represents.1 s.stops represents.2);
+        so = subst (λ (z : SessionState). LawfulStep z (Asks c) a (session_state_of new stops)) (sym (is_session_state old s represents.0)) (record {
+          answer = last_step _ _ old.failed new.failed old.stored.table new.stored.table c a o n (lawful represents.1);
+          stops = live_stops old.failed old.stored.table s.stops c a o;
+          faults = (more represents.1).0;
+          next = (more represents.1).1;
         });
       }
 
   -- what a live store that stands for a table is
   pub record IsAliveWith (store : Store D A m) (t : Table) : Type 0 where
     pub going : store.failed ≡ false
-    pub table : store.kept.table ≡ t
-    pub sound : IsSound store.kept
+    pub table : store.stored.table ≡ t
+    pub sound : IsSound store.stored
 
   -- in a standing
-  pub stands_for : (store : Store D A m) (s : Standing) (t : Table) → Stands store s → s.state ≡ Alive t → StandsFor store t
-  stands_for store s t stands alive = record { next = s; stands = stands; so = alive }
+  pub represents_table : (store : Store D A m) (s : SessionState) (t : Table) → Represents store s → s.state ≡ Alive t → RepresentsTable store t
+  represents_table store s t represents alive = record { next = s; represents = represents; so = alive }
 
-  pub alive_with : (store : Store D A m) (t : Table) → StandsFor store t → IsAliveWith store t
-  unfolding Stands
+  pub alive_with : (store : Store D A m) (t : Table) → RepresentsTable store t → IsAliveWith store t
+  unfolding Represents
   alive_with store t r =
-      let state = state_alive store.failed store.kept.table t (ap (λ (s : Standing). s.state) (sym r.stands.0) ∙ r.so) in
-      record { going = state.0; table = state.1; sound = r.stands.1 }
+      let state = state_alive store.failed store.stored.table t (ap (λ (s : SessionState). s.state) (sym (is_session_state store r.next r.represents.0)) ∙ r.so) in
+      record { going = state.0; table = state.1; sound = r.represents.1 }
 
   -- where nothing is to be written
-  pub settled_so : (store : Store D A m) → gate_of store.kept.file ≡ Shut → store.kept.written ≡ true → IsSettled store
+  pub settled_so : (store : Store D A m) → gate_of store.stored.file ≡ Shut → store.stored.written ≡ true → IsSettled store
   unfolding IsSettled
   settled_so store shut written = (shut, written)
 
-  pub is_settled : (store : Store D A m) → IsSettled store → (gate_of store.kept.file ≡ Shut) × (store.kept.written ≡ true)
+  pub is_settled : (store : Store D A m) → IsSettled store → (gate_of store.stored.file ≡ Shut) × (store.stored.written ≡ true)
   unfolding IsSettled
   is_settled store closed = closed
 
-  pub still_settled : {X E : Type 0} (old new : Store D A m) (result : Result X E) → new.kept.file ≡ old.kept.file → OnErr result (new.kept.written ≡ old.kept.written) → IsSettled old → OnErr result (IsSettled new)
+  pub still_settled : {X E : Type 0} (old new : Store D A m) (result : Result X E) → new.stored.file ≡ old.stored.file → OnErr result (new.stored.written ≡ old.stored.written) → IsSettled old → OnErr result (IsSettled new)
   still_settled old new (Ok x) file written closed = tt
   still_settled old new (Err e) file written closed =
       let was = is_settled old closed in settled_so new (ap (λ (f : PageFile D m). gate_of f) file ∙ was.0) (written ∙ was.1)
 
   pub failed_so : (store : Store D A m) → HasFailed store → store.failed ≡ true
-  unfolding Stands
-  failed_so store r = state_dead store.failed store.kept.table (ap (λ (s : Standing). s.state) (sym r.stands.0) ∙ r.so)
+  unfolding Represents
+  failed_so store r = state_dead store.failed store.stored.table (ap (λ (s : SessionState). s.state) (sym (is_session_state store r.next r.represents.0)) ∙ r.so)
 
 pub not_both : (b : Bool) → b ≡ true → b ≡ false → ⊥
 not_both b e f = cc

@@ -3,7 +3,7 @@ use Rattle.std.specs.Prelude.{ℕ, ◌≡◌, ◌⊎◌, if◌then◌else◌, Re
 use Rattle.block_device.specs.Device.{one_more}
 use Rattle.page_file.specs.declared.fault.Fault.{Fault}
 use Rattle.page_file.specs.declared.fault.Fault.TheVariants as fault
-use Rattle.plain_table.specs.Lawful.{blames_device}
+use Rattle.store_law.specs.Lawful.{blames_device}
 use Rattle.plain_table.specs.declared.refusal.Refusal.{Refusal}
 use Rattle.plain_table.specs.declared.refusal.Refusal.TheVariants as refusal
 
@@ -18,13 +18,13 @@ as_refusal fault.WrongVersion = refusal.WrongVersion
 as_refusal fault.NoPages = refusal.NoPages
 
 -- how often the device has failed after a refusal: once more with one that says so, and no more with another
-abbrev pub faults_after : Refusal → ℕ → ℕ
-faults_after r before = if blames_device r then one_more before else before
+abbrev pub faults_after_refusal : Refusal → ℕ → ℕ
+faults_after_refusal r before = if blames_device r then one_more before else before
 
 -- the count of the device's faults rises by one with a refusal that says so, and with nothing else
-pub record HasCause {T : Type 0} (before now : ℕ) (result : Result T Refusal) : Type 0 where
+pub record HasRefusalCause {T : Type 0} (before now : ℕ) (result : Result T Refusal) : Type 0 where
   pub ok : OnOk result (now ≡ before)
-  pub refused : IfErr result (λ r. now ≡ faults_after r before)
+  pub refused : IfErr result (λ r. now ≡ faults_after_refusal r before)
 
 -- want of memory, or a device that failed
 abbrev pub IsMemoryOrDevice : Refusal → Type 0

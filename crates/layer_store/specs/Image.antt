@@ -11,8 +11,8 @@ use Rattle.page_file.specs.Opening.{IsRefused, failed_check}
 use Rattle.page_file.specs.Pages.{IsSoundMap, given_pages, next_in}
 use Rattle.page_file.specs.declared.fault.Fault.{Fault}
 use Rattle.page_file.specs.declared.fault.Fault.TheVariants.{Damaged}
-use Rattle.plain_table.specs.Lawful.{AfterStop}
-use Rattle.plain_table.specs.Lawful.AfterStop.{Surely, Perhaps}
+use Rattle.store_law.specs.Stops.{AfterStop}
+use Rattle.store_law.specs.Stops.AfterStop.{Surely, Perhaps}
 use Rattle.plain_table.specs.Table.{Table, Layer}
 use Rattle.layer_store.specs.Catalog.{is_good_catalog}
 
@@ -60,13 +60,13 @@ pages_filled t = sum_by (λ (e : List ℕ × Layer). pages_for (length (entries 
 -- ---- what a stop may leave
 
 -- blocks that opening refuses, or an image of one of these tables
-abbrev pub IsLeftOf : List Table → Blocks → Type 0
-IsLeftOf ts c = IsRefused c ⊎ ((u : Table) × Contains ts u × IsImage c u)
+abbrev pub IsRefusedOrImageOf : List Table → Blocks → Type 0
+IsRefusedOrImageOf ts c = IsRefused c ⊎ ((u : Table) × Contains ts u × IsImage c u)
 
 -- what a stop between two requests leaves, as it is told of a store
-abbrev pub IsLeftAfter : AfterStop → Blocks → Type 0
-IsLeftAfter (Surely t) c = IsImage c t
-IsLeftAfter (Perhaps ts) c = IsLeftOf ts c
+abbrev pub MayRemain : AfterStop → Blocks → Type 0
+MayRemain (Surely t) c = IsImage c t
+MayRemain (Perhaps ts) c = IsRefusedOrImageOf ts c
 
 -- ---- what is no image
 
@@ -98,6 +98,6 @@ abbrev pub IsDamaged : PageMap → ℕ → ℕ → Type 0
 IsDamaged pages next n = ((n ≡ 2) × HasNoCatalog pages next) ⊎ HasBrokenLayer pages next n
 
 -- opening answers this fault: that of the first check of gate and header that fails, or else the page that is damaged
-abbrev pub Refuses : Blocks → Fault → Type 0
-Refuses blocks f = (failed_check blocks ≡ Some f)
+abbrev pub OpeningRefuses : Blocks → Fault → Type 0
+OpeningRefuses blocks f = (failed_check blocks ≡ Some f)
     ⊎ ((failed_check blocks ≡ None) × (n : ℕ) × (f ≡ Damaged n) × IsDamaged (given_pages blocks (next_in blocks)) (next_in blocks) n)

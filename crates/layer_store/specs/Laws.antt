@@ -15,7 +15,7 @@ use Rattle.page_file.specs.declared.fault.Fault.{Fault}
 use Rattle.page_file.specs.declared.fault.Fault.TheVariants.{Damaged}
 use Rattle.plain_table.specs.Table.{Table, Layer, is_layer_name, is_dims, is_fanout, most_objects}
 use Rattle.layer_store.specs.Catalog.{is_good_catalog, is_layer_record, is_page_or_none, names_ascend, objects_named}
-use Rattle.layer_store.specs.Image.{Holds, HoldsLayer, HoldsLayers, IsBroken, IsDamaged, IsImage, Refuses}
+use Rattle.layer_store.specs.Image.{Holds, HoldsLayer, HoldsLayers, IsBroken, IsDamaged, IsImage, OpeningRefuses}
 
 -- ---- one table
 
@@ -73,7 +73,7 @@ held_pages_are_not_damaged pages next n t h (inr b) =
     held_is_not_broken pages b.layer held.0 n held.1 b.broken
 
 -- opening refuses no image but for want of memory or a fault of the device
-pub an_image_is_not_refused : (blocks : Blocks) (t : Table) (f : Fault) → IsImage blocks t → Refuses blocks f → ⊥
+pub an_image_is_not_refused : (blocks : Blocks) (t : Table) (f : Fault) → IsImage blocks t → OpeningRefuses blocks f → ⊥
 an_image_is_not_refused blocks t f h (inl e) = some_is_not_none (sym h.passes ∙ e)
 an_image_is_not_refused blocks t f h (inr d) = held_pages_are_not_damaged _ _ d.1 t h.holds d.3
 
@@ -107,7 +107,7 @@ one_page_is_damaged pages next n m (inr a) (inr b) =
     broken_first pages a.front b.front a.rest b.rest a.layer b.layer a.before b.before n m (same_some (sym a.spelled ∙ b.spelled)) a.whole b.whole a.broken b.broken
 
 -- opening refuses blocks in one way
-pub blocks_are_refused_in_one_way : (blocks : Blocks) (f g : Fault) → Refuses blocks f → Refuses blocks g → f ≡ g
+pub blocks_are_refused_in_one_way : (blocks : Blocks) (f g : Fault) → OpeningRefuses blocks f → OpeningRefuses blocks g → f ≡ g
 blocks_are_refused_in_one_way blocks f g (inl a) (inl b) = same_some (sym a ∙ b)
 blocks_are_refused_in_one_way blocks f g (inl a) (inr b) = absurd (some_is_not_none (sym b.0 ∙ a))
 blocks_are_refused_in_one_way blocks f g (inr a) (inl b) = absurd (some_is_not_none (sym a.0 ∙ b))

@@ -3,6 +3,6 @@ pub mod Catalog
 pub mod Image
 pub mod Laws
 pub mod Faults
-pub mod Keeping
+pub mod StoredTable
 pub mod Starting
-pub mod Standing
+pub mod Representation

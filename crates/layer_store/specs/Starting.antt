@@ -4,12 +4,12 @@ use Rattle.block_device.specs.Device.{Blocks}
 use Rattle.page_file.specs.declared.fault.Fault.{Fault}
 use Rattle.plain_table.specs.declared.refusal.Refusal.{Refusal}
 use Rattle.layer_store.specs.Faults.{as_refusal}
-use Rattle.layer_store.specs.Image.{Refuses}
+use Rattle.layer_store.specs.Image.{OpeningRefuses}
 
 -- a cache holds 8 to 4096 pages
 abbrev pub is_cache : ℕ → Bool
 is_cache pages = nat_le 8 pages && nat_le pages 4096
 
 -- opening refuses the blocks for what they are
-abbrev pub IsRefusedFor : Blocks → Refusal → Type 0
-IsRefusedFor blocks r = (f : Fault) × (r ≡ as_refusal f) × Refuses blocks f
+abbrev pub OpeningRefusesAs : Blocks → Refusal → Type 0
+OpeningRefusesAs blocks r = (f : Fault) × (r ≡ as_refusal f) × OpeningRefuses blocks f

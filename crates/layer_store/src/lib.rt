@@ -5,9 +5,9 @@
 mod catalog;
 mod faults;
 mod image;
-mod kept;
 pub mod laws;
 mod store;
+mod stored_table;
 
 pub use plain_table::{AnyBox, RawBox, RawPoint, Refusal};
 pub use store::{Store, create_store, open_store};

@@ -4,19 +4,20 @@ ghost use Rattle.std.specs.Prelude.{◌≡◌, ◌⊎◌, ◌≤◌, ◌+◌, �
 ghost use Rattle.block_device.specs.Device.{LeavesOnly, Only};
 ghost use Rattle.plain_table.specs.Answers.{done_answer, boxes_answer};
 ghost use Rattle.plain_table.specs.Commands.Command.{Create, Insert, Window, Reopen};
-ghost use Rattle.plain_table.specs.Lawful.{AnswersInMemory, Takes, LawfulStep, Standing, tables_left};
-ghost use Rattle.plain_table.specs.Lawful.State.{Alive, Dead};
-ghost use Rattle.plain_table.specs.Lawful.Request.{Asks};
+ghost use Rattle.store_law.specs.Sessions.{Takes, LawfulStep, SessionState};
+ghost use Rattle.store_law.specs.Stops.{tables_left};
+ghost use Rattle.store_law.specs.States.StoreState.{Alive, Dead};
+ghost use Rattle.store_law.specs.States.Request.{Asks};
 ghost use Rattle.plain_table.specs.Table.{Table};
 ghost use Rattle.plain_table.specs.declared.refusal.Refusal.TheVariants as refusal;
-ghost use Rattle.layer_store.specs.Faults.{IsMemoryOrDevice, HasCause, faults_after};
-ghost use Rattle.layer_store.specs.Image.{IsImage, IsLeftOf, pages_filled};
+ghost use Rattle.layer_store.specs.Faults.{IsMemoryOrDevice, HasRefusalCause, faults_after_refusal};
+ghost use Rattle.layer_store.specs.Image.{IsImage, IsRefusedOrImageOf, pages_filled};
 ghost use Rattle.page_file.specs.File.{next_of};
 
 mod start;
 
 use crate::faults::as_refusal;
-use crate::kept::Kept;
+use crate::stored_table::StoredTable;
 use block_device::BlockDevice;
 use plain_table::{AnyBox, RawBox, Refusal};
 pub use start::{create_store, open_store};
@@ -34,62 +35,65 @@ const FAILED: Refusal = Refusal::StoreFailed(19);
 /// which write where the table has changed since the last one.
 #[derive(Drop)]
 pub struct Store<D: BlockDevice, A: Allocator = Global> {
-    kept: Kept<D, A>,
+    stored: StoredTable<D, A>,
     failed: bool,
 }
 
 impl<D: BlockDevice, A: Allocator + Copy> Store<D, A> {
-    ghost use Rattle.layer_store.specs.Standing.{Stands, StandsFor, HasFailed, IsSettled, blocks_in, device_in, file_in, state_of};
+    ghost use Rattle.layer_store.specs.Representation.{AnswersInMemory, Represents, RepresentsTable, HasFailed, IsInState, IsSettled, blocks_in, device_in, file_in};
 
     /// Makes an empty layer of that name with 2 or 3 axes, whose nodes may have 4 to 100 entries.
     ///
     /// Refused, in this order, by BadName, BadDims, BadFanout, LayerExists and TooManyLayers.
     pub fn create(&mut self, layer: &[u8], dims: u64, fanout: u64) -> Result<(), Refusal>
-        ensures step { Takes Stands self.old self.new
+        ensures step { Takes Represents self.old self.new
             (λ s s'. LawfulStep s (Asks (Create layer.now dims fanout)) (done_answer result) s') }
-        ensures in_memory { AnswersInMemory (state_of self.old) (Create layer.now dims fanout) (done_answer result) (state_of self.new) }
+        ensures in_memory { Takes IsInState self.old self.new
+            (λ s s'. AnswersInMemory s (Create layer.now dims fanout) (done_answer result) s') }
         ensures device { device_in self.new ≡ device_in self.old }
         ensures still_settled { IsSettled self.old → OnErr result (IsSettled self.new) }
-        ensures cause { HasCause (D.faults (device_in self.old)) (D.faults (device_in self.new)) result }
+        ensures cause { HasRefusalCause (D.faults (device_in self.old)) (D.faults (device_in self.new)) result }
     {
         if self.failed {
             return Err(FAILED);
         }
-        self.kept.create(layer, dims, fanout)
+        self.stored.create(layer, dims, fanout)
     }
 
     /// Adds an object with a new identifier to a layer.
     ///
     /// Refused, in this order, by BadName, NoLayer, WrongDims, BadBox, Duplicate and TooManyObjects.
     pub fn insert(&mut self, layer: &[u8], id: u64, bounds: RawBox) -> Result<(), Refusal>
-        ensures step { Takes Stands self.old self.new
+        ensures step { Takes Represents self.old self.new
             (λ s s'. LawfulStep s (Asks (Insert layer.now id bounds)) (done_answer result) s') }
-        ensures in_memory { AnswersInMemory (state_of self.old) (Insert layer.now id bounds) (done_answer result) (state_of self.new) }
+        ensures in_memory { Takes IsInState self.old self.new
+            (λ s s'. AnswersInMemory s (Insert layer.now id bounds) (done_answer result) s') }
         ensures device { device_in self.new ≡ device_in self.old }
         ensures still_settled { IsSettled self.old → OnErr result (IsSettled self.new) }
-        ensures cause { HasCause (D.faults (device_in self.old)) (D.faults (device_in self.new)) result }
+        ensures cause { HasRefusalCause (D.faults (device_in self.old)) (D.faults (device_in self.new)) result }
     {
         if self.failed {
             return Err(FAILED);
         }
-        self.kept.insert(layer, id, bounds)
+        self.stored.insert(layer, id, bounds)
     }
 
     /// The objects of a layer whose boxes meet the window (boxes that touch meet), ascending by identifier.
     ///
     /// Refused, in this order, by BadName, NoLayer, WrongDims and BadBox.
     pub fn window(&mut self, layer: &[u8], bounds: RawBox) -> Result<Vec<(u64, AnyBox), A>, Refusal>
-        ensures step { Takes Stands self.old self.new
+        ensures step { Takes Represents self.old self.new
             (λ s s'. LawfulStep s (Asks (Window layer.now bounds)) (boxes_answer result) s') }
-        ensures in_memory { AnswersInMemory (state_of self.old) (Window layer.now bounds) (boxes_answer result) (state_of self.new) }
+        ensures in_memory { Takes IsInState self.old self.new
+            (λ s s'. AnswersInMemory s (Window layer.now bounds) (boxes_answer result) s') }
         ensures device { device_in self.new ≡ device_in self.old }
         ensures still_settled { IsSettled self.old → IsSettled self.new }
-        ensures cause { HasCause (D.faults (device_in self.old)) (D.faults (device_in self.new)) result }
+        ensures cause { HasRefusalCause (D.faults (device_in self.old)) (D.faults (device_in self.new)) result }
     {
         if self.failed {
             return Err(FAILED);
         }
-        self.kept.table.window(layer, bounds)
+        self.stored.table.window(layer, bounds)
     }
 
     /// Closes the table into the file, and reads it from there again. The blocks are then an image of the table.
@@ -98,42 +102,42 @@ impl<D: BlockDevice, A: Allocator + Copy> Store<D, A> {
     /// answers `StoreFailed` with the number of the fault, the store has failed, and the blocks are an image of its
     /// table.
     pub fn reopen(&mut self) -> Result<(), Refusal>
-        ensures step { Takes Stands self.old self.new (λ s s'. LawfulStep s (Asks Reopen) (done_answer result) s') }
-        ensures closed { (t : Table) → StandsFor self.old t → IsOk result ⊎ HasFailed self.new → IsImage (blocks_in self.new) t }
+        ensures step { Takes Represents self.old self.new (λ s s'. LawfulStep s (Asks Reopen) (done_answer result) s') }
+        ensures closed { (t : Table) → RepresentsTable self.old t → IsOk result ⊎ HasFailed self.new → IsImage (blocks_in self.new) t }
 
         // A stop leaves what one before the call leaves, or an image of the table; and after a closing that is finished
         // nothing but what is read.
-        ensures stops { (s : Standing) (t : Table) → Stands self.old s → s.state ≡ Alive t →
-            LeavesOnly D.moment D.left_since (device_in self.old) (device_in self.new) (IsLeftOf (t ∷ tables_left s.stops.now)) }
-        ensures durable { (t : Table) → StandsFor self.old t → IsOk result ⊎ HasFailed self.new → Only (blocks_in self.new) (D.may_leave (device_in self.new)) }
+        ensures stops { (s : SessionState) (t : Table) → Represents self.old s → s.state ≡ Alive t →
+            LeavesOnly D.moment D.left_since (device_in self.old) (device_in self.new) (IsRefusedOrImageOf (t ∷ tables_left s.stops.now)) }
+        ensures durable { (t : Table) → RepresentsTable self.old t → IsOk result ⊎ HasFailed self.new → Only (blocks_in self.new) (D.may_leave (device_in self.new)) }
 
         // One that is settled is only read: a stop leaves the blocks as they are.
         ensures now_settled { IsOk result → IsSettled self.new }
-        ensures quiet { (t : Table) → StandsFor self.old t → IsSettled self.old →
+        ensures quiet { (t : Table) → RepresentsTable self.old t → IsSettled self.old →
             LeavesOnly D.moment D.left_since (device_in self.old) (device_in self.new) (λ c. c ≡ blocks_in self.old) }
 
         ensures no_pages { IsErrOf result refusal.NoPages → next_of (file_in self.new) ≡ 2 ^ 31 }
 
         // One that has failed stays so, on any device.
-        ensures dead { state_of self.old ≡ Dead → (result ≡ Err (refusal.StoreFailed 19)) × (self.new ≡ self.old) }
+        ensures dead { IsInState self.old Dead → (result ≡ Err (refusal.StoreFailed 19)) × (self.new ≡ self.old) }
 
         // One that is refused behind its closing has failed.
-        ensures ends { OnErr result (IsSettled self.new → state_of self.new ≡ Dead) }
+        ensures ends { OnErr result (IsSettled self.new → IsInState self.new Dead) }
 
         // It takes no more page numbers than the objects fill pages.
-        ensures few { (t : Table) → StandsFor self.old t → OnOk result (next_of (file_in self.new) ≤ next_of (file_in self.old) + pages_filled t) }
+        ensures few { (t : Table) → RepresentsTable self.old t → OnOk result (next_of (file_in self.new) ≤ next_of (file_in self.old) + pages_filled t) }
 
         // One that failed leaves the device as it is.
         ensures failed { HasFailed self.old → device_in self.new ≡ device_in self.old }
-        ensures cause { HasCause (D.faults (device_in self.old)) (D.faults (device_in self.new)) result }
+        ensures cause { HasRefusalCause (D.faults (device_in self.old)) (D.faults (device_in self.new)) result }
     {
         if self.failed {
             return Err(FAILED);
         }
-        if let Err(fault) = self.kept.settle() {
+        if let Err(fault) = self.stored.settle() {
             return Err(as_refusal(fault));
         }
-        match self.kept.read_again() {
+        match self.stored.read_again() {
             Ok(()) => Ok(()),
             Err(fault) => {
                 self.failed = true;
@@ -149,31 +153,31 @@ impl<D: BlockDevice, A: Allocator + Copy> Store<D, A> {
     /// image of a table that was closed before, or of this one. A store that failed answers `StoreFailed(19)`, and the
     /// device comes back as it is.
     pub fn close(self) -> Result<D, (Refusal, D)>
-        ensures closed { (t : Table) → StandsFor self t → IfOk result (λ device. IsImage (D.shown device) t) }
+        ensures closed { (t : Table) → RepresentsTable self t → IfOk result (λ device. IsImage (D.shown device) t) }
 
         // A stop leaves what one before the call leaves, or an image of the table; and after a closing that is finished
         // nothing but what is read.
-        ensures stops { (s : Standing) (t : Table) → Stands self s → s.state ≡ Alive t → IfOk result (λ device.
-            LeavesOnly D.moment D.left_since (device_in self) device (IsLeftOf (t ∷ tables_left s.stops.now))) }
-        ensures refused_stops { (s : Standing) (t : Table) → Stands self s → s.state ≡ Alive t → IfErr result (λ e.
-            LeavesOnly D.moment D.left_since (device_in self) e.1 (IsLeftOf (t ∷ tables_left s.stops.now))) }
-        ensures durable { (t : Table) → StandsFor self t → IfOk result (λ device. Only (D.shown device) (D.may_leave device)) }
+        ensures stops { (s : SessionState) (t : Table) → Represents self s → s.state ≡ Alive t → IfOk result (λ device.
+            LeavesOnly D.moment D.left_since (device_in self) device (IsRefusedOrImageOf (t ∷ tables_left s.stops.now))) }
+        ensures refused_stops { (s : SessionState) (t : Table) → Represents self s → s.state ≡ Alive t → IfErr result (λ e.
+            LeavesOnly D.moment D.left_since (device_in self) e.1 (IsRefusedOrImageOf (t ∷ tables_left s.stops.now))) }
+        ensures durable { (t : Table) → RepresentsTable self t → IfOk result (λ device. Only (D.shown device) (D.may_leave device)) }
 
         // Of one that is settled already the device comes back as it is.
-        ensures quiet { (t : Table) → StandsFor self t → IsSettled self → result ≡ Ok (device_in self) }
+        ensures quiet { (t : Table) → RepresentsTable self t → IsSettled self → result ≡ Ok (device_in self) }
 
-        ensures refused { (t : Table) → StandsFor self t → IfErr result (λ e. IsMemoryOrDevice e.0 ⊎ ((e.0 ≡ refusal.NoPages) × (2 ^ 31 ≤ length (D.shown e.1)))) }
-        ensures dead { state_of self ≡ Dead → result ≡ Err (refusal.StoreFailed 19, device_in self) }
+        ensures refused { (t : Table) → RepresentsTable self t → IfErr result (λ e. IsMemoryOrDevice e.0 ⊎ ((e.0 ≡ refusal.NoPages) × (2 ^ 31 ≤ length (D.shown e.1)))) }
+        ensures dead { IsInState self Dead → result ≡ Err (refusal.StoreFailed 19, device_in self) }
         ensures failed { HasFailed self → result ≡ Err (refusal.StoreFailed 19, device_in self) }
         ensures no_fault { IfOk result (λ device. D.faults device ≡ D.faults (device_in self)) }
-        ensures cause { IfErr result (λ e. D.faults e.1 ≡ faults_after e.0 (D.faults (device_in self))) }
+        ensures cause { IfErr result (λ e. D.faults e.1 ≡ faults_after_refusal e.0 (D.faults (device_in self))) }
         ensures honest { IfOk result (λ device. D.honest (device_in self) → D.honest device) }
         ensures refused_honest { IfErr result (λ e. D.honest (device_in self) → D.honest e.1) }
     {
         if self.failed {
-            return Err((FAILED, self.kept.file.abandon()));
+            return Err((FAILED, self.stored.file.abandon()));
         }
-        match self.kept.close() {
+        match self.stored.close() {
             Ok(device) => Ok(device),
             Err((fault, device)) => Err((as_refusal(fault), device)),
         }

@@ -8,7 +8,7 @@ use Rattle.std.specs.FinMap.{put, is_sorted, from_sorted, empty, empty_of_len, g
 use Rattle.std.specs.declared.cmp.Ordering.{Ordering}
 use Rattle.box_math.specs.Bounds.{Bounds, ordered_test, meets_test}
 use Rattle.plain_table.specs.Commands.Command.{Create, Insert, Window, Reopen}
-use Rattle.plain_table.specs.Refusals.{number_of, name_of}
+use Rattle.plain_table.specs.Refusals.{refusal_number, refusal_name}
 use Rattle.plain_table.specs.Step.{reply_of, after}
 use Rattle.plain_table.specs.Step.Answer.{Done, Refused, Boxes}
 use Rattle.plain_table.specs.Table.{Table, Layer, is_layer_name, is_dims, is_fanout, object_count}
@@ -101,10 +101,10 @@ refusals = refusal.BadName ∷ refusal.LayerExists ∷ refusal.NoLayer ∷ refus
     ∷ refusal.Memory ∷ refusal.Device ∷ refusal.Damaged 7 ∷ refusal.StoreFailed 7 ∷ refusal.NotClosed
     ∷ refusal.NotAStore ∷ refusal.WrongVersion ∷ refusal.BadCache ∷ refusal.BadLine ∷ refusal.NoPages ∷ []
 
-refusals_are_numbered : map number_of refusals ≡ 1 ∷ 2 ∷ 3 ∷ 4 ∷ 5 ∷ 6 ∷ 7 ∷ 8 ∷ 9 ∷ 10 ∷ 11 ∷ 12 ∷ 13 ∷ 14 ∷ 15 ∷ 16 ∷ 17 ∷ 18 ∷ 19 ∷ 20 ∷ 21 ∷ 22 ∷ 23 ∷ 24 ∷ 25 ∷ []
+refusals_are_numbered : map refusal_number refusals ≡ 1 ∷ 2 ∷ 3 ∷ 4 ∷ 5 ∷ 6 ∷ 7 ∷ 8 ∷ 9 ∷ 10 ∷ 11 ∷ 12 ∷ 13 ∷ 14 ∷ 15 ∷ 16 ∷ 17 ∷ 18 ∷ 19 ∷ 20 ∷ 21 ∷ 22 ∷ 23 ∷ 24 ∷ 25 ∷ []
 refusals_are_numbered = refl
 
-refusals_are_named : map name_of refusals ≡ codes "BadName" ∷ codes "LayerExists" ∷ codes "NoLayer" ∷ codes "BadDims" ∷ codes "BadFanout"
+refusals_are_named : map refusal_name refusals ≡ codes "BadName" ∷ codes "LayerExists" ∷ codes "NoLayer" ∷ codes "BadDims" ∷ codes "BadFanout"
     ∷ codes "TooManyLayers" ∷ codes "BadBox" ∷ codes "WrongDims" ∷ codes "Duplicate" ∷ codes "NoObject"
     ∷ codes "TooManyObjects" ∷ codes "NotEmpty" ∷ codes "DuplicateInLoad" ∷ codes "BadCount" ∷ codes "DimsDiffer"
     ∷ codes "Memory" ∷ codes "Device" ∷ codes "Damaged" ∷ codes "StoreFailed" ∷ codes "NotClosed"

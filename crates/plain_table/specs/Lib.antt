@@ -3,12 +3,7 @@ pub mod Boxes
 pub mod Refusals
 pub mod Table
 pub mod Codes
-pub mod Entries
 pub mod Commands
 pub mod Step
-pub mod Lawful
 pub mod Answers
-pub mod Objects
-pub mod InMemory
-pub mod Listed
 pub mod Laws

@@ -1,16 +1,12 @@
-//! The plain table: what each command on layers of boxes answers and changes, and the same as a list in memory.
+//! The plain table: what it is, what commands ask of it, and what each answers and changes (docs/COMMANDS.md).
 #![tactic(auto)]
 
 mod boxes;
-mod layer;
-mod list_table;
+mod limits;
 mod names;
-mod objects;
 mod refusal;
 
 pub use boxes::{AnyBox, RawBox, RawPoint};
-pub use layer::Layer;
-pub use list_table::{ListTable, MOST_OBJECTS};
+pub use limits::{MOST_LAYERS, MOST_NAME_BYTES, MOST_OBJECTS};
 pub use names::{is_dims, is_fanout, is_layer_name};
-pub use objects::Objects;
 pub use refusal::Refusal;

@@ -4,7 +4,7 @@ ghost use Rattle.std.specs.Prelude.{◌≡◌};
 ghost use Rattle.std.specs.List.{list_all};
 ghost use Rattle.plain_table.specs.Table.{is_layer_name, is_name_byte, is_letter, is_dims, is_fanout};
 
-use crate::layer::MOST_NAME_BYTES;
+use crate::limits::MOST_NAME_BYTES;
 
 /// Whether this is 1 to 24 letters `a-z`, digits and underscores, the first a letter.
 pub fn is_layer_name(name: &[u8]) -> bool

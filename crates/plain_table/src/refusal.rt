@@ -1,7 +1,7 @@
 //! Why a command, or the making or opening of a store, is refused; and the number and name that replies show.
 
 ghost use Rattle.std.specs.Prelude.{◌≡◌, ◌≤◌, length};
-ghost use Rattle.plain_table.specs.Refusals.{number_of, name_of};
+ghost use Rattle.plain_table.specs.Refusals.{refusal_name, refusal_number};
 
 use std::alloc::{AllocError, AllocFailed};
 use thiserror::Error;
@@ -90,7 +90,7 @@ pub enum Refusal {
 impl Refusal {
     /// Its number, which its reply shows.
     pub fn number(self) -> u8
-        ensures { result ≡ number_of self }
+        ensures { result ≡ refusal_number self }
     {
         match self {
             Refusal::BadName => 1,
@@ -123,7 +123,7 @@ impl Refusal {
 
     /// Its name, which its reply shows. It has at most 15 bytes.
     pub fn name(self) -> &'static str
-        ensures name { result.now ≡ name_of self }
+        ensures name { result.now ≡ refusal_name self }
         ensures short { length result.now ≤ 15 }
     {
         match self {

@@ -3,7 +3,7 @@
 use crate::fixture::{PLANE, SPACE, plane};
 use block_device::BlockDevice;
 use layer_store::{AnyBox, RawBox, Refusal, Store};
-use plain_table::ListTable;
+use list_table::ListTable;
 use std::alloc::{Allocator, Global};
 
 /// Names of layers. The last three are none.
@@ -73,7 +73,7 @@ fn are_same_rows(rows: &[(u64, AnyBox)], wanted: &[(u64, AnyBox)]) -> bool {
 }
 
 /// Whether the store answers windows over everything, on each layer, as the plain list does.
-pub fn stands_for<D: BlockDevice, A: Allocator + Copy + Drop>(
+pub fn represents_table<D: BlockDevice, A: Allocator + Copy + Drop>(
     store: &mut Store<D, A>,
     table: &ListTable<Global>,
 ) -> bool {

@@ -1,10 +1,10 @@
 //! One call of the device failed, each in turn: the answer says so, the next try succeeds, and no table is wrong.
 
-use crate::changes::{change_store, change_table, point, scene_table, set_scene, stands_for};
+use crate::changes::{change_store, change_table, point, scene_table, set_scene, represents_table};
 use crate::fixture::{CACHE, PLANE, are_same_blocks, closed, device_of, new_store, opened};
 use block_device::{BlockDevice, FuseDevice, FuseMode, MemoryDevice};
 use layer_store::{Refusal, Store, create_store, open_store};
-use plain_table::ListTable;
+use list_table::ListTable;
 use std::alloc::Global;
 use std::process::Abort;
 use std::test::Fail;
@@ -42,7 +42,7 @@ fn a_making_that_fails_leaves_no_wrong_table(rt: HostRuntime) -> Result<(), Fail
         match made {
             Ok(store) => {
                 let mut store = store;
-                assert!(rt; stands_for(&mut store, &table));
+                assert!(rt; represents_table(&mut store, &table));
             }
             Err(refusal) => assert!(rt;
                 refusal == Refusal::NotClosed || refusal == Refusal::NotAStore
@@ -63,7 +63,7 @@ fn an_opening_that_fails_leaves_the_blocks(rt: HostRuntime) -> Result<(), Fail> 
         match open_store(rt.alloc(), device, CACHE) {
             Ok(store) => {
                 let mut store = store;
-                assert!(rt; stands_for(&mut store, &table));
+                assert!(rt; represents_table(&mut store, &table));
             }
             Err((refusal, device)) => {
                 assert_eq!(rt; (refusal, passes), (Refusal::Device, faults));
@@ -94,7 +94,7 @@ fn check_failed(
     let (refusal, device) = closed(store);
     assert_eq!(rt; refusal, Some(failed));
     let mut store = opened(alloc, device, CACHE)?;
-    assert!(rt; stands_for(&mut store, table));
+    assert!(rt; represents_table(&mut store, table));
     Ok(())
 }
 
@@ -112,10 +112,10 @@ fn reopening(
         check_failed(rt, alloc, store, table)?;
         return Ok(answer);
     }
-    assert!(rt; stands_for(&mut store, table), "{passes}");
+    assert!(rt; represents_table(&mut store, table), "{passes}");
     if answer.is_err() {
         assert_eq!(rt; store.reopen(), Ok(()));
-        assert!(rt; stands_for(&mut store, table), "{passes}");
+        assert!(rt; represents_table(&mut store, table), "{passes}");
         // Once the catalog is written, the table is not written again.
         if passes >= 16 {
             assert_eq!(rt; device_of(store)?.blocks(), 9, "{passes}");
@@ -156,8 +156,8 @@ fn a_closing_that_fails_leaves_no_wrong_table(rt: HostRuntime) -> Result<(), Fai
         match opened(rt.alloc(), device.into_inner(), CACHE) {
             Ok(opened) => {
                 let mut store = opened;
-                let is_changed = stands_for(&mut store, &after);
-                assert!(rt; is_changed || !is_done && stands_for(&mut store, &before));
+                let is_changed = represents_table(&mut store, &after);
+                assert!(rt; is_changed || !is_done && represents_table(&mut store, &before));
             }
             Err(refusal) => assert!(rt; !is_done && refusal == Refusal::NotClosed),
         }

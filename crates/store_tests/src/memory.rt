@@ -5,12 +5,12 @@
 
 use crate::changes::{
     Change, SCENE, change_store, change_table, point, scene_change, scene_table, set_scene,
-    stands_for,
+    represents_table,
 };
 use crate::fixture::{CACHE, PLANE, are_same_blocks, closed, copy_of, device_of, opened};
 use block_device::MemoryDevice;
 use layer_store::{Refusal, Store, create_store, open_store};
-use plain_table::ListTable;
+use list_table::ListTable;
 use refusing::Refusing;
 use std::alloc::Global;
 use std::process::Abort;
@@ -38,7 +38,7 @@ fn scene<'a>(lists: &'a Heap, blocks: &'a Heap) -> Result<Lean<'a>, Refusal> {
     Ok(store)
 }
 
-// Refuses the growths of a change from each one on, until none is refused and the change is made. After each refusal
+// OpeningRefuses the growths of a change from each one on, until none is refused and the change is made. After each refusal
 // the store stands for the table before it. How often it was refused.
 fn refusals_of_change(
     rt: &impl Abort,
@@ -52,11 +52,11 @@ fn refusals_of_change(
         let answer = change_store(store, change);
         if !due.relent() {
             assert_eq!(rt; answer, change_table(table, change));
-            assert!(rt; stands_for(store, table), "{change:?}");
+            assert!(rt; represents_table(store, table), "{change:?}");
             return k;
         }
         assert_eq!(rt; answer, Err(Refusal::Memory));
-        assert!(rt; stands_for(store, table), "{change:?}");
+        assert!(rt; represents_table(store, table), "{change:?}");
     }
     MOST
 }
@@ -100,7 +100,7 @@ fn a_window_refused_memory_answers_that(rt: HostRuntime) -> Result<(), Fail> {
         heap.refuse_from(k);
         let count = store.window(b"a", PLANE).map(|rows| rows.len());
         is_refused = heap.relent();
-        assert!(rt; stands_for(&mut store, &table));
+        assert!(rt; represents_table(&mut store, &table));
         if !is_refused {
             assert_eq!(rt; count, Ok(101));
             break;
@@ -127,7 +127,7 @@ fn check_failed(
     let (refusal, device) = closed(store);
     assert_eq!(rt; refusal, Some(failed));
     let mut store = opened(lists, device, CACHE)?;
-    assert!(rt; stands_for(&mut store, table));
+    assert!(rt; represents_table(&mut store, table));
     Ok(())
 }
 
@@ -154,9 +154,9 @@ fn is_reopening_refused(
         Ok(())
     };
     assert_eq!(rt; answer, wanted, "{k}");
-    assert!(rt; stands_for(&mut store, table), "{k}");
+    assert!(rt; represents_table(&mut store, table), "{k}");
     assert_eq!(rt; store.reopen(), Ok(()));
-    assert!(rt; stands_for(&mut store, table), "{k}");
+    assert!(rt; represents_table(&mut store, table), "{k}");
     Ok(is_refused)
 }
 
@@ -199,7 +199,7 @@ fn is_closing_refused(
         Ok(opened) => {
             let mut store = opened;
             let table = if is_refused { before } else { after };
-            assert!(rt; stands_for(&mut store, table), "{k}");
+            assert!(rt; represents_table(&mut store, table), "{k}");
         }
         Err(refusal) => assert!(rt; is_refused && refusal == Refusal::NotClosed, "{k}"),
     }
@@ -236,7 +236,7 @@ fn is_making_refused(rt: &impl Abort, alloc: Global, heap: &Heap, k: u32) -> boo
         Ok(made) => {
             let mut store = made;
             assert!(rt; !is_refused);
-            assert!(rt; stands_for(&mut store, &table));
+            assert!(rt; represents_table(&mut store, &table));
         }
         Err((refusal, device)) => {
             assert!(rt; is_refused);
@@ -280,7 +280,7 @@ fn is_opening_refused(
         Ok(opened) => {
             let mut store = opened;
             assert!(rt; !is_refused);
-            assert!(rt; stands_for(&mut store, table));
+            assert!(rt; represents_table(&mut store, table));
         }
         Err((refusal, back)) => {
             let mut device = back;
@@ -288,7 +288,7 @@ fn is_opening_refused(
             assert_eq!(rt; refusal, Refusal::Memory);
             assert!(rt; are_same_blocks(&mut before, &mut device)?);
             let mut store = opened(heap, device, CACHE)?;
-            assert!(rt; stands_for(&mut store, table));
+            assert!(rt; represents_table(&mut store, table));
         }
     }
     Ok(is_refused)

@@ -1,6 +1,6 @@
 //! Boxes that touch, and what stays and what is written when a store is closed.
 
-use crate::changes::{answers_alike, stands_for};
+use crate::changes::{answers_alike, represents_table};
 use crate::fixture::{
     CACHE, SPACE, are_rows, are_same_blocks, copy_of, device_of, new_store, opened, opened_again,
     patch, plane, put,
@@ -8,7 +8,7 @@ use crate::fixture::{
 use crate::images::image;
 use block_device::{BlockDevice, MemoryDevice};
 use layer_store::{RawBox, Refusal, Store};
-use plain_table::ListTable;
+use list_table::ListTable;
 use std::alloc::Global;
 use std::test::Fail;
 
@@ -47,7 +47,7 @@ fn answers(store: &mut Store<MemoryDevice>) -> Result<bool, Refusal> {
 fn comparisons_say_no(rt: HostRuntime) -> Result<(), Fail> {
     let mut store = scene(rt.alloc())?;
     let mut table = ListTable::new(rt.alloc());
-    assert!(rt; !stands_for(&mut store, &table));
+    assert!(rt; !represents_table(&mut store, &table));
     // `b` is unknown to the store, and of two axes in the table
     table.create(b"b", 2, 4)?;
     assert!(rt; !answers_alike(&mut store, &table, 1, SPACE));

@@ -2,11 +2,11 @@
 
 ghost use Rattle.std.specs.Prelude.{◌<◌};
 
-use crate::changes::{Change, answers_alike, change_store, change_table, stands_for};
+use crate::changes::{Change, answers_alike, change_store, change_table, represents_table};
 use crate::fixture::{CACHE, new_store, opened_again};
 use block_device::MemoryDevice;
 use layer_store::{RawBox, Store};
-use plain_table::ListTable;
+use list_table::ListTable;
 use std::alloc::Global;
 use std::test::Fail;
 
@@ -114,7 +114,7 @@ fn sessions_answer_as_the_plain_list_does(rt: HostRuntime) -> Result<(), Fail> {
                 ),
             }
         }
-        assert!(rt; stands_for(&mut store, &table), "session {seed}");
+        assert!(rt; represents_table(&mut store, &table), "session {seed}");
         let sizes = table.layers().iter().map(|layer| layer.objects.count());
         assert!(rt;
             sizes.filter(|&count| count > 100).count() == 2,

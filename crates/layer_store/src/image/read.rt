@@ -8,8 +8,8 @@ ghost use Rattle.object_chain.specs.Chain.{BreaksAt, HoldsObjects};
 ghost use Rattle.page_file.specs.Fault.{HasCause, IsDamage, IsOfDevice};
 ghost use Rattle.page_file.specs.File.{blocks_of, device_of, given, next_of, IsHonest, KeepsGate, KeepsMap};
 ghost use Rattle.page_file.specs.declared.fault.Fault.TheVariants as fault;
-ghost use Rattle.plain_table.specs.InMemory.{entry_of};
-ghost use Rattle.plain_table.specs.Objects.{axes_of, entries_of};
+ghost use Rattle.list_table.specs.InMemory.{entry_of};
+ghost use Rattle.list_table.specs.Objects.{axes_of, entries_of};
 ghost use Rattle.plain_table.specs.Table.{is_dims, is_fanout, is_layer_name};
 ghost use Rattle.layer_store.specs.Catalog as catalog;
 ghost use Rattle.layer_store.specs.Image.{Holds, HoldsLayer, HasNoCatalog, IsBroken, IsDamaged, catalog_in};
@@ -20,9 +20,9 @@ use arrayvec::ArrayVec;
 use block_bytes::zero_block;
 use block_device::BlockDevice;
 use catalog_page::{LayerRecord, decode};
+use list_table::{ListTable, ListedLayer, ListedObjects};
 use object_chain::read_chain;
 use page_file::{Fault, PageFile};
-use plain_table::{Layer, ListTable, Objects};
 use std::alloc::Allocator;
 
 /// Reads the table that the pages given out hold. A page that is not what it must be is `Damaged` with its number;
@@ -76,7 +76,7 @@ fn read_layer<D: BlockDevice, A: Allocator + Copy>(
     alloc: A,
     file: &mut PageFile<D>,
     row: &LayerRecord,
-) -> Result<Layer<A>, Fault>
+) -> Result<ListedLayer<A>, Fault>
     requires named { IsTrue (is_layer_name row.now.name.items) }
     requires dims_are { IsTrue (is_dims row.now.dims) }
     requires sized { IsTrue (is_fanout row.now.fanout) }
@@ -97,7 +97,7 @@ fn read_layer<D: BlockDevice, A: Allocator + Copy>(
     // There is room for each name: a layer's has at most 24 bytes.
     let mut name = ArrayVec::new();
     name.try_extend_from_slice(&row.name).unwrap();
-    Ok(Layer {
+    Ok(ListedLayer {
         name,
         fanout: u64::from(row.fanout),
         objects,
@@ -110,7 +110,7 @@ fn read_objects<D: BlockDevice, A: Allocator + Copy>(
     file: &mut PageFile<D>,
     dims: u8,
     first: u32,
-) -> Result<Objects<A>, Fault>
+) -> Result<ListedObjects<A>, Fault>
     requires { IsTrue (is_dims dims) }
     ensures gate { KeepsGate file.old file.new }
     ensures map { KeepsMap file.old file.new }
@@ -124,9 +124,9 @@ fn read_objects<D: BlockDevice, A: Allocator + Copy>(
 {
     if dims == 2 {
         let objects = read_chain(alloc, file, first)?;
-        Ok(Objects::Two(objects))
+        Ok(ListedObjects::Two(objects))
     } else {
         let objects = read_chain(alloc, file, first)?;
-        Ok(Objects::Three(objects))
+        Ok(ListedObjects::Three(objects))
     }
 }

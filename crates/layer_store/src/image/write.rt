@@ -9,8 +9,8 @@ ghost use Rattle.page_file.specs.Fault.{HasCause, IsOfDevice};
 ghost use Rattle.page_file.specs.File.{device_of, gate_of, next_of, pages, IsPageMap, KeepsGate};
 ghost use Rattle.page_file.specs.declared.fault.Fault.TheVariants as fault;
 ghost use Rattle.page_file.specs.declared.gate.Gate.TheVariants.{Open};
-ghost use Rattle.plain_table.specs.InMemory.{entry_of};
-ghost use Rattle.plain_table.specs.Objects.{axes_of, entries_of};
+ghost use Rattle.list_table.specs.InMemory.{entry_of};
+ghost use Rattle.list_table.specs.Objects.{axes_of, entries_of};
 ghost use Rattle.layer_store.specs.Catalog.{is_layer_record, is_page_or_none};
 ghost use Rattle.layer_store.specs.Image.{Holds, HoldsLayer, pages_filled};
 
@@ -19,9 +19,9 @@ use arrayvec::ArrayVec;
 use block_bytes::zero_block;
 use block_device::BlockDevice;
 use catalog_page::{LayerRecord, encode};
+use list_table::{ListTable, ListedLayer, ListedObjects};
 use object_chain::write_chain;
 use page_file::{Fault, PageFile};
-use plain_table::{Layer, ListTable, Objects};
 use std::alloc::Allocator;
 
 /// Writes the table into newly allocated pages, no more than its objects fill, and the catalog that names them. The gate
@@ -57,7 +57,7 @@ pub fn write_table<D: BlockDevice, A: Allocator + Copy>(
 // Writes the objects of a layer, and answers the record that names them.
 fn write_layer<D: BlockDevice, A: Allocator + Copy>(
     file: &mut PageFile<D>,
-    layer: &Layer<A>,
+    layer: &ListedLayer<A>,
 ) -> Result<LayerRecord, Fault>
     requires { gate_of file.old ≡ Open }
     ensures gate { KeepsGate file.old file.new }
@@ -89,7 +89,7 @@ fn write_layer<D: BlockDevice, A: Allocator + Copy>(
 // Writes the objects, and answers the first page of their chain.
 fn write_objects<D: BlockDevice, A: Allocator + Copy>(
     file: &mut PageFile<D>,
-    objects: &Objects<A>,
+    objects: &ListedObjects<A>,
 ) -> Result<u32, Fault>
     requires ascending { IsTrue (is_sorted nat_cmp (entries_of objects.now)) }
     requires open { gate_of file.old ≡ Open }
@@ -105,7 +105,7 @@ fn write_objects<D: BlockDevice, A: Allocator + Copy>(
     ensures cause { HasCause (D.faults (device_of file.old)) (D.faults (device_of file.new)) result }
 {
     match objects {
-        Objects::Two(objects) => write_chain(file, objects),
-        Objects::Three(objects) => write_chain(file, objects),
+        ListedObjects::Two(objects) => write_chain(file, objects),
+        ListedObjects::Three(objects) => write_chain(file, objects),
     }
 }

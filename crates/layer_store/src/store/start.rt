@@ -10,19 +10,20 @@ ghost use Rattle.plain_table.specs.declared.refusal.Refusal.TheVariants as refus
 ghost use Rattle.page_file.specs.declared.fault.Fault.{Fault};
 ghost use Rattle.page_file.specs.declared.gate.Gate.TheVariants.{Shut};
 ghost use Rattle.page_file.specs.File.{blocks_of, device_of, gate_of, given, next_of, IsHonest, IsPageMap, KeepsGate};
-ghost use Rattle.layer_store.specs.Image.{Holds, HoldsIn, IsDamaged, IsImage, Refuses};
-ghost use Rattle.layer_store.specs.Standing.{BeginsWith, IsSettled, blocks_in, device_in, file_in, state_of};
-ghost use Rattle.plain_table.specs.Lawful.State.{Alive};
-ghost use Rattle.layer_store.specs.Faults.{IsMemoryOrDevice, faults_after};
-ghost use Rattle.layer_store.specs.Starting.{IsRefusedFor, is_cache};
+ghost use Rattle.layer_store.specs.Image.{Holds, HoldsIn, IsDamaged, IsImage, OpeningRefuses};
+ghost use Rattle.layer_store.specs.Representation.{BeginsWith, IsSettled, blocks_in, device_in, file_in, IsInState};
+ghost use Rattle.store_law.specs.States.StoreState.{Alive};
+ghost use Rattle.layer_store.specs.Faults.{IsMemoryOrDevice, faults_after_refusal};
+ghost use Rattle.layer_store.specs.Starting.{OpeningRefusesAs, is_cache};
 
 use crate::faults::as_refusal;
 use crate::image::read_table;
-use crate::kept::Kept;
+use crate::stored_table::StoredTable;
 use crate::store::Store;
 use block_device::BlockDevice;
+use list_table::ListTable;
 use page_file::{PageFile, create_pages, open_pages};
-use plain_table::{ListTable, Refusal};
+use plain_table::Refusal;
 use std::alloc::Allocator;
 
 // Whether a cache may hold so many pages.
@@ -58,7 +59,7 @@ pub fn create_store<D: BlockDevice, A: Allocator + Copy>(
 
     ensures refused { is_cache cache ≡ true → IfErr result (λ e. D.honest device → IsMemoryOrDevice e.0) }
     ensures no_fault { IfOk result (λ store. D.faults (device_in store) ≡ D.faults device) }
-    ensures cause { IfErr result (λ e. D.faults e.1 ≡ faults_after e.0 (D.faults device)) }
+    ensures cause { IfErr result (λ e. D.faults e.1 ≡ faults_after_refusal e.0 (D.faults device)) }
     ensures honest { IfOk result (λ store. D.honest device → D.honest (device_in store)) }
     ensures refused_honest { IfErr result (λ e. D.honest device → D.honest e.1) }
 {
@@ -67,7 +68,7 @@ pub fn create_store<D: BlockDevice, A: Allocator + Copy>(
     }
     match create_pages(device) {
         Ok(file) => Ok(Store {
-            kept: Kept {
+            stored: StoredTable {
                 alloc,
                 file,
                 table: ListTable::new(alloc),
@@ -95,9 +96,9 @@ pub fn open_store<D: BlockDevice, A: Allocator + Copy>(
 ) -> Result<Store<D, A>, (Refusal, D)>
     ensures bad_cache { is_cache cache ≡ false → result ≡ Err (refusal.BadCache, device) }
     ensures image { (t : Table) → D.honest device → IsImage (D.shown device) t → IfOk result (λ store. BeginsWith store (D.moment (device_in store)) t) }
-    ensures opened { IfOk result (λ store. D.honest device → (f : Fault) → Refuses (D.shown device) f → ⊥) }
-    ensures table { IfOk result (λ store. D.honest device → (t : Table) × (state_of store ≡ Alive t) × HoldsIn (D.shown device) t) }
-    ensures refused { is_cache cache ≡ true → IfErr result (λ e. D.honest device → IsMemoryOrDevice e.0 ⊎ IsRefusedFor (D.shown device) e.0) }
+    ensures opened { IfOk result (λ store. D.honest device → (f : Fault) → OpeningRefuses (D.shown device) f → ⊥) }
+    ensures table { IfOk result (λ store. D.honest device → (t : Table) × IsInState store (Alive t) × HoldsIn (D.shown device) t) }
+    ensures refused { is_cache cache ≡ true → IfErr result (λ e. D.honest device → IsMemoryOrDevice e.0 ⊎ OpeningRefusesAs (D.shown device) e.0) }
 
     // A stop leaves nothing but what one before the call might have left; and once the store is opened nothing but what
     // is read.
@@ -109,7 +110,7 @@ pub fn open_store<D: BlockDevice, A: Allocator + Copy>(
     ensures blocks { IfOk result (λ store. D.honest device → blocks_in store ≡ D.shown device) }
     ensures refused_blocks { IfErr result (λ e. D.honest device → D.shown e.1 ≡ D.shown device) }
     ensures no_fault { IfOk result (λ store. D.faults (device_in store) ≡ D.faults device) }
-    ensures cause { IfErr result (λ e. D.faults e.1 ≡ faults_after e.0 (D.faults device)) }
+    ensures cause { IfErr result (λ e. D.faults e.1 ≡ faults_after_refusal e.0 (D.faults device)) }
     ensures honest { IfOk result (λ store. D.honest device → D.honest (device_in store)) }
     ensures refused_honest { IfErr result (λ e. D.honest device → D.honest e.1) }
 {
@@ -129,13 +130,13 @@ fn read_store<D: BlockDevice, A: Allocator + Copy>(
 ) -> Result<Store<D, A>, (Refusal, D)>
     ensures begins { IsPageMap file → gate_of file ≡ Shut → IfOk result (λ store. (t : Table) → Holds (given file) (next_of file) t → IsImage (blocks_of file) t → BeginsWith store (D.moment (device_in store)) t) }
     ensures opened { IfOk result (λ store. IsHonest file → (n : ℕ) → IsDamaged (given file) (next_of file) n → ⊥) }
-    ensures table { IfOk result (λ store. IsHonest file → (t : Table) × (state_of store ≡ Alive t) × Holds (given file) (next_of file) t) }
+    ensures table { IfOk result (λ store. IsHonest file → (t : Table) × IsInState store (Alive t) × Holds (given file) (next_of file) t) }
     ensures refused { IsHonest file → IfErr result (λ e. IsMemoryOrDevice e.0 ⊎ ((n : ℕ) × (e.0 ≡ refusal.Damaged n) × IsDamaged (given file) (next_of file) n)) }
     ensures gate { IfOk result (λ store. KeepsGate file (file_in store)) }
     ensures now_settled { gate_of file ≡ Shut → IfOk result IsSettled }
     ensures refused_stops { IfErr result (λ e. IsHonest file → AddsOnly D.moment D.left_since (device_of file) e.1 (StopSince (gate_of file) (blocks_of file))) }
     ensures no_fault { IfOk result (λ store. D.faults (device_in store) ≡ D.faults (device_of file)) }
-    ensures cause { IfErr result (λ e. D.faults e.1 ≡ faults_after e.0 (D.faults (device_of file))) }
+    ensures cause { IfErr result (λ e. D.faults e.1 ≡ faults_after_refusal e.0 (D.faults (device_of file))) }
     ensures blocks { IfOk result (λ store. IsHonest file → blocks_in store ≡ blocks_of file) }
     ensures refused_blocks { IfErr result (λ e. IsHonest file → D.shown e.1 ≡ blocks_of file) }
     ensures honest { IfOk result (λ store. IsHonest file → D.honest (device_in store)) }
@@ -144,7 +145,7 @@ fn read_store<D: BlockDevice, A: Allocator + Copy>(
     let mut file = file;
     match read_table(alloc, &mut file) {
         Ok(table) => Ok(Store {
-            kept: Kept {
+            stored: StoredTable {
                 alloc,
                 file,
                 table,

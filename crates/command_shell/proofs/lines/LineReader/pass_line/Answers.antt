@@ -15,16 +15,16 @@ no_length : (y : List ℕ) → length y ≡ 0 → y ≡ []
 no_length [] e = refl
 no_length (a ∷ y) e = absurd (omega arith)
 
-module _ {R : Type 0} {remaining : R → Option (List ℕ)} {old mid new : R} (p0 p1 p2 : List ℕ) (n : ℕ) (long : 4096 < length p0) (line : IsOneLine p0) (none : p1 ≡ []) (before : ReadsTo remaining old mid (λ more. IsOneLine more)) (now : ReadsTo remaining mid new (λ more. (length more ≡ n) × (p2 ≡ p1 ++ more))) where
-  skipped : IsOneLine p2 → ReadsTo remaining old new (λ more. IsOneLine more)
+module _ {old mid new : Option (List ℕ)} (p0 p1 p2 : List ℕ) (n : ℕ) (long : 4096 < length p0) (line : IsOneLine p0) (none : p1 ≡ []) (before : ReadsTo old mid (λ more. IsOneLine more)) (now : ReadsTo mid new (λ more. (length more ≡ n) × (p2 ≡ p1 ++ more))) where
+  skipped : IsOneLine p2 → ReadsTo old new (λ more. IsOneLine more)
   skipped h = reads_on before now (λ x y a b. lines_join x y a (subst IsOneLine (b.1 ∙ ap (λ t. t ++ y) none) h))
 
-  ended : (at_end : Type 0) → at_end → n ≡ 0 → ReadsTo remaining old new (λ more. Finds at_end Found.LastTooLong (p0 ++ more) p2)
+  ended : (at_end : Type 0) → at_end → n ≡ 0 → ReadsTo old new (λ more. Finds at_end Found.LastTooLong (p0 ++ more) p2)
   ended at_end e z = reads_on before now (λ x y a b.
       let empty : y ≡ [] = no_length y (b.0 ∙ z) in
       (omega (arith, length-append p0 (x ++ y)), lines_join p0 (x ++ y) line (lines_join x y a (subst IsOneLine (sym empty) tt)), b.1 ∙ ap (λ t. t ++ y) none ∙ empty, e))
 
-  turned : (at_end : Type 0) (k : ℕ) (left : List ℕ) → BeginsLine p2 k → left ≡ drop (k + 1) p2 → ReadsTo remaining old new (λ more. Finds at_end Found.TooLong (p0 ++ more) left)
+  turned : (at_end : Type 0) (k : ℕ) (left : List ℕ) → BeginsLine p2 k → left ≡ drop (k + 1) p2 → ReadsTo old new (λ more. Finds at_end Found.TooLong (p0 ++ more) left)
   turned at_end k left f e = reads_on before now (λ x y a b.
       let same : y ≡ take k p2 ++ newline ∷ left = sym (b.1 ∙ ap (λ t. t ++ y) none) ∙ sym (take-append-drop k p2) ∙ ap (λ t. take k p2 ++ t) (f.ends ∙ ap (λ t. newline ∷ t) (sym (e ∙ ap (λ j. drop j p2) (add-one k)))) in (
         p0 ++ (x ++ take k p2),

@@ -8,7 +8,7 @@ use Rattle.command_shell.proofs.lines.LineReader.pass_line.Given as goal
 abbrev pub invariant-loop-self : goal.invariant-loop-self
 invariant-loop-self g l = record {
   none : pending l.self ≡ [];
-  text : ReadsTo g.R.Read.remaining l.fn.reader l.reader (λ more. IsOneLine more);
+  text : ReadsTo (g.R.Read.remaining l.fn.reader) (g.R.Read.remaining l.reader) (λ more. IsOneLine more);
   fewer : work_left l.self < work_left l.fn.self;
 }
 

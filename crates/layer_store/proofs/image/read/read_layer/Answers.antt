@@ -1,7 +1,7 @@
 -- The goals of `read_layer` that are proved by hand.
 use Rattle.std.proofs.Common.{rules}
 use Rattle.page_file.specs.File.{given}
-use Rattle.plain_table.specs.Objects.{entries_of}
+use Rattle.list_table.specs.Objects.{entries_of}
 use Rattle.layer_store.proofs.ImageLemmas.{kept_chain, kept_count}
 use Rattle.layer_store.proofs.image.read.read_layer.Goals as goal
 

@@ -10,9 +10,9 @@ use Rattle.page_file.specs.File.{blocks_of, given, next_of}
 use Rattle.page_file.specs.Laws.{the_gate_is_kept_in_turn, the_map_is_kept_in_turn}
 use Rattle.page_file.specs.declared.fault.Fault.{Fault}
 use Rattle.page_file.specs.declared.fault.Fault.TheVariants as fault
-use Rattle.plain_table.specs.InMemory.{entry_of}
-use Rattle.plain_table.specs.Objects.{entries_of}
-use Rattle.plain_table.specs.declared.layer.Layer.{Layer as KeptLayer}
+use Rattle.list_table.specs.InMemory.{entry_of}
+use Rattle.list_table.specs.Objects.{entries_of}
+use Rattle.list_table.specs.declared.layer.ListedLayer.{ListedLayer}
 use Rattle.layer_store.specs.Catalog.{is_good_catalog, objects_named}
 use Rattle.layer_store.specs.Image.{HoldsLayer, IsBroken, IsDamaged}
 use Rattle.layer_store.proofs.ReadLemmas.{all_read, broken_is_damaged, counted_more, given_same, good_record, one_more_named, one_more_read, read_listed, room_for}
@@ -87,8 +87,8 @@ loop-record-preserved g c =
           let here = given_same (blocks_of c.args.file.now) (blocks_of c.loop-record.file) (next_of c.args.file.now) (next_of c.loop-record.file) (before.blocks honest) before.same_map.next in
           one_more_read (given c.args.file.now) items ls c.push.new.self.items i r layer more c.loop-record-test.true c.record-item.is (before.holds honest)
           (subst (λ (m : PageMap). HoldsLayer m (record_of r) (entry_of layer)) here (read.holds (before.gate.honest.0 honest)));
-      names = one_more_named (λ (l : KeptLayer _). l.name.items) (λ (l : LayerRecord). l.name.items) items ls c.push.new.self.items i r layer more c.loop-record-test.true c.record-item.is before.names read.name;
-      counts = one_more_named (λ (l : KeptLayer _). length (entries_of l.objects)) (λ (l : LayerRecord). l.count) items ls c.push.new.self.items i r layer more c.loop-record-test.true c.record-item.is before.counts read.count;
+      names = one_more_named (λ (l : ListedLayer _). l.name.items) (λ (l : LayerRecord). l.name.items) items ls c.push.new.self.items i r layer more c.loop-record-test.true c.record-item.is before.names read.name;
+      counts = one_more_named (λ (l : ListedLayer _). length (entries_of l.objects)) (λ (l : LayerRecord). l.count) items ls c.push.new.self.items i r layer more c.loop-record-test.true c.record-item.is before.counts read.count;
       counted = counted_more items i c.loop-record.object_count r c.loop-record-test.true c.record-item.is before.counted;
     }
 

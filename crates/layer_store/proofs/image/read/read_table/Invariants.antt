@@ -2,8 +2,8 @@
 use Rattle.std.proofs.Common.{◌≡◌, map, take, length}
 use Rattle.catalog_page.specs.Layout.{record_of}
 use Rattle.page_file.specs.File.{blocks_of, device_of, given, IsHonest, KeepsGate, KeepsMap}
-use Rattle.plain_table.specs.InMemory.{entry_of}
-use Rattle.plain_table.specs.Objects.{entries_of}
+use Rattle.list_table.specs.InMemory.{entry_of}
+use Rattle.list_table.specs.Objects.{entries_of}
 use Rattle.layer_store.specs.Catalog.{objects_named}
 use Rattle.layer_store.specs.Image.{HoldsLayers}
 use Rattle.layer_store.proofs.image.read.read_table.Given as goal

@@ -2,7 +2,7 @@
 use Rattle.std.proofs.Common.{rules, sym, subst}
 use Rattle.object_chain.specs.Chain.{HoldsObjects, new_pages}
 use Rattle.page_file.specs.File.{pages}
-use Rattle.plain_table.specs.Objects.{entries_of}
+use Rattle.list_table.specs.Objects.{entries_of}
 use Rattle.layer_store.proofs.ImageLemmas.{kept_chain, kept_count}
 use Rattle.layer_store.proofs.image.write.write_layer.Goals as goal
 

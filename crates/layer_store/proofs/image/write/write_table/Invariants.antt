@@ -4,7 +4,7 @@ use Rattle.std.specs.List.{list_all, sum_by}
 use Rattle.catalog_page.specs.Layout.{Record, record_of}
 use Rattle.object_chain.specs.Chain.{KeepsPages, new_pages, pages_for}
 use Rattle.page_file.specs.File.{device_of, next_of, pages, IsPageMap, KeepsGate}
-use Rattle.plain_table.specs.InMemory.{entry_of}
+use Rattle.list_table.specs.InMemory.{entry_of}
 use Rattle.layer_store.specs.Catalog.{is_layer_record}
 use Rattle.layer_store.specs.Image.{HoldsLayers}
 use Rattle.layer_store.proofs.image.write.write_table.Given as goal

@@ -11,16 +11,16 @@ pub returns-then-self-clause-step : goal.returns-then-self-clause-step
 returns-then-self-clause-step g c = takes_nothing c.args.self.now (Create c.args.layer.now c.args.dims c.args.fanout) c.if-self.true
 
 pub returns-clause-step : goal.returns-clause-step
-returns-clause-step g c = takes_in_memory c.args.self.now (record { kept = c.create.new.self; failed = c.args.self.now.failed }) (Create c.args.layer.now c.args.dims c.args.fanout) (done_answer c.create.result) c.if-self.false c.if-self.false c.create.ensures.table c.create.ensures.file c.create.ensures.written (λ stops. refl)
+returns-clause-step g c = takes_in_memory c.args.self.now (record { stored = c.create.new.self; failed = c.args.self.now.failed }) (Create c.args.layer.now c.args.dims c.args.fanout) (done_answer c.create.result) c.if-self.false c.if-self.false c.create.ensures.table c.create.ensures.file c.create.ensures.written (λ stops. refl)
 
 pub returns-clause-cause : goal.returns-clause-cause
-returns-clause-cause g c = cause_in_memory _ _ c.create.result done_answer c.args.self.now.kept.table c.create.new.self.table (Create c.args.layer.now c.args.dims c.args.fanout) (λ r. refl) c.create.ensures.table (ap (λ (file : PageFile _ _). g.D.BlockDevice.faults (device_of file)) c.create.ensures.file)
+returns-clause-cause g c = cause_in_memory _ _ c.create.result done_answer c.args.self.now.stored.table c.create.new.self.table (Create c.args.layer.now c.args.dims c.args.fanout) (λ r. refl) c.create.ensures.table (ap (λ (file : PageFile _ _). g.D.BlockDevice.faults (device_of file)) c.create.ensures.file)
 
 pub returns-clause-still_settled : goal.returns-clause-still_settled
-returns-clause-still_settled g c = still_settled c.args.self.now (record { kept = c.create.new.self; failed = c.args.self.now.failed }) c.create.result c.create.ensures.file c.create.ensures.refused
+returns-clause-still_settled g c = still_settled c.args.self.now (record { stored = c.create.new.self; failed = c.args.self.now.failed }) c.create.result c.create.ensures.file c.create.ensures.refused
 
 pub returns-then-self-clause-in_memory : goal.returns-then-self-clause-in_memory
 returns-then-self-clause-in_memory g c = answers_nothing c.args.self.now (Create c.args.layer.now c.args.dims c.args.fanout) c.if-self.true
 
 pub returns-clause-in_memory : goal.returns-clause-in_memory
-returns-clause-in_memory g c = answers_in_memory c.args.self.now (record { kept = c.create.new.self; failed = c.args.self.now.failed }) (Create c.args.layer.now c.args.dims c.args.fanout) (done_answer c.create.result) c.if-self.false c.if-self.false c.create.ensures.table
+returns-clause-in_memory g c = answers_in_memory c.args.self.now (record { stored = c.create.new.self; failed = c.args.self.now.failed }) (Create c.args.layer.now c.args.dims c.args.fanout) (done_answer c.create.result) c.if-self.false c.if-self.false c.create.ensures.table

@@ -11,16 +11,16 @@ pub returns-then-self-clause-step : goal.returns-then-self-clause-step
 returns-then-self-clause-step g c = takes_nothing c.args.self.now (Insert c.args.layer.now c.args.id c.args.bounds) c.if-self.true
 
 pub returns-clause-step : goal.returns-clause-step
-returns-clause-step g c = takes_in_memory c.args.self.now (record { kept = c.insert.new.self; failed = c.args.self.now.failed }) (Insert c.args.layer.now c.args.id c.args.bounds) (done_answer c.insert.result) c.if-self.false c.if-self.false c.insert.ensures.table c.insert.ensures.file c.insert.ensures.written (λ stops. refl)
+returns-clause-step g c = takes_in_memory c.args.self.now (record { stored = c.insert.new.self; failed = c.args.self.now.failed }) (Insert c.args.layer.now c.args.id c.args.bounds) (done_answer c.insert.result) c.if-self.false c.if-self.false c.insert.ensures.table c.insert.ensures.file c.insert.ensures.written (λ stops. refl)
 
 pub returns-clause-cause : goal.returns-clause-cause
-returns-clause-cause g c = cause_in_memory _ _ c.insert.result done_answer c.args.self.now.kept.table c.insert.new.self.table (Insert c.args.layer.now c.args.id c.args.bounds) (λ r. refl) c.insert.ensures.table (ap (λ (file : PageFile _ _). g.D.BlockDevice.faults (device_of file)) c.insert.ensures.file)
+returns-clause-cause g c = cause_in_memory _ _ c.insert.result done_answer c.args.self.now.stored.table c.insert.new.self.table (Insert c.args.layer.now c.args.id c.args.bounds) (λ r. refl) c.insert.ensures.table (ap (λ (file : PageFile _ _). g.D.BlockDevice.faults (device_of file)) c.insert.ensures.file)
 
 pub returns-clause-still_settled : goal.returns-clause-still_settled
-returns-clause-still_settled g c = still_settled c.args.self.now (record { kept = c.insert.new.self; failed = c.args.self.now.failed }) c.insert.result c.insert.ensures.file c.insert.ensures.refused
+returns-clause-still_settled g c = still_settled c.args.self.now (record { stored = c.insert.new.self; failed = c.args.self.now.failed }) c.insert.result c.insert.ensures.file c.insert.ensures.refused
 
 pub returns-then-self-clause-in_memory : goal.returns-then-self-clause-in_memory
 returns-then-self-clause-in_memory g c = answers_nothing c.args.self.now (Insert c.args.layer.now c.args.id c.args.bounds) c.if-self.true
 
 pub returns-clause-in_memory : goal.returns-clause-in_memory
-returns-clause-in_memory g c = answers_in_memory c.args.self.now (record { kept = c.insert.new.self; failed = c.args.self.now.failed }) (Insert c.args.layer.now c.args.id c.args.bounds) (done_answer c.insert.result) c.if-self.false c.if-self.false c.insert.ensures.table
+returns-clause-in_memory g c = answers_in_memory c.args.self.now (record { stored = c.insert.new.self; failed = c.args.self.now.failed }) (Insert c.args.layer.now c.args.id c.args.bounds) (done_answer c.insert.result) c.if-self.false c.if-self.false c.insert.ensures.table

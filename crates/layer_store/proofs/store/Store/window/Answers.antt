@@ -12,7 +12,7 @@ pub returns-clause-step : goal.returns-clause-step
 returns-clause-step g c = takes_in_memory c.args.self.now c.args.self.now (Window c.args.layer.now c.args.bounds) (boxes_answer c.window.result) c.if-self.false c.if-self.false c.window.ensures refl (λ written. (written, refl)) (λ stops. refl)
 
 pub returns-clause-cause : goal.returns-clause-cause
-returns-clause-cause g c = cause_in_memory _ _ c.window.result boxes_answer c.args.self.now.kept.table c.args.self.now.kept.table (Window c.args.layer.now c.args.bounds) (λ r. refl) c.window.ensures refl
+returns-clause-cause g c = cause_in_memory _ _ c.window.result boxes_answer c.args.self.now.stored.table c.args.self.now.stored.table (Window c.args.layer.now c.args.bounds) (λ r. refl) c.window.ensures refl
 
 pub returns-then-self-clause-in_memory : goal.returns-then-self-clause-in_memory
 returns-then-self-clause-in_memory g c = answers_nothing c.args.self.now (Window c.args.layer.now c.args.bounds) c.if-self.true

@@ -5,9 +5,9 @@ use Rattle.page_file.specs.File.{blocks_of, next_of, pages}
 use Rattle.page_file.specs.Opening.{IsRefused}
 use Rattle.plain_table.specs.Table.{Table}
 use Rattle.layer_store.specs.Image.{Holds, IsImage}
-use Rattle.layer_store.specs.Standing.{BeginsWith}
+use Rattle.layer_store.specs.Representation.{BeginsWith}
 use Rattle.layer_store.specs.declared.store.Store.{Store}
-use Rattle.layer_store.proofs.KeepLemmas.{image_of, nothing_held}
+use Rattle.layer_store.proofs.StoredTableLemmas.{image_of, nothing_held}
 use Rattle.layer_store.proofs.StopLemmas.{closed_leaves, new_left, shut_is_durable, shut_leaves}
 use Rattle.layer_store.proofs.StoreLemmas.{begins, settled_so}
 use Rattle.layer_store.proofs.store.start.create_store.Goals as goal
@@ -16,7 +16,7 @@ pub returns-in-Ok-clause-begins : goal.returns-in-Ok-clause-begins
 returns-in-Ok-clause-begins g c = λ honest.
     let made = c.in-Ok.ensures in
     let held = subst (λ next. Holds (pages c.in-Ok.file) next empty) (sym made.next) (nothing_held (pages c.in-Ok.file) (made.catalog honest)) in
-    let store : Store _ _ _ = record { kept = record { alloc = c.args.alloc; file = c.in-Ok.file; table = c.new.result; written = true }; failed = false } in
+    let store : Store _ _ _ = record { stored = record { alloc = c.args.alloc; file = c.in-Ok.file; table = c.new.result; written = true }; failed = false } in
     let image = image_of c.in-Ok.file (blocks_of c.in-Ok.file) empty (made.sound honest) (made.lies honest) held in
     let d = g.D.BlockDevice in
     let stops = new_left _ _ _ _ _ (made.stops honest) in
@@ -41,4 +41,4 @@ pub returns-in-Err-clause-refused_stops : goal.returns-in-Err-clause-refused_sto
 returns-in-Err-clause-refused_stops g c = λ cache honest. new_left _ _ _ _ _ (c.in-Err.ensures.refused_stops honest)
 
 pub returns-in-Ok-clause-now_settled : goal.returns-in-Ok-clause-now_settled
-returns-in-Ok-clause-now_settled g c = settled_so (record { kept = record { alloc = c.args.alloc; file = c.in-Ok.file; table = c.new.result; written = true }; failed = false }) c.in-Ok.ensures.shut refl
+returns-in-Ok-clause-now_settled g c = settled_so (record { stored = record { alloc = c.args.alloc; file = c.in-Ok.file; table = c.new.result; written = true }; failed = false }) c.in-Ok.ensures.shut refl

@@ -5,10 +5,10 @@ use Rattle.page_file.specs.File.{blocks_of, device_of, gate_of}
 use Rattle.page_file.specs.declared.fault.Fault.TheVariants as fault
 use Rattle.layer_store.specs.Image.{Holds, IsDamaged, IsImage}
 use Rattle.layer_store.specs.Laws.{some_is_not_none}
-use Rattle.layer_store.proofs.KeepLemmas.{same_blocks}
+use Rattle.layer_store.proofs.StoredTableLemmas.{same_blocks}
 use Rattle.layer_store.proofs.Results.{if_err, if_err_given, if_ok, subst_both}
 use Rattle.layer_store.proofs.StopLemmas.{only_read, shut_is_durable}
-use Rattle.layer_store.specs.Standing.{device_in, file_in}
+use Rattle.layer_store.specs.Representation.{device_in, file_in}
 use Rattle.layer_store.proofs.store.start.open_store.Goals as goal
 
 pub returns-in-Ok-clause-image : goal.returns-in-Ok-clause-image

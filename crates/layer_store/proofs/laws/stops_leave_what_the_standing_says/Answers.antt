@@ -1,9 +1,0 @@
--- The goals of `stops_leave_what_the_standing_says` that are proved by hand.
-use Rattle.layer_store.proofs.StopLemmas.{left_of_store, left_so_far}
-use Rattle.layer_store.proofs.laws.stops_leave_what_the_standing_says.Goals as goal
-
-pub returns-clause-now : goal.returns-clause-now
-returns-clause-now g c = λ store s stands b left. left_of_store store s stands b left
-
-pub returns-clause-so_far : goal.returns-clause-so_far
-returns-clause-so_far g c = λ store s stands b left. left_so_far store s stands b left

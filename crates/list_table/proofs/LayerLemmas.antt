@@ -1,0 +1,58 @@
+-- What a layer in memory answers and becomes, as the table's layer does.
+use Rattle.std.proofs.Common.{◌≡◌, ℕ, List, [], ◌∷◌, Bool, true, cond, filter, map, None, refl, sym, ap, subst, ◌∙◌, ◌==◌, eq-eqb}
+use Rattle.std.specs.Prelude.{Result, Ok, Err, is_ok, IsTrue}
+use Rattle.std.specs.List.{insert}
+use Rattle.std.specs.Cmp.{nat_cmp_total}
+use Rattle.std.specs.Ordering.{nat_cmp}
+use Rattle.std.specs.FinMap.{from_sorted, is_sorted, insert as map_insert}
+use Rattle.box_math.specs.Bounds.{Bounds, ordered_test, meets_test}
+use Rattle.plain_table.specs.Answers.{row_of}
+use Rattle.plain_table.specs.Boxes.{dims_of, given_bounds}
+use Rattle.list_table.specs.Entries.{BelongsAt}
+use Rattle.list_table.specs.InMemory.{layer_of}
+use Rattle.list_table.specs.Objects.{axes_of, entries_of, object_checks}
+use Rattle.plain_table.specs.Step.{first_refusal, box_refusals, object_refusals, window_rows}
+use Rattle.plain_table.specs.Table.{with_object}
+use Rattle.plain_table.specs.declared.boxes.AnyBox.{AnyBox}
+use Rattle.plain_table.specs.declared.boxes.AnyBox.TheVariants as any
+use Rattle.plain_table.specs.declared.boxes.RawBox.{RawBox}
+use Rattle.list_table.specs.declared.layer.ListedLayer.{ListedLayer}
+use Rattle.list_table.specs.declared.objects.ListedObjects.{ListedObjects}
+use Rattle.list_table.proofs.EntryLemmas.{inserted_in_order, inserted_map, entries_in_order}
+
+-- rows of one dimension are those rows
+pub two_rows : (rows : List (ℕ × Bounds)) → map row_of (map (λ (row : ℕ × Bounds). (row.0, any.Two row.1)) rows) ≡ rows
+two_rows [] = refl
+two_rows (row ∷ rows) = ap (λ t. row ∷ t) (two_rows rows)
+
+pub three_rows : (rows : List (ℕ × Bounds)) → map row_of (map (λ (row : ℕ × Bounds). (row.0, any.Three row.1)) rows) ≡ rows
+three_rows [] = refl
+three_rows (row ∷ rows) = ap (λ t. row ∷ t) (three_rows rows)
+
+-- a list with an object more, or for want of memory the list as it was, is in order
+pub in_order_after : {U E : Type 0} (r : Result U E) (es new : List (ℕ × Bounds)) (i id : ℕ) (b : Bounds) → IsTrue (is_sorted nat_cmp es) → BelongsAt nat_cmp es id i → new ≡ cond (is_ok r) (insert es i (id, b)) es → IsTrue (is_sorted nat_cmp new)
+in_order_after (Ok u) es new i id b h at e = ap (is_sorted nat_cmp) e ∙ inserted_in_order nat_cmp nat_cmp_total es id b i h at
+in_order_after (Err u) es new i id b h at e = ap (is_sorted nat_cmp) e ∙ h
+
+module _ {A : Type 0} (l : ListedLayer A) (raw : RawBox) (es : List (ℕ × Bounds)) (axes : axes_of l.objects ≡ dims_of raw) (kept : entries_of l.objects ≡ es) where
+  in_order : IsTrue (is_sorted nat_cmp es)
+  in_order = subst (λ xs. IsTrue (is_sorted nat_cmp xs)) kept l.ascending
+
+  -- the dimension is right, so what is left to refuse is an object among others
+  not_wrong : (id : ℕ) (full : Bool) → first_refusal (object_checks (dims_of raw) es id (given_bounds raw) full) ≡ None → first_refusal (object_refusals (layer_of l) id raw full) ≡ None
+  not_wrong id full h =
+      let right : (dims_of raw == axes_of l.objects) ≡ true = eq-eqb _ _ (sym axes) in
+      rw (right, kept) h
+
+  -- an object was added
+  pub inserts : (m : ListedObjects A) (id i : ℕ) (b : Bounds) (full : Bool) → first_refusal (object_checks (dims_of raw) es id (given_bounds raw) full) ≡ None → BelongsAt nat_cmp es id i → b ≡ given_bounds raw → axes_of m ≡ dims_of raw → entries_of m ≡ insert es i (id, b) → (first_refusal (object_refusals (layer_of l) id raw full) ≡ None) × (record { dims = axes_of m; fanout = l.fanout; objects = from_sorted (entries_of m) } ≡ with_object (layer_of l) id (given_bounds raw))
+  inserts m id i b full h at is axes' new =
+      let more = ap from_sorted new ∙ inserted_map nat_cmp nat_cmp_total es id b i in_order at ∙ (λ j. map_insert (from_sorted {R = nat_cmp} (sym kept j)) id (is j)) in
+      (not_wrong id full h, λ j. record { dims = (axes' ∙ sym axes) j; fanout = l.fanout; objects = more j })
+
+  -- rows were found
+  pub shows : (window : Bounds) (found : List (ℕ × Bounds)) (rows : List (ℕ × AnyBox)) → ordered_test (dims_of raw) (given_bounds raw).low (given_bounds raw).high ≡ true → window ≡ given_bounds raw → found ≡ filter (λ row. meets_test (dims_of raw) row.1 window) es → map row_of rows ≡ found → (first_refusal (box_refusals (layer_of l) raw []) ≡ None) × (map row_of rows ≡ window_rows (layer_of l) (given_bounds raw))
+  shows window found rows ordered is filtered shown =
+      let right : (dims_of raw == axes_of l.objects) ≡ true = eq-eqb _ _ (sym axes) in
+      let all = sym (entries_in_order nat_cmp (entries_of l.objects) l.ascending ∙ kept) in
+      (rw (right, ordered) refl, shown ∙ filtered ∙ (λ j. filter (λ row. meets_test (sym axes j) row.1 (is j)) (all j)))

@@ -1,0 +1,5 @@
+-- The files of lemmas.
+pub mod EntryLemmas
+pub mod LayerLemmas
+pub mod ListLemmas
+pub mod TableLemmas

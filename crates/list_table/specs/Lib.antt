@@ -1,0 +1,6 @@
+-- The files of definitions, and of the laws that callers cite.
+pub mod Entries
+pub mod Objects
+pub mod InMemory
+pub mod Listed
+pub mod Laws

@@ -1,0 +1,10 @@
+//! How much a table may have.
+
+/// How many bytes the name of a layer has at most.
+pub const MOST_NAME_BYTES: usize = 24;
+
+/// How many layers there may be.
+pub const MOST_LAYERS: usize = 60;
+
+/// How many objects there may be in all layers together.
+pub const MOST_OBJECTS: u64 = 1 << 30;

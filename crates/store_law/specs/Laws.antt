@@ -1,0 +1,86 @@
+-- What follows from the law of a store.
+use Rattle.std.proofs.Common.{◌≡◌, ◌∙◌, ◌≤◌, ◌++◌, List, [], ◌∷◌, Bool, true, false, not, ◌&&◌, cond, Option, Some, None, inl, inr, refl, sym, ap, subst, arith}
+use Rattle.std.specs.List.{list_all}
+use Rattle.plain_table.specs.Commands.{Command}
+use Rattle.plain_table.specs.Commands.Command.{Create, Insert, Window, Reopen}
+use Rattle.plain_table.specs.Laws.{the_refusal_of_a_reply}
+use Rattle.plain_table.specs.Step.{Answer, after, first_refusal, refusal_of, refusals_of, reply_of}
+use Rattle.plain_table.specs.Step.Answer.{Refused}
+use Rattle.plain_table.specs.Table.{Table}
+use Rattle.plain_table.specs.declared.refusal.Refusal.{Refusal}
+use Rattle.plain_table.specs.declared.refusal.Refusal.TheVariants as refusal
+use Rattle.store_law.specs.Lawful.{IsFault, Lawful, LawfulFrom, MayWrite, RefusedBy, blames_device}
+use Rattle.store_law.specs.Sessions.{LawfulStep, Session, SessionState}
+use Rattle.store_law.specs.States.{Request, StoreState}
+use Rattle.store_law.specs.States.Request.{Asks, BadCommand}
+use Rattle.store_law.specs.States.StoreState.{Alive, Dead}
+
+-- ---- steps
+
+-- a bad line is answered so, whatever the store's state
+pub a_bad_line_is_lawful : (s : SessionState) → LawfulStep s BadCommand (Refused refusal.BadLine) s
+a_bad_line_is_lawful s = record { answer = (refl, refl); stops = refl; faults = omega arith; next = omega arith }
+
+-- to answer as the table does is lawful
+pub the_tables_reply_is_lawful : (rose spent : Type 0) (t u : Table) (c : Command) (a : Answer) → a ≡ reply_of t c → u ≡ after t c → LawfulFrom rose spent t c a (Alive u)
+the_tables_reply_is_lawful rose spent t u c a e f = inl (e, ap Alive f)
+
+-- and to want memory and leave the table as it was
+pub want_of_memory_is_lawful : (rose spent : Type 0) (t u : Table) (c : Command) (a : Answer) → a ≡ Refused refusal.Memory → u ≡ t → LawfulFrom rose spent t c a (Alive u)
+want_of_memory_is_lawful rose spent t u c a e f = inr (inl (subst (RefusedBy (IsFault rose (spent × MayWrite t c))) (sym e) tt, ap Alive f))
+
+-- ---- the table's own refusals blame no device
+
+-- no refusal of a list blames the device
+abbrev none_blames_device : List (Bool × Refusal) → Bool
+none_blames_device cs = list_all (λ c. not (blames_device c.1)) cs
+
+first_blames_none : (cs : List (Bool × Refusal)) (r : Refusal) → none_blames_device cs ≡ true → first_refusal cs ≡ Some r → blames_device r ≡ false
+first_blames_none [] r none e = absurd (cc)
+first_blames_none (c ∷ cs) r none e = case c.0 (blames_device c.1) refl none e (λ rest later. first_blames_none cs r rest later)
+  where
+    case : (holds blamed : Bool) → blames_device c.1 ≡ blamed → (not blamed && none_blames_device cs) ≡ true → cond holds (Some c.1) (first_refusal cs) ≡ Some r
+        → (none_blames_device cs ≡ true → first_refusal cs ≡ Some r → blames_device r ≡ false) → blames_device r ≡ false
+    case holds true is none e again = absurd (cc)
+    case true false is none e again = ap blames_device (let same : r ≡ c.1 = cc in same) ∙ is
+    case false false is none e again = again none e
+
+no_check_blames : (t : Table) (c : Command) → none_blames_device (refusals_of t c) ≡ true
+no_check_blames t (Create name dims fanout) = refl
+no_check_blames t (Insert name id box) = refl
+no_check_blames t (Window name box) = refl
+no_check_blames t Reopen = refl
+
+pub no_reply_of_the_table_blames_the_device : (t : Table) (c : Command) (r : Refusal) → reply_of t c ≡ Refused r → blames_device r ≡ false
+no_reply_of_the_table_blames_the_device t c r e = first_blames_none (refusals_of t c) r (no_check_blames t c) (the_refusal_of_a_reply t c r e)
+
+-- ---- sessions
+
+-- one session after another is a session
+pub sessions_join : (old mid new : SessionState) (rs ss : List Request) (as' bs : List Answer) → Session old rs as' mid → Session mid ss bs new → Session old (rs ++ ss) (as' ++ bs) new
+sessions_join old mid new [] ss [] bs p q = subst (λ s. Session s ss bs new) p q
+sessions_join old mid new (r ∷ rs) ss (a ∷ as') bs p q = (p.0, p.1, sessions_join p.0 mid new rs ss as' bs p.2 q)
+sessions_join old mid new [] ss (a ∷ as') bs p q = elim p [ ]
+sessions_join old mid new (r ∷ rs) ss [] bs p q = elim p [ ]
+
+-- how often the device has failed does not fall, nor how many page numbers were given out
+pub no_count_falls : (old new : SessionState) (rs : List Request) (as' : List Answer) → Session old rs as' new → (old.faults ≤ new.faults) × (old.next ≤ new.next)
+no_count_falls old new [] [] p = (let e = ap (λ (s : SessionState). s.faults) p in omega (arith, e), let e = ap (λ (s : SessionState). s.next) p in omega (arith, e))
+no_count_falls old new (r ∷ rs) (a ∷ as') p =
+    let rest = no_count_falls p.0 new rs as' p.2 in
+    let step = p.1 in
+    (omega (arith, rest.0, step.faults), omega (arith, rest.1, step.next))
+no_count_falls old new [] (a ∷ as') p = elim p [ ]
+no_count_falls old new (r ∷ rs) [] p = elim p [ ]
+
+-- a store that has failed stays so
+dead_after : (rose spent : Type 0) (old new : StoreState) (r : Request) (a : Answer) → old ≡ Dead → Lawful rose spent old r a new → new ≡ Dead
+dead_after rose spent Dead new BadCommand a e h = h.1
+dead_after rose spent Dead new (Asks c) a e h = h.1
+dead_after rose spent (Alive t) new r a e h = absurd (cc)
+
+pub a_dead_store_stays_dead : (old new : SessionState) (rs : List Request) (as' : List Answer) → old.state ≡ Dead → Session old rs as' new → new.state ≡ Dead
+a_dead_store_stays_dead old new [] [] e p = ap (λ (s : SessionState). s.state) p ∙ e
+a_dead_store_stays_dead old new (r ∷ rs) (a ∷ as') e p = a_dead_store_stays_dead p.0 new rs as' (dead_after _ _ old.state p.0.state r a e p.1.answer) p.2
+a_dead_store_stays_dead old new [] (a ∷ as') e p = elim p [ ]
+a_dead_store_stays_dead old new (r ∷ rs) [] e p = elim p [ ]

@@ -1,0 +1,52 @@
+-- What a stop leaves of a store, and how an answered request changes that. Our rule, docs/FORMAT.md, "What stops leave of a store".
+use Rattle.std.specs.Prelude.{ℕ, Bool, true, false, if◌then◌else◌, List, [], ◌∷◌}
+use Rattle.plain_table.specs.Commands.{Command}
+use Rattle.plain_table.specs.Commands.Command.{Reopen}
+use Rattle.plain_table.specs.Step.{Answer}
+use Rattle.plain_table.specs.Step.Answer.{Refused}
+use Rattle.plain_table.specs.Table.{Table}
+use Rattle.plain_table.specs.declared.refusal.Refusal.{Refusal}
+use Rattle.plain_table.specs.declared.refusal.Refusal.TheVariants as refusal
+use Rattle.store_law.specs.States.{Request, StoreState}
+use Rattle.store_law.specs.States.Request.{Asks, BadCommand}
+use Rattle.store_law.specs.States.StoreState.{Alive, Dead}
+
+-- What a stop between two requests leaves of a store: surely an image of this table; or perhaps one of one of these, and
+-- else nothing that is opened.
+pub data AfterStop : Type 0 where
+  Surely : Table → AfterStop
+  Perhaps : List Table → AfterStop
+
+-- What stops leave of a store: one now, between two requests; and of one at any moment since that of a beginning an image
+-- of one of these tables, and else nothing that is opened.
+pub record Stops : Type 0 where
+  pub now : AfterStop
+  pub since : ℕ
+  pub so_far : List Table
+
+-- the tables of which a stop may leave an image
+abbrev pub tables_left : AfterStop → List Table
+tables_left (Surely t) = t ∷ []
+tables_left (Perhaps ts) = ts
+
+-- the refusal says that the store is dead
+abbrev pub is_end : Refusal → Bool
+is_end (refusal.StoreFailed cause) = true
+is_end r = false
+
+-- A closing of the table is finished where it is answered, and where the store failed in reading the file again; else
+-- a stop leaves what it left before, or perhaps this table too.
+abbrev pub after_closing : Table → AfterStop → Answer → AfterStop
+after_closing t old (Refused r) = if is_end r then Surely t else Perhaps (t ∷ tables_left old)
+after_closing t old a = Surely t
+
+-- only a closing changes what stops leave
+abbrev pub after_command : Table → Stops → Command → Answer → Stops
+after_command t old Reopen a = record { now = after_closing t old.now a; since = old.since; so_far = t ∷ old.so_far }
+after_command t old c a = old
+
+-- what stops leave after a request
+abbrev pub after_request : StoreState → Stops → Request → Answer → Stops
+after_request state old BadCommand a = old
+after_request (Alive t) old (Asks c) a = after_command t old c a
+after_request Dead old (Asks c) a = old
