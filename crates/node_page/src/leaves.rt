@@ -21,7 +21,7 @@ use std::alloc::Allocator;
 ///
 /// On an honest device, where the pages stand for a tree at that page and level, a refusal is `Memory` or `Device`. Map and
 /// gate stay, also after a refusal.
-pub fn leaf_lists<const D: usize, B: BlockDevice, A: Allocator, H: Allocator + Copy>(
+pub fn leaf_lists<const D: usize, B: BlockDevice, A: Allocator + Copy, H: Allocator + Copy>(
     alloc: H,
     cache: &mut PageCache<B, A>,
     root: Root,
@@ -42,7 +42,7 @@ pub fn leaf_lists<const D: usize, B: BlockDevice, A: Allocator, H: Allocator + C
 }
 
 // Appends the identifiers of each leaf below a node.
-fn add_leaves<const D: usize, B: BlockDevice, A: Allocator, H: Allocator + Copy>(
+fn add_leaves<const D: usize, B: BlockDevice, A: Allocator + Copy, H: Allocator + Copy>(
     alloc: H,
     cache: &mut PageCache<B, A>,
     root: Root,

@@ -25,7 +25,7 @@ use std::alloc::Allocator;
 ///
 /// On an honest device a refusal where there is such a node is `Memory` or `Device`. Map and gate stay, also after a
 /// refusal.
-pub fn read_node<const D: usize, B: BlockDevice, A: Allocator>(
+pub fn read_node<const D: usize, B: BlockDevice, A: Allocator + Copy>(
     cache: &mut PageCache<B, A>,
     page: u32,
     level: u8,
@@ -59,7 +59,7 @@ pub fn read_node<const D: usize, B: BlockDevice, A: Allocator>(
 /// A number outside 2 to the last one given out is `Damaged` with that number, and changes nothing. After another refusal,
 /// which on an honest device is `Memory` or `Device`, the page is still live and may hold any bytes; all others are as
 /// before.
-pub fn write_node<const D: usize, B: BlockDevice, A: Allocator>(
+pub fn write_node<const D: usize, B: BlockDevice, A: Allocator + Copy>(
     cache: &mut PageCache<B, A>,
     page: u32,
     node: &Node<D>,
