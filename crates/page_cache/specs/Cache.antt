@@ -1,11 +1,9 @@
 -- What a cache of pages stands for, and what calls keep of it: the words that callers use.
-use Rattle.std.specs.Prelude.{◌≡◌, ◌⊎◌, ◌↔◌, ◌<◌, ◌≤◌, ℕ, List, Option, None, IsSome, Result, Ok, Err, OnOk, length}
-use Rattle.block_device.specs.Device.{Blocks, one_more}
-use Rattle.page_file.specs.Fault.{HasCause}
+use Rattle.std.specs.Prelude.{◌≡◌, ◌↔◌, ℕ, List, Option, None, IsSome, length}
+use Rattle.block_device.specs.Device.{Blocks}
 use Rattle.page_file.specs.File as below
 use Rattle.page_file.specs.Opening.{failed_check}
 use Rattle.page_file.specs.Pages.{HasFreeChain, IsSoundMap, given_pages, next_in, page_of, pages_in}
-use Rattle.page_file.specs.declared.fault.Fault.{Fault}
 use Rattle.page_file.specs.declared.gate.Gate.{Gate}
 use Rattle.page_cache.specs.Frames.{changed_pages, frame_at, laid_over}
 use Rattle.page_cache.specs.declared.cache.PageCache.{PageCache}
@@ -98,20 +96,3 @@ pub record IsUnchanged {D A : Type 0} {m : _} (old new : PageCache D A m) : Type
   pub sound : IsPageMap old ↔ IsPageMap new
   pub looks : looks_of new ≡ looks_of old
   pub capacity : capacity_of new ≡ capacity_of old
-
--- the count of looks is one more where a page was lent, up to the greatest u64, and the same behind a refusal
-abbrev pub looks_after : {T : Type 0} → Result T Fault → ℕ → ℕ
-looks_after (Ok _) before = one_more before
-looks_after (Err _) before = before
-
--- Page n was asked for, and lent or refused. The map and the gate stay, and the page lent is held. A page that
--- was held, and a number of no page given out, need no call of the device.
-pub record IsLookedAt {D A : Type 0} {m : _} {T : Type 0} (old new : PageCache D A m) (n : ℕ) (result : Result T Fault) : Type 0 where
-  pub gate : KeepsGate old new
-  pub map : KeepsMap old new
-  pub looks : looks_of new ≡ looks_after result (looks_of old)
-  pub capacity : capacity_of new ≡ capacity_of old
-  pub holds : OnOk result (IsHeld new n)
-  pub held : IsHeld old n → device_of new ≡ device_of old
-  pub outside : (n < 2) ⊎ (next_of old ≤ n) → device_of new ≡ device_of old
-  pub cause : HasCause (m.faults (device_of old)) (m.faults (device_of new)) result

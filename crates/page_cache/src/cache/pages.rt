@@ -6,7 +6,8 @@ ghost use Rattle.page_file.specs.Fault.{HasCause, IsOfDevice, IsDamage};
 ghost use Rattle.page_file.specs.Pages.{SameBut};
 ghost use Rattle.page_file.specs.declared.fault.Fault.TheVariants as fault;
 ghost use Rattle.page_file.specs.declared.gate.Gate.TheVariants.{Open};
-ghost use Rattle.page_cache.specs.Cache.{IsHeld, IsHonest, IsLive, IsLookedAt, IsPageMap, IsUnchanged, KeepsGate, KeepsMap, capacity_of, device_of, gate_of, given, looks_of, next_of, pages};
+ghost use Rattle.page_cache.specs.Cache.{IsHeld, IsHonest, IsLive, IsPageMap, IsUnchanged, KeepsGate, KeepsMap, capacity_of, device_of, gate_of, given, looks_of, next_of, pages};
+ghost use Rattle.page_cache.specs.Calls.{Changes, IsLookedAt};
 ghost use Rattle.page_cache.specs.Frames.{frame_at};
 ghost use Rattle.page_cache.specs.Keeps.{KeepsBlocks, SameFrames};
 ghost use Rattle.page_cache.specs.Loan.{EndsLookedAt};
@@ -77,9 +78,10 @@ impl<D: BlockDevice, A: Allocator + Copy> PageCache<D, A> {
     ///
     /// After a refusal the page is still live and may hold any bytes; all others are as before. On an
     /// honest device that is `Memory` or `Device`.
+    #[tactic(auto, using(crate::specs::Calls::counted_by_end))]
     pub fn put(&mut self, n: u32, bytes: &[u8; 4096]) -> Result<(), Fault>
         requires { gate_of self.old ≡ Open }
-        ensures gate { KeepsGate self.old self.new }
+        ensures changes { Changes self.old self.new result }
         ensures written { IsHonest self.old → IsLive self.old n → OnOk result (pages self.new n ≡ Some bytes.now) }
         ensures live { IsHonest self.old → IsLive self.old n → IsLive self.new n }
         ensures others { IsHonest self.old → IsLive self.old n → SameBut n (pages self.old) (pages self.new) }
@@ -88,12 +90,10 @@ impl<D: BlockDevice, A: Allocator + Copy> PageCache<D, A> {
         ensures sound { IsPageMap self.old → IsLive self.old n → IsPageMap self.new }
         ensures next { next_of self.new ≡ next_of self.old }
         ensures looks { looks_of self.new ≡ looks_of self.old }
-        ensures capacity { capacity_of self.new ≡ capacity_of self.old }
         ensures holds { OnOk result (IsHeld self.new n) }
         ensures outside { (n < 2) ⊎ (next_of self.old ≤ n) → (result ≡ Err (fault.Damaged n)) × IsUnchanged self.old self.new }
         ensures faults { IsHonest self.old → 2 ≤ n → n < next_of self.old → IfErr result IsOfDevice }
         ensures other_faults { IfErr result (λ f. IsOfDevice f ⊎ IsDamage f) }
-        ensures cause { HasCause (D.faults (device_of self.old)) (D.faults (device_of self.new)) result }
     {
         self.admit(n)?;
         let mut page = self.blank()?;
@@ -130,9 +130,10 @@ impl<D: BlockDevice, A: Allocator + Copy> PageCache<D, A> {
     ///
     /// After a refusal one page that was not live may hold any bytes, and may be live; all others are as
     /// before. `NoPages` comes only where all numbers up to 2^31 - 1 were given out.
+    #[tactic(auto, using(crate::specs::Calls::counted_by_end))]
     pub fn allocate(&mut self) -> Result<u32, Fault>
         requires { gate_of self.old ≡ Open }
-        ensures gate { KeepsGate self.old self.new }
+        ensures changes { Changes self.old self.new result }
         ensures fresh { IsPageMap self.old → IfOk result (λ n. (pages self.old n ≡ None) × (pages self.new n ≡ Some zeros) × SameBut n (pages self.old) (pages self.new)) }
         ensures given_others { IsHonest self.old → IfOk result (λ n. SameBut n (given self.old) (given self.new)) }
         ensures given_refused { IsHonest self.old → OnErr result ((n : ℕ) × SameBut n (given self.old) (given self.new)) }
@@ -141,11 +142,9 @@ impl<D: BlockDevice, A: Allocator + Copy> PageCache<D, A> {
         ensures number { IfOk result (λ n. (3 ≤ n) × (n < next_of self.new)) }
         ensures next { (next_of self.old ≤ next_of self.new) × (next_of self.new ≤ next_of self.old + 1) }
         ensures looks { looks_of self.new ≡ looks_of self.old }
-        ensures capacity { capacity_of self.new ≡ capacity_of self.old }
         ensures no_pages { IsErrOf result fault.NoPages → next_of self.old ≡ 2 ^ 31 }
         ensures faults { IsPageMap self.old → IfErr result (λ f. IsOfDevice f ⊎ (f ≡ fault.NoPages)) }
         ensures other_faults { IfErr result (λ f. IsOfDevice f ⊎ ((f ≡ fault.NoPages) ⊎ IsDamage f)) }
-        ensures cause { HasCause (D.faults (device_of self.old)) (D.faults (device_of self.new)) result }
     {
         self.file.allocate()
     }
@@ -155,20 +154,19 @@ impl<D: BlockDevice, A: Allocator + Copy> PageCache<D, A> {
     ///
     /// After a refusal the page may hold any bytes, and may be live or not; all others are as before.
     /// With a sound map that is `Memory` or `Device`.
+    #[tactic(auto, using(crate::specs::Calls::counted_by_end))]
     pub fn free(&mut self, n: u32) -> Result<(), Fault>
         requires { gate_of self.old ≡ Open }
-        ensures gate { KeepsGate self.old self.new }
+        ensures changes { Changes self.old self.new result }
         ensures freed { IsHonest self.old → IsLive self.old n → OnOk result (pages self.new n ≡ None) }
         ensures others { IsHonest self.old → IsLive self.old n → SameBut n (pages self.old) (pages self.new) }
         ensures given_others { IsHonest self.old → SameBut n (given self.old) (given self.new) }
         ensures sound { IsPageMap self.old → IsLive self.old n → IsPageMap self.new }
         ensures next { next_of self.new ≡ next_of self.old }
         ensures looks { looks_of self.new ≡ looks_of self.old }
-        ensures capacity { capacity_of self.new ≡ capacity_of self.old }
         ensures outside { (n < 3) ⊎ (next_of self.old ≤ n) → (result ≡ Err (fault.Damaged n)) × IsUnchanged self.old self.new }
         ensures faults { IsPageMap self.old → IsLive self.old n → ¬ (n ≡ 2) → IfErr result IsOfDevice }
         ensures other_faults { IfErr result (λ f. IsOfDevice f ⊎ IsDamage f) }
-        ensures cause { HasCause (D.faults (device_of self.old)) (D.faults (device_of self.new)) result }
     {
         if n < 3 || n >= self.file.next_number() {
             return Err(Fault::Damaged(n));

@@ -1,5 +1,5 @@
 -- The goals of `PageCache::look` that are proved by hand.
-use Rattle.std.proofs.Common.{◌∙◌, is_some, ap, refl, sym, rules}
+use Rattle.std.proofs.Common.{arith, ◌∙◌, is_some, ap, refl, sym, rules}
 use Rattle.block_device.specs.Device.{one_more}
 use Rattle.page_file.specs.File as below
 use Rattle.page_cache.proofs.Behind.{given_held, looked_at, map_kept}
@@ -9,26 +9,32 @@ use Rattle.page_cache.proofs.cache.PageCache.look.Goals as goal
 pub returns-clause-looked_at : goal.returns-clause-looked_at
 returns-clause-looked_at g c =
     let found = first-found c.args.n c.load.new.self.frames.entries c.in_ok-load.ensures.first in record {
-      gate = c.load.ensures.kept.gate;
-      map = looked_at c.args.self.now c.load.new.self _ c.args.n c.load.ensures.kept refl refl;
+      asks = record {
+        gate = c.load.ensures.kept.gate;
+        map = looked_at c.args.self.now c.load.new.self _ c.args.n c.load.ensures.kept refl refl;
+        capacity = c.load.ensures.kept.capacity;
+        looks = omega (arith, c.saturating_add-self.ensures, c.load.ensures.kept.looks, c.load.new.self.counted);
+        faults = c.in_ok-load.ensures.cause.ok;
+      };
       looks = c.saturating_add-self.ensures ∙ ap one_more c.load.ensures.kept.looks;
-      capacity = c.load.ensures.kept.capacity;
       holds = ap is_some found.2;
       held = λ h. ap (λ f. below.device_of f) (c.load.ensures.held h).0;
       outside = λ o. ap (λ f. below.device_of f) (c.load.ensures.outside o).1;
-      cause = record { ok = c.in_ok-load.ensures.cause.ok; refused = tt };
     }
 
 pub returns-in_err-load-clause-looked_at : goal.returns-in_err-load-clause-looked_at
 returns-in_err-load-clause-looked_at g c = record {
-  gate = c.load.ensures.kept.gate;
-  map = map_kept c.args.self.now c.load.new.self c.load.ensures.kept;
+  asks = record {
+    gate = c.load.ensures.kept.gate;
+    map = map_kept c.args.self.now c.load.new.self c.load.ensures.kept;
+    capacity = c.load.ensures.kept.capacity;
+    looks = omega (arith, c.load.ensures.kept.looks);
+    faults = search rules;
+  };
   looks = search rules;
-  capacity = c.load.ensures.kept.capacity;
   holds = search rules;
   held = λ h. ap (λ f. below.device_of f) (c.load.ensures.held h).0;
   outside = λ o. ap (λ f. below.device_of f) (c.load.ensures.outside o).1;
-  cause = search rules;
 }
 
 pub returns-clause-first : goal.returns-clause-first
