@@ -1,5 +1,5 @@
 -- What each call keeps of the cache that it works on: one word for calls that ask, and one for calls that change.
-use Rattle.std.proofs.Common.{◌≡◌, ◌∙◌, ℕ, ◌≤◌, Option, None, Some, ap, refl, arith}
+use Rattle.std.proofs.Common.{◌≡◌, ◌∙◌, ℕ, ◌≤◌, Option, None, Some, ap, refl, subst, sym, arith}
 use Rattle.std.specs.Prelude.{◌⊎◌, ◌<◌, Result, Ok, Err, IsErrAnd, OnOk}
 use Rattle.block_device.specs.Device.{one_more}
 use Rattle.page_file.specs.Fault.{HasCause, faults_after}
@@ -106,3 +106,10 @@ module _ {D A : Type 0} {m : _} where
     looks = omega (arith, a.looks, b.looks);
     faults = b.faults ∙ ap (faults_behind end) a.faults;
   }
+
+  -- a call that succeeds, and then one whose fault is handed on
+  pub asks_and_refuses : {T : Type 0} (old mid new : PageCache D A m) (f : Fault) (result : Result T Fault) → IsErrAnd result (λ e. e ≡ f) → AsksUntil old mid None → AsksUntil mid new (Some f) → Asks old new result
+  asks_and_refuses old mid new f result is a b = subst (λ end. AsksUntil old new end) (sym (ends_so result f is)) (asks_in_turn old mid new (Some f) a b)
+
+  pub changes_and_refuses : {T : Type 0} (old mid new : PageCache D A m) (f : Fault) (result : Result T Fault) → IsErrAnd result (λ e. e ≡ f) → ChangesUntil old mid None → ChangesUntil mid new (Some f) → Changes old new result
+  changes_and_refuses old mid new f result is a b = subst (λ end. ChangesUntil old new end) (sym (ends_so result f is)) (changes_in_turn old mid new (Some f) a b)
