@@ -1,9 +1,9 @@
 -- Leaves read one after another.
-use Rattle.std.proofs.Common.{◌≡◌, ◌∙◌, ℕ, zero, suc, ◌+◌, ◌-◌, ◌<◌, ◌≤◌, Some, List, [], ◌∷◌, ◌++◌, length, drop, take, map, get_or, All, ◌^◌, refl, sym, ap, subst, arith}
+use Rattle.std.proofs.Common.{◌≡◌, ◌∙◌, ℕ, zero, suc, ◌+◌, ◌-◌, ◌<◌, ◌≤◌, None, Some, List, [], ◌∷◌, ◌++◌, length, drop, take, map, get_or, All, ◌^◌, refl, sym, ap, subst, arith}
 use Rattle.std.proofs.lemmas.List.{append_assoc, append-nil, drop_more, length-map, take_all}
 use Rattle.std.proofs.lemmas.List.Elements.{All-get_or}
-use Rattle.page_cache.specs.Cache.{IsHonest, KeepsGate, KeepsMap, device_of, pages}
-use Rattle.page_cache.specs.Laws.{the_gate_is_kept_in_turn, the_map_is_kept_in_turn}
+use Rattle.page_cache.specs.Cache.{IsHonest, pages}
+use Rattle.page_cache.specs.Calls.{AsksUntil, asks_in_turn}
 use Rattle.page_cache.specs.declared.cache.PageCache.{PageCache}
 use Rattle.node_page.specs.declared.node.Entry.{Entry}
 use Rattle.node_page.specs.Layout.{Content, IsReference, Item, item_of}
@@ -127,9 +127,7 @@ child_page level all entries i e refers same within is above =
 module _ {B A : Type 0} {m : _} where
   -- the leaves below the entries before place i are read, and what is below the others makes all
   pub record Progress (dims : ℕ) (old now : PageCache B A m) (level : ℕ) (entries : List (Entry dims)) (i : ℕ) (lists lists_now : List (List ℕ)) : Type 0 where
-    pub gate : KeepsGate old now
-    pub kept : KeepsMap old now
-    pub faults : m.faults (device_of now) ≡ m.faults (device_of old)
+    pub asks : AsksUntil old now None
     pub leaves : IsHonest old → (row : Row) → row_items row ≡ map item_of entries → RowStands dims (pages old) level row → lists_now ++ leaf_ids level (row_drop i row) ≡ lists ++ leaf_ids level row
 
   module _ {dims : ℕ} {old now : PageCache B A m} {level : ℕ} {entries : List (Entry dims)} {i : ℕ} {lists lists_now : List (List ℕ)} (so_far : Progress dims old now level entries i lists lists_now) where
@@ -140,20 +138,18 @@ module _ {B A : Type 0} {m : _} where
         let here = items_at row (map item_of entries) i (item_of e) same (omega (arith, within, length-map entries item_of)) (entry_item entries i e within is) in
         let b = below_first dims (pages old) level (row_drop i row) (item_of e) (drop (i + 1) (map item_of entries)) here above (dropped_stands dims (pages old) level i row stands) in (
           b.below,
-          stands_on dims (pages old) (pages now) e.reference (level - 1) b.below (so_far.kept.pages_stay h) b.stands,
+          stands_on dims (pages old) (pages now) e.reference (level - 1) b.below (so_far.asks.map.pages_stay h) b.stands,
           b.leaves ∙ ap (λ r. leaf_ids (level - 1) b.below ++ leaf_ids level r) (sym (row_drop_more i row)),
         )
 
-    pub one_more_read : (e : Entry dims) → i < length entries → e ≡ get_or entries i e → 0 < level → (next : PageCache B A m) (lists_next : List (List ℕ)) → KeepsGate now next → KeepsMap now next → m.faults (device_of next) ≡ m.faults (device_of now)
+    pub one_more_read : (e : Entry dims) → i < length entries → e ≡ get_or entries i e → 0 < level → (next : PageCache B A m) (lists_next : List (List ℕ)) → AsksUntil now next None
         → (IsHonest now → (row : Row) → StandsAt dims (pages now) e.reference (level - 1) row → lists_next ≡ lists_now ++ leaf_ids (level - 1) row)
         → Progress dims old next level entries (i + 1) lists lists_next
-    one_more_read e within is above next lists_next gate kept faults reads = record {
-      gate = the_gate_is_kept_in_turn old now next so_far.gate gate;
-      kept = the_map_is_kept_in_turn old now next so_far.gate.honest.0 so_far.kept kept;
-      faults = faults ∙ so_far.faults;
+    one_more_read e within is above next lists_next asks reads = record {
+      asks = asks_in_turn old now next None so_far.asks asks;
       leaves = λ h row same stands.
           let b = below_here e within is above h row same stands in
-          let added = reads (so_far.gate.honest.0 h) b.0 b.1 in
+          let added = reads (so_far.asks.gate.honest.0 h) b.0 b.1 in
           let next_place : i + 1 ≡ suc i = omega arith in
           rw (next_place, added, append_assoc, ← b.2) (so_far.leaves h row same stands);
     }

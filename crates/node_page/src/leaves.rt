@@ -2,9 +2,10 @@
 
 ghost use Rattle.std.specs.Prelude.{◌≡◌, ◌⊎◌, ◌++◌, ◌∷◌, [], IfOk, IfErr, OnOk};
 ghost use Rattle.box_math.specs.Bounds.{IsDims};
-ghost use Rattle.page_file.specs.Fault.{HasCause, IsDamage, IsOfDevice};
+ghost use Rattle.page_file.specs.Fault.{IsDamage, IsOfDevice};
 ghost use Rattle.page_file.specs.declared.fault.Fault.TheVariants as fault;
-ghost use Rattle.page_cache.specs.Cache.{IsHonest, KeepsGate, KeepsMap, device_of, pages};
+ghost use Rattle.page_cache.specs.Cache.{IsHonest, pages};
+ghost use Rattle.page_cache.specs.Calls.{Asks};
 ghost use Rattle.node_page.specs.Layout.{content_of};
 ghost use Rattle.node_page.specs.Lists.{lists_of, references_of};
 ghost use Rattle.node_page.specs.Trees.{Row, StandsAt, Stands, Tree, leaf_ids};
@@ -21,20 +22,18 @@ use std::alloc::Allocator;
 ///
 /// On an honest device, where the pages stand for a tree at that page and level, a refusal is `Memory` or `Device`. Map and
 /// gate stay, also after a refusal.
-pub fn leaf_lists<const D: usize, B: BlockDevice, A: Allocator, H: Allocator + Copy>(
+pub fn leaf_lists<const D: usize, B: BlockDevice, A: Allocator + Copy, H: Allocator + Copy>(
     alloc: H,
     cache: &mut PageCache<B, A>,
     root: Root,
 ) -> Result<Vec<Vec<u64, H>, H>, Fault>
     requires { IsDims D }
-    ensures gate { KeepsGate cache.old cache.new }
-    ensures map { KeepsMap cache.old cache.new }
+    ensures asks { Asks cache.old cache.new result }
     ensures lists { IsHonest cache.old → (t : Tree) → t.page ≡ root.page → t.level ≡ root.level → Stands D (pages cache.old) t →
         IfOk result (λ lists. lists_of lists ≡ leaf_ids t.level t.row) }
     ensures stands { IsHonest cache.old → (t : Tree) → t.page ≡ root.page → t.level ≡ root.level → Stands D (pages cache.old) t →
         IfErr result IsOfDevice }
     ensures other_faults { IfErr result (λ f. IsOfDevice f ⊎ IsDamage f) }
-    ensures cause { HasCause (B.faults (device_of cache.old)) (B.faults (device_of cache.new)) result }
 {
     let mut lists = Vec::new(alloc);
     add_leaves::<D, B, A, H>(alloc, cache, root, &mut lists)?;
@@ -42,20 +41,18 @@ pub fn leaf_lists<const D: usize, B: BlockDevice, A: Allocator, H: Allocator + C
 }
 
 // Appends the identifiers of each leaf below a node.
-fn add_leaves<const D: usize, B: BlockDevice, A: Allocator, H: Allocator + Copy>(
+fn add_leaves<const D: usize, B: BlockDevice, A: Allocator + Copy, H: Allocator + Copy>(
     alloc: H,
     cache: &mut PageCache<B, A>,
     root: Root,
     lists: &mut Vec<Vec<u64, H>, H>,
 ) -> Result<(), Fault>
     requires { IsDims D }
-    ensures gate { KeepsGate cache.old cache.new }
-    ensures map { KeepsMap cache.old cache.new }
+    ensures asks { Asks cache.old cache.new result }
     ensures lists { IsHonest cache.old → (row : Row) → StandsAt D (pages cache.old) root.page root.level row →
         OnOk result (lists_of lists.new ≡ lists_of lists.old ++ leaf_ids root.level row) }
     ensures stands { IsHonest cache.old → (row : Row) → StandsAt D (pages cache.old) root.page root.level row → IfErr result IsOfDevice }
     ensures other_faults { IfErr result (λ f. IsOfDevice f ⊎ IsDamage f) }
-    ensures cause { HasCause (B.faults (device_of cache.old)) (B.faults (device_of cache.new)) result }
 {
     let node = read_node::<D, B, A>(cache, root.page, root.level)?;
     if root.level == 0 {

@@ -3,11 +3,12 @@
 ghost use Rattle.std.specs.Prelude.{◌≡◌, ◌⊎◌, ◌≤◌, ◌<◌, Some, Err, All, IfOk, IfErr, IsErrOf, OnErr, OnOk};
 ghost use Rattle.block_device.specs.Device.{one_more};
 ghost use Rattle.box_math.specs.Bounds.{IsBox, IsDims};
-ghost use Rattle.page_file.specs.Fault.{HasCause, IsDamage, IsOfDevice};
+ghost use Rattle.page_file.specs.Fault.{IsDamage, IsOfDevice};
 ghost use Rattle.page_file.specs.Pages.{SameBut};
 ghost use Rattle.page_file.specs.declared.fault.Fault.TheVariants as fault;
 ghost use Rattle.page_file.specs.declared.gate.Gate.TheVariants.{Open};
-ghost use Rattle.page_cache.specs.Cache.{IsHonest, IsLive, IsPageMap, IsUnchanged, KeepsGate, KeepsMap, device_of, gate_of, given, looks_of, next_of, pages};
+ghost use Rattle.page_cache.specs.Cache.{IsHonest, IsLive, IsPageMap, IsUnchanged, device_of, gate_of, given, looks_of, next_of, pages};
+ghost use Rattle.page_cache.specs.Calls.{Asks, Changes};
 ghost use Rattle.node_page.specs.Layout.{Content, IsSpellable, content_of};
 ghost use Rattle.node_page.specs.Trees.{node_in};
 
@@ -25,14 +26,14 @@ use std::alloc::Allocator;
 ///
 /// On an honest device a refusal where there is such a node is `Memory` or `Device`. Map and gate stay, also after a
 /// refusal.
-pub fn read_node<const D: usize, B: BlockDevice, A: Allocator>(
+#[tactic(auto, using(page_cache::specs::Calls::ends_so))]
+pub fn read_node<const D: usize, B: BlockDevice, A: Allocator + Copy>(
     cache: &mut PageCache<B, A>,
     page: u32,
     level: u8,
 ) -> Result<Node<D>, Fault>
     requires { IsDims D }
-    ensures gate { KeepsGate cache.old cache.new }
-    ensures map { KeepsMap cache.old cache.new }
+    ensures asks { Asks cache.old cache.new result }
     ensures node { IsHonest cache.old → IsLive cache.old page → IfOk result (λ node. node_in D (pages cache.old page) ≡ Some (content_of node)) }
     ensures given_node { IsHonest cache.old → IfOk result (λ node. node_in D (given cache.old page) ≡ Some (content_of node)) }
     ensures level { IfOk result (λ node. node.level ≡ level) }
@@ -45,7 +46,6 @@ pub fn read_node<const D: usize, B: BlockDevice, A: Allocator>(
     ensures there { IsHonest cache.old → (c : Content) → node_in D (pages cache.old page) ≡ Some c → c.level ≡ level → IfErr result IsOfDevice }
     ensures faults { IsHonest cache.old → IfErr result (λ f. IsOfDevice f ⊎ (f ≡ fault.Damaged page)) }
     ensures other_faults { IfErr result (λ f. IsOfDevice f ⊎ IsDamage f) }
-    ensures cause { HasCause (B.faults (device_of cache.old)) (B.faults (device_of cache.new)) result }
 {
     match decode(cache.page(page)?, level) {
         Some(node) => Ok(node),
@@ -59,7 +59,7 @@ pub fn read_node<const D: usize, B: BlockDevice, A: Allocator>(
 /// A number outside 2 to the last one given out is `Damaged` with that number, and changes nothing. After another refusal,
 /// which on an honest device is `Memory` or `Device`, the page is still live and may hold any bytes; all others are as
 /// before.
-pub fn write_node<const D: usize, B: BlockDevice, A: Allocator>(
+pub fn write_node<const D: usize, B: BlockDevice, A: Allocator + Copy>(
     cache: &mut PageCache<B, A>,
     page: u32,
     node: &Node<D>,
@@ -67,7 +67,7 @@ pub fn write_node<const D: usize, B: BlockDevice, A: Allocator>(
     requires dims { IsDims D }
     requires open { gate_of cache.old ≡ Open }
     requires spellable { IsSpellable (content_of node.now) }
-    ensures gate { KeepsGate cache.old cache.new }
+    ensures changes { Changes cache.old cache.new result }
     ensures written { IsHonest cache.old → IsLive cache.old page → OnOk result (node_in D (pages cache.new page) ≡ Some (content_of node.now)) }
     ensures live { IsHonest cache.old → IsLive cache.old page → IsLive cache.new page }
     ensures others { IsHonest cache.old → IsLive cache.old page → SameBut page (pages cache.old) (pages cache.new) }
@@ -77,7 +77,6 @@ pub fn write_node<const D: usize, B: BlockDevice, A: Allocator>(
     ensures outside { (page < 2) ⊎ (next_of cache.old ≤ page) → (result ≡ Err (fault.Damaged page)) × IsUnchanged cache.old cache.new }
     ensures faults { IsHonest cache.old → IsLive cache.old page → IfErr result IsOfDevice }
     ensures other_faults { IfErr result (λ f. IsOfDevice f ⊎ IsDamage f) }
-    ensures cause { HasCause (B.faults (device_of cache.old)) (B.faults (device_of cache.new)) result }
 {
     let mut bytes = zero_block();
     encode(node, &mut bytes);

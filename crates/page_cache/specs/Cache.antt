@@ -1,10 +1,11 @@
 -- What a cache of pages stands for, and what calls keep of it: the words that callers use.
-use Rattle.std.specs.Prelude.{◌≡◌, ◌⊎◌, ◌↔◌, ◌<◌, ◌≤◌, ℕ, List, Option, Some, Result, Ok, Err, OnOk}
-use Rattle.block_device.specs.Device.{Blocks, one_more}
-use Rattle.page_file.specs.Fault.{HasCause}
+use Rattle.std.specs.Prelude.{◌≡◌, ◌↔◌, ℕ, List, Option, None, IsSome, length}
+use Rattle.block_device.specs.Device.{Blocks}
 use Rattle.page_file.specs.File as below
-use Rattle.page_file.specs.declared.fault.Fault.{Fault}
+use Rattle.page_file.specs.Opening.{failed_check}
+use Rattle.page_file.specs.Pages.{HasFreeChain, IsSoundMap, given_pages, next_in, page_of, pages_in}
 use Rattle.page_file.specs.declared.gate.Gate.{Gate}
+use Rattle.page_cache.specs.Frames.{changed_pages, frame_at, laid_over}
 use Rattle.page_cache.specs.declared.cache.PageCache.{PageCache}
 
 -- its device, the blocks on it as they are read, and whether it is honest
@@ -25,43 +26,67 @@ gate_of cache = below.gate_of cache.file
 abbrev pub next_of : {D A : Type 0} {m : _} → PageCache D A m → ℕ
 next_of cache = below.next_of cache.file
 
+-- the blocks as they are read once each changed page is written
+abbrev pub blocks_behind : {D A : Type 0} {m : _} → PageCache D A m → Blocks
+blocks_behind cache = laid_over (changed_pages cache.frames.entries) (blocks_of cache)
+
 -- the map from live page number to the page's bytes
 abbrev pub pages : {D A : Type 0} {m : _} → PageCache D A m → ℕ → Option (List ℕ)
-pages cache n = below.pages cache.file n
+pages cache n = page_of (blocks_behind cache) (below.header_of cache.file) n
 
 -- the pages given out, live or free
 abbrev pub given : {D A : Type 0} {m : _} → PageCache D A m → ℕ → Option (List ℕ)
-given cache n = below.given cache.file n
+given cache n = given_pages (blocks_behind cache) (next_of cache) n
 
 -- the page of this number is live
 abbrev pub IsLive : {D A : Type 0} {m : _} → PageCache D A m → ℕ → Type 0
-IsLive cache n = below.IsLive cache.file n
+IsLive cache n = IsSome (pages cache n)
 
 -- the page of this number is held in memory
 abbrev pub IsHeld : {D A : Type 0} {m : _} → PageCache D A m → ℕ → Type 0
-IsHeld cache n = cache.held ≡ Some n
+IsHeld cache n = IsSome (frame_at cache.frames.entries n)
+
+-- how many pages are held, and how many may be
+abbrev pub held_of : {D A : Type 0} {m : _} → PageCache D A m → ℕ
+held_of cache = length cache.frames.entries
+
+abbrev pub capacity_of : {D A : Type 0} {m : _} → PageCache D A m → ℕ
+capacity_of cache = cache.frames.cap
 
 -- how many pages were lent
 abbrev pub looks_of : {D A : Type 0} {m : _} → PageCache D A m → ℕ
 looks_of cache = cache.looks
 
--- a sound page map of an honest device
-abbrev pub IsPageMap : {D A : Type 0} {m : _} → PageCache D A m → Type 0
-IsPageMap cache = below.IsPageMap cache.file
+-- Each page given out reads on the device as it is lent: none is changed in memory alone.
+abbrev pub IsWritten : {D A : Type 0} {m : _} → PageCache D A m → Type 0
+IsWritten cache = (n : ℕ) → given_pages (blocks_of cache) (next_of cache) n ≡ given cache n
+
+-- A sound page map of an honest device: the free pages are a chain within the pages given out.
+pub record IsPageMap {D A : Type 0} {m : _} (cache : PageCache D A m) : Type 0 where
+  pub honest : IsHonest cache
+  pub free : HasFreeChain (blocks_behind cache) (below.header_of cache.file)
 
 -- the gate and its moment stay
 abbrev pub KeepsGate : {D A : Type 0} {m : _} → PageCache D A m → PageCache D A m → Type 0
 KeepsGate old new = below.KeepsGate old.file new.file
 
--- the map stays, and is as sound as it was; so do the pages given out that are not live
-abbrev pub KeepsMap : {D A : Type 0} {m : _} → PageCache D A m → PageCache D A m → Type 0
-KeepsMap old new = below.KeepsMap old.file new.file
+-- The map stays, and is as sound as it was; so do the pages given out that are not live.
+pub record KeepsMap {D A : Type 0} {m : _} (old new : PageCache D A m) : Type 0 where
+  pub next : next_of new ≡ next_of old
+  pub pages_stay : IsHonest old → (k : ℕ) → pages new k ≡ pages old k
+  pub given_stay : IsHonest old → (k : ℕ) → given new k ≡ given old k
+  pub sound : IsPageMap old ↔ IsPageMap new
 
--- blocks in which the map lies, settled
-abbrev pub LiesIn : {D A : Type 0} {m : _} → PageCache D A m → Blocks → Type 0
-LiesIn cache blocks = below.LiesIn cache.file blocks
+-- Blocks in which the map lies, settled: opening refuses them by no check, and finds the same map, which is as
+-- sound.
+pub record LiesIn {D A : Type 0} {m : _} (cache : PageCache D A m) (blocks : Blocks) : Type 0 where
+  pub passes : failed_check blocks ≡ None
+  pub next : next_in blocks ≡ next_of cache
+  pub pages_there : (k : ℕ) → pages_in blocks k ≡ pages cache k
+  pub sound : IsPageMap cache ↔ IsSoundMap blocks
 
--- Nothing that callers see has changed: the device, the gate, the map and the count of looks are the same.
+-- Nothing that callers see has changed: the device, the gate, the map, the count of looks and the
+-- capacity are the same.
 pub record IsUnchanged {D A : Type 0} {m : _} (old new : PageCache D A m) : Type 0 where
   pub device : device_of new ≡ device_of old
   pub gate : gate_of new ≡ gate_of old
@@ -70,19 +95,4 @@ pub record IsUnchanged {D A : Type 0} {m : _} (old new : PageCache D A m) : Type
   pub given_stay : (k : ℕ) → given new k ≡ given old k
   pub sound : IsPageMap old ↔ IsPageMap new
   pub looks : looks_of new ≡ looks_of old
-
--- the count of looks is one more where a page was lent, up to the greatest u64, and the same behind a refusal
-abbrev pub looks_after : {T : Type 0} → Result T Fault → ℕ → ℕ
-looks_after (Ok _) before = one_more before
-looks_after (Err _) before = before
-
--- Page n was asked for, and lent or refused. The map and the gate stay, and the page lent is held. A page that
--- was held, and a number of no page given out, need no call of the device.
-pub record IsLookedAt {D A : Type 0} {m : _} {T : Type 0} (old new : PageCache D A m) (n : ℕ) (result : Result T Fault) : Type 0 where
-  pub gate : KeepsGate old new
-  pub map : KeepsMap old new
-  pub looks : looks_of new ≡ looks_after result (looks_of old)
-  pub holds : OnOk result (IsHeld new n)
-  pub held : IsHeld old n → device_of new ≡ device_of old
-  pub outside : (n < 2) ⊎ (next_of old ≤ n) → device_of new ≡ device_of old
-  pub cause : HasCause (m.faults (device_of old)) (m.faults (device_of new)) result
+  pub capacity : capacity_of new ≡ capacity_of old

@@ -7,6 +7,7 @@ use Rattle.page_file.specs.Pages.{page_of, given_pages, pages_in, next_in, HasFr
 use Rattle.page_file.specs.Stops.{AddsOnly, StopSince}
 use Rattle.page_file.specs.declared.gate.Gate.{Gate}
 use Rattle.page_file.specs.declared.gate.Gate.TheVariants.{Open}
+use Rattle.page_file.specs.declared.header.Header.{Header}
 use Rattle.page_file.specs.declared.file.PageFile.{PageFile}
 
 -- its device, the blocks on it as they are read, and whether it is honest
@@ -22,6 +23,10 @@ IsHonest {m = m} file = m.honest file.device
 -- its gate: shut, open or unsure
 abbrev pub gate_of : {D : Type 0} {m : _} → PageFile D m → Gate
 gate_of file = file.gate
+
+-- what its header says, or has to say once the file is settled
+abbrev pub header_of : {D : Type 0} {m : _} → PageFile D m → Header
+header_of file = file.header
 
 -- one more than the greatest page number given out
 abbrev pub next_of : {D : Type 0} {m : _} → PageFile D m → ℕ

@@ -1,5 +1,5 @@
 -- The map of live pages that blocks and a header stand for (our rule, docs/FORMAT.md, "Pages").
-use Rattle.std.specs.Prelude.{◌≡◌, ◌≤◌, ◌<◌, ℕ, zero, suc, List, [], ◌∷◌, Option, Some, None, Bool, ◌&&◌, not, nat_le, nat_lt, eqb, if◌then◌else◌}
+use Rattle.std.specs.Prelude.{◌≡◌, ◌≤◌, ◌<◌, ◌+◌, ℕ, zero, suc, List, [], ◌∷◌, Option, Some, None, Bool, ◌&&◌, not, nat_le, nat_lt, eqb, if◌then◌else◌}
 use Rattle.std.specs.Set.{is_member}
 use Rattle.block_device.specs.Device.{Blocks, block_at}
 use Rattle.page_file.specs.Layout.{kind_of, link_of}
@@ -54,3 +54,10 @@ IsSoundMap blocks = HasFreeChain blocks (header_in blocks)
 -- the same map but for page n
 abbrev pub SameBut : ℕ → (ℕ → Option (List ℕ)) → (ℕ → Option (List ℕ)) → Type 0
 SameBut n old new = (k : ℕ) → ¬ (k ≡ n) → new k ≡ old k
+
+-- the header behind which one more number is given out, and the one behind which page n is the first free page
+abbrev pub with_one_given : Header → Header
+with_one_given h = record { next = h.next + 1; first = h.first; count = h.count }
+
+abbrev pub with_one_free : ℕ → Header → Header
+with_one_free n h = record { next = h.next; first = n; count = h.count + 1 }

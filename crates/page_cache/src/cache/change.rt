@@ -4,14 +4,15 @@ ghost use Rattle.block_device.specs.Device.{LeavesOnly, Only};
 ghost use Rattle.page_file.specs.Fault.{HasCause, IsDamage, IsOfDevice};
 ghost use Rattle.page_file.specs.Stops.{SameButGate};
 ghost use Rattle.page_file.specs.declared.gate.Gate.TheVariants.{Open, Unsure};
-ghost use Rattle.page_cache.specs.Cache.{IsHonest, IsUnchanged, KeepsGate, KeepsMap, blocks_of, device_of, gate_of, looks_of};
+ghost use Rattle.page_cache.specs.Cache.{IsHonest, IsUnchanged, IsWritten, KeepsGate, KeepsMap, blocks_of, capacity_of, device_of, gate_of, looks_of};
+ghost use Rattle.page_cache.specs.Calls.{Asks};
 
 use crate::cache::PageCache;
 use block_device::BlockDevice;
 use page_file::Fault;
 use std::alloc::Allocator;
 
-impl<D: BlockDevice, A: Allocator> PageCache<D, A> {
+impl<D: BlockDevice, A: Allocator + Copy> PageCache<D, A> {
     /// Opens the gate for a change: it is written open, alone, and synced, if it is not open already.
     ///
     /// After a refusal, which is `Memory` or `Device`, the gate is unsure. The map stays.
@@ -27,6 +28,7 @@ impl<D: BlockDevice, A: Allocator> PageCache<D, A> {
             LeavesOnly D.moment D.left_since (device_of self.old) (device_of self.new) (λ c. SameButGate c (blocks_of self.old)) }
 
         ensures looks { looks_of self.new ≡ looks_of self.old }
+        ensures capacity { capacity_of self.new ≡ capacity_of self.old }
         ensures honest { IsHonest self.old ↔ IsHonest self.new }
         ensures faults { IfErr result IsOfDevice }
         ensures cause { HasCause (D.faults (device_of self.old)) (D.faults (device_of self.new)) result }
@@ -38,15 +40,16 @@ impl<D: BlockDevice, A: Allocator> PageCache<D, A> {
     /// they are. The gate and the map stay.
     ///
     /// On an honest device a refusal is `Memory` or `Device`; on another one a page may be damaged.
+    #[tactic(auto, using(crate::specs::Calls::counted_by_end))]
     pub fn flush(&mut self) -> Result<(), Fault>
-        ensures gate { KeepsGate self.old self.new }
-        ensures map { KeepsMap self.old self.new }
+        ensures asks { Asks self.old self.new result }
+        ensures written { IsHonest self.old → OnOk result (IsWritten self.new) }
         ensures durable { IsHonest self.old → OnOk result (Only (blocks_of self.new) (D.may_leave (device_of self.new))) }
         ensures looks { looks_of self.new ≡ looks_of self.old }
         ensures faults { IsHonest self.old → IfErr result IsOfDevice }
         ensures other_faults { IfErr result (λ f. IsOfDevice f ⊎ IsDamage f) }
-        ensures cause { HasCause (D.faults (device_of self.old)) (D.faults (device_of self.new)) result }
     {
+        self.write_all()?;
         self.file.flush()
     }
 }

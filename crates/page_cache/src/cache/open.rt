@@ -5,14 +5,16 @@ ghost use Rattle.page_file.specs.Fault.{HasCause, IsOfDevice};
 ghost use Rattle.page_file.specs.File as below;
 ghost use Rattle.page_file.specs.declared.fault.Fault.TheVariants as fault;
 ghost use Rattle.page_file.specs.declared.gate.Gate.TheVariants.{Shut};
-ghost use Rattle.page_cache.specs.Cache.{IsHeld, IsHonest, IsPageMap, KeepsGate, KeepsMap, LiesIn, blocks_of, device_of, gate_of, given, looks_of, next_of, pages};
+ghost use Rattle.page_cache.specs.Cache.{IsHeld, IsHonest, IsPageMap, KeepsGate, KeepsMap, LiesIn, blocks_of, capacity_of, device_of, gate_of, given, looks_of, next_of, pages};
 
 use crate::cache::PageCache;
 use block_device::BlockDevice;
+use lru::LruCache;
 use page_file::{Fault, PageFile};
 use std::alloc::Allocator;
+use std::num::NonZeroUsize;
 
-impl<D: BlockDevice, A: Allocator> PageCache<D, A> {
+impl<D: BlockDevice, A: Allocator + Copy> PageCache<D, A> {
     /// Puts a cache of at most `capacity` pages, 8 to 4096, over a file. It shows what the file shows, and holds
     /// no page yet.
     ///
@@ -28,16 +30,18 @@ impl<D: BlockDevice, A: Allocator> PageCache<D, A> {
         ensures sound { IfOk result (λ cache. IsPageMap cache ↔ below.IsPageMap file) }
         ensures lies { IfOk result (λ cache. (blocks : Blocks) → LiesIn cache blocks ↔ below.LiesIn file blocks) }
         ensures holds_none { IfOk result (λ cache. (n : ℕ) → ¬ (IsHeld cache n)) }
+        ensures capacity { IfOk result (λ cache. capacity_of cache ≡ capacity) }
         ensures looks { IfOk result (λ cache. looks_of cache ≡ 0) }
         ensures refused { IfErr result (λ e. (e.0 ≡ fault.Memory) × (e.1 ≡ below.device_of file)) }
     {
-        // One page is held so far, whatever the capacity.
-        let _ = capacity;
-        match Box::new(alloc, [0; 4096]) {
-            Ok(buffer) => Ok(PageCache {
+        let Some(capacity) = NonZeroUsize::new(capacity as usize) else {
+            unreachable!()
+        };
+        match LruCache::new(alloc, capacity) {
+            Ok(frames) => Ok(PageCache {
                 file,
-                held: None,
-                buffer,
+                frames,
+                spare: None,
                 looks: 0,
             }),
             Err(_) => Err((Fault::Memory, file.abandon())),
@@ -56,11 +60,12 @@ impl<D: BlockDevice, A: Allocator> PageCache<D, A> {
         ensures blocks { IsHonest self.old → blocks_of self.new ≡ blocks_of self.old }
         ensures forgets { (n : ℕ) → ¬ (IsHeld self.new n) }
         ensures looks { looks_of self.new ≡ looks_of self.old }
+        ensures capacity { capacity_of self.new ≡ capacity_of self.old }
         ensures faults { IsHonest self.old → IfErr result IsOfDevice }
         ensures never { IfErr result (λ e. ¬ (e ≡ fault.NoPages)) }
         ensures cause { HasCause (D.faults (device_of self.old)) (D.faults (device_of self.new)) result }
     {
-        self.held = None;
+        self.frames.clear();
         self.file.check_again()
     }
 }

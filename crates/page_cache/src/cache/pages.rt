@@ -1,20 +1,24 @@
 //! The pages: given out, put, freed and lent.
-ghost use Rattle.std.specs.Prelude.{◌≡◌, ◌⊎◌, ◌≤◌, ◌<◌, ◌+◌, ◌^◌, ℕ, Some, None, Err, IsErrOf, IsOk, IfOk, IfErr, OnOk, OnErr};
+ghost use Rattle.std.specs.Prelude.{◌≡◌, ◌⊎◌, ◌≤◌, ◌<◌, ◌+◌, ◌^◌, ℕ, Some, None, Err, IsErrOf, IsOk, IfOk, IfErr, OnOk, OnErr, length, option_map, slice_get};
 ghost use Rattle.std.specs.Borrow.{sem};
 ghost use Rattle.block_bytes.specs.Numbers.{zeros};
 ghost use Rattle.page_file.specs.Fault.{HasCause, IsOfDevice, IsDamage};
 ghost use Rattle.page_file.specs.Pages.{SameBut};
 ghost use Rattle.page_file.specs.declared.fault.Fault.TheVariants as fault;
 ghost use Rattle.page_file.specs.declared.gate.Gate.TheVariants.{Open};
-ghost use Rattle.page_cache.specs.Cache.{IsHeld, IsHonest, IsLive, IsLookedAt, IsPageMap, IsUnchanged, KeepsGate, KeepsMap, device_of, gate_of, given, looks_of, next_of, pages};
+ghost use Rattle.page_cache.specs.Cache.{IsHeld, IsHonest, IsLive, IsPageMap, IsUnchanged, KeepsGate, KeepsMap, capacity_of, device_of, gate_of, given, looks_of, next_of, pages};
+ghost use Rattle.page_cache.specs.Calls.{Changes, IsLookedAt};
+ghost use Rattle.page_cache.specs.Frames.{frame_at};
+ghost use Rattle.page_cache.specs.Keeps.{KeepsBlocks, SameFrames};
 ghost use Rattle.page_cache.specs.Loan.{EndsLookedAt};
 
 use crate::cache::PageCache;
+use crate::frame::Frame;
 use block_device::BlockDevice;
 use page_file::Fault;
 use std::alloc::Allocator;
 
-impl<D: BlockDevice, A: Allocator> PageCache<D, A> {
+impl<D: BlockDevice, A: Allocator + Copy> PageCache<D, A> {
     /// Lends a page that was given out, and counts a look. A number outside 2 to the last one given out is
     /// `Damaged` with that number, without a call of the device, and a page that is held is lent without one.
     ///
@@ -30,55 +34,54 @@ impl<D: BlockDevice, A: Allocator> PageCache<D, A> {
         ensures other_faults { IfErr result (λ f. IsOfDevice f ⊎ IsDamage f) }
     {
         self.look(n)?;
-        Ok(&self.buffer)
+        match self.frames.peek_mru() {
+            Some((_, frame)) => Ok(&frame.bytes),
+            None => unreachable!(),
+        }
     }
 
-    // Brings a page into the buffer, and counts a look.
+    // Makes a page the one used last, and counts a look.
     fn look(&mut self, n: u32) -> Result<(), Fault>
         ensures looked_at { IsLookedAt self.old self.new n result }
-        ensures given_bytes { IsHonest self.old → OnOk result (given self.old n ≡ Some self.new.buffer.value) }
+        ensures first { OnOk result ((f : _) × (slice_get self.new.frames.entries 0 ≡ Some (n, f)) × (IsHonest self.old → given self.old n ≡ Some f.bytes.value)) }
         ensures held { IsHeld self.old n → IsOk result }
         ensures outside { (n < 2) ⊎ (next_of self.old ≤ n) → result ≡ Err (fault.Damaged n) }
         ensures faults { IsHonest self.old → 2 ≤ n → n < next_of self.old → IfErr result IsOfDevice }
-        ensures other_faults { IfErr result (λ f. IsOfDevice f ⊎ (f ≡ fault.Damaged n)) }
+        ensures other_faults { IfErr result (λ f. IsOfDevice f ⊎ IsDamage f) }
     {
         self.load(n)?;
         self.looks = self.looks.saturating_add(1);
         Ok(())
     }
 
-    // Brings a page into the buffer, if it is not there.
-    #[tactic(auto, using(page_file::specs::Laws::no_call_keeps_the_gate, page_file::specs::Laws::no_call_keeps_the_map))]
+    // Makes a page the one used last, and brings it in where it is not held.
     fn load(&mut self, n: u32) -> Result<(), Fault>
-        ensures gate { KeepsGate self.old self.new }
-        ensures map { KeepsMap self.old self.new }
-        ensures given_bytes { IsHonest self.old → OnOk result (given self.old n ≡ Some self.new.buffer.value) }
-        ensures holds { OnOk result (IsHeld self.new n) }
-        ensures held { IsHeld self.old n → (device_of self.new ≡ device_of self.old) × IsOk result }
-        ensures looks { looks_of self.new ≡ looks_of self.old }
-        ensures outside { (n < 2) ⊎ (next_of self.old ≤ n) → (result ≡ Err (fault.Damaged n)) × (device_of self.new ≡ device_of self.old) }
+        ensures kept { KeepsBlocks self.old self.new }
+        ensures first { OnOk result (option_map (λ e. e.0) (slice_get self.new.frames.entries 0) ≡ Some n) }
+        ensures held { IsHeld self.old n → (self.new.file ≡ self.old.file) × IsOk result }
+        ensures outside { (n < 2) ⊎ (next_of self.old ≤ n) → (result ≡ Err (fault.Damaged n)) × (self.new.file ≡ self.old.file) }
         ensures faults { IsHonest self.old → 2 ≤ n → n < next_of self.old → IfErr result IsOfDevice }
-        ensures other_faults { IfErr result (λ f. IsOfDevice f ⊎ (f ≡ fault.Damaged n)) }
+        ensures other_faults { IfErr result (λ f. IsOfDevice f ⊎ IsDamage f) }
         ensures cause { HasCause (D.faults (device_of self.old)) (D.faults (device_of self.new)) result }
     {
-        if self.held == Some(n) {
+        if self.promote(n) {
             return Ok(());
         }
-        // After a refusal the buffer holds anything.
-        self.held = None;
-        self.file.read(n, &mut self.buffer)?;
-        self.held = Some(n);
-        Ok(())
+        if n < 2 || n >= self.file.next_number() {
+            return Err(Fault::Damaged(n));
+        }
+        self.fetch(n)
     }
 
-    /// Writes a live page, and holds it. The gate has to be open. A number outside 2 to the last one given out is
+    /// Changes a live page in memory, and holds it. The gate has to be open. A number outside 2 to the last one given out is
     /// `Damaged` with that number, without a call of the device.
     ///
     /// After a refusal the page is still live and may hold any bytes; all others are as before. On an
     /// honest device that is `Memory` or `Device`.
+    #[tactic(auto, using(crate::specs::Calls::counted_by_end))]
     pub fn put(&mut self, n: u32, bytes: &[u8; 4096]) -> Result<(), Fault>
         requires { gate_of self.old ≡ Open }
-        ensures gate { KeepsGate self.old self.new }
+        ensures changes { Changes self.old self.new result }
         ensures written { IsHonest self.old → IsLive self.old n → OnOk result (pages self.new n ≡ Some bytes.now) }
         ensures live { IsHonest self.old → IsLive self.old n → IsLive self.new n }
         ensures others { IsHonest self.old → IsLive self.old n → SameBut n (pages self.old) (pages self.new) }
@@ -91,23 +94,46 @@ impl<D: BlockDevice, A: Allocator> PageCache<D, A> {
         ensures outside { (n < 2) ⊎ (next_of self.old ≤ n) → (result ≡ Err (fault.Damaged n)) × IsUnchanged self.old self.new }
         ensures faults { IsHonest self.old → 2 ≤ n → n < next_of self.old → IfErr result IsOfDevice }
         ensures other_faults { IfErr result (λ f. IsOfDevice f ⊎ IsDamage f) }
+    {
+        self.admit(n)?;
+        let mut page = self.blank()?;
+        *page = *bytes;
+        self.hold(
+            n,
+            Frame {
+                bytes: page,
+                changed: true,
+            },
+        )
+    }
+
+    // Sees that there is a frame for a page that was given out.
+    fn admit(&mut self, n: u32) -> Result<(), Fault>
+        ensures kept { KeepsBlocks self.old self.new }
+        ensures within { OnOk result ((2 ≤ n) × (n < next_of self.old)) }
+        ensures room { OnOk result (frame_at self.new.frames.entries n ≡ None → length self.new.frames.entries < self.new.frames.cap) }
+        ensures outside { (n < 2) ⊎ (next_of self.old ≤ n) → (result ≡ Err (fault.Damaged n)) × SameFrames self.old self.new }
+        ensures faults { IsHonest self.old → 2 ≤ n → n < next_of self.old → IfErr result IsOfDevice }
+        ensures other_faults { IfErr result (λ f. IsOfDevice f ⊎ IsDamage f) }
         ensures cause { HasCause (D.faults (device_of self.old)) (D.faults (device_of self.new)) result }
     {
-        // After a refusal the page may hold any bytes, so it is not held.
-        self.held = None;
-        self.file.write(n, bytes)?;
-        *self.buffer = *bytes;
-        self.held = Some(n);
-        Ok(())
+        if self.promote(n) {
+            return Ok(());
+        }
+        if n < 2 || n >= self.file.next_number() {
+            return Err(Fault::Damaged(n));
+        }
+        self.make_room()
     }
 
     /// Gives out a page of zeros that was not live. The gate has to be open.
     ///
     /// After a refusal one page that was not live may hold any bytes, and may be live; all others are as
     /// before. `NoPages` comes only where all numbers up to 2^31 - 1 were given out.
+    #[tactic(auto, using(crate::specs::Calls::counted_by_end))]
     pub fn allocate(&mut self) -> Result<u32, Fault>
         requires { gate_of self.old ≡ Open }
-        ensures gate { KeepsGate self.old self.new }
+        ensures changes { Changes self.old self.new result }
         ensures fresh { IsPageMap self.old → IfOk result (λ n. (pages self.old n ≡ None) × (pages self.new n ≡ Some zeros) × SameBut n (pages self.old) (pages self.new)) }
         ensures given_others { IsHonest self.old → IfOk result (λ n. SameBut n (given self.old) (given self.new)) }
         ensures given_refused { IsHonest self.old → OnErr result ((n : ℕ) × SameBut n (given self.old) (given self.new)) }
@@ -119,10 +145,7 @@ impl<D: BlockDevice, A: Allocator> PageCache<D, A> {
         ensures no_pages { IsErrOf result fault.NoPages → next_of self.old ≡ 2 ^ 31 }
         ensures faults { IsPageMap self.old → IfErr result (λ f. IsOfDevice f ⊎ (f ≡ fault.NoPages)) }
         ensures other_faults { IfErr result (λ f. IsOfDevice f ⊎ ((f ≡ fault.NoPages) ⊎ IsDamage f)) }
-        ensures cause { HasCause (D.faults (device_of self.old)) (D.faults (device_of self.new)) result }
     {
-        // A page that is not live may be held, and it may be that one which is given out.
-        self.held = None;
         self.file.allocate()
     }
 
@@ -131,9 +154,10 @@ impl<D: BlockDevice, A: Allocator> PageCache<D, A> {
     ///
     /// After a refusal the page may hold any bytes, and may be live or not; all others are as before.
     /// With a sound map that is `Memory` or `Device`.
+    #[tactic(auto, using(crate::specs::Calls::counted_by_end))]
     pub fn free(&mut self, n: u32) -> Result<(), Fault>
         requires { gate_of self.old ≡ Open }
-        ensures gate { KeepsGate self.old self.new }
+        ensures changes { Changes self.old self.new result }
         ensures freed { IsHonest self.old → IsLive self.old n → OnOk result (pages self.new n ≡ None) }
         ensures others { IsHonest self.old → IsLive self.old n → SameBut n (pages self.old) (pages self.new) }
         ensures given_others { IsHonest self.old → SameBut n (given self.old) (given self.new) }
@@ -143,11 +167,11 @@ impl<D: BlockDevice, A: Allocator> PageCache<D, A> {
         ensures outside { (n < 3) ⊎ (next_of self.old ≤ n) → (result ≡ Err (fault.Damaged n)) × IsUnchanged self.old self.new }
         ensures faults { IsPageMap self.old → IsLive self.old n → ¬ (n ≡ 2) → IfErr result IsOfDevice }
         ensures other_faults { IfErr result (λ f. IsOfDevice f ⊎ IsDamage f) }
-        ensures cause { HasCause (D.faults (device_of self.old)) (D.faults (device_of self.new)) result }
     {
-        if self.held == Some(n) {
-            self.held = None;
+        if n < 3 || n >= self.file.next_number() {
+            return Err(Fault::Damaged(n));
         }
+        self.forget(n);
         self.file.free(n)
     }
 }

@@ -5,14 +5,14 @@ ghost use Rattle.page_file.specs.Fault.{HasCause, IsDamage, IsOfDevice, faults_a
 ghost use Rattle.page_file.specs.Opening.{IsRefused};
 ghost use Rattle.page_file.specs.Stops.{SameButGate};
 ghost use Rattle.page_file.specs.declared.gate.Gate.TheVariants.{Shut, Open, Unsure};
-ghost use Rattle.page_cache.specs.Cache.{IsHonest, IsUnchanged, KeepsMap, LiesIn, blocks_of, device_of, gate_of, looks_of};
+ghost use Rattle.page_cache.specs.Cache.{IsHonest, IsUnchanged, KeepsMap, LiesIn, blocks_of, capacity_of, device_of, gate_of, looks_of};
 
 use crate::cache::PageCache;
 use block_device::BlockDevice;
 use page_file::Fault;
 use std::alloc::Allocator;
 
-impl<D: BlockDevice, A: Allocator> PageCache<D, A> {
+impl<D: BlockDevice, A: Allocator + Copy> PageCache<D, A> {
     /// Shuts the gate behind all that was put. With the gate open the pages and the header are written and
     /// synced, and then the gate is written shut and synced; with it unsure the gate alone; with it shut nothing
     /// is written. The cache stays usable.
@@ -33,11 +33,13 @@ impl<D: BlockDevice, A: Allocator> PageCache<D, A> {
             LeavesOnly D.moment D.left_since (device_of self.old) (device_of self.new) (λ c. IsRefused c ⊎ (SameButGate c (blocks_of self.new) × LiesIn self.new c)) }
 
         ensures looks { looks_of self.new ≡ looks_of self.old }
+        ensures capacity { capacity_of self.new ≡ capacity_of self.old }
         ensures honest { IsHonest self.old ↔ IsHonest self.new }
         ensures faults { IsHonest self.old → IfErr result IsOfDevice }
         ensures other_faults { IfErr result (λ f. IsOfDevice f ⊎ IsDamage f) }
         ensures cause { HasCause (D.faults (device_of self.old)) (D.faults (device_of self.new)) result }
     {
+        self.write_all()?;
         self.file.settle()
     }
 
@@ -64,12 +66,12 @@ impl<D: BlockDevice, A: Allocator> PageCache<D, A> {
         ensures no_fault { IfOk result (λ device. D.faults device ≡ D.faults (device_of self)) }
         ensures cause { IfErr result (λ e. D.faults e.1 ≡ faults_after e.0 (D.faults (device_of self))) }
     {
-        let PageCache {
-            file,
-            held: _,
-            buffer: _,
-            looks: _,
-        } = self;
-        file.close()
+        let mut cache = self;
+        let settled = cache.settle();
+        let device = cache.abandon();
+        match settled {
+            Ok(()) => Ok(device),
+            Err(fault) => Err((fault, device)),
+        }
     }
 }

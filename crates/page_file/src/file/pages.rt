@@ -1,10 +1,11 @@
 //! The pages: given out, written, freed and read.
-ghost use Rattle.std.specs.Prelude.{◌≡◌, ◌⊎◌, ◌≤◌, ◌<◌, ◌+◌, ◌^◌, ℕ, Some, None, Err, IsErrOf, IfOk, IfErr, OnOk, OnErr};
+ghost use Rattle.std.specs.Prelude.{◌≡◌, ◌⊎◌, ◌≤◌, ◌<◌, ◌+◌, ◌-◌, ◌^◌, ℕ, Some, None, Err, IsErrOf, IfOk, IfErr, OnOk, OnErr};
 ghost use Rattle.block_bytes.specs.Numbers.{zeros};
-ghost use Rattle.block_device.specs.Device.{Only};
+ghost use Rattle.block_device.specs.Device.{Only, Torn, written};
 ghost use Rattle.page_file.specs.Fault.{HasCause, IsOfDevice, IsDamage};
-ghost use Rattle.page_file.specs.File.{device_of, blocks_of, IsHonest, gate_of, next_of, pages, given, IsLive, IsPageMap, KeepsGate, KeepsMap};
-ghost use Rattle.page_file.specs.Pages.{SameBut};
+ghost use Rattle.page_file.specs.File.{device_of, blocks_of, header_of, IsHonest, gate_of, next_of, pages, given, IsLive, IsPageMap, KeepsGate, KeepsMap};
+ghost use Rattle.page_file.specs.Layout.{free_block};
+ghost use Rattle.page_file.specs.Pages.{SameBut, with_one_free, with_one_given};
 ghost use Rattle.page_file.specs.declared.fault.Fault.TheVariants as fault;
 ghost use Rattle.page_file.specs.declared.gate.Gate.TheVariants.{Open};
 
@@ -30,10 +31,15 @@ impl<D: BlockDevice> PageFile<D> {
         ensures given_refused { IsHonest self.old → OnErr result ((n : ℕ) × SameBut n (given self.old) (given self.new)) }
         ensures refused { IsPageMap self.old → OnErr result ((n : ℕ) × (pages self.old n ≡ None) × SameBut n (pages self.old) (pages self.new)) }
         ensures sound { IsPageMap self.old → IsPageMap self.new }
+        ensures header { IfOk result (λ n. (n ≡ next_of self.old) × (header_of self.new ≡ with_one_given (header_of self.old))) }
+        ensures refused_header { OnErr result (header_of self.new ≡ header_of self.old) }
+        ensures block { IsHonest self.old → OnOk result (blocks_of self.new ≡ written (next_of self.old) zeros (blocks_of self.old)) }
+        ensures torn { IsHonest self.old → Torn (next_of self.old) (blocks_of self.old) (blocks_of self.new) }
         ensures number { IfOk result (λ n. (3 ≤ n) × (n < next_of self.new)) }
         ensures next { (next_of self.old ≤ next_of self.new) × (next_of self.new ≤ next_of self.old + 1) }
         ensures no_pages { IsErrOf result fault.NoPages → next_of self.old ≡ 2 ^ 31 }
         ensures faults { IsPageMap self.old → IfErr result (λ f. IsOfDevice f ⊎ (f ≡ fault.NoPages)) }
+        ensures honest_faults { IsHonest self.old → IfErr result (λ f. IsOfDevice f ⊎ (f ≡ fault.NoPages)) }
         ensures other_faults { IfErr result (λ f. IsOfDevice f ⊎ ((f ≡ fault.NoPages) ⊎ IsDamage f)) }
         ensures cause { HasCause (D.faults (device_of self.old)) (D.faults (device_of self.new)) result }
     {
@@ -62,6 +68,9 @@ impl<D: BlockDevice> PageFile<D> {
         ensures given { IsHonest self.old → OnOk result (given self.new n ≡ Some bytes.now) }
         ensures given_others { IsHonest self.old → SameBut n (given self.old) (given self.new) }
         ensures sound { IsPageMap self.old → IsLive self.old n → IsPageMap self.new }
+        ensures header { header_of self.new ≡ header_of self.old }
+        ensures block { IsHonest self.old → OnOk result (blocks_of self.new ≡ written n bytes.now (blocks_of self.old)) }
+        ensures torn { IsHonest self.old → Torn n (blocks_of self.old) (blocks_of self.new) }
         ensures next { next_of self.new ≡ next_of self.old }
         ensures outside { (n < 2) ⊎ (next_of self.old ≤ n) → (result ≡ Err (fault.Damaged n)) × (self.new ≡ self.old) }
         ensures faults { IsHonest self.old → 2 ≤ n → n < next_of self.old → IfErr result IsOfDevice }
@@ -87,9 +96,14 @@ impl<D: BlockDevice> PageFile<D> {
         ensures others { IsHonest self.old → IsLive self.old n → SameBut n (pages self.old) (pages self.new) }
         ensures given_others { IsHonest self.old → SameBut n (given self.old) (given self.new) }
         ensures sound { IsPageMap self.old → IsLive self.old n → IsPageMap self.new }
+        ensures header { OnOk result (header_of self.new ≡ with_one_free n (header_of self.old)) }
+        ensures refused_header { OnErr result (header_of self.new ≡ header_of self.old) }
+        ensures block { IsHonest self.old → OnOk result (blocks_of self.new ≡ written n (free_block (header_of self.old).first) (blocks_of self.old)) }
+        ensures torn { IsHonest self.old → Torn n (blocks_of self.old) (blocks_of self.new) }
         ensures next { next_of self.new ≡ next_of self.old }
         ensures outside { (n < 3) ⊎ (next_of self.old ≤ n) → (result ≡ Err (fault.Damaged n)) × (self.new ≡ self.old) }
         ensures faults { IsPageMap self.old → IsLive self.old n → ¬ (n ≡ 2) → IfErr result IsOfDevice }
+        ensures room_faults { IsHonest self.old → 3 ≤ n → n < next_of self.old → (header_of self.old).count < next_of self.old - 3 → IfErr result IsOfDevice }
         ensures other_faults { IfErr result (λ f. IsOfDevice f ⊎ (f ≡ fault.Damaged n)) }
         ensures cause { HasCause (D.faults (device_of self.old)) (D.faults (device_of self.new)) result }
     {
@@ -111,6 +125,7 @@ impl<D: BlockDevice> PageFile<D> {
         ensures bytes { IsHonest self.old → IsLive self.old n → OnOk result (pages self.old n ≡ Some into.new) }
         ensures given_bytes { IsHonest self.old → OnOk result (given self.old n ≡ Some into.new) }
         ensures blocks { IsHonest self.old → blocks_of self.new ≡ blocks_of self.old }
+        ensures header { header_of self.new ≡ header_of self.old }
         ensures outside { (n < 2) ⊎ (next_of self.old ≤ n) → (result ≡ Err (fault.Damaged n)) × (self.new ≡ self.old) }
         ensures faults { IsHonest self.old → 2 ≤ n → n < next_of self.old → IfErr result IsOfDevice }
         ensures other_faults { IfErr result (λ f. IsOfDevice f ⊎ (f ≡ fault.Damaged n)) }

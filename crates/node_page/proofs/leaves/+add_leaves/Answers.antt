@@ -2,7 +2,7 @@
 use Rattle.std.proofs.Common.{◌∙◌, ℕ, ◌++◌, List, map, ap, sym, arith}
 use Rattle.page_file.specs.Fault.{IsOfDevice}
 use Rattle.page_cache.specs.Cache.{pages}
-use Rattle.page_cache.specs.Laws.{the_gate_is_kept_in_turn, the_map_is_kept_in_turn}
+use Rattle.page_cache.specs.Calls.{asks_and_refuses}
 use Rattle.node_page.specs.Layout.{content_of, item_of}
 use Rattle.node_page.specs.Lists.{lists_of}
 use Rattle.node_page.specs.Trees.{PageMap}
@@ -21,11 +21,8 @@ returns-then-root-eq0-clause-lists g t c = λ h row at.
 pub overflow_cast-below : goal.overflow_cast-below
 overflow_cast-below g t c = omega (arith, child_page c.in_ok-node.node.level c.in_ok-node.node.entries.items c.as_slice-entry-items.result.now c.loop-entry.entry-index c.entry-item.result c.in_ok-node.ensures.spellable.refers c.as_slice-entry-items.ensures.value (omega (arith, c.loop-entry-test.true)) c.entry-item.is (omega (arith, c.in_ok-node.ensures.level, c.if-root-eq0.false)))
 
-pub returns-in_err-add_leaves-clause-gate : goal.returns-in_err-add_leaves-clause-gate
-returns-in_err-add_leaves-clause-gate g t c = the_gate_is_kept_in_turn c.args.cache.now c.loop-entry.cache c.add_leaves.new.cache c.loop-entry.invariant.gate c.add_leaves.ensures.gate
-
-pub returns-in_err-add_leaves-clause-map : goal.returns-in_err-add_leaves-clause-map
-returns-in_err-add_leaves-clause-map g t c = the_map_is_kept_in_turn c.args.cache.now c.loop-entry.cache c.add_leaves.new.cache c.loop-entry.invariant.gate.honest.0 c.loop-entry.invariant.kept c.add_leaves.ensures.map
+pub returns-in_err-add_leaves-clause-asks : goal.returns-in_err-add_leaves-clause-asks
+returns-in_err-add_leaves-clause-asks g t c = asks_and_refuses c.args.cache.now c.loop-entry.cache c.add_leaves.new.cache c.in_err-add_leaves.field-0.0 c.from_residual-in_err-add_leaves.result c.from_residual-in_err-add_leaves.ensures.1 c.loop-entry.invariant.asks c.in_err-add_leaves.ensures.asks
 
 pub returns-in_err-add_leaves-clause-stands : goal.returns-in_err-add_leaves-clause-stands
 returns-in_err-add_leaves-clause-stands g t c = λ h row at.
@@ -34,11 +31,11 @@ returns-in_err-add_leaves-clause-stands g t c = λ h row at.
     let same = entries_there g.row.D m c.args.root.page c.args.root.level row (content_of c.in_ok-node.node) at there ∙ ap (map item_of) (sym c.as_slice-entry-items.ensures.value) in
     let b = below_here c.loop-entry.invariant c.entry-item.result (omega (arith, c.loop-entry-test.true)) c.entry-item.is (omega (arith, c.if-root-eq0.false)) h row same at.below in
     at_error c.from_residual-in_err-add_leaves.result c.in_err-add_leaves.field-0.0 IsOfDevice c.from_residual-in_err-add_leaves.ensures.1
-    (c.in_err-add_leaves.ensures.stands (c.loop-entry.invariant.gate.honest.0 h) b.0 b.1)
+    (c.in_err-add_leaves.ensures.stands (c.loop-entry.invariant.asks.gate.honest.0 h) b.0 b.1)
 
 pub loop-entry-preserved : goal.loop-entry-preserved
 loop-entry-preserved g t c = one_more_read c.loop-entry.invariant c.entry-item.result (omega (arith, c.loop-entry-test.true)) c.entry-item.is (omega (arith, c.if-root-eq0.false))
-    c.add_leaves.new.cache (lists_of c.add_leaves.new.lists) c.add_leaves.ensures.gate c.add_leaves.ensures.map c.in_ok-add_leaves.ensures.cause.ok
+    c.add_leaves.new.cache (lists_of c.add_leaves.new.lists) c.in_ok-add_leaves.ensures.asks
     (λ h row at. c.in_ok-add_leaves.ensures.lists h row at)
 
 pub returns-clause-lists : goal.returns-clause-lists

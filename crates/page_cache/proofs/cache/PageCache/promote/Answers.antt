@@ -1,0 +1,25 @@
+-- The goals of `PageCache::promote` that are proved by hand.
+use Rattle.std.proofs.Common.{◌∙◌, sym, ap, refl, option_map, slice_get}
+use Rattle.page_cache.specs.Frames.{frame_at}
+use Rattle.page_cache.proofs.Lookups.{first-promoted, lookup-promoted}
+use Rattle.page_cache.proofs.Kept.{kept_same}
+use Rattle.page_cache.proofs.cache.PageCache.promote.Goals as goal
+
+pub invariant_of-self : goal.invariant_of-self
+invariant_of-self g c =
+    let cache = c.args.self.now in
+    let kept = kept_same cache.file (frame_at cache.frames.entries) (frame_at c.promote.new.self.entries)
+    (λ k. ap (λ d. frame_at d.entries k) c.promote.ensures.entries ∙ lookup-promoted c.args.n k cache.frames.entries c.len-count.ensures.valid.0)
+    (record { within = cache.within; true_to = cache.true_to; behind_the_gate = cache.behind_the_gate }) in
+    record { within = kept.within; true_to = kept.true_to; behind_the_gate = kept.behind_the_gate; counted = cache.counted }
+
+pub returns-clause-same : goal.returns-clause-same
+returns-clause-same g c = let cache = c.args.self.now in record {
+  file = refl;
+  frames = λ k. ap (λ d. frame_at d.entries k) c.promote.ensures.entries ∙ lookup-promoted c.args.n k cache.frames.entries c.len-count.ensures.valid.0;
+  looks = refl;
+  capacity = ap (λ d. d.cap) c.promote.ensures.entries;
+}
+
+pub returns-clause-first : goal.returns-clause-first
+returns-clause-first g c = λ is. ap (λ d. option_map (λ e. e.0) (slice_get d.entries 0)) c.promote.ensures.entries ∙ first-promoted c.args.n c.args.self.now.frames.entries (sym c.promote.ensures.value ∙ is)
