@@ -5,23 +5,24 @@ ghost use Rattle.box_math.specs.Bounds.{IsDims};
 ghost use Rattle.page_file.specs.Fault.{HasCause, IsDamage, IsOfDevice};
 ghost use Rattle.page_file.specs.declared.fault.Fault.TheVariants as fault;
 ghost use Rattle.page_cache.specs.Cache.{IsHonest, KeepsGate, KeepsMap, device_of, pages};
-ghost use Rattle.node_page.specs.Layout.{content_of};
-ghost use Rattle.node_page.specs.Lists.{lists_of, references_of};
-ghost use Rattle.node_page.specs.Trees.{Row, StandsAt, Stands, Tree, leaf_ids};
+ghost use Rattle.tree_node.specs.Nodes.{content_of, references_of};
+ghost use Rattle.node_page.specs.Lists.{lists_of};
+ghost use Rattle.tree_node.specs.Trees.{Row, Tree, leaf_ids};
+ghost use Rattle.node_page.specs.Standing.{StandsAt, Stands};
 
-use crate::node::{Node, Root};
 use crate::nodes::read_node;
 use block_device::BlockDevice;
 use page_cache::PageCache;
 use page_file::Fault;
 use std::alloc::Allocator;
+use tree_node::{Node, Root};
 
 /// The identifiers of each leaf of a tree, by position, and the leaves from left to right. It has one list for a root
 /// that is a leaf, be it empty.
 ///
 /// On an honest device, where the pages stand for a tree at that page and level, a refusal is `Memory` or `Device`. Map and
 /// gate stay, also after a refusal.
-pub fn leaf_lists<const D: usize, B: BlockDevice, A: Allocator, H: Allocator + Copy>(
+pub fn leaf_lists<const D: usize, B: BlockDevice, A: Allocator + Copy, H: Allocator + Copy>(
     alloc: H,
     cache: &mut PageCache<B, A>,
     root: Root,
@@ -42,7 +43,7 @@ pub fn leaf_lists<const D: usize, B: BlockDevice, A: Allocator, H: Allocator + C
 }
 
 // Appends the identifiers of each leaf below a node.
-fn add_leaves<const D: usize, B: BlockDevice, A: Allocator, H: Allocator + Copy>(
+fn add_leaves<const D: usize, B: BlockDevice, A: Allocator + Copy, H: Allocator + Copy>(
     alloc: H,
     cache: &mut PageCache<B, A>,
     root: Root,

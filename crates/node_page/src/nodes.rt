@@ -8,16 +8,17 @@ ghost use Rattle.page_file.specs.Pages.{SameBut};
 ghost use Rattle.page_file.specs.declared.fault.Fault.TheVariants as fault;
 ghost use Rattle.page_file.specs.declared.gate.Gate.TheVariants.{Open};
 ghost use Rattle.page_cache.specs.Cache.{IsHonest, IsLive, IsPageMap, IsUnchanged, KeepsGate, KeepsMap, device_of, gate_of, given, looks_of, next_of, pages};
-ghost use Rattle.node_page.specs.Layout.{Content, IsSpellable, content_of};
-ghost use Rattle.node_page.specs.Trees.{node_in};
+ghost use Rattle.tree_node.specs.Nodes.{NodeContent, content_of};
+ghost use Rattle.node_page.specs.Layout.{IsSpellable};
+ghost use Rattle.node_page.specs.Standing.{node_in};
 
-use crate::node::Node;
 use crate::page::{decode, encode};
 use block_bytes::zero_block;
 use block_device::BlockDevice;
 use page_cache::PageCache;
 use page_file::Fault;
 use std::alloc::Allocator;
+use tree_node::Node;
 
 /// Reads the node of that level at a page that was given out, in one look, or at most one where it is refused. A page
 /// that spells none of that dimension and level is `Damaged` with its number, and so is a number outside 2 to the last
@@ -25,7 +26,7 @@ use std::alloc::Allocator;
 ///
 /// On an honest device a refusal where there is such a node is `Memory` or `Device`. Map and gate stay, also after a
 /// refusal.
-pub fn read_node<const D: usize, B: BlockDevice, A: Allocator>(
+pub fn read_node<const D: usize, B: BlockDevice, A: Allocator + Copy>(
     cache: &mut PageCache<B, A>,
     page: u32,
     level: u8,
@@ -42,7 +43,7 @@ pub fn read_node<const D: usize, B: BlockDevice, A: Allocator>(
     ensures refused_looks { OnErr result ((looks_of cache.new ≡ looks_of cache.old) ⊎ (looks_of cache.new ≡ one_more (looks_of cache.old))) }
     ensures outside { (page < 2) ⊎ (next_of cache.old ≤ page) → IsErrOf result (fault.Damaged page) }
     ensures quiet { (page < 2) ⊎ (next_of cache.old ≤ page) → device_of cache.new ≡ device_of cache.old }
-    ensures there { IsHonest cache.old → (c : Content) → node_in D (pages cache.old page) ≡ Some c → c.level ≡ level → IfErr result IsOfDevice }
+    ensures there { IsHonest cache.old → (c : NodeContent) → node_in D (pages cache.old page) ≡ Some c → c.level ≡ level → IfErr result IsOfDevice }
     ensures faults { IsHonest cache.old → IfErr result (λ f. IsOfDevice f ⊎ (f ≡ fault.Damaged page)) }
     ensures other_faults { IfErr result (λ f. IsOfDevice f ⊎ IsDamage f) }
     ensures cause { HasCause (B.faults (device_of cache.old)) (B.faults (device_of cache.new)) result }
@@ -59,7 +60,7 @@ pub fn read_node<const D: usize, B: BlockDevice, A: Allocator>(
 /// A number outside 2 to the last one given out is `Damaged` with that number, and changes nothing. After another refusal,
 /// which on an honest device is `Memory` or `Device`, the page is still live and may hold any bytes; all others are as
 /// before.
-pub fn write_node<const D: usize, B: BlockDevice, A: Allocator>(
+pub fn write_node<const D: usize, B: BlockDevice, A: Allocator + Copy>(
     cache: &mut PageCache<B, A>,
     page: u32,
     node: &Node<D>,
