@@ -3,6 +3,8 @@ pub mod Nodes
 pub mod Trees
 pub mod Shape
 pub mod Positions
+pub mod Keys
+pub mod Orders
 pub mod Boxes
 pub mod Rows
 pub mod Searches

@@ -2,9 +2,11 @@
 //! Nothing here speaks of bytes or of pages that are read.
 #![tactic(auto)]
 
+mod entries;
 pub mod laws;
 mod node;
 #[cfg(test)]
 mod tests;
 
+pub use entries::{box_of, least, picked, reference_of, see_boxes};
 pub use node::{Entry, Node, Root};
