@@ -1,3 +1,4 @@
 -- The files of lemmas.
 pub mod Back
+pub mod HeadWritten
 mod Examples

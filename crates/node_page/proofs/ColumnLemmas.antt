@@ -6,7 +6,8 @@ use Rattle.box_math.specs.Bounds.{on_axis}
 use Rattle.box_bytes.specs.Corners.{corner_at}
 use Rattle.box_bytes.specs.Laws.{on_axis-corner_at}
 use Rattle.node_page.specs.Columns.{cell, AreColumns}
-use Rattle.node_page.specs.Layout.{Item, item_at, items_at}
+use Rattle.tree_node.specs.Nodes.{Item}
+use Rattle.node_page.specs.Layout.{item_at, items_at}
 use Rattle.node_page.proofs.Reading.{length-items_at, get_or-items_at}
 use Rattle.node_page.proofs.Writing.{nothing}
 

@@ -1,60 +1,23 @@
 -- Leaves read one after another.
 use Rattle.std.proofs.Common.{◌≡◌, ◌∙◌, ℕ, zero, suc, ◌+◌, ◌-◌, ◌<◌, ◌≤◌, None, Some, List, [], ◌∷◌, ◌++◌, length, drop, take, map, get_or, All, ◌^◌, refl, sym, ap, subst, arith}
-use Rattle.std.proofs.lemmas.List.{append_assoc, append-nil, drop_more, length-map, take_all}
+use Rattle.std.proofs.lemmas.List.{append_assoc, append-nil, length-map, take_all}
 use Rattle.std.proofs.lemmas.List.Elements.{All-get_or}
 use Rattle.page_cache.specs.Cache.{IsHonest, pages}
 use Rattle.page_cache.specs.Calls.{AsksUntil, asks_in_turn}
 use Rattle.page_cache.specs.declared.cache.PageCache.{PageCache}
-use Rattle.node_page.specs.declared.node.Entry.{Entry}
-use Rattle.node_page.specs.Layout.{Content, IsReference, Item, item_of}
-use Rattle.node_page.specs.Lists.{references_of}
-use Rattle.node_page.specs.Trees.{PageMap, Row, end, more, object, child, RowStands, StandsAt, ids_in, leaf_ids, node_in, row_items}
-use Rattle.node_page.proofs.TreeLemmas.{node_stays, row_stays, same_content}
-
--- ---- entries from a place on
-
-abbrev pub row_drop : ℕ → Row → Row
-row_drop zero row = row
-row_drop (suc n) end = end
-row_drop (suc n) (more (object bounds id) rest) = row_drop n rest
-row_drop (suc n) (more (child bounds page below) rest) = row_drop n rest
-
-abbrev pub row_tail : Row → Row
-row_tail end = end
-row_tail (more (object bounds id) rest) = rest
-row_tail (more (child bounds page below) rest) = rest
-
-row_drop_more : (n : ℕ) (row : Row) → row_drop (suc n) row ≡ row_tail (row_drop n row)
-row_drop_more zero end = refl
-row_drop_more zero (more (object bounds id) rest) = refl
-row_drop_more zero (more (child bounds page below) rest) = refl
-row_drop_more (suc n) end = refl
-row_drop_more (suc n) (more (object bounds id) rest) = row_drop_more n rest
-row_drop_more (suc n) (more (child bounds page below) rest) = row_drop_more n rest
-
-items_dropped : (n : ℕ) (row : Row) → row_items (row_drop n row) ≡ drop n (row_items row)
-items_dropped zero row = refl
-items_dropped (suc n) end = refl
-items_dropped (suc n) (more (object bounds id) rest) = items_dropped n rest
-items_dropped (suc n) (more (child bounds page below) rest) = items_dropped n rest
+use Rattle.tree_node.specs.declared.node.Entry.{Entry}
+use Rattle.tree_node.specs.Nodes.{NodeContent, Item, item_of, references_of}
+use Rattle.node_page.specs.Layout.{IsReference}
+use Rattle.tree_node.specs.Trees.{Row, end, more, object, child, ids_in, leaf_ids, row_items}
+use Rattle.node_page.specs.Standing.{PageMap, RowStands, StandsAt, node_in}
+use Rattle.tree_node.proofs.RowLemmas.{all_dropped, entry_item, items_from, no_leaves, row_drop, row_drop_more, row_tail}
+use Rattle.node_page.proofs.StandingLemmas.{node_stays, row_stays, same_content}
 
 dropped_stands : (dims : ℕ) (m : PageMap) (level n : ℕ) (row : Row) → RowStands dims m level row → RowStands dims m level (row_drop n row)
 dropped_stands dims m level zero row h = h
 dropped_stands dims m level (suc n) end h = h
 dropped_stands dims m level (suc n) (more (object bounds id) rest) h = dropped_stands dims m level n rest h.1
 dropped_stands dims m level (suc n) (more (child bounds page below) rest) h = dropped_stands dims m level n rest h.3
-
-all_dropped : (n : ℕ) (row : Row) → length (row_items row) ≤ n → row_drop n row ≡ end
-all_dropped zero end h = refl
-all_dropped zero (more (object bounds id) rest) h = absurd (omega arith)
-all_dropped zero (more (child bounds page below) rest) h = absurd (omega arith)
-all_dropped (suc n) end h = refl
-all_dropped (suc n) (more (object bounds id) rest) h = all_dropped n rest (omega arith)
-all_dropped (suc n) (more (child bounds page below) rest) h = all_dropped n rest (omega arith)
-
--- the entry at a place, and what follows it
-items_at : (row : Row) (items : List Item) (n : ℕ) (x : Item) → row_items row ≡ items → n < length items → x ≡ get_or items n x → row_items (row_drop n row) ≡ x ∷ drop (n + 1) items
-items_at row items n x same within is = items_dropped n row ∙ ap (drop n) same ∙ drop_more items n x within ∙ ap (λ y. y ∷ drop (n + 1) items) (sym is)
 
 -- ---- the leaves below the first entry, and below the others
 
@@ -75,10 +38,6 @@ below_first dims m (suc level) (more (child bounds page below) rest) x xs same a
       leaves = let down : level ≡ suc level - 1 = omega arith in ap (λ l. leaf_ids l below ++ leaf_ids (suc level) rest) down;
     }
 
-no_leaves : (level : ℕ) → 0 < level → leaf_ids level end ≡ []
-no_leaves zero above = absurd (omega (arith, above))
-no_leaves (suc level) above = refl
-
 -- a leaf has its identifiers
 ids_are : (dims : ℕ) (m : PageMap) (row : Row) → RowStands dims m 0 row → ids_in row ≡ map (λ (item : Item). item.reference) (row_items row)
 ids_are dims m end stands = refl
@@ -86,10 +45,10 @@ ids_are dims m (more (object bounds id) rest) stands = ap (λ ids. id ∷ ids) (
 ids_are dims m (more (child bounds page below) rest) stands = absurd (omega (arith, stands.0))
 
 -- the node that was read is that of the tree
-pub entries_there : (dims : ℕ) (m : PageMap) (page level : ℕ) (row : Row) (c : Content) → StandsAt dims m page level row → node_in dims (m page) ≡ Some c → row_items row ≡ c.entries
-entries_there dims m page level row c at is = ap (λ (x : Content). x.entries) (same_content dims m page (record { level = level; entries = row_items row }) c at.node is)
+pub entries_there : (dims : ℕ) (m : PageMap) (page level : ℕ) (row : Row) (c : NodeContent) → StandsAt dims m page level row → node_in dims (m page) ≡ Some c → row_items row ≡ c.entries
+entries_there dims m page level row c at is = ap (λ (x : NodeContent). x.entries) (same_content dims m page (record { level = level; entries = row_items row }) c at.node is)
 
-pub leaf_there : (dims : ℕ) (m : PageMap) (page level : ℕ) (row : Row) (c : Content) → level ≡ 0 → StandsAt dims m page level row → node_in dims (m page) ≡ Some c → references_of c ∷ [] ≡ leaf_ids level row
+pub leaf_there : (dims : ℕ) (m : PageMap) (page level : ℕ) (row : Row) (c : NodeContent) → level ≡ 0 → StandsAt dims m page level row → node_in dims (m page) ≡ Some c → references_of c ∷ [] ≡ leaf_ids level row
 leaf_there dims m page level row c leaf at is =
     let same = entries_there dims m page level row c at is in
     let ids = ids_are dims m row (subst (λ l. RowStands dims m l row) leaf at.below) ∙ ap (map (λ (item : Item). item.reference)) same in
@@ -112,11 +71,6 @@ stands_on dims old new page level row same at = record {
   below = row_stays dims old new level row (λ n there. same n) at.below;
 }
 
-entry_item : {dims : ℕ} (es : List (Entry dims)) (i : ℕ) (e : Entry dims) → i < length es → e ≡ get_or es i e → item_of e ≡ get_or (map item_of es) i (item_of e)
-entry_item [] i e lt is = absurd (omega (arith, lt))
-entry_item (x ∷ es) zero e lt is = ap item_of is
-entry_item (x ∷ es) (suc i) e lt is = entry_item es i e (omega arith) is
-
 -- a child above the leaves has a page
 pub child_page : {dims : ℕ} (level : ℕ) (all entries : List (Entry dims)) (i : ℕ) (e : Entry dims) → All (λ item. IsReference level item.reference) (map item_of all) → entries ≡ all → i < length entries → e ≡ get_or entries i e → 0 < level → e.reference < 2 ^ 31
 child_page level all entries i e refers same within is above =
@@ -135,7 +89,7 @@ module _ {B A : Type 0} {m : _} where
     pub below_here : (e : Entry dims) → i < length entries → e ≡ get_or entries i e → 0 < level → IsHonest old → (row : Row) → row_items row ≡ map item_of entries → RowStands dims (pages old) level row
         → (below : Row) × StandsAt dims (pages now) e.reference (level - 1) below × (leaf_ids level (row_drop i row) ≡ leaf_ids (level - 1) below ++ leaf_ids level (row_drop (suc i) row))
     below_here e within is above h row same stands =
-        let here = items_at row (map item_of entries) i (item_of e) same (omega (arith, within, length-map entries item_of)) (entry_item entries i e within is) in
+        let here = items_from row (map item_of entries) i (item_of e) same (omega (arith, within, length-map entries item_of)) (entry_item entries i e within is) in
         let b = below_first dims (pages old) level (row_drop i row) (item_of e) (drop (i + 1) (map item_of entries)) here above (dropped_stands dims (pages old) level i row stands) in (
           b.below,
           stands_on dims (pages old) (pages now) e.reference (level - 1) b.below (so_far.asks.map.pages_stay h) b.stands,

@@ -7,7 +7,10 @@ pub mod Named
 pub mod OnePage
 pub mod ColumnLemmas
 pub mod Examples
-pub mod TreeLemmas
-pub mod TreeExamples
+pub mod StandingLemmas
+pub mod StandingBoxes
+pub mod PartLemmas
+pub mod ChangeLemmas
+pub mod StandingExamples
 pub mod NodeLemmas
 pub mod LeafLemmas

@@ -5,7 +5,8 @@ use Rattle.block_bytes.specs.Numbers.{number_at, AreBytes}
 use Rattle.block_bytes.specs.Laws.{number_at-same, number_at-lt}
 use Rattle.box_math.specs.Bounds.{IsBox}
 use Rattle.box_bytes.specs.Laws.{box_at-is_box}
-use Rattle.node_page.specs.Layout.{Item, Content, low_place, high_place, reference_place, item_at, items_at, IsEntry, Spells, node_at, IsNamed}
+use Rattle.tree_node.specs.Nodes.{Item, NodeContent}
+use Rattle.node_page.specs.Layout.{low_place, high_place, reference_place, item_at, items_at, IsEntry, Spells, node_at, IsNamed}
 use Rattle.node_page.specs.PageLaws.{ReadsWhatIsSpelled, ReadsNamedBytes, SpellsNodes}
 use Rattle.node_page.proofs.Places.{item_same}
 use Rattle.node_page.proofs.Reading.{spells, spelled, spellable, size_of, item_of_node, length-items_at, get_or-items_at}
@@ -22,7 +23,7 @@ module _ (dims count : ℕ) (a b : List ℕ) (same : (k : ℕ) → IsNamed dims 
   unfolding items_at
   all_same = fill_by_all (item_at dims b) (items_at dims a count) count nothing (length-items_at dims a count) (λ k lt. get_or-items_at dims a count k nothing lt ∙ one_same k lt)
 
-  spells_same : (c : Content) → count ≡ number_at 2 2 a → Spells dims a c → Spells dims b c
+  spells_same : (c : NodeContent) → count ≡ number_at 2 2 a → Spells dims a c → Spells dims b c
   spells_same c is s =
       let count_same : number_at 2 2 a ≡ number_at 2 2 b = head_same 2 2 (omega arith) in
       let few = s.head.few in

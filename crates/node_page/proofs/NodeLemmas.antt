@@ -1,5 +1,5 @@
 -- A node at a page of a map, and a page that was refused.
-use Rattle.std.proofs.Common.{◌≡◌, ◌∙◌, ◌⊎◌, ℕ, ◌<◌, ◌≤◌, List, Option, Some, None, Result, Ok, Err, IsSome, IfErr, OnOk, IsErrAnd, refl, sym, ap, subst, inl, inr, ⊎_elim, arith, length, map}
+use Rattle.std.proofs.Common.{◌≡◌, ◌∙◌, ◌⊎◌, ℕ, ◌<◌, ◌≤◌, List, Option, Some, Result, Ok, Err, IfErr, OnOk, IsErrAnd, sym, ap, subst, inl, inr, ⊎_elim, arith, length, map}
 use Rattle.std.proofs.lemmas.Bool.{cases_lt}
 use Rattle.std.proofs.lemmas.List.{length-map}
 use Rattle.std.proofs.lemmas.List.Elements.{All-from_get_or}
@@ -7,9 +7,10 @@ use Rattle.box_math.specs.Bounds.{origin_box}
 use Rattle.page_file.specs.Fault.{IsOfDevice}
 use Rattle.page_file.specs.declared.fault.Fault.{Fault}
 use Rattle.page_file.specs.declared.fault.Fault.TheVariants as fault
-use Rattle.node_page.specs.Layout.{Content, IsReference, IsSpellable, Item, content_of, item_of, node_at}
-use Rattle.node_page.specs.Trees.{node_in}
-use Rattle.node_page.specs.declared.node.Node.{Node}
+use Rattle.tree_node.specs.Nodes.{NodeContent, Item, content_of, item_of}
+use Rattle.node_page.specs.Layout.{IsReference, IsSpellable, node_at}
+use Rattle.node_page.specs.Standing.{node_in}
+use Rattle.tree_node.specs.declared.node.Node.{Node}
 
 -- the answer of a call that was refused
 pub at_error : {T : Type 0} (r : Result T Fault) (f : Fault) (P : Fault → Type 0) → IsErrAnd r (λ e. e ≡ f) → P f → IfErr r P
@@ -37,7 +38,7 @@ page_refused n next f inside outside = ⊎_elim
     (cases_lt n 2)
 
 -- the node of a page that is there is the one that it spells
-pub node_of_page : (dims : ℕ) (page : Option (List ℕ)) (bytes : List ℕ) (c : Option Content) → page ≡ Some bytes → node_at dims bytes ≡ c → node_in dims page ≡ c
+pub node_of_page : (dims : ℕ) (page : Option (List ℕ)) (bytes : List ℕ) (c : Option NodeContent) → page ≡ Some bytes → node_at dims bytes ≡ c → node_in dims page ≡ c
 node_of_page dims page bytes c there spelled = ap (node_in dims) there ∙ spelled
 
 -- a leaf of at most 100 entries can be spelled

@@ -6,7 +6,8 @@ use Rattle.block_bytes.specs.Laws.{number_at-fixes, signed_at-fixes}
 use Rattle.box_math.specs.Bounds.{on_axis}
 use Rattle.box_bytes.specs.Corners.{corner_at, IsOfCorner}
 use Rattle.box_bytes.specs.Laws.{on_axis-corner_at}
-use Rattle.node_page.specs.Layout.{Item, Content, low_place, high_place, reference_place, item_at, IsOfEntry, Spells, IsNamed}
+use Rattle.tree_node.specs.Nodes.{Item, NodeContent}
+use Rattle.node_page.specs.Layout.{low_place, high_place, reference_place, item_at, IsOfEntry, Spells, IsNamed}
 use Rattle.node_page.specs.PageLaws.{HasOnePage}
 use Rattle.node_page.proofs.Reading.{size_of, item_of_node}
 use Rattle.node_page.proofs.Writing.{nothing}
@@ -28,14 +29,14 @@ item_bytes dims place a b ba bb e k (inr (inr of)) = number_at-fixes 8 (referenc
 
 -- ---- a node fixes its page
 
-head_bytes : (dims : ℕ) (a b : List ℕ) (c : Content) → AreBytes a → AreBytes b → Spells dims a c → Spells dims b c → (k : ℕ) → k < 5 → number_at 1 k a ≡ number_at 1 k b
+head_bytes : (dims : ℕ) (a b : List ℕ) (c : NodeContent) → AreBytes a → AreBytes b → Spells dims a c → Spells dims b c → (k : ℕ) → k < 5 → number_at 1 k a ≡ number_at 1 k b
 head_bytes dims a b c ba bb sa sb k lt =
     ⊎_elim (λ (h : k < 1). number_at-fixes 1 0 a b ba bb (sa.head.kind ∙ sym sb.head.kind) k (omega arith) h)
     (λ (h : 1 ≤ k). ⊎_elim (λ (l : k < 2). number_at-fixes 1 1 a b ba bb (sa.head.dims_is ∙ sym sb.head.dims_is) k h l)
     (λ (l : 2 ≤ k). ⊎_elim (λ (m : k < 4). number_at-fixes 2 2 a b ba bb (size_of dims a c sa ∙ sym (size_of dims b c sb)) k l m)
     (λ (m : 4 ≤ k). number_at-fixes 1 4 a b ba bb (sa.head.level_is ∙ sym sb.head.level_is) k m lt) (cases_lt k 4)) (cases_lt k 2)) (cases_lt k 1)
 
-named_bytes : (dims : ℕ) (a b : List ℕ) (c : Content) → AreBytes a → AreBytes b → Spells dims a c → Spells dims b c → (k : ℕ) → IsNamed dims (length c.entries) k → number_at 1 k a ≡ number_at 1 k b
+named_bytes : (dims : ℕ) (a b : List ℕ) (c : NodeContent) → AreBytes a → AreBytes b → Spells dims a c → Spells dims b c → (k : ℕ) → IsNamed dims (length c.entries) k → number_at 1 k a ≡ number_at 1 k b
 named_bytes dims a b c ba bb sa sb k (inl lt) = head_bytes dims a b c ba bb sa sb k lt
 named_bytes dims a b c ba bb sa sb k (inr of) =
     item_bytes dims of.0 a b ba bb (sym (item_of_node dims a c of.0 nothing sa of.1) ∙ item_of_node dims b c of.0 nothing sb of.1) k of.2

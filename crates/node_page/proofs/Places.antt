@@ -5,7 +5,8 @@ use Rattle.block_bytes.specs.Laws.{number_at-put, number_at-put_other, number_at
 use Rattle.box_math.specs.Bounds.{Bounds, IsOrdered}
 use Rattle.box_bytes.specs.Corners.{corner_at, box_at, IsClearOfBox, AreApart, Keeps}
 use Rattle.box_bytes.specs.Laws.{corner_at-same, corner_at-stays}
-use Rattle.node_page.specs.Layout.{Item, low_place, high_place, reference_place, item_at, IsReference, IsEntry, IsClearOfEntry, IsOfEntry}
+use Rattle.tree_node.specs.Nodes.{Item}
+use Rattle.node_page.specs.Layout.{low_place, high_place, reference_place, item_at, IsReference, IsEntry, IsClearOfEntry, IsOfEntry}
 
 pub le_or_lt : (a b : ℕ) → (a ≤ b) ⊎ (b < a)
 le_or_lt a b = grind arith

@@ -6,8 +6,9 @@ use Rattle.std.proofs.lemmas.List.FromFn.{map-range_with_len_more, length-map-ra
 use Rattle.block_bytes.specs.Numbers.{number_at}
 use Rattle.box_math.specs.Bounds.{all_over, ordered_test}
 use Rattle.box_math.proofs.TestLaws.{ordered_test_true}
-use Rattle.node_page.specs.declared.node.Node.{Node}
-use Rattle.node_page.specs.Layout.{Item, Content, content_of, item_at, items_at, IsReference, IsSpellable, IsEntry, HasNodeHead, Spells, entry_test, node_test, node_at}
+use Rattle.tree_node.specs.declared.node.Node.{Node}
+use Rattle.tree_node.specs.Nodes.{Item, NodeContent, content_of}
+use Rattle.node_page.specs.Layout.{item_at, items_at, IsReference, IsSpellable, IsEntry, HasNodeHead, Spells, entry_test, node_test, node_at}
 
 pub items_at-none : (dims : ℕ) (page : List ℕ) → items_at dims page 0 ≡ []
 unfolding items_at
@@ -66,7 +67,7 @@ head_test k d dims n zero b kind is few some holds = grind (arith, nat_tests)
 head_test k d dims n (suc l) b kind is few some holds = let more = some (omega arith) in grind (arith, nat_tests)
 
 -- where the page spells a node, reading it gives that node
-pub spelled : (dims : ℕ) (page : List ℕ) (c : Content) → Spells dims page c → node_at dims page ≡ Some c
+pub spelled : (dims : ℕ) (page : List ℕ) (c : NodeContent) → Spells dims page c → node_at dims page ≡ Some c
 unfolding node_at node_test
 spelled dims page c s =
     let n = number_at 2 2 page in
@@ -79,7 +80,7 @@ spelled dims page c s =
     rw passes (ap (λ (m : ℕ). Some (record { level = m; entries = items_at dims page n })) level ∙ ap (λ (es : List Item). Some (record { level = c.level; entries = es })) (sym s.entries))
 
 -- and what reading gives is spelled so
-pub spells : (dims : ℕ) (page : List ℕ) (c : Content) → node_at dims page ≡ Some c → Spells dims page c
+pub spells : (dims : ℕ) (page : List ℕ) (c : NodeContent) → node_at dims page ≡ Some c → Spells dims page c
 unfolding node_at node_test
 spells dims page c h =
     let n = number_at 2 2 page in
@@ -87,26 +88,26 @@ spells dims page c h =
     let test = all_over n (λ place. entry_test dims l (item_at dims page place)) in
     let parts = cond_some (number_at 1 0 page == 2 && number_at 1 1 page == dims && nat_le n 100 && (l == 0 || nat_le 1 n) && test) (record { level = l; entries = items_at dims page n }) c h in
     let means = head_means (number_at 1 0 page) (number_at 1 1 page) dims n l test parts.0 in
-    let level : l ≡ c.level = ap (λ (x : Content). x.level) parts.1 in
+    let level : l ≡ c.level = ap (λ (x : NodeContent). x.level) parts.1 in
     record {
       head = record { kind = means.0; dims_is = means.1; level_is = level; few = means.2; some = λ above. means.3 (omega arith) };
       each = λ place lt. subst (λ (m : ℕ). IsEntry dims m (item_at dims page place)) level
           (entry_means dims l (item_at dims page place) (all_over-each n (λ k. entry_test dims l (item_at dims page k)) means.4 place lt));
-      entries = sym (ap (λ (x : Content). x.entries) parts.1);
+      entries = sym (ap (λ (x : NodeContent). x.entries) parts.1);
     }
 
 -- ---- what readers of a page that spells a node know
 
-pub size_of : (dims : ℕ) (page : List ℕ) (c : Content) → Spells dims page c → number_at 2 2 page ≡ length c.entries
+pub size_of : (dims : ℕ) (page : List ℕ) (c : NodeContent) → Spells dims page c → number_at 2 2 page ≡ length c.entries
 size_of dims page c s = sym (ap length s.entries ∙ length-items_at dims page (number_at 2 2 page))
 
-pub item_of_node : (dims : ℕ) (page : List ℕ) (c : Content) (place : ℕ) (other : Item) → Spells dims page c → place < length c.entries → get_or c.entries place other ≡ item_at dims page place
+pub item_of_node : (dims : ℕ) (page : List ℕ) (c : NodeContent) (place : ℕ) (other : Item) → Spells dims page c → place < length c.entries → get_or c.entries place other ≡ item_at dims page place
 item_of_node dims page c place other s lt =
     let size = size_of dims page c s in
     ap (λ (es : List Item). get_or es place other) s.entries ∙ get_or-items_at dims page (number_at 2 2 page) place other (omega arith)
 
 -- what a page spells can be spelled
-pub spellable : (dims : ℕ) (page : List ℕ) (c : Content) → Spells dims page c → IsSpellable c
+pub spellable : (dims : ℕ) (page : List ℕ) (c : NodeContent) → Spells dims page c → IsSpellable c
 spellable dims page c s =
     let size = size_of dims page c s in
     let few = s.head.few in
@@ -119,11 +120,11 @@ spellable dims page c s =
 -- ---- decoding
 
 -- without its head the page spells no node of the level
-pub no_head : (dims level : ℕ) (page : List ℕ) → (HasNodeHead dims level page → ⊥) → (c : Content) → node_at dims page ≡ Some c → c.level ≢ level
+pub no_head : (dims level : ℕ) (page : List ℕ) → (HasNodeHead dims level page → ⊥) → (c : NodeContent) → node_at dims page ≡ Some c → c.level ≢ level
 no_head dims level page none c is = λ same. none (subst (λ (l : ℕ). HasNodeHead dims l page) same (spells dims page c is).head)
 
 -- nor with a place that holds no entry of it
-pub no_place : (dims level place : ℕ) (page : List ℕ) → place < number_at 2 2 page → (IsEntry dims level (item_at dims page place) → ⊥) → (c : Content) → node_at dims page ≡ Some c → c.level ≢ level
+pub no_place : (dims level place : ℕ) (page : List ℕ) → place < number_at 2 2 page → (IsEntry dims level (item_at dims page place) → ⊥) → (c : NodeContent) → node_at dims page ≡ Some c → c.level ≢ level
 no_place dims level place page lt none c is = λ same. none (subst (λ (l : ℕ). IsEntry dims l (item_at dims page place)) same ((spells dims page c is).each place lt))
 
 -- with its head and an entry in each place it spells a node
@@ -137,7 +138,7 @@ all_places dims level count page items head same is each =
     })
 
 -- where the page spells the node, one that is decoded is that, and none is none of its level
-pub comes_back : {D : ℕ} (o : Option (Node D)) (c : Content) (found : Option Content) → found ≡ Some c → IfSome o (λ node. found ≡ Some (content_of node))
-    → IfNone o ((other : Content) → found ≡ Some other → other.level ≢ c.level) → option_map content_of o ≡ Some c
+pub comes_back : {D : ℕ} (o : Option (Node D)) (c : NodeContent) (found : Option NodeContent) → found ≡ Some c → IfSome o (λ node. found ≡ Some (content_of node))
+    → IfNone o ((other : NodeContent) → found ≡ Some other → other.level ≢ c.level) → option_map content_of o ≡ Some c
 comes_back (Some node) c found is some none = sym some ∙ is
 comes_back None c found is some none = absurd (none c is refl)

@@ -3,28 +3,9 @@
 use Rattle.std.specs.Prelude.{◌≡◌, ℕ, ◌+◌, ◌*◌, ◌^◌, ◌<◌, ◌≤◌, ◌&&◌, ◌||◌, ◌==◌, ◌⊎◌, Bool, nat_le, nat_lt, List, length, All, map, Option, Some, None, if◌then◌else◌}
 use Rattle.std.specs.List.{range_with_len}
 use Rattle.block_bytes.specs.Numbers.{number_at, IsApart}
-use Rattle.box_math.specs.Bounds.{Bounds, IsDims, IsBox, IsOrdered, ordered_test, all_over}
+use Rattle.box_math.specs.Bounds.{IsDims, IsBox, IsOrdered, ordered_test, all_over}
 use Rattle.box_bytes.specs.Corners.{box_at, IsClearOfBox, IsOfCorner}
-use Rattle.node_page.specs.declared.node.Entry.{Entry}
-use Rattle.node_page.specs.declared.node.Node.{Node}
-
--- an entry: a box, and the identifier of an object or the page of a child
-pub record Item : Type 0 where
-  pub bounds : Bounds
-  pub reference : ℕ
-
--- what a node holds: its level, 0 for a leaf, and its entries
-pub record Content : Type 0 where
-  pub level : ℕ
-  pub entries : List Item
-
--- the entry as contracts see it, without its dimension
-abbrev pub item_of : {D : ℕ} → Entry D → Item
-item_of entry = record { bounds = entry.bounds; reference = entry.reference }
-
--- what the node holds
-abbrev pub content_of : {D : ℕ} → Node D → Content
-content_of node = record { level = node.level; entries = map item_of node.entries.items }
+use Rattle.tree_node.specs.Nodes.{Item, NodeContent}
 
 -- a reference of a node on this level: any on level 0, and above it the page of a child, from 3 on and below 2^31
 abbrev pub IsReference : ℕ → ℕ → Type 0
@@ -32,14 +13,14 @@ IsReference level reference = 0 < level → (3 ≤ reference) × (reference < 2 
 
 -- a node that a page can spell: at most 100 entries, at least one above the leaves, each with a reference of the level
 -- (their boxes need no word, since a box has its lows at most its highs)
-pub record IsSpellable (c : Content) : Type 0 where
+pub record IsSpellable (c : NodeContent) : Type 0 where
   pub few : length c.entries ≤ 100
   pub some : 0 < c.level → 1 ≤ length c.entries
   pub refers : All (λ item. IsReference c.level item.reference) c.entries
 
 -- a node of so many axes: one that a page can spell, whose level is a byte, and whose entries have boxes of 32-bit
 -- coordinates and references of 64 bits
-pub record IsNode (dims : ℕ) (c : Content) : Type 0 where
+pub record IsNode (dims : ℕ) (c : NodeContent) : Type 0 where
   pub spellable : IsSpellable c
   pub byte : c.level < 256
   pub boxes : All (λ item. IsBox dims item.bounds) c.entries
@@ -101,7 +82,7 @@ pub record HasNodeHead (dims level : ℕ) (page : List ℕ) : Type 0 where
   pub some : 0 < level → 1 ≤ number_at 2 2 page
 
 -- the page spells this node
-pub record Spells (dims : ℕ) (page : List ℕ) (c : Content) : Type 0 where
+pub record Spells (dims : ℕ) (page : List ℕ) (c : NodeContent) : Type 0 where
   pub head : HasNodeHead dims c.level page
   pub each : (place : ℕ) → place < number_at 2 2 page → IsEntry dims c.level (item_at dims page place)
   pub entries : c.entries ≡ items_at dims page (number_at 2 2 page)
@@ -123,7 +104,7 @@ node_test dims page =
     && all_over (number_at 2 2 page) (λ place. entry_test dims (number_at 1 4 page) (item_at dims page place))
 
 -- the node that the page spells, if it spells one
-unfoldable pub node_at : ℕ → List ℕ → Option Content
+unfoldable pub node_at : ℕ → List ℕ → Option NodeContent
 node_at dims page = if node_test dims page then Some (record { level = number_at 1 4 page; entries = items_at dims page (number_at 2 2 page) }) else None
 
 -- a byte of the head or of one of the first entries

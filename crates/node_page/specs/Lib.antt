@@ -2,7 +2,8 @@
 pub mod Layout
 pub mod PageLaws
 pub mod Columns
-pub mod Trees
-pub mod Shape
-pub mod TreeLaws
+pub mod Standing
+pub mod StandingLaws
+pub mod Parts
+pub mod Changes
 pub mod Lists

@@ -3,11 +3,12 @@
 ghost use Rattle.std.specs.Prelude.{◌≡◌, ◌<◌, ◌↔◌, IsSome, IfSome, IsTrue};
 ghost use Rattle.box_math.specs.Bounds.{IsDims, IsBox};
 ghost use Rattle.box_bytes.specs.Corners.{Keeps};
-ghost use Rattle.node_page.specs.Layout.{item_of, item_at, IsReference, IsEntry, IsClearOfEntry};
+ghost use Rattle.tree_node.specs.Nodes.{item_of};
+ghost use Rattle.node_page.specs.Layout.{item_at, IsReference, IsEntry, IsClearOfEntry};
 
-use crate::node::Entry;
 use block_bytes::{read_u64, write_u64};
 use box_bytes::{read_box, write_box};
+use tree_node::Entry;
 
 // Whether a node of the level may refer so: above the leaves to pages from 3 on and below 2^31.
 #[inline]

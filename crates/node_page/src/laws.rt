@@ -1,14 +1,24 @@
 //! What pages spell, and which trees stand in pages: each law is the contract of a function that does nothing, but
 //! for `a_node_comes_back`, which encodes and decodes.
 
-ghost use Rattle.std.specs.Prelude.{◌≡◌, Some, option_map};
+ghost use Rattle.std.specs.Prelude.{◌≡◌, ◌<◌, ◌≤◌, ◌^◌, ℕ, Some, option_map};
 ghost use Rattle.box_math.specs.Bounds.{IsDims};
-ghost use Rattle.node_page.specs.Layout.{content_of, IsSpellable};
+ghost use Rattle.tree_node.specs.Nodes.{content_of};
+ghost use Rattle.node_page.specs.Layout.{IsSpellable};
 ghost use Rattle.node_page.specs.PageLaws.{ReadsWhatIsSpelled, ReadsNamedBytes, SpellsNodes, HasOnePage};
-ghost use Rattle.node_page.specs.TreeLaws.{EqualPagesStand, LevelsAreKept, OneTreeStands, PagesAreThere, ReplacedNodeStands};
+ghost use Rattle.node_page.specs.Changes.{TreesBelowStand, TreesBesideStand, WaitersBesideStand};
+ghost use Rattle.node_page.specs.Parts.{AllPagesMove, MovesBeside, MovesInTurn, OnePageMoves, StayingMoves, TheRestStays};
+ghost use Rattle.node_page.specs.Standing.{Stands};
+ghost use Rattle.node_page.specs.StandingLaws.{BoxesAreBoxes, ChildPagesAreReferences, EqualPagesStand, LevelsAreKept};
+ghost use Rattle.node_page.specs.StandingLaws.{OneTreeStands, PagesAreThere, ReplacedNodeStands};
+ghost use Rattle.page_cache.specs.Cache.{IsLive, next_of, pages};
+ghost use Rattle.tree_node.specs.Trees.{Tree, occurs_in};
 
-use crate::node::Node;
 use crate::page::{decode, encode};
+use block_device::BlockDevice;
+use page_cache::PageCache;
+use std::alloc::Allocator;
+use tree_node::Node;
 
 /// Reading gives exactly what is spelled, so a page spells at most one node of a dimension.
 pub fn what_is_spelled_is_read()
@@ -44,25 +54,25 @@ pub fn a_node_comes_back<const D: usize>(node: &Node<D>, page: &mut [u8; 4096]) 
 }
 
 /// At most one tree stands at a page, whose node has the level of its root.
-#[tactic(auto, using(crate::proofs::TreeLemmas::tree_laws))]
+#[tactic(auto, using(crate::proofs::StandingLemmas::tree_laws))]
 pub fn at_most_one_tree_stands()
     ensures { OneTreeStands }
 {}
 
 /// Each page of a tree that stands is there, so one that was not live is in no such tree.
-#[tactic(auto, using(crate::proofs::TreeLemmas::tree_laws))]
+#[tactic(auto, using(crate::proofs::StandingLemmas::tree_laws))]
 pub fn pages_of_a_tree_are_there()
     ensures { PagesAreThere }
 {}
 
 /// In a tree that stands all leaves are on level 0.
-#[tactic(auto, using(crate::proofs::TreeLemmas::tree_laws))]
+#[tactic(auto, using(crate::proofs::StandingLemmas::tree_laws))]
 pub fn leaves_of_a_tree_are_on_level_0()
     ensures { LevelsAreKept }
 {}
 
 /// Pages that are equal where a tree's are stand for it too.
-#[tactic(auto, using(crate::proofs::TreeLemmas::tree_laws))]
+#[tactic(auto, using(crate::proofs::StandingLemmas::tree_laws))]
 pub fn equal_pages_stand_for_a_tree()
     ensures { EqualPagesStand }
 {}
@@ -71,4 +81,44 @@ pub fn equal_pages_stand_for_a_tree()
 /// that node replaced, unless a page would be in it twice.
 pub fn a_replaced_node_stands()
     ensures { ReplacedNodeStands }
+{}
+
+/// Each page of a tree below its root is one that a node can refer to.
+#[tactic(auto, using(crate::proofs::StandingBoxes::box_laws))]
+pub fn child_pages_are_references()
+    ensures { ChildPagesAreReferences }
+{}
+
+/// The boxes of a tree that stands in pages of bytes are boxes.
+#[tactic(auto, using(crate::proofs::StandingBoxes::box_laws))]
+pub fn boxes_of_a_tree_are_boxes()
+    ensures { BoxesAreBoxes }
+{}
+
+/// A tree that stands in the pages of a cache is made of live pages, which were given out.
+pub fn pages_of_a_tree_were_given_out<B: BlockDevice, A: Allocator + Copy>(cache: &PageCache<B, A>)
+    ensures { (dims n : ℕ) (t : Tree) → Stands dims (pages cache.now) t → 0 < occurs_in n t
+        → IsLive cache.now n × (2 ≤ n) × (n < next_of cache.now) × (next_of cache.now ≤ 2 ^ 31) }
+{
+    let _ = cache;
+}
+
+/// What a change of some pages makes of a part of the live pages: one page given out, written or freed is such a change,
+/// and so are two in turn. Other live pages stay, and may be counted with either part.
+#[tactic(auto, using(crate::proofs::PartLemmas::part_laws))]
+pub fn parts_of_the_pages_move()
+    ensures one { OnePageMoves }
+    ensures staying { StayingMoves }
+    ensures turn { MovesInTurn }
+    ensures beside { MovesBeside }
+    ensures rest { TheRestStays }
+    ensures all { AllPagesMove }
+{}
+
+/// What stands beside a change of some pages stands after it.
+#[tactic(auto, using(crate::proofs::ChangeLemmas::change_laws))]
+pub fn changes_keep_what_stands_beside()
+    ensures trees { TreesBesideStand }
+    ensures waiting { WaitersBesideStand }
+    ensures below { TreesBelowStand }
 {}

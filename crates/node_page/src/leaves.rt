@@ -6,16 +6,17 @@ ghost use Rattle.page_file.specs.Fault.{IsDamage, IsOfDevice};
 ghost use Rattle.page_file.specs.declared.fault.Fault.TheVariants as fault;
 ghost use Rattle.page_cache.specs.Cache.{IsHonest, pages};
 ghost use Rattle.page_cache.specs.Calls.{Asks};
-ghost use Rattle.node_page.specs.Layout.{content_of};
-ghost use Rattle.node_page.specs.Lists.{lists_of, references_of};
-ghost use Rattle.node_page.specs.Trees.{Row, StandsAt, Stands, Tree, leaf_ids};
+ghost use Rattle.tree_node.specs.Nodes.{content_of, references_of};
+ghost use Rattle.node_page.specs.Lists.{lists_of};
+ghost use Rattle.tree_node.specs.Trees.{Row, Tree, leaf_ids};
+ghost use Rattle.node_page.specs.Standing.{StandsAt, Stands};
 
-use crate::node::{Node, Root};
 use crate::nodes::read_node;
 use block_device::BlockDevice;
 use page_cache::PageCache;
 use page_file::Fault;
 use std::alloc::Allocator;
+use tree_node::{Node, Root};
 
 /// The identifiers of each leaf of a tree, by position, and the leaves from left to right. It has one list for a root
 /// that is a leaf, be it empty.

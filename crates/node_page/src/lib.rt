@@ -5,7 +5,6 @@ mod entries;
 mod head;
 pub mod laws;
 mod leaves;
-mod node;
 mod nodes;
 mod page;
 #[cfg(test)]
@@ -15,7 +14,7 @@ mod tree_tests;
 mod view;
 
 pub use leaves::leaf_lists;
-pub use node::{Entry, Node, Root};
 pub use nodes::{read_node, write_node};
 pub use page::{decode, encode};
+pub use tree_node::{Entry, Node, Root};
 pub use view::NodeView;

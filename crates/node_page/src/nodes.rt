@@ -9,16 +9,17 @@ ghost use Rattle.page_file.specs.declared.fault.Fault.TheVariants as fault;
 ghost use Rattle.page_file.specs.declared.gate.Gate.TheVariants.{Open};
 ghost use Rattle.page_cache.specs.Cache.{IsHonest, IsLive, IsPageMap, IsUnchanged, device_of, gate_of, given, looks_of, next_of, pages};
 ghost use Rattle.page_cache.specs.Calls.{Asks, Changes};
-ghost use Rattle.node_page.specs.Layout.{Content, IsSpellable, content_of};
-ghost use Rattle.node_page.specs.Trees.{node_in};
+ghost use Rattle.tree_node.specs.Nodes.{NodeContent, content_of};
+ghost use Rattle.node_page.specs.Layout.{IsSpellable};
+ghost use Rattle.node_page.specs.Standing.{node_in};
 
-use crate::node::Node;
 use crate::page::{decode, encode};
 use block_bytes::zero_block;
 use block_device::BlockDevice;
 use page_cache::PageCache;
 use page_file::Fault;
 use std::alloc::Allocator;
+use tree_node::Node;
 
 /// Reads the node of that level at a page that was given out, in one look, or at most one where it is refused. A page
 /// that spells none of that dimension and level is `Damaged` with its number, and so is a number outside 2 to the last
@@ -43,7 +44,7 @@ pub fn read_node<const D: usize, B: BlockDevice, A: Allocator + Copy>(
     ensures refused_looks { OnErr result ((looks_of cache.new ≡ looks_of cache.old) ⊎ (looks_of cache.new ≡ one_more (looks_of cache.old))) }
     ensures outside { (page < 2) ⊎ (next_of cache.old ≤ page) → IsErrOf result (fault.Damaged page) }
     ensures quiet { (page < 2) ⊎ (next_of cache.old ≤ page) → device_of cache.new ≡ device_of cache.old }
-    ensures there { IsHonest cache.old → (c : Content) → node_in D (pages cache.old page) ≡ Some c → c.level ≡ level → IfErr result IsOfDevice }
+    ensures there { IsHonest cache.old → (c : NodeContent) → node_in D (pages cache.old page) ≡ Some c → c.level ≡ level → IfErr result IsOfDevice }
     ensures faults { IsHonest cache.old → IfErr result (λ f. IsOfDevice f ⊎ (f ≡ fault.Damaged page)) }
     ensures other_faults { IfErr result (λ f. IsOfDevice f ⊎ IsDamage f) }
 {

@@ -3,12 +3,13 @@
 ghost use Rattle.std.specs.Prelude.{◌≡◌, ◌≢◌, ℕ, Some, All, length, IfSome, IfNone};
 ghost use Rattle.block_bytes.specs.Numbers.{number_at};
 ghost use Rattle.box_math.specs.Bounds.{IsDims, IsBox};
-ghost use Rattle.node_page.specs.Layout.{Content, content_of, node_at, IsSpellable, IsNamed};
+ghost use Rattle.tree_node.specs.Nodes.{NodeContent, content_of};
+ghost use Rattle.node_page.specs.Layout.{node_at, IsSpellable, IsNamed};
 
 use crate::entries::{read_entry, write_entry};
 use crate::head::{count_at, has_node_head, write_head};
-use crate::node::Node;
 use arrayvec::ArrayVec;
+use tree_node::Node;
 
 /// The node that the page spells, or `None` where it spells none of that dimension and level: where its kind is not
 /// 2, its dimension or its level is another, its count is above 100, or 0 above the leaves, some entry has a low
@@ -19,7 +20,7 @@ pub fn decode<const D: usize>(page: &[u8; 4096], level: u8) -> Option<Node<D>>
     ensures level { IfSome result (λ node. node.level ≡ level) }
     ensures spellable { IfSome result (λ node. IsSpellable (content_of node)) }
     ensures boxes { IfSome result (λ node. All (λ item. IsBox D item.bounds) (content_of node).entries) }
-    ensures none { IfNone result ((c : Content) → node_at D page.now ≡ Some c → c.level ≢ level) }
+    ensures none { IfNone result ((c : NodeContent) → node_at D page.now ≡ Some c → c.level ≢ level) }
 {
     if !has_node_head::<D>(page, level) {
         return None;

@@ -231,18 +231,6 @@ fn other_bytes_are_not_looked_at(rt: HostRuntime) {
 }
 
 #[test]
-fn the_default_entry_is_the_origin(rt: HostRuntime) {
-    let bounds = BBox::try_new([0, 0, 0], [0, 0, 0]).expect(&rt, "a point");
-    assert_eq!(rt;
-        Entry::<3>::default(),
-        Entry {
-            bounds,
-            reference: 0
-        }
-    );
-}
-
-#[test]
 fn a_node_above_the_leaves_comes_back(rt: HostRuntime) {
     let node = decode::<3>(&page_of_two_in_space(), 3).expect(&rt, "a node");
     let mut page = [9; 4096];

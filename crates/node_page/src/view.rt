@@ -4,13 +4,14 @@ ghost use Rattle.std.specs.Prelude.{◌≡◌, ◌≢◌, ℕ, ◌+◌, ◌*◌,
 ghost use Rattle.block_bytes.specs.Numbers.{signed_at};
 ghost use Rattle.box_math.specs.Bounds.{IsDims, IsBox, on_axis};
 ghost use Rattle.node_page.specs.Columns.{cell, AreColumns};
-ghost use Rattle.node_page.specs.Layout.{Content, item_of, node_at, IsSpellable};
+ghost use Rattle.tree_node.specs.Nodes.{NodeContent, item_of};
+ghost use Rattle.node_page.specs.Layout.{node_at, IsSpellable};
 
 use crate::entries::read_entry;
 use crate::head::{count_at, has_node_head};
-use crate::node::Entry;
 use block_bytes::read_i32;
 use std::marker::Model;
+use tree_node::Entry;
 
 /// A node that lies in a page. Contracts see the level and the entries.
 #[derive(Drop)]
@@ -21,9 +22,10 @@ pub struct NodeView<'a, const D: usize> {
 }
 
 impl<'a, const D: usize> Model for NodeView<'a, D> {
-    ghost use Rattle.node_page.specs.Layout.{Content, items_at, IsLaidOut};
+    ghost use Rattle.tree_node.specs.Nodes.{NodeContent};
+    ghost use Rattle.node_page.specs.Layout.{items_at, IsLaidOut};
 
-    ghost Value = { Content };
+    ghost Value = { NodeContent };
 
     ghost view = { λ v. record { level = v.level; entries = items_at D v.page.now v.count } };
 
@@ -39,7 +41,7 @@ impl<'a, const D: usize> NodeView<'a, D> {
         ensures level { IfSome result (λ view. view.level ≡ level) }
         ensures spellable { IfSome result (λ view. IsSpellable view) }
         ensures boxes { IfSome result (λ view. All (λ item. IsBox D item.bounds) view.entries) }
-        ensures none { IfNone result ((c : Content) → node_at D page.now ≡ Some c → c.level ≢ level) }
+        ensures none { IfNone result ((c : NodeContent) → node_at D page.now ≡ Some c → c.level ≢ level) }
     {
         if !has_node_head::<D>(page, level) {
             return None;

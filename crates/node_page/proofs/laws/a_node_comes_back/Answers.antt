@@ -1,5 +1,6 @@
 -- What is encoded is spelled, and what is spelled is decoded.
-use Rattle.node_page.specs.Layout.{content_of, node_at}
+use Rattle.tree_node.specs.Nodes.{content_of}
+use Rattle.node_page.specs.Layout.{node_at}
 use Rattle.node_page.proofs.Reading.{comes_back}
 use Rattle.node_page.proofs.laws.a_node_comes_back.Goals as goal
 

@@ -3,11 +3,11 @@ use Rattle.std.proofs.Common.{◌∙◌, ℕ, ◌++◌, List, map, ap, sym, arit
 use Rattle.page_file.specs.Fault.{IsOfDevice}
 use Rattle.page_cache.specs.Cache.{pages}
 use Rattle.page_cache.specs.Calls.{asks_and_refuses}
-use Rattle.node_page.specs.Layout.{content_of, item_of}
+use Rattle.tree_node.specs.Nodes.{content_of, item_of}
 use Rattle.node_page.specs.Lists.{lists_of}
-use Rattle.node_page.specs.Trees.{PageMap}
+use Rattle.node_page.specs.Standing.{PageMap}
 use Rattle.node_page.proofs.LeafLemmas.{all_read, below_here, child_page, entries_there, leaf_there, one_more_read}
-use Rattle.node_page.proofs.TreeLemmas.{page_of_node}
+use Rattle.node_page.proofs.StandingLemmas.{page_of_node}
 use Rattle.node_page.proofs.NodeLemmas.{at_error, on_ok}
 use Rattle.node_page.proofs.leaves.+add_leaves.Goals as goal
 

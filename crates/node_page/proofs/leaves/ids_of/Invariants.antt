@@ -1,6 +1,6 @@
 -- What holds at each turn of the loop of `ids_of`.
 use Rattle.std.proofs.Common.{◌≡◌, map, take}
-use Rattle.node_page.specs.declared.node.Entry.{Entry}
+use Rattle.tree_node.specs.declared.node.Entry.{Entry}
 use Rattle.node_page.proofs.leaves.ids_of.Given as goal
 
 -- the references of the entries so far are read

@@ -4,7 +4,7 @@ use Rattle.page_file.specs.Fault.{IsOfDevice}
 use Rattle.page_file.specs.declared.fault.Fault.TheVariants as fault
 use Rattle.page_cache.specs.Cache.{next_of, pages}
 use Rattle.page_cache.specs.Laws.{a_live_page_was_given_out}
-use Rattle.node_page.proofs.TreeLemmas.{page_of_node}
+use Rattle.node_page.proofs.StandingLemmas.{page_of_node}
 use Rattle.node_page.proofs.NodeLemmas.{at_error, is_refusal, node_of_page, page_refused}
 use Rattle.node_page.proofs.nodes.read_node.Goals as goal
 

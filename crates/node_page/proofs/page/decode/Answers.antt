@@ -1,8 +1,9 @@
 -- Without its head, or with a place that holds no entry of the level, the page spells no node of it, and else that of its places.
 use Rattle.std.proofs.Common.{◌≡◌, ◌++◌, ◌∷◌, ℕ, List, [], length, map, true, false, refl, sym, ◌∙◌, ap, arith, rules, below_more, slice_index, ◌<◌}
 use Rattle.std.proofs.lemmas.List.{map-append}
-use Rattle.node_page.specs.declared.node.Entry.{Entry}
-use Rattle.node_page.specs.Layout.{Item, Content, item_of, item_at, items_at, IsEntry}
+use Rattle.tree_node.specs.declared.node.Entry.{Entry}
+use Rattle.tree_node.specs.Nodes.{Item, NodeContent, item_of}
+use Rattle.node_page.specs.Layout.{item_at, items_at, IsEntry}
 use Rattle.node_page.proofs.Named.{spells_nodes}
 use Rattle.node_page.proofs.Reading.{spells, spellable, no_head, no_place, all_places, items_at-none, items_at-more}
 use Rattle.node_page.proofs.page.decode.Goals as goal
@@ -41,11 +42,11 @@ returns-clause-spelled g c =
 
 pub returns-clause-spellable : goal.returns-clause-spellable
 returns-clause-spellable g c =
-    let content : Content = record { level = c.args.level; entries = map item_of c.loop-place.entries.items } in
+    let content : NodeContent = record { level = c.args.level; entries = map item_of c.loop-place.entries.items } in
     spellable g.row.D c.args.page.now content (spells g.row.D c.args.page.now content (returns-clause-spelled g c))
 
 pub returns-clause-boxes : goal.returns-clause-boxes
 returns-clause-boxes g c =
     let bytes : (k : ℕ) → slice_index c.args.page.now k < 256 = search rules in
-    let content : Content = record { level = c.args.level; entries = map item_of c.loop-place.entries.items } in
+    let content : NodeContent = record { level = c.args.level; entries = map item_of c.loop-place.entries.items } in
     (spells_nodes g.row.D c.args.page.now content bytes (spells g.row.D c.args.page.now content (returns-clause-spelled g c))).boxes

@@ -1,6 +1,7 @@
 -- The entries read so far.
 use Rattle.std.proofs.Common.{◌≡◌, ℕ, ◌<◌, length, map}
-use Rattle.node_page.specs.Layout.{item_of, item_at, items_at, IsEntry}
+use Rattle.tree_node.specs.Nodes.{item_of}
+use Rattle.node_page.specs.Layout.{item_at, items_at, IsEntry}
 use Rattle.node_page.proofs.page.decode.Given as goal
 
 abbrev pub invariant-loop-place : goal.invariant-loop-place

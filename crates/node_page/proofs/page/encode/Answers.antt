@@ -1,8 +1,8 @@
 -- Each entry is written behind those before it.
 use Rattle.std.proofs.Common.{◌≡◌, ◌<◌, List, length, get_or, map, sym, ◌∙◌, ap, arith}
 use Rattle.std.proofs.lemmas.List.{get_or-map, length-map}
-use Rattle.node_page.specs.declared.node.Entry.{Entry}
-use Rattle.node_page.specs.Layout.{item_of, content_of}
+use Rattle.tree_node.specs.declared.node.Entry.{Entry}
+use Rattle.tree_node.specs.Nodes.{item_of, content_of}
 use Rattle.node_page.proofs.Reading.{spelled}
 use Rattle.node_page.proofs.Writing.{written_first, written_more, written_spells, written_rest}
 use Rattle.node_page.proofs.page.encode.Goals as goal

@@ -1,6 +1,6 @@
 -- The entries written so far, and nothing else.
 use Rattle.std.proofs.Common.{map}
-use Rattle.node_page.specs.Layout.{item_of}
+use Rattle.tree_node.specs.Nodes.{item_of}
 use Rattle.node_page.proofs.Writing.{Written}
 use Rattle.node_page.proofs.page.encode.Given as goal
 

@@ -1,7 +1,8 @@
 -- Without its head, or with a place that holds no entry of the level, the page spells no node of it, and else that of its places.
 use Rattle.std.proofs.Common.{◌≡◌, ◌<◌, ℕ, true, refl, arith, rules, slice_index}
 use Rattle.std.proofs.lemmas.Grind.{common_steps}
-use Rattle.node_page.specs.Layout.{Content, IsEntry, item_at, items_at}
+use Rattle.tree_node.specs.Nodes.{NodeContent}
+use Rattle.node_page.specs.Layout.{IsEntry, item_at, items_at}
 use Rattle.node_page.proofs.Named.{spells_nodes}
 use Rattle.node_page.proofs.Reading.{spells, spellable, no_head, no_place, all_places}
 use Rattle.node_page.proofs.view.NodeView.of.Goals as goal
@@ -20,11 +21,11 @@ returns-clause-spelled g c =
 
 pub returns-clause-spellable : goal.returns-clause-spellable
 returns-clause-spellable g c =
-    let content : Content = record { level = c.args.level; entries = items_at g.row.D c.args.page.now c.count_at-count.result } in
+    let content : NodeContent = record { level = c.args.level; entries = items_at g.row.D c.args.page.now c.count_at-count.result } in
     spellable g.row.D c.args.page.now content (spells g.row.D c.args.page.now content (returns-clause-spelled g c))
 
 pub returns-clause-boxes : goal.returns-clause-boxes
 returns-clause-boxes g c =
     let bytes : (k : ℕ) → slice_index c.args.page.now k < 256 = search rules in
-    let content : Content = record { level = c.args.level; entries = items_at g.row.D c.args.page.now c.count_at-count.result } in
+    let content : NodeContent = record { level = c.args.level; entries = items_at g.row.D c.args.page.now c.count_at-count.result } in
     (spells_nodes g.row.D c.args.page.now content bytes (spells g.row.D c.args.page.now content (returns-clause-spelled g c))).boxes

@@ -1,28 +1,25 @@
--- Worked examples of trees: what they hold, and which stand in no pages. No other proof rests on them.
-use Rattle.std.proofs.lemmas.Bool.{cases_eq}
-use Rattle.std.proofs.lemmas.Bool.Decides.{nat_tests}
-use Rattle.std.proofs.Common.{zero, suc, Bool, true, false, cond, eqb, ◌+◌, ◌<◌, ◌≤◌, ◌≤ℤ◌, ⊎_elim, subst, ◌≡◌, ℕ, [], ◌∷◌, refl, arith, pos}
+-- Worked examples of trees: what they hold, and which have a shape. No lemma rests on them.
+use Rattle.std.proofs.Common.{◌≡◌, ℕ, zero, suc, ◌<◌, ◌≤ℤ◌, [], ◌∷◌, refl, arith, pos}
 use Rattle.box_math.specs.Bounds.{Bounds, IsBox, IsSpan, Within, on_axis}
-use Rattle.node_page.specs.Shape.{RowWithin, HasLooseShape, HasShape, IsLeastBox, least_entries}
-use Rattle.node_page.specs.TreeLaws.{tree_with_node}
-use Rattle.node_page.specs.Trees.{HasNode, PageMap, Row, leaf_ids, end, more, object, child, Tree, RowStands, Stands, objects_in, occurs_in, row_items}
+use Rattle.tree_node.specs.Shape.{RowWithin, HasLooseShape, HasShape, IsLeastBox, least_entries}
+use Rattle.tree_node.specs.Trees.{tree_with_node, Row, leaf_ids, end, more, object, child, Tree, objects_in, occurs_in, row_items}
 
 -- the box of one point of the plane
-abbrev point : ℕ → ℕ → Bounds
+abbrev pub point : ℕ → ℕ → Bounds
 point x y = record { low = pos x ∷ pos y ∷ []; high = pos x ∷ pos y ∷ [] }
 
 -- a box of the plane
-abbrev box : ℕ → ℕ → ℕ → ℕ → Bounds
+abbrev pub box : ℕ → ℕ → ℕ → ℕ → Bounds
 box x y x' y' = record { low = pos x ∷ pos y ∷ []; high = pos x' ∷ pos y' ∷ [] }
 
 -- two leaves of two points each, and the root above them
-abbrev left : Row
+abbrev pub left : Row
 left = more (object (point 0 0) 7) (more (object (point 0 1) 5) end)
 
-abbrev right : Row
+abbrev pub right : Row
 right = more (object (point 2 2) 6) (more (object (point 3 2) 8) end)
 
-abbrev tree : Tree
+abbrev pub tree : Tree
 tree = record { page = 5; level = 1; row = more (child (box 0 0 0 1) 3 left) (more (child (box 2 2 3 2) 4 right) end) }
 
 -- the leaves are read from left to right, each by position
@@ -47,40 +44,6 @@ the_root_is_replaced = refl
 -- the leaves, and a leaf that is a root
 its_leaves : (leaf_ids 1 tree.row ≡ (7 ∷ 5 ∷ []) ∷ (6 ∷ 8 ∷ []) ∷ []) × (leaf_ids 0 left ≡ (7 ∷ 5 ∷ []) ∷ []) × (leaf_ids 0 end ≡ [] ∷ [])
 its_leaves = (refl, refl, refl)
-
--- ---- what stands
-
--- where its three nodes are spelled, the tree stands
-it_stands : (dims : ℕ) (pages : PageMap) → HasNode dims pages 5 1 tree.row → HasNode dims pages 3 0 left → HasNode dims pages 4 0 right → Stands dims pages tree
-it_stands dims pages root first second = record {
-  root = root;
-  below = (omega arith, first, (refl, (refl, tt)), (omega arith, second, (refl, (refl, tt)), tt));
-  distinct = λ n. ⊎_elim
-      (λ (is : 3 ≡ n). subst (λ k. occurs_in k tree ≤ 1) is (omega arith))
-      (λ (not_3 : ¬ (3 ≡ n)). ⊎_elim
-      (λ (is : 4 ≡ n). subst (λ k. occurs_in k tree ≤ 1) is (omega arith))
-      (λ (not_4 : ¬ (4 ≡ n)). let a : eqb 3 n ≡ false = grind (arith, nat_tests) in let b : eqb 4 n ≡ false = grind (arith, nat_tests) in rw (a, b) (at_most_one (eqb 5 n)))
-      (cases_eq 4 n))
-      (cases_eq 3 n);
-}
-  where
-    at_most_one : (b : Bool) → cond b 1 0 + 0 ≤ 1
-    at_most_one true = omega arith
-    at_most_one false = omega arith
-
--- ---- what stands nowhere
-
--- a tree with a page twice
-a_page_twice_stands_nowhere : (dims : ℕ) (pages : PageMap) → Stands dims pages (record { page = 5; level = 1; row = more (child (box 0 0 0 1) 3 left) (more (child (box 2 2 3 2) 3 right) end) }) → ⊥
-a_page_twice_stands_nowhere dims pages h = absurd (omega (arith, h.distinct 3))
-
--- objects above the leaves
-an_object_above_the_leaves_stands_nowhere : (dims : ℕ) (pages : PageMap) → RowStands dims pages 1 left → ⊥
-an_object_above_the_leaves_stands_nowhere dims pages h = absurd (omega (arith, h.0))
-
--- children of a leaf
-a_child_of_a_leaf_stands_nowhere : (dims : ℕ) (pages : PageMap) → RowStands dims pages 0 tree.row → ⊥
-a_child_of_a_leaf_stands_nowhere dims pages h = absurd (omega (arith, h.0))
 
 -- ---- shapes
 

@@ -1,6 +1,9 @@
 -- The laws of trees in pages.
-use Rattle.std.specs.Prelude.{◌≡◌, ℕ, ◌<◌, ◌≤◌, if◌then◌else◌, ◌==◌, IsSome}
-use Rattle.node_page.specs.Trees.{PageMap, Tree, Row, end, more, object, child, HasNode, RowOnLevel, RowStands, Stands, occurs_in}
+use Rattle.std.specs.Prelude.{◌≡◌, ℕ, ◌^◌, ◌<◌, ◌≤◌, List, Some, IsSome}
+use Rattle.block_bytes.specs.Numbers.{AreBytes}
+use Rattle.tree_node.specs.Boxes.{RowHasBoxes}
+use Rattle.tree_node.specs.Trees.{Tree, Row, RowOnLevel, occurs, occurs_in, tree_with_node}
+use Rattle.node_page.specs.Standing.{PageMap, HasNode, RowStands, Stands}
 
 -- at most one tree stands at a page
 abbrev pub OneTreeStands : Type 0
@@ -10,6 +13,14 @@ OneTreeStands = (dims : ℕ) (pages : PageMap) (s t : Tree) → s.page ≡ t.pag
 abbrev pub PagesAreThere : Type 0
 PagesAreThere = (dims : ℕ) (pages : PageMap) (t : Tree) (n : ℕ) → Stands dims pages t → 0 < occurs_in n t → IsSome (pages n)
 
+-- each page below the root is one that a node can refer to
+abbrev pub ChildPagesAreReferences : Type 0
+ChildPagesAreReferences = (dims : ℕ) (pages : PageMap) (t : Tree) (n : ℕ) → Stands dims pages t → 0 < occurs n t.row → (3 ≤ n) × (n < 2 ^ 31)
+
+-- the boxes of a tree that stands in pages of bytes are boxes
+abbrev pub BoxesAreBoxes : Type 0
+BoxesAreBoxes = (dims : ℕ) (pages : PageMap) (t : Tree) → ((n : ℕ) (page : List ℕ) → pages n ≡ Some page → AreBytes page) → Stands dims pages t → RowHasBoxes dims t.row
+
 -- all leaves of a tree that stands are on level 0
 abbrev pub LevelsAreKept : Type 0
 LevelsAreKept = (dims : ℕ) (pages : PageMap) (t : Tree) → Stands dims pages t → RowOnLevel t.level t.row
@@ -17,16 +28,6 @@ LevelsAreKept = (dims : ℕ) (pages : PageMap) (t : Tree) → Stands dims pages 
 -- pages that are equal where the tree's are stand for it too
 abbrev pub EqualPagesStand : Type 0
 EqualPagesStand = (dims : ℕ) (old new : PageMap) (t : Tree) → ((n : ℕ) → 0 < occurs_in n t → new n ≡ old n) → Stands dims old t → Stands dims new t
-
--- the entries below, with those of the node at this page replaced
-abbrev pub with_node : ℕ → Row → Row → Row
-with_node page new end = end
-with_node page new (more (object bounds id) rest) = more (object bounds id) (with_node page new rest)
-with_node page new (more (child bounds q below) rest) = more (child bounds q (if q == page then new else with_node page new below)) (with_node page new rest)
-
--- the same for a whole tree
-abbrev pub tree_with_node : Tree → ℕ → Row → Tree
-tree_with_node t page new = record { page = t.page; level = t.level; row = if t.page == page then new else with_node page new t.row }
 
 -- Where one page of a tree is written with a node of its level whose trees stand, and then no page is in the tree twice,
 -- the pages stand for the tree with that node replaced.

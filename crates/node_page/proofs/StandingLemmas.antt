@@ -1,21 +1,19 @@
 -- What holds of trees in pages.
-use Rattle.std.proofs.Common.{◌≡◌, ℕ, ◌+◌, ◌-◌, ◌<◌, ◌≤◌, true, false, Option, Some, None, IsSome, cond, eqb, List, ◌∷◌, refl, sym, ap, subst, ◌∙◌, ⊎_elim, arith}
+use Rattle.std.proofs.Common.{◌≡◌, ℕ, ◌+◌, ◌-◌, ◌<◌, ◌≤◌, true, false, Option, Some, None, IsSome, eqb, List, refl, sym, ap, subst, ◌∙◌, ⊎_elim, arith}
 use Rattle.std.proofs.lemmas.Bool.{cases_eq}
 use Rattle.std.proofs.lemmas.Bool.Decides.{nat_tests}
-use Rattle.box_math.specs.Bounds.{Bounds}
-use Rattle.node_page.specs.Layout.{Content, Item}
-use Rattle.node_page.specs.Trees.{PageMap, Tree, Row, end, more, object, child, HasNode, RowOnLevel, RowStands, Stands, node_in, row_items, occurs, occurs_in}
-use Rattle.node_page.specs.TreeLaws.{OneTreeStands, EqualPagesStand, LevelsAreKept, PagesAreThere, ReplacedNodeStands, with_node, tree_with_node}
-
-occurs_here : (page : ℕ) → ◌≡◌ {A = ℕ} (cond (eqb page page) 1 0) 1
-occurs_here page = grind (arith, nat_tests)
+use Rattle.tree_node.specs.Nodes.{NodeContent, Item}
+use Rattle.tree_node.specs.Trees.{Tree, Row, end, more, object, child, RowOnLevel, row_items, occurs, occurs_in, with_node, tree_with_node}
+use Rattle.node_page.specs.Standing.{PageMap, HasNode, RowStands, Stands, node_in}
+use Rattle.tree_node.proofs.RowLemmas.{items_with_node, occurs_here, same_child, same_first, same_object, same_tree}
+use Rattle.node_page.specs.StandingLaws.{OneTreeStands, EqualPagesStand, LevelsAreKept, PagesAreThere, ReplacedNodeStands}
 
 -- a page spells one node
-pub same_content : (dims : ℕ) (pages : PageMap) (page : ℕ) (a b : Content) → node_in dims (pages page) ≡ Some a → node_in dims (pages page) ≡ Some b → a ≡ b
+pub same_content : (dims : ℕ) (pages : PageMap) (page : ℕ) (a b : NodeContent) → node_in dims (pages page) ≡ Some a → node_in dims (pages page) ≡ Some b → a ≡ b
 same_content dims pages page a b h k = cc
 
 same_level : (dims : ℕ) (pages : PageMap) (page level level' : ℕ) (a b : Row) → HasNode dims pages page level a → HasNode dims pages page level' b → level ≡ level'
-same_level dims pages page level level' a b h k = ap (λ (x : Content). x.level) (same_content dims pages page _ _ h k)
+same_level dims pages page level level' a b h k = ap (λ (x : NodeContent). x.level) (same_content dims pages page _ _ h k)
 
 -- a node stays where its bytes do
 pub node_stays : (dims : ℕ) (old new : PageMap) (page level : ℕ) (row : Row) → new page ≡ old page → HasNode dims old page level row → HasNode dims new page level row
@@ -34,18 +32,6 @@ row_stays dims old new level (more (child bounds page below) rest) same h = (
 
 -- ---- one tree stands
 
--- the same first entry, and the same others
-same_first : (b b' : Bounds) (r r' : ℕ) (xs ys : List Item) → ◌≡◌ {A = List Item} (record { bounds = b; reference = r } ∷ xs) (record { bounds = b'; reference = r' } ∷ ys) → (b ≡ b') × (r ≡ r') × (xs ≡ ys)
-same_first b b' r r' xs ys h =
-    let item : ◌≡◌ {A = Item} (record { bounds = b; reference = r }) (record { bounds = b'; reference = r' }) = cc in
-    (ap (λ (x : Item). x.bounds) item, ap (λ (x : Item). x.reference) item, cc)
-
-same_object : (b b' : Bounds) (r r' : ℕ) (xs ys : Row) → b ≡ b' → r ≡ r' → xs ≡ ys → more (object b r) xs ≡ more (object b' r') ys
-same_object b b' r r' xs ys e f h = cc
-
-same_child : (b b' : Bounds) (r r' : ℕ) (u v xs ys : Row) → b ≡ b' → r ≡ r' → u ≡ v → xs ≡ ys → more (child b r u) xs ≡ more (child b' r' v) ys
-same_child b b' r r' u v xs ys e f g h = cc
-
 one_row : (dims : ℕ) (pages : PageMap) (level : ℕ) (a b : Row) → ◌≡◌ {A = List Item} (row_items a) (row_items b) → RowStands dims pages level a → RowStands dims pages level b → a ≡ b
 one_row dims pages level end end same h k = refl
 one_row dims pages level end (more (object bounds' id') rest') same h k = absurd (cc)
@@ -61,11 +47,8 @@ one_row dims pages level (more (child bounds page below) rest) (more (child boun
     let parts = same_first bounds bounds' page page' (row_items rest) (row_items rest') same in
     let node : HasNode dims pages page' (level - 1) below = subst (λ n. HasNode dims pages n (level - 1) below) parts.1 h.1 in
     let content = same_content dims pages page' (record { level = level - 1; entries = row_items below }) (record { level = level - 1; entries = row_items below' }) node k.1 in
-    let belows = one_row dims pages (level - 1) below below' (ap (λ (x : Content). x.entries) content) h.2 k.2 in
+    let belows = one_row dims pages (level - 1) below below' (ap (λ (x : NodeContent). x.entries) content) h.2 k.2 in
     same_child bounds bounds' page page' below below' rest rest' parts.0 parts.1 belows (one_row dims pages level rest rest' parts.2 h.3 k.3)
-
-same_tree : (page page' level level' : ℕ) (a b : Row) → page ≡ page' → level ≡ level' → a ≡ b → ◌≡◌ {A = Tree} (record { page = page; level = level; row = a }) (record { page = page'; level = level'; row = b })
-same_tree page page' level level' a b e f h = cc
 
 pub one_tree_stands : OneTreeStands
 one_tree_stands dims pages s t at_page first second =
@@ -74,16 +57,16 @@ one_tree_stands dims pages s t at_page first second =
     let here : HasNode dims pages t.page t.level s.row = subst (λ l. HasNode dims pages t.page l s.row) at_level there in
     let content = same_content dims pages t.page (record { level = t.level; entries = row_items s.row }) (record { level = t.level; entries = row_items t.row }) here second.root in
     same_tree s.page t.page s.level t.level s.row t.row at_page at_level
-    (one_row dims pages t.level s.row t.row (ap (λ (x : Content). x.entries) content) (subst (λ l. RowStands dims pages l s.row) at_level first.below) second.below)
+    (one_row dims pages t.level s.row t.row (ap (λ (x : NodeContent). x.entries) content) (subst (λ l. RowStands dims pages l s.row) at_level first.below) second.below)
 
 -- ---- its pages, and its levels
 
 -- a page with a node is there
-pub page_of_node : (dims : ℕ) (page : Option (List ℕ)) (c : Content) → node_in dims page ≡ Some c → IsSome page
+pub page_of_node : (dims : ℕ) (page : Option (List ℕ)) (c : NodeContent) → node_in dims page ≡ Some c → IsSome page
 page_of_node dims None c e = absurd (cc)
 page_of_node dims (Some bytes) c e = refl
 
-below_there : (dims : ℕ) (pages : PageMap) (level : ℕ) (row : Row) (n : ℕ) → RowStands dims pages level row → 0 < occurs n row → IsSome (pages n)
+pub below_there : (dims : ℕ) (pages : PageMap) (level : ℕ) (row : Row) (n : ℕ) → RowStands dims pages level row → 0 < occurs n row → IsSome (pages n)
 below_there dims pages level end n h some = absurd (omega (arith, some))
 below_there dims pages level (more (object bounds id) rest) n h some = below_there dims pages level rest n h.1 some
 below_there dims pages level (more (child bounds page below) rest) n h some = ⊎_elim
@@ -123,11 +106,6 @@ equal_pages_stand dims old new t same stands = record {
 }
 
 -- ---- one node is replaced
-
-items_with_node : (page : ℕ) (now row : Row) → ◌≡◌ {A = List Item} (row_items (with_node page now row)) (row_items row)
-items_with_node page now end = refl
-items_with_node page now (more (object bounds id) rest) = ap (λ (xs : List Item). record { bounds = bounds; reference = id } ∷ xs) (items_with_node page now rest)
-items_with_node page now (more (child bounds q below) rest) = ap (λ (xs : List Item). record { bounds = bounds; reference = q } ∷ xs) (items_with_node page now rest)
 
 has_with_node : (dims : ℕ) (pages : PageMap) (at level page : ℕ) (now row : Row) → HasNode dims pages at level row → HasNode dims pages at level (with_node page now row)
 has_with_node dims pages at level page now row h = h ∙ ap (λ (xs : List Item). Some (record { level = level; entries = xs })) (sym (items_with_node page now row))

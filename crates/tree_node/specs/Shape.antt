@@ -2,7 +2,7 @@
 -- bound of two, and the loose shape, which a tree has in the course of an insertion, are our rule (docs/FORMAT.md, "Trees of pages").
 use Rattle.std.specs.Prelude.{ℕ, ◌*◌, ◌/◌, ◌<◌, ◌≤◌, max, ⊤}
 use Rattle.box_math.specs.Bounds.{Bounds, IsBox, Within}
-use Rattle.node_page.specs.Trees.{Row, end, more, object, child, Tree, RowOnLevel, row_length}
+use Rattle.tree_node.specs.Trees.{Row, end, more, object, child, Tree, RowOnLevel, row_length}
 
 -- the least count of entries of a node of a tree whose nodes have at most so many: 40 in a hundred (Beckmann et al. 1990)
 abbrev pub least_entries : ℕ → ℕ

@@ -1,7 +1,8 @@
--- Trees of nodes, and the pages that they stand in (Guttman 1984; our rule, docs/FORMAT.md, "Trees of pages").
-use Rattle.std.specs.Prelude.{◌≡◌, ℕ, zero, suc, ◌+◌, ◌-◌, ◌<◌, ◌≤◌, List, [], ◌∷◌, ◌++◌, Option, Some, None, ⊤, if◌then◌else◌, ◌==◌}
+-- Trees of nodes as values: what lies below each entry, what a tree holds, and its pages (Guttman 1984; our rule,
+-- docs/FORMAT.md, "Trees of pages").
+use Rattle.std.specs.Prelude.{◌≡◌, ℕ, zero, suc, ◌+◌, ◌-◌, ◌<◌, List, [], ◌∷◌, ◌++◌, ⊤, if◌then◌else◌, ◌==◌}
 use Rattle.box_math.specs.Bounds.{Bounds}
-use Rattle.node_page.specs.Layout.{Content, Item, node_at}
+use Rattle.tree_node.specs.Nodes.{Item}
 
 -- The entries of a node in order of position: on level 0 boxes with identifiers, and above it boxes with trees one level
 -- lower. A tree below is its page and its own entries.
@@ -68,35 +69,14 @@ occurs n (more (child bounds page below) rest) = (if page == n then 1 else 0) + 
 abbrev pub occurs_in : ℕ → Tree → ℕ
 occurs_in n t = (if t.page == n then 1 else 0) + occurs n t.row
 
--- ---- the pages that it stands in
+-- ---- one node replaced
 
--- the bytes of each page that is there
-abbrev pub PageMap : Type 0
-PageMap = ℕ → Option (List ℕ)
+-- the entries below, with those of the node at this page replaced
+abbrev pub with_node : ℕ → Row → Row → Row
+with_node page new end = end
+with_node page new (more (object bounds id) rest) = more (object bounds id) (with_node page new rest)
+with_node page new (more (child bounds q below) rest) = more (child bounds q (if q == page then new else with_node page new below)) (with_node page new rest)
 
--- the node that a page spells, if it is there and spells one
-abbrev pub node_in : ℕ → Option (List ℕ) → Option Content
-node_in dims None = None
-node_in dims (Some page) = node_at dims page
-
--- a page spells the node of this level with these entries
-abbrev pub HasNode : ℕ → PageMap → ℕ → ℕ → Row → Type 0
-HasNode dims pages page level row = node_in dims (pages page) ≡ Some (record { level = level; entries = row_items row })
-
--- the trees below a node of this level stand in the pages: its entries are objects on level 0, and children above it
-abbrev pub RowStands : ℕ → PageMap → ℕ → Row → Type 0
-RowStands dims pages level end = ⊤
-RowStands dims pages level (more (object bounds id) rest) = (level ≡ 0) × RowStands dims pages level rest
-RowStands dims pages level (more (child bounds page below) rest) =
-    (0 < level) × HasNode dims pages page (level - 1) below × RowStands dims pages (level - 1) below × RowStands dims pages level rest
-
--- a node with the entries stands at the page, and the trees below it
-pub record StandsAt (dims : ℕ) (pages : PageMap) (page level : ℕ) (row : Row) : Type 0 where
-  pub node : HasNode dims pages page level row
-  pub below : RowStands dims pages level row
-
--- the pages stand for the tree: each node is spelled at its page, and no page is in it twice
-pub record Stands (dims : ℕ) (pages : PageMap) (t : Tree) : Type 0 where
-  pub root : HasNode dims pages t.page t.level t.row
-  pub below : RowStands dims pages t.level t.row
-  pub distinct : (n : ℕ) → occurs_in n t ≤ 1
+-- the same for a whole tree
+abbrev pub tree_with_node : Tree → ℕ → Row → Tree
+tree_with_node t page new = record { page = t.page; level = t.level; row = if t.page == page then new else with_node page new t.row }

@@ -1,0 +1,12 @@
+//! Trees of nodes as values: nodes and their entries, rows of a tree with what lies below them, and the shape of a tree.
+//! Nothing here speaks of bytes or of pages that are read.
+#![tactic(auto)]
+
+mod entries;
+pub mod laws;
+mod node;
+#[cfg(test)]
+mod tests;
+
+pub use entries::{box_of, least, picked, reference_of, see_boxes};
+pub use node::{Entry, Node, Root};
