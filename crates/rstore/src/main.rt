@@ -1,33 +1,43 @@
-//! The program `rstore`: command lines from standard input, replies to standard output (docs/COMMANDS.md).
+//! The program `rstore`: `rstore [--cache N] [--create] [FILE]` (docs/COMMANDS.md).
 #![tactic(auto)]
 
-use block_device::MemoryDevice;
-use command_shell::{run_and_close, tell_refusal};
-use layer_store::{Refusal, create_store};
-use std::io;
-use std::io::BufWriter;
+use command_line::serve;
+use command_shell::tell_refusal;
+use layer_store::Refusal;
+use std::io::{BufWriter, Write};
 use std::process::ExitCode;
+use std::{env, io};
 
-// How many pages the store caches.
-const CACHED_PAGES: u32 = 64;
-
-/// Answers the commands of standard input over a store in memory, which is closed and lost at the end.
-///
-/// Its status is 0 where all was read, each reply was written and the store was closed, and else 1.
+/// Runs on the words of the command line, standard input and standard output, and ends with the status of the run.
 fn main(rt: HostRuntime) -> ExitCode {
-    let device = MemoryDevice::new(rt.alloc());
-    let Ok(store) = create_store(rt.alloc(), device, CACHED_PAGES) else {
-        let _ = tell_refusal(Refusal::Memory, &mut rt.stderr());
-        return ExitCode::FAILURE;
-    };
-    let Ok(mut output) = BufWriter::new(rt.alloc(), io::writer(&rt)) else {
-        let _ = tell_refusal(Refusal::Memory, &mut rt.stderr());
-        return ExitCode::FAILURE;
-    };
-    let mut input = rt.reader();
-    if run_and_close(store, &mut input, &mut output, &mut rt.stderr()).went_well {
-        ExitCode::SUCCESS
-    } else {
-        ExitCode::FAILURE
+    match run(&rt) {
+        Ok(status) => ExitCode::from(status),
+        Err(error) if error.kind() == io::ErrorKind::OutOfMemory => {
+            let _ = tell_refusal(Refusal::Memory, &mut rt.stderr());
+            ExitCode::FAILURE
+        }
+        Err(_) => {
+            let _ = rt.stderr().write_all(b"rstore: a word is no text\n");
+            ExitCode::from(2)
+        }
     }
+}
+
+// The status of the run. Without memory there is none, and where a word is no text.
+fn run(rt: &HostRuntime) -> io::Result<u8> {
+    let alloc = rt.alloc();
+    let owned: Vec<String> = env::args(rt)?.collect(alloc)?;
+    let mut words = Vec::with_capacity(alloc, owned.len())?;
+    for word in &owned {
+        words.push(word.as_str())?;
+    }
+    let mut output = BufWriter::new(alloc, io::writer(rt))?;
+    let mut input = rt.reader();
+    Ok(serve(
+        rt,
+        words.as_slice(),
+        &mut input,
+        &mut output,
+        &mut rt.stderr(),
+    ))
 }
