@@ -131,7 +131,7 @@ unfolding IsDistinct
 none_distinct = tt
 
 -- behind the first page it does not come again: it would begin both the whole chain and one of fewer pages
-comes_once : (blocks : Blocks) (next count first : ℕ) → IsChain blocks next (suc count) first
+pub comes_once : (blocks : Blocks) (next count first : ℕ) → IsChain blocks next (suc count) first
     → is_member eqb (chain blocks count (link_of (block_at first blocks))) first ≡ true → ⊥
 comes_once blocks next count first whole member =
     let from = chain_from blocks next count (link_of (block_at first blocks)) whole.3 first member in

@@ -1,10 +1,12 @@
 -- What a file of pages stands for, and what calls keep of it.
-use Rattle.std.specs.Prelude.{◌≡◌, ◌↔◌, ℕ, List, Option, Some, None, IsSome}
-use Rattle.block_device.specs.Device.{Blocks}
+use Rattle.std.specs.Prelude.{◌≡◌, ◌<◌, ◌↔◌, ℕ, List, Option, Some, None, IsSome}
+use Rattle.block_device.specs.Device.{Blocks, block_at}
 use Rattle.page_file.specs.Layout.{catalog_block}
 use Rattle.page_file.specs.Opening.{failed_check}
-use Rattle.page_file.specs.Pages.{page_of, given_pages, pages_in, next_in, HasFreeChain, IsSoundMap}
+use Rattle.page_file.specs.Pages.{free_page_link, free_pages_of, page_of, given_pages, pages_in, next_in, HasFreeChain, IsSoundMap}
 use Rattle.page_file.specs.Stops.{AddsOnly, StopSince}
+use Rattle.page_file.specs.declared.fault.Fault.{Fault}
+use Rattle.page_file.specs.declared.fault.Fault.TheVariants.{Damaged}
 use Rattle.page_file.specs.declared.gate.Gate.{Gate}
 use Rattle.page_file.specs.declared.gate.Gate.TheVariants.{Open}
 use Rattle.page_file.specs.declared.header.Header.{Header}
@@ -39,6 +41,10 @@ pages {m = m} file n = page_of (m.shown file.device) file.header n
 -- the pages given out, live or free
 abbrev pub given : {D : Type 0} {m : _} → PageFile D m → ℕ → Option (List ℕ)
 given file n = given_pages (blocks_of file) (next_of file) n
+
+-- the free pages, in their order
+abbrev pub free_of : {D : Type 0} {m : _} → PageFile D m → List ℕ
+free_of file = free_pages_of (blocks_of file) (header_of file)
 
 -- the page of this number is live
 abbrev pub IsLive : {D : Type 0} {m : _} → PageFile D m → ℕ → Type 0
@@ -79,3 +85,12 @@ pub record IsNewFile (blocks : Blocks) : Type 0 where
   pub catalog : pages_in blocks 2 ≡ Some catalog_block
   pub others : (k : ℕ) → ¬ (k ≡ 2) → pages_in blocks k ≡ None
   pub sound : IsSoundMap blocks
+
+-- The fault says that the first free page is damaged: there is one, and its block is not that of a free page as the
+-- format has it. Nothing has changed.
+pub record IsBroken {D : Type 0} {m : _} (old new : PageFile D m) (f : Fault) : Type 0 where
+  pub is : f ≡ Damaged (header_of old).first
+  pub some : 0 < (header_of old).count
+  pub no_link : free_page_link (header_of old).count (next_of old) (block_at (header_of old).first (blocks_of old)) ≡ None
+  pub header : header_of new ≡ header_of old
+  pub blocks : blocks_of new ≡ blocks_of old

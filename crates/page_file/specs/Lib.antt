@@ -13,6 +13,7 @@ pub mod Chains
 pub mod Live
 pub mod Given
 pub mod Settled
+pub mod Reused
 pub mod Frames
 pub mod Aside
 pub mod Laws

@@ -82,7 +82,7 @@ free_same old new h same f = whole_same old new h.next h.count h.first f (λ k l
 
 -- a page that is not free is torn
 module _ (n : ℕ) (old new : Blocks) (h : Header) (torn : Torn n old new) (le : n ≤ length old) (apart : is_member eqb (free_pages_of old h) n ≡ false) where
-  chain_torn : chain new h.count h.first ≡ chain old h.count h.first
+  pub chain_torn : chain new h.count h.first ≡ chain old h.count h.first
   chain_torn = chain_same old new h.count h.first (λ k low member. outside n old new (free_pages_of old h) torn le apart k member)
 
   pub others_same : SameBut n (page_of old h) (page_of new h)

@@ -1,7 +1,8 @@
 -- The map of live pages that blocks and a header stand for (our rule, docs/FORMAT.md, "Pages").
-use Rattle.std.specs.Prelude.{◌≡◌, ◌≤◌, ◌<◌, ◌+◌, ℕ, zero, suc, List, [], ◌∷◌, Option, Some, None, Bool, ◌&&◌, not, nat_le, nat_lt, eqb, if◌then◌else◌}
+use Rattle.std.specs.Prelude.{◌≡◌, ◌⊎◌, ◌≤◌, ◌<◌, ◌+◌, ◌-◌, ◌==◌, ℕ, zero, suc, List, [], ◌∷◌, Option, Some, None, Bool, ◌&&◌, not, nat_le, nat_lt, eqb, if◌then◌else◌}
 use Rattle.std.specs.Set.{is_member}
-use Rattle.block_device.specs.Device.{Blocks, block_at}
+use Rattle.block_device.specs.Device.{Blocks, Torn, block_at, written}
+use Rattle.block_bytes.specs.Numbers.{zeros}
 use Rattle.page_file.specs.Layout.{kind_of, link_of}
 use Rattle.page_file.specs.Opening.{header_of_block}
 use Rattle.page_file.specs.declared.header.Header.{Header}
@@ -55,9 +56,58 @@ IsSoundMap blocks = HasFreeChain blocks (header_in blocks)
 abbrev pub SameBut : ℕ → (ℕ → Option (List ℕ)) → (ℕ → Option (List ℕ)) → Type 0
 SameBut n old new = (k : ℕ) → ¬ (k ≡ n) → new k ≡ old k
 
--- the header behind which one more number is given out, and the one behind which page n is the first free page
+-- the header once one more number is given out, and once page n is the first free page
 abbrev pub with_one_given : Header → Header
 with_one_given h = record { next = h.next + 1; first = h.first; count = h.count }
 
 abbrev pub with_one_free : ℕ → Header → Header
 with_one_free n h = record { next = h.next; first = n; count = h.count + 1 }
+
+-- and once the first free page is taken from the chain
+abbrev pub with_one_taken : Blocks → Header → Header
+with_one_taken blocks h = record { next = h.next; first = link_of (block_at h.first blocks); count = h.count - 1 }
+
+-- the number that is given out next, of so many free pages: that of the first one, or a new number where there is none
+abbrev pub next_of_free : ℕ → Header → ℕ
+next_of_free zero h = h.next
+next_of_free (suc count) h = h.first
+
+abbrev pub next_given : Header → ℕ
+next_given h = next_of_free h.count h
+
+-- the header once it is given out
+abbrev pub with_free : ℕ → Blocks → Header → Header
+with_free zero blocks h = with_one_given h
+with_free (suc count) blocks h = with_one_taken blocks h
+
+abbrev pub with_given : Blocks → Header → Header
+with_given blocks h = with_free h.count blocks h
+
+-- That page is given out: it is zeros, and no longer free.
+pub record HasGiven (old new : Blocks) (h h' : Header) : Type 0 where
+  pub header : h' ≡ with_given old h
+  pub block : new ≡ written (next_given h) zeros old
+  pub torn : Torn (next_given h) old new
+
+-- It may be given out, and may hold any bytes. A page that is still in the chain of free pages is as it was.
+pub record MayHaveGiven (old new : Blocks) (h h' : Header) : Type 0 where
+  pub torn : Torn (next_given h) old new
+  pub header : ((h' ≡ h) × ((h.count ≡ 0) ⊎ (new ≡ old))) ⊎ ((h' ≡ with_given old h) × (0 < h.count))
+
+-- Page n was given out, where those pages were free and that number was next: the first free page, or else a new
+-- number.
+abbrev pub TakesFirst : ℕ → List ℕ → ℕ → List ℕ → ℕ → Type 0
+TakesFirst n [] next free' next' = (n ≡ next) × (free' ≡ []) × (next' ≡ next + 1)
+TakesFirst n (first ∷ rest) next free' next' = (n ≡ first) × (free' ≡ rest) × (next' ≡ next)
+
+-- what a free page may name as the next, where so many are free from it on: 0 by the last, and by each other one a
+-- page given out after the catalog
+abbrev pub may_link : ℕ → ℕ → ℕ → Bool
+may_link count next link = if count == 1 then link == 0 else (nat_le 3 link && nat_lt link next)
+
+-- the block of a free page as the format has it, and the page that it names
+abbrev pub is_free_page : ℕ → ℕ → List ℕ → Bool
+is_free_page count next block = kind_of block == 5 && may_link count next (link_of block)
+
+abbrev pub free_page_link : ℕ → ℕ → List ℕ → Option ℕ
+free_page_link count next block = if is_free_page count next block then Some (link_of block) else None

@@ -7,7 +7,7 @@ use Rattle.page_file.specs.declared.fault.Fault.TheVariants.{NotAStore, NotClose
 use Rattle.page_file.specs.declared.header.Header.{Header}
 use Rattle.page_file.specs.Layout.{gate_text, header_text, version, IsShutGate, IsHeader}
 use Rattle.page_file.specs.Opening.{Check, failed_check, first_fault, gate_checks, header_checks, header_of_block, is_sound}
-use Rattle.page_file.specs.Pages.{header_in}
+use Rattle.page_file.specs.Pages.{header_in, may_link}
 
 -- a check that was passed, and those behind it
 passed : (a : Check) (cs : List Check) → first_fault (a ∷ cs) ≡ None → (a.0 ≡ false) × (first_fault cs ≡ None)
@@ -129,3 +129,7 @@ more_given h e = grind (arith, nat_tests)
 
 pub more_free : (h : Header) (n : ℕ) → is_sound h ≡ true → 3 ≤ n → n < h.next → h.count < h.next - 3 → is_sound (made h.next n (h.count + 1)) ≡ true
 more_free h n e low below room = grind (arith, nat_tests)
+
+-- and where the first free one is taken, whose link is as the format has it
+pub one_less_free : (h : Header) (link : ℕ) → is_sound h ≡ true → 0 < h.count → may_link h.count h.next link ≡ true → is_sound (made h.next link (h.count - 1)) ≡ true
+one_less_free h link e some linked = grind (arith, nat_tests)

@@ -1,10 +1,11 @@
 //! The blocks of a file as bytes: gate, header, empty catalog and free page.
-ghost use Rattle.std.specs.Prelude.{◌≡◌};
+ghost use Rattle.std.specs.Prelude.{◌≡◌, IfSome, true};
 ghost use Rattle.page_file.specs.Layout.{gate_block, header_block, catalog_block, free_block, IsHeader};
 ghost use Rattle.page_file.specs.Opening.{header_of_block};
+ghost use Rattle.page_file.specs.Pages.{free_page_link, may_link};
 
 use crate::header::Header;
-use block_bytes::{read_u32, write_u8, write_u16, write_u32, write_u64, zero_block};
+use block_bytes::{read_u8, read_u32, write_u8, write_u16, write_u32, write_u64, zero_block};
 
 /// The ASCII text RSTARGAT.
 pub const GATE_TEXT: u64 = 0x5253_5441_5247_4154;
@@ -71,4 +72,23 @@ pub fn free_page(next: u32) -> [u8; 4096]
     write_u8(&mut page, 0, 5);
     write_u32(&mut page, 4, next);
     page
+}
+
+/// The page that a free page names as the next, where so many are free from it on. None where the block is no such page
+/// as the format has it.
+pub fn free_link(page: &[u8; 4096], count: u32, next: u32) -> Option<u32>
+    ensures link { result ≡ free_page_link count next page.now }
+    ensures there { IfSome result (λ link. may_link count next link ≡ true) }
+{
+    let link = read_u32(page, 4);
+    let fits = if count == 1 {
+        link == 0
+    } else {
+        3 <= link && link < next
+    };
+    if read_u8(page, 0) == 5 && fits {
+        Some(link)
+    } else {
+        None
+    }
 }

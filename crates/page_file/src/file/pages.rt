@@ -1,36 +1,86 @@
 //! The pages: given out, written, freed and read.
-ghost use Rattle.std.specs.Prelude.{◌≡◌, ◌⊎◌, ◌≤◌, ◌<◌, ◌+◌, ◌-◌, ◌^◌, ℕ, Some, None, Err, IsErrOf, IfOk, IfErr, OnOk, OnErr};
+ghost use Rattle.std.specs.Prelude.{◌≡◌, ◌⊎◌, ◌≤◌, ◌<◌, ◌+◌, ◌-◌, ◌^◌, ℕ, Some, None, true, Err, IsErrOf, IfOk, IfErr, OnOk, OnErr};
 ghost use Rattle.block_bytes.specs.Numbers.{zeros};
-ghost use Rattle.block_device.specs.Device.{Only, Torn, written};
+ghost use Rattle.block_device.specs.Device.{Only, Torn, block_at, written};
 ghost use Rattle.page_file.specs.Fault.{HasCause, IsOfDevice, IsDamage};
-ghost use Rattle.page_file.specs.File.{device_of, blocks_of, header_of, IsHonest, gate_of, next_of, pages, given, IsLive, IsPageMap, KeepsGate, KeepsMap};
+ghost use Rattle.page_file.specs.File.{device_of, blocks_of, free_of, header_of, IsBroken, IsHonest, gate_of, next_of, pages, given, IsLive, IsPageMap, KeepsGate, KeepsMap};
 ghost use Rattle.page_file.specs.Layout.{free_block};
-ghost use Rattle.page_file.specs.Pages.{SameBut, with_one_free, with_one_given};
+ghost use Rattle.page_file.specs.Pages.{HasGiven, MayHaveGiven, SameBut, TakesFirst, free_page_link, may_link, next_given, with_one_free, with_one_given, with_one_taken};
 ghost use Rattle.page_file.specs.declared.fault.Fault.TheVariants as fault;
 ghost use Rattle.page_file.specs.declared.gate.Gate.TheVariants.{Open};
 
 use crate::Fault;
 use crate::blocks::{read_block, write_block};
 use crate::file::PageFile;
-use crate::layout::free_page;
+use crate::header::Header;
+use crate::layout::{free_link, free_page};
 use block_bytes::zero_block;
 use block_device::BlockDevice;
 
 const MAX_PAGES: u32 = 1 << 31;
 
 impl<D: BlockDevice> PageFile<D> {
-    /// Gives out a page of zeros that was not live. The gate has to be open.
+    /// Gives out a page of zeros that was not live: the first free page where there is one, and else one of a new
+    /// number. The gate has to be open.
     ///
     /// After a refusal one page that was not live may hold any bytes, and may be live; all others are as
-    /// before. `NoPages` comes only where all numbers up to 2^31 - 1 were given out.
+    /// before. `NoPages` comes only where each number from 2 to 2^31 - 1 is live. `Damaged` comes with the number of the
+    /// first free page, where its block is not that of a free page (docs/FORMAT.md, "Pages"); nothing has changed then.
     pub fn allocate(&mut self) -> Result<u32, Fault>
         requires { gate_of self.old ≡ Open }
         ensures gate { KeepsGate self.old self.new }
-        ensures fresh { IsPageMap self.old → IfOk result (λ n. (pages self.old n ≡ None) × (pages self.new n ≡ Some zeros) × SameBut n (pages self.old) (pages self.new)) }
+        ensures fresh { IsPageMap self.old →
+            IfOk result (λ n. (pages self.old n ≡ None) × (pages self.new n ≡ Some zeros) × SameBut n (pages self.old) (pages self.new)) }
+        ensures taken { IsPageMap self.old →
+            IfOk result (λ n. TakesFirst n (free_of self.old) (next_of self.old) (free_of self.new) (next_of self.new)) }
+        ensures refused { IsPageMap self.old →
+            OnErr result ((n : ℕ) × (pages self.old n ≡ None) × SameBut n (pages self.old) (pages self.new)) }
+        ensures sound { IsPageMap self.old → IsPageMap self.new }
         ensures given_others { IsHonest self.old → IfOk result (λ n. SameBut n (given self.old) (given self.new)) }
         ensures given_refused { IsHonest self.old → OnErr result ((n : ℕ) × SameBut n (given self.old) (given self.new)) }
-        ensures refused { IsPageMap self.old → OnErr result ((n : ℕ) × (pages self.old n ≡ None) × SameBut n (pages self.old) (pages self.new)) }
-        ensures sound { IsPageMap self.old → IsPageMap self.new }
+        ensures which { IfOk result (λ n. n ≡ next_given (header_of self.old)) }
+        ensures gives { IsHonest self.old →
+            OnOk result (HasGiven (blocks_of self.old) (blocks_of self.new) (header_of self.old) (header_of self.new)) }
+        ensures may_give { IsHonest self.old →
+            OnErr result (MayHaveGiven (blocks_of self.old) (blocks_of self.new) (header_of self.old) (header_of self.new)) }
+        ensures number { IfOk result (λ n. (3 ≤ n) × (n < next_of self.new)) }
+        ensures next { (next_of self.old ≤ next_of self.new) × (next_of self.new ≤ next_of self.old + 1) }
+        ensures no_pages { IsErrOf result fault.NoPages → next_of self.old ≡ 2 ^ 31 }
+        ensures all_live { IsErrOf result fault.NoPages → (n : ℕ) → 2 ≤ n → n < 2 ^ 31 → IsLive self.old n }
+        ensures faults { IsPageMap self.old → IfErr result (λ f. IsOfDevice f ⊎ (f ≡ fault.NoPages)) }
+        ensures damaged { IsHonest self.old → IfErr result (λ f. IsOfDevice f ⊎ ((f ≡ fault.NoPages) ⊎ IsBroken self.old self.new f)) }
+        ensures other_faults { IfErr result (λ f. IsOfDevice f ⊎ ((f ≡ fault.NoPages) ⊎ IsDamage f)) }
+        ensures cause { HasCause (D.faults (device_of self.old)) (D.faults (device_of self.new)) result }
+    {
+        self.give_out()
+    }
+
+    // The same, told of blocks and header.
+    fn give_out(&mut self) -> Result<u32, Fault>
+        requires { gate_of self.old ≡ Open }
+        ensures gate { KeepsGate self.old self.new }
+        ensures which { IfOk result (λ n. n ≡ next_given (header_of self.old)) }
+        ensures gives { IsHonest self.old →
+            OnOk result (HasGiven (blocks_of self.old) (blocks_of self.new) (header_of self.old) (header_of self.new)) }
+        ensures may_give { IsHonest self.old →
+            OnErr result (MayHaveGiven (blocks_of self.old) (blocks_of self.new) (header_of self.old) (header_of self.new)) }
+        ensures number { IfOk result (λ n. (3 ≤ n) × (n < next_of self.new)) }
+        ensures next { (next_of self.old ≤ next_of self.new) × (next_of self.new ≤ next_of self.old + 1) }
+        ensures no_pages { IsErrOf result fault.NoPages → (next_of self.old ≡ 2 ^ 31) × ((header_of self.old).count ≡ 0) }
+        ensures damaged { IsHonest self.old → IfErr result (λ f. IsOfDevice f ⊎ ((f ≡ fault.NoPages) ⊎ IsBroken self.old self.new f)) }
+        ensures other_faults { IfErr result (λ f. IsOfDevice f ⊎ ((f ≡ fault.NoPages) ⊎ IsDamage f)) }
+        ensures cause { HasCause (D.faults (device_of self.old)) (D.faults (device_of self.new)) result }
+    {
+        if self.header.count == 0 {
+            return self.give_new();
+        }
+        self.give_first()
+    }
+
+    // Gives out a page of a new number.
+    fn give_new(&mut self) -> Result<u32, Fault>
+        requires { gate_of self.old ≡ Open }
+        ensures gate { KeepsGate self.old self.new }
         ensures header { IfOk result (λ n. (n ≡ next_of self.old) × (header_of self.new ≡ with_one_given (header_of self.old))) }
         ensures refused_header { OnErr result (header_of self.new ≡ header_of self.old) }
         ensures block { IsHonest self.old → OnOk result (blocks_of self.new ≡ written (next_of self.old) zeros (blocks_of self.old)) }
@@ -38,12 +88,10 @@ impl<D: BlockDevice> PageFile<D> {
         ensures number { IfOk result (λ n. (3 ≤ n) × (n < next_of self.new)) }
         ensures next { (next_of self.old ≤ next_of self.new) × (next_of self.new ≤ next_of self.old + 1) }
         ensures no_pages { IsErrOf result fault.NoPages → next_of self.old ≡ 2 ^ 31 }
-        ensures faults { IsPageMap self.old → IfErr result (λ f. IsOfDevice f ⊎ (f ≡ fault.NoPages)) }
-        ensures honest_faults { IsHonest self.old → IfErr result (λ f. IsOfDevice f ⊎ (f ≡ fault.NoPages)) }
+        ensures faults { IsHonest self.old → IfErr result (λ f. IsOfDevice f ⊎ (f ≡ fault.NoPages)) }
         ensures other_faults { IfErr result (λ f. IsOfDevice f ⊎ ((f ≡ fault.NoPages) ⊎ IsDamage f)) }
         ensures cause { HasCause (D.faults (device_of self.old)) (D.faults (device_of self.new)) result }
     {
-        // Each number is new: free pages are not given out again yet.
         let n = self.header.next;
         if n >= MAX_PAGES {
             return Err(Fault::NoPages);
@@ -51,6 +99,66 @@ impl<D: BlockDevice> PageFile<D> {
         write_block(&mut self.device, n, &zero_block())?;
         self.header.next = n + 1;
         Ok(n)
+    }
+
+    // Gives out the first free page. Its link is read, then it leaves the chain in memory, and only then it is written:
+    // were that write torn while the chain still led through it, the map would be lost.
+    fn give_first(&mut self) -> Result<u32, Fault>
+        requires open { gate_of self.old ≡ Open }
+        requires some { 0 < (header_of self.old).count }
+        ensures gate { KeepsGate self.old self.new }
+        ensures which { IfOk result (λ n. n ≡ (header_of self.old).first) }
+        ensures header { IsHonest self.old → OnOk result (header_of self.new ≡ with_one_taken (blocks_of self.old) (header_of self.old)) }
+        ensures refused_header { IsHonest self.old →
+            OnErr result (((header_of self.new ≡ header_of self.old) × (blocks_of self.new ≡ blocks_of self.old)) ⊎ (header_of self.new ≡ with_one_taken (blocks_of self.old) (header_of self.old))) }
+        ensures block { IsHonest self.old → OnOk result (blocks_of self.new ≡ written (header_of self.old).first zeros (blocks_of self.old)) }
+        ensures torn { IsHonest self.old → Torn (header_of self.old).first (blocks_of self.old) (blocks_of self.new) }
+        ensures number { (3 ≤ (header_of self.old).first) × ((header_of self.old).first < next_of self.old) }
+        ensures next { next_of self.new ≡ next_of self.old }
+        ensures damaged { IsHonest self.old → IfErr result (λ f. IsOfDevice f ⊎ IsBroken self.old self.new f) }
+        ensures other_faults { IfErr result (λ f. IsOfDevice f ⊎ IsDamage f) }
+        ensures cause { HasCause (D.faults (device_of self.old)) (D.faults (device_of self.new)) result }
+    {
+        let n = self.header.first;
+        let link = self.read_link(n, self.header.count)?;
+        self.header = Header {
+            next: self.header.next,
+            first: link,
+            count: self.header.count - 1,
+        };
+        self.write(n, &zero_block())?;
+        Ok(n)
+    }
+
+    // The page that a free page names as the next, where so many are free from it on. `Damaged` with its number where it
+    // is no free page as the format has it.
+    fn read_link(&mut self, n: u32, count: u32) -> Result<u32, Fault>
+        requires within { (3 ≤ n) × (n < next_of self.old) }
+        ensures gate { KeepsGate self.old self.new }
+        ensures map { KeepsMap self.old self.new }
+        ensures header { header_of self.new ≡ header_of self.old }
+        ensures blocks { IsHonest self.old → blocks_of self.new ≡ blocks_of self.old }
+        ensures link { IsHonest self.old →
+            IfOk result (λ link. free_page_link count (next_of self.old) (block_at n (blocks_of self.old)) ≡ Some link) }
+        ensures there { IfOk result (λ link. may_link count (next_of self.old) link ≡ true) }
+        ensures damaged { IsHonest self.old →
+            IfErr result (λ f. IsOfDevice f ⊎ ((f ≡ fault.Damaged n) × (free_page_link count (next_of self.old) (block_at n (blocks_of self.old)) ≡ None))) }
+        ensures other_faults { IfErr result (λ f. IsOfDevice f ⊎ (f ≡ fault.Damaged n)) }
+        ensures cause { HasCause (D.faults (device_of self.old)) (D.faults (device_of self.new)) result }
+    {
+        let mut page = zero_block();
+        self.read(n, &mut page)?;
+        match free_link(&page, count, self.header.next) {
+            Some(link) => Ok(link),
+            None => Err(Fault::Damaged(n)),
+        }
+    }
+
+    /// The first free page, 0 where there is none.
+    pub fn first_free(&self) -> u32
+        ensures { result ≡ (header_of self.now).first }
+    {
+        self.header.first
     }
 
     /// Writes a live page. The gate has to be open. A number outside 2 to the last one given out is `Damaged` with
