@@ -1,13 +1,14 @@
 -- What is read from a block in which a corner was written.
-use Rattle.std.specs.Prelude.{◌≡◌, ℕ, ◌+◌, ◌-◌, ◌*◌, ◌^◌, ◌<◌, ◌≤◌, ℤ, pos, FitsSigned, List, length, slice_index}
+use Rattle.std.specs.Prelude.{◌≡◌, ℕ, zero, suc, true, Bool, refl, ◌+◌, ◌-◌, ◌*◌, ◌^◌, ◌<◌, ◌≤◌, ℤ, pos, FitsSigned, List, length, slice_index}
 use Rattle.std.specs.Int.{w32}
-use Rattle.std.proofs.Common.{sym, ◌∙◌, subst, arith}
+use Rattle.std.proofs.Common.{sym, ◌∙◌, subst, arith, below_more}
+use Rattle.std.proofs.lemmas.Bool.Decides.{nat_tests}
 use Rattle.std.proofs.Math.Nat.{mul-le-mul_left}
 use Rattle.std.proofs.lemmas.Int.{ints}
 use Rattle.std.proofs.lemmas.List.FromFn.{get_or-map-range_with_len, length-map-range_with_len, fill_by_all}
 use Rattle.block_bytes.specs.Numbers.{number_at, signed_at}
 use Rattle.block_bytes.specs.Laws.{number_at-lt, number_at-same, signed_at-same}
-use Rattle.box_math.specs.Bounds.{on_axis, IsOrdered, IsBox}
+use Rattle.box_math.specs.Bounds.{all_over, on_axis, IsOrdered, IsBox}
 use Rattle.box_bytes.specs.Corners.{corner_at, box_at, IsOfCorner, Keeps}
 
 -- ---- places
@@ -68,6 +69,21 @@ box_at-is_box dims block low high stride bytes ordered = record {
     ordered = ordered axis lt;
   };
 }
+
+-- ---- a test of each place below a count
+
+pub all_over-each : (n : ℕ) (t : ℕ → Bool) → all_over n t ≡ true → (k : ℕ) → k < n → t k ≡ true
+all_over-each zero t h = λ k lt. absurd (omega arith)
+all_over-each (suc n) t h =
+    let both : (all_over n t ≡ true) × (t n ≡ true) = grind (arith, nat_tests) in
+    λ k lt. below_more (λ j. t j ≡ true) n (all_over-each n t both.0) both.1 k (omega arith)
+
+pub all_over-from : (n : ℕ) (t : ℕ → Bool) → ((k : ℕ) → k < n → t k ≡ true) → all_over n t ≡ true
+all_over-from zero t each = refl
+all_over-from (suc n) t each =
+    let before : all_over n t ≡ true = all_over-from n t (λ k lt. each k (omega arith)) in
+    let last : t n ≡ true = each n (omega arith) in
+    grind (arith, nat_tests)
 
 -- what the laws of corners in a block are proved by
 pub ruleset laws = (length-corner_at, on_axis-corner_at, corner_at-same, corner_at-numbers)
