@@ -1,13 +1,13 @@
 -- What is read from a block in which a corner was written.
 use Rattle.std.specs.Prelude.{◌≡◌, ℕ, zero, suc, true, Bool, refl, ◌+◌, ◌-◌, ◌*◌, ◌^◌, ◌<◌, ◌≤◌, ℤ, pos, FitsSigned, List, length, slice_index}
 use Rattle.std.specs.Int.{w32}
-use Rattle.std.proofs.Common.{sym, ◌∙◌, subst, arith, below_more}
+use Rattle.std.proofs.Common.{sym, ◌∙◌, ap, subst, arith, below_more}
 use Rattle.std.proofs.lemmas.Bool.Decides.{nat_tests}
 use Rattle.std.proofs.Math.Nat.{mul-le-mul_left}
 use Rattle.std.proofs.lemmas.Int.{ints}
 use Rattle.std.proofs.lemmas.List.FromFn.{get_or-map-range_with_len, length-map-range_with_len, fill_by_all}
-use Rattle.block_bytes.specs.Numbers.{number_at, signed_at}
-use Rattle.block_bytes.specs.Laws.{number_at-lt, number_at-same, signed_at-same}
+use Rattle.block_bytes.specs.Numbers.{number_at, signed_at, AreBytes}
+use Rattle.block_bytes.specs.Laws.{number_at-fixes, number_at-lt, number_at-same, signed_at-fixes, signed_at-same}
 use Rattle.box_math.specs.Bounds.{all_over, on_axis, IsOrdered, IsBox}
 use Rattle.box_bytes.specs.Corners.{corner_at, box_at, IsOfCorner, Keeps}
 
@@ -54,6 +54,14 @@ corner_at-stays clear old new dims at stride keeps apart = corner_at-numbers dim
 -- and where its bytes do
 pub corner_at-same : (dims : ℕ) (a b : List ℕ) (at stride : ℕ) → ((k : ℕ) → IsOfCorner dims at stride k → number_at 1 k a ≡ number_at 1 k b) → corner_at dims a at stride ≡ corner_at dims b at stride
 corner_at-same dims a b at stride same = corner_at-numbers dims b a at stride (λ axis lt. number_at-same 4 (at + stride * axis) a b (λ k le below. same k (axis, lt, le, below)))
+
+-- two pages of bytes with the same corner have the same bytes there
+pub corner_at-fixes : (dims at stride : ℕ) (a b : List ℕ) → AreBytes a → AreBytes b → corner_at dims a at stride ≡ corner_at dims b at stride → (k : ℕ) → IsOfCorner dims at stride k → number_at 1 k a ≡ number_at 1 k b
+corner_at-fixes dims at stride a b ba bb e k of =
+    let axis = of.0 in
+    let signed : signed_at (at + stride * axis) a ≡ signed_at (at + stride * axis) b =
+    sym (on_axis-corner_at dims a at stride axis of.1) ∙ ap (λ (p : List ℤ). on_axis p axis) e ∙ on_axis-corner_at dims b at stride axis of.1 in
+    number_at-fixes 4 (at + stride * axis) a b ba bb (signed_at-fixes (at + stride * axis) a b ba bb signed) k of.2 of.3
 
 signed_at-fits : (at : ℕ) (block : List ℕ) → ((k : ℕ) → slice_index block k < 256) → FitsSigned w32 (signed_at at block)
 unfolding signed_at

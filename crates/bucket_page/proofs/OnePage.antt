@@ -4,11 +4,11 @@ use Rattle.std.proofs.Math.Nat.{lt-mul-div-succ, div-lt_iff_lt-mul, mul-div-le}
 use Rattle.std.proofs.lemmas.Bool.{cases_lt}
 use Rattle.block_bytes.specs.FormLaws.{has_one_page}
 use Rattle.block_bytes.specs.PlaceLaws.{get_or-first_places}
-use Rattle.block_bytes.specs.Numbers.{number_at, signed_at, AreBytes}
-use Rattle.block_bytes.specs.Laws.{number_at-fixes, signed_at-fixes}
-use Rattle.box_math.specs.Bounds.{Bounds, on_axis}
+use Rattle.block_bytes.specs.Numbers.{number_at, AreBytes}
+use Rattle.block_bytes.specs.Laws.{number_at-fixes}
+use Rattle.box_math.specs.Bounds.{Bounds}
 use Rattle.box_bytes.specs.Corners.{corner_at}
-use Rattle.box_bytes.specs.Laws.{on_axis-corner_at}
+use Rattle.box_bytes.specs.Laws.{corner_at-fixes}
 use Rattle.bucket_page.specs.Layout.{BucketContent, Spells, IsNamed, bucket_at, names, entry_place, object_at, objects_at}
 use Rattle.bucket_page.specs.PageLaws.{BucketsHaveOnePage}
 use Rattle.bucket_page.proofs.Reading.{size_of, spells}
@@ -27,13 +27,7 @@ row_of w n from k pos_w le lt =
     (row, below, omega arith, omega arith)
 
 corner_bytes : (dims at : ℕ) (a b : List ℕ) → AreBytes a → AreBytes b → corner_at dims a at 4 ≡ corner_at dims b at 4 → (k : ℕ) → at ≤ k → k < at + 4 * dims → number_at 1 k a ≡ number_at 1 k b
-corner_bytes dims at a b ba bb e k le lt =
-    let row = row_of 4 dims at k (omega arith) le lt in
-    let axis = row.0 in
-    let below = row.1 in
-    let signed : signed_at (at + 4 * axis) a ≡ signed_at (at + 4 * axis) b =
-    sym (on_axis-corner_at dims a at 4 axis below) ∙ ap (λ (p : List ℤ). on_axis p axis) e ∙ on_axis-corner_at dims b at 4 axis below in
-    number_at-fixes 4 (at + 4 * axis) a b ba bb (signed_at-fixes (at + 4 * axis) a b ba bb signed) k row.2 row.3
+corner_bytes dims at a b ba bb e k le lt = let row = row_of 4 dims at k (omega arith) le lt in corner_at-fixes dims at 4 a b ba bb e k (row.0, row.1, row.2, row.3)
 
 pub object_bytes : (dims place : ℕ) (a b : List ℕ) → AreBytes a → AreBytes b → object_at dims a place ≡ object_at dims b place
     → (k : ℕ) → entry_place dims place ≤ k → k < entry_place dims place + (8 + 8 * dims) → number_at 1 k a ≡ number_at 1 k b

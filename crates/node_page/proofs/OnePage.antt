@@ -2,11 +2,9 @@
 use Rattle.std.proofs.Common.{◌≡◌, ℕ, ◌+◌, ◌*◌, ◌<◌, ◌≤◌, ℤ, List, length, subst, sym, ◌∙◌, ap, arith, inl, inr, ⊎_elim}
 use Rattle.std.proofs.lemmas.Bool.{cases_lt}
 use Rattle.block_bytes.specs.FormLaws.{has_one_page}
-use Rattle.block_bytes.specs.Numbers.{number_at, signed_at, AreBytes}
-use Rattle.block_bytes.specs.Laws.{number_at-fixes, signed_at-fixes}
-use Rattle.box_math.specs.Bounds.{on_axis}
-use Rattle.box_bytes.specs.Corners.{corner_at, IsOfCorner}
-use Rattle.box_bytes.specs.Laws.{on_axis-corner_at}
+use Rattle.block_bytes.specs.Numbers.{number_at, AreBytes}
+use Rattle.block_bytes.specs.Laws.{number_at-fixes}
+use Rattle.box_bytes.specs.Laws.{corner_at-fixes}
 use Rattle.tree_node.specs.Nodes.{Item, NodeContent}
 use Rattle.node_page.specs.Layout.{low_place, high_place, reference_place, item_at, IsOfEntry, Spells, IsNamed, names, node_at}
 use Rattle.node_page.specs.PageLaws.{NodesHaveOnePage}
@@ -15,17 +13,10 @@ use Rattle.node_page.proofs.Writing.{nothing}
 
 -- ---- an entry fixes its bytes
 
-corner_bytes : (dims at stride : ℕ) (a b : List ℕ) → AreBytes a → AreBytes b → corner_at dims a at stride ≡ corner_at dims b at stride → (k : ℕ) → IsOfCorner dims at stride k → number_at 1 k a ≡ number_at 1 k b
-corner_bytes dims at stride a b ba bb e k of =
-    let axis = of.0 in
-    let signed : signed_at (at + stride * axis) a ≡ signed_at (at + stride * axis) b =
-    sym (on_axis-corner_at dims a at stride axis of.1) ∙ ap (λ (p : List ℤ). on_axis p axis) e ∙ on_axis-corner_at dims b at stride axis of.1 in
-    number_at-fixes 4 (at + stride * axis) a b ba bb (signed_at-fixes (at + stride * axis) a b ba bb signed) k of.2 of.3
-
 pub item_bytes : (dims place : ℕ) (a b : List ℕ) → AreBytes a → AreBytes b → item_at dims a place ≡ item_at dims b place → (k : ℕ) → IsOfEntry dims place k → number_at 1 k a ≡ number_at 1 k b
 unfolding item_at
-item_bytes dims place a b ba bb e k (inl of) = corner_bytes dims (low_place place) 800 a b ba bb (ap (λ (item : Item). item.bounds.low) e) k of
-item_bytes dims place a b ba bb e k (inr (inl of)) = corner_bytes dims (high_place place) 800 a b ba bb (ap (λ (item : Item). item.bounds.high) e) k of
+item_bytes dims place a b ba bb e k (inl of) = corner_at-fixes dims (low_place place) 800 a b ba bb (ap (λ (item : Item). item.bounds.low) e) k of
+item_bytes dims place a b ba bb e k (inr (inl of)) = corner_at-fixes dims (high_place place) 800 a b ba bb (ap (λ (item : Item). item.bounds.high) e) k of
 item_bytes dims place a b ba bb e k (inr (inr of)) = number_at-fixes 8 (reference_place dims place) a b ba bb (ap (λ (item : Item). item.reference) e) k of.0 of.1
 
 -- ---- a node fixes its page
