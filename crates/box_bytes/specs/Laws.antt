@@ -1,13 +1,14 @@
 -- What is read from a block in which a corner was written.
-use Rattle.std.specs.Prelude.{◌≡◌, ℕ, ◌+◌, ◌-◌, ◌*◌, ◌^◌, ◌<◌, ◌≤◌, ℤ, pos, FitsSigned, List, length, slice_index}
+use Rattle.std.specs.Prelude.{◌≡◌, ℕ, zero, suc, true, Bool, refl, ◌+◌, ◌-◌, ◌*◌, ◌^◌, ◌<◌, ◌≤◌, ℤ, pos, FitsSigned, List, length, slice_index}
 use Rattle.std.specs.Int.{w32}
-use Rattle.std.proofs.Common.{sym, ◌∙◌, subst, arith}
+use Rattle.std.proofs.Common.{sym, ◌∙◌, ap, subst, arith, below_more}
+use Rattle.std.proofs.lemmas.Bool.Decides.{nat_tests}
 use Rattle.std.proofs.Math.Nat.{mul-le-mul_left}
 use Rattle.std.proofs.lemmas.Int.{ints}
 use Rattle.std.proofs.lemmas.List.FromFn.{get_or-map-range_with_len, length-map-range_with_len, fill_by_all}
-use Rattle.block_bytes.specs.Numbers.{number_at, signed_at}
-use Rattle.block_bytes.specs.Laws.{number_at-lt, number_at-same, signed_at-same}
-use Rattle.box_math.specs.Bounds.{on_axis, IsOrdered, IsBox}
+use Rattle.block_bytes.specs.Numbers.{number_at, signed_at, AreBytes}
+use Rattle.block_bytes.specs.Laws.{number_at-fixes, number_at-lt, number_at-same, signed_at-fixes, signed_at-same}
+use Rattle.box_math.specs.Bounds.{all_over, on_axis, IsOrdered, IsBox}
 use Rattle.box_bytes.specs.Corners.{corner_at, box_at, IsOfCorner, Keeps}
 
 -- ---- places
@@ -54,6 +55,14 @@ corner_at-stays clear old new dims at stride keeps apart = corner_at-numbers dim
 pub corner_at-same : (dims : ℕ) (a b : List ℕ) (at stride : ℕ) → ((k : ℕ) → IsOfCorner dims at stride k → number_at 1 k a ≡ number_at 1 k b) → corner_at dims a at stride ≡ corner_at dims b at stride
 corner_at-same dims a b at stride same = corner_at-numbers dims b a at stride (λ axis lt. number_at-same 4 (at + stride * axis) a b (λ k le below. same k (axis, lt, le, below)))
 
+-- two pages of bytes with the same corner have the same bytes there
+pub corner_at-fixes : (dims at stride : ℕ) (a b : List ℕ) → AreBytes a → AreBytes b → corner_at dims a at stride ≡ corner_at dims b at stride → (k : ℕ) → IsOfCorner dims at stride k → number_at 1 k a ≡ number_at 1 k b
+corner_at-fixes dims at stride a b ba bb e k of =
+    let axis = of.0 in
+    let signed : signed_at (at + stride * axis) a ≡ signed_at (at + stride * axis) b =
+    sym (on_axis-corner_at dims a at stride axis of.1) ∙ ap (λ (p : List ℤ). on_axis p axis) e ∙ on_axis-corner_at dims b at stride axis of.1 in
+    number_at-fixes 4 (at + stride * axis) a b ba bb (signed_at-fixes (at + stride * axis) a b ba bb signed) k of.2 of.3
+
 signed_at-fits : (at : ℕ) (block : List ℕ) → ((k : ℕ) → slice_index block k < 256) → FitsSigned w32 (signed_at at block)
 unfolding signed_at
 signed_at-fits at block bytes = let small : number_at 4 at block < 256 ^ 4 = number_at-lt 4 at block bytes in omega (arith, ints)
@@ -68,6 +77,21 @@ box_at-is_box dims block low high stride bytes ordered = record {
     ordered = ordered axis lt;
   };
 }
+
+-- ---- a test of each place below a count
+
+pub all_over-each : (n : ℕ) (t : ℕ → Bool) → all_over n t ≡ true → (k : ℕ) → k < n → t k ≡ true
+all_over-each zero t h = λ k lt. absurd (omega arith)
+all_over-each (suc n) t h =
+    let both : (all_over n t ≡ true) × (t n ≡ true) = grind (arith, nat_tests) in
+    λ k lt. below_more (λ j. t j ≡ true) n (all_over-each n t both.0) both.1 k (omega arith)
+
+pub all_over-from : (n : ℕ) (t : ℕ → Bool) → ((k : ℕ) → k < n → t k ≡ true) → all_over n t ≡ true
+all_over-from zero t each = refl
+all_over-from (suc n) t each =
+    let before : all_over n t ≡ true = all_over-from n t (λ k lt. each k (omega arith)) in
+    let last : t n ≡ true = each n (omega arith) in
+    grind (arith, nat_tests)
 
 -- what the laws of corners in a block are proved by
 pub ruleset laws = (length-corner_at, on_axis-corner_at, corner_at-same, corner_at-numbers)

@@ -1,6 +1,7 @@
 -- Worked examples of what the tests do not reach: the list that a page spells by the definitions alone, which bytes
 -- are named, and what a bucket has. No other proof rests on them.
 use Rattle.std.proofs.Common.{◌≡◌, ℕ, ◌⊎◌, List, [], ◌∷◌, ◌++◌, replicate, Some, None, refl, pos, negsuc, map, arith, inl, inr}
+use Rattle.block_bytes.specs.Places.{first_places}
 use Rattle.block_bytes.specs.Numbers.{number_at, signed_at}
 use Rattle.box_math.specs.Bounds.{Bounds, ordered_test}
 use Rattle.box_bytes.specs.Corners.{corner_at}
@@ -20,16 +21,16 @@ abbrev object : ℕ × Bounds
 object = (1, record { low = negsuc 0 ∷ pos 2 ∷ []; high = pos 3 ∷ pos 4 ∷ [] })
 
 a_page_of_one : bucket_at 2 (page_of 4 2 1) ≡ Some (record { next = 168496141; entries = object ∷ [] })
-unfolding bucket_at bucket_test objects_at object_at entry_place corner_at signed_at number_at ordered_test
+unfolding bucket_at bucket_test first_places object_at entry_place corner_at signed_at number_at ordered_test
 a_page_of_one = refl
 
 other_heads_spell_none : map (bucket_at 2) (page_of 1 2 1 ∷ page_of 4 3 1 ∷ page_of 4 2 0 ∷ page_of 4 2 101 ∷ []) ≡ None ∷ None ∷ None ∷ None ∷ []
-unfolding bucket_at bucket_test objects_at object_at entry_place corner_at signed_at number_at ordered_test
+unfolding bucket_at bucket_test first_places object_at entry_place corner_at signed_at number_at ordered_test
 other_heads_spell_none = refl
 
 -- lows of 0 and highs of -1
 a_turned_box_spells_none : bucket_at 2 (head 4 2 1 ++ replicate 16 0 ++ replicate 8 0 ++ replicate 8 255) ≡ None
-unfolding bucket_at bucket_test objects_at object_at entry_place corner_at signed_at number_at ordered_test
+unfolding bucket_at bucket_test first_places object_at entry_place corner_at signed_at number_at ordered_test
 a_turned_box_spells_none = refl
 
 -- ---- where entries are

@@ -1,61 +1,19 @@
--- The head of a bucket page, in a page of zeros.
+-- The head of a bucket page: that of a page with entries, and then the next page.
 use Rattle.std.proofs.Common.{◌≡◌, ℕ, ◌^◌, ◌<◌, ◌≤◌, List, length, ◌∙◌, arith, inl, inr}
-use Rattle.block_bytes.specs.Numbers.{number_at, IsApart, zeros, put_number}
-use Rattle.block_bytes.specs.Laws.{number_at-put, number_at-put_other, number_at-zeros, length-put, length-zeros}
+use Rattle.block_bytes.specs.Kinds.{HasHead, bucket_kind}
+use Rattle.block_bytes.specs.Numbers.{number_at, put_number}
+use Rattle.block_bytes.specs.Laws.{number_at-put, number_at-put_other}
 use Rattle.bucket_page.specs.Layout.{IsHead}
 
-module _ (dims count next : ℕ) (d : dims < 256) (n : count < 2 ^ 16) (x : next < 2 ^ 32) where
-  kind_page : List ℕ
-  kind_page = put_number 1 0 4 zeros
+pub head_written : (dims count next : ℕ) (page : List ℕ) → length page ≡ 4096 → next < 2 ^ 32 → HasHead bucket_kind dims count page → IsHead dims count next (put_number 4 4 next page)
+head_written dims count next page size small h = record {
+  head = record {
+    kind_is = number_at-put_other 1 0 4 4 next page (omega arith) (inl (omega arith)) ∙ h.kind_is;
+    dims_is = number_at-put_other 1 1 4 4 next page (omega arith) (inl (omega arith)) ∙ h.dims_is;
+    count_is = number_at-put_other 2 2 4 4 next page (omega arith) (inl (omega arith)) ∙ h.count_is;
+  };
+  next_is = number_at-put 4 4 next page (omega arith) (omega arith);
+}
 
-  dims_page : List ℕ
-  dims_page = put_number 1 1 dims kind_page
-
-  count_page : List ℕ
-  count_page = put_number 2 2 count dims_page
-
-  kind_size : length kind_page ≡ 4096
-  unfolding kind_page
-  kind_size = length-put 1 0 4 zeros (omega (arith, length-zeros)) ∙ length-zeros
-
-  dims_size : length dims_page ≡ 4096
-  unfolding dims_page
-  dims_size = length-put 1 1 dims kind_page (omega (arith, kind_size)) ∙ kind_size
-
-  count_size : length count_page ≡ 4096
-  unfolding count_page
-  count_size = length-put 2 2 count dims_page (omega (arith, dims_size)) ∙ dims_size
-
-  at_dims : (m at : ℕ) → IsApart m at 1 1 → number_at m at dims_page ≡ number_at m at kind_page
-  unfolding dims_page
-  at_dims m at clear = number_at-put_other m at 1 1 dims kind_page (omega (arith, kind_size)) clear
-
-  at_count : (m at : ℕ) → IsApart m at 2 2 → number_at m at count_page ≡ number_at m at dims_page
-  unfolding count_page
-  at_count m at clear = number_at-put_other m at 2 2 count dims_page (omega (arith, dims_size)) clear
-
-  at_next : (m at : ℕ) → IsApart m at 4 4 → number_at m at (put_number 4 4 next count_page) ≡ number_at m at count_page
-  at_next m at clear = number_at-put_other m at 4 4 next count_page (omega (arith, count_size)) clear
-
-  is_head : IsHead dims count next (put_number 4 4 next count_page)
-  unfolding kind_page dims_page count_page
-  is_head = record {
-    kind = at_next 1 0 (inl (omega arith)) ∙ at_count 1 0 (inl (omega arith)) ∙ at_dims 1 0 (inl (omega arith)) ∙ number_at-put 1 0 4 zeros (omega (arith, length-zeros)) (omega arith);
-    dims_is = at_next 1 1 (inl (omega arith)) ∙ at_count 1 1 (inl (omega arith)) ∙ number_at-put 1 1 dims kind_page (omega (arith, kind_size)) (omega arith);
-    count_is = at_next 2 2 (inl (omega arith)) ∙ number_at-put 2 2 count dims_page (omega (arith, dims_size)) (omega arith);
-    next_is = number_at-put 4 4 next count_page (omega (arith, count_size)) (omega arith);
-  }
-
-  none_behind : (k : ℕ) → 8 ≤ k → number_at 1 k (put_number 4 4 next count_page) ≡ 0
-  unfolding kind_page
-  none_behind k h =
-      at_next 1 k (inr (omega arith)) ∙ at_count 1 k (inr (omega arith)) ∙ at_dims 1 k (inr (omega arith))
-      ∙ number_at-put_other 1 k 1 0 4 zeros (omega (arith, length-zeros)) (inr (omega arith)) ∙ number_at-zeros 1 k
-
-pub head_written : (dims count next : ℕ) → dims < 256 → count < 2 ^ 16 → next < 2 ^ 32 → IsHead dims count next (put_number 4 4 next (put_number 2 2 count (put_number 1 1 dims (put_number 1 0 4 zeros))))
-unfolding kind_page dims_page count_page
-head_written dims count next d n x = is_head dims count next d n x
-
-pub head_rest : (dims count next : ℕ) → dims < 256 → count < 2 ^ 16 → next < 2 ^ 32 → (k : ℕ) → 8 ≤ k → number_at 1 k (put_number 4 4 next (put_number 2 2 count (put_number 1 1 dims (put_number 1 0 4 zeros)))) ≡ 0
-unfolding kind_page dims_page count_page
-head_rest dims count next d n x = none_behind dims count next d n x
+pub head_rest : (next k : ℕ) (page : List ℕ) → length page ≡ 4096 → ((k : ℕ) → 4 ≤ k → number_at 1 k page ≡ 0) → 8 ≤ k → number_at 1 k (put_number 4 4 next page) ≡ 0
+head_rest next k page size rest h = number_at-put_other 1 k 4 4 next page (omega arith) (inr (omega arith)) ∙ rest k (omega arith)

@@ -1,14 +1,15 @@
 -- The laws of what pages spell: which bytes are read, and what objects are.
 use Rattle.std.proofs.Common.{◌≡◌, ℕ, ◌+◌, ◌*◌, ◌<◌, ◌≤◌, List, [], get_or, Option, Some, None, refl, sym, ◌∙◌, ap, subst, arith, inl, inr}
-use Rattle.std.proofs.lemmas.List.FromFn.{fill_by_all}
+use Rattle.block_bytes.specs.FormLaws.{reads_named}
 use Rattle.block_bytes.specs.Numbers.{number_at}
+use Rattle.block_bytes.specs.PlaceLaws.{first_places-same, get_or-first_places}
 use Rattle.block_bytes.specs.Laws.{number_at-same}
 use Rattle.box_math.specs.Bounds.{Bounds, IsBox}
 use Rattle.box_bytes.specs.Laws.{box_at-is_box}
-use Rattle.bucket_page.specs.Layout.{Content, entry_place, object_at, objects_at, HasOrderedBox, Spells, bucket_at, IsNamed}
+use Rattle.bucket_page.specs.Layout.{BucketContent, entry_place, object_at, objects_at, HasOrderedBox, Spells, bucket_at, names, IsNamed}
 use Rattle.bucket_page.specs.PageLaws.{ReadsWhatIsSpelled, ReadsNamedBytes, SpellsBuckets}
 use Rattle.bucket_page.proofs.Places.{entry_place-lt, entry_place-above, object_same}
-use Rattle.bucket_page.proofs.Reading.{spells, spelled, size_of, length-objects_at, get_or-objects_at}
+use Rattle.bucket_page.proofs.Reading.{spells, spelled, size_of}
 
 module _ (dims count : ℕ) (a b : List ℕ) (same : (k : ℕ) → IsNamed dims count k → number_at 1 k a ≡ number_at 1 k b) where
   head_same : (n at : ℕ) → at + n ≤ 8 → number_at n at a ≡ number_at n at b
@@ -18,12 +19,7 @@ module _ (dims count : ℕ) (a b : List ℕ) (same : (k : ℕ) → IsNamed dims 
   one_same place lt =
       object_same dims place a b (λ k le below. same k (inr (omega (arith, entry_place-above dims place), omega (arith, entry_place-lt dims place count lt))))
 
-  all_same : objects_at dims a count ≡ objects_at dims b count
-  unfolding objects_at
-  all_same = fill_by_all (object_at dims b) (objects_at dims a count) count (0, record { low = []; high = [] }) (length-objects_at dims a count)
-      (λ k lt. get_or-objects_at dims a count k (0, record { low = []; high = [] }) lt ∙ one_same k lt)
-
-  spells_same : (c : Content) → count ≡ number_at 2 2 a → Spells dims a c → Spells dims b c
+  spells_same : (c : BucketContent) → count ≡ number_at 2 2 a → Spells dims a c → Spells dims b c
   spells_same c is s =
       let count_same : number_at 2 2 a ≡ number_at 2 2 b = head_same 2 2 (omega arith) in
       let some = s.head.some in
@@ -37,21 +33,13 @@ module _ (dims count : ℕ) (a b : List ℕ) (same : (k : ℕ) → IsNamed dims 
         };
         next = sym (head_same 4 4 (omega arith)) ∙ s.next;
         ordered = λ place lt. subst (HasOrderedBox dims) (one_same place (omega arith)) (s.ordered place (omega arith));
-        entries = s.entries ∙ ap (objects_at dims a) (sym is) ∙ all_same ∙ ap (objects_at dims b) (is ∙ count_same);
+        entries = s.entries ∙ ap (objects_at dims a) (sym is) ∙ first_places-same (object_at dims a) (object_at dims b) count (0, record { low = []; high = [] }) one_same ∙ ap (objects_at dims b) (is ∙ count_same);
       }
 
-same_options : {X : Type 0} (o p : Option X) → ((x : X) → o ≡ Some x → p ≡ Some x) → ((x : X) → p ≡ Some x → o ≡ Some x) → o ≡ p
-same_options (Some x) p f g = sym (f x refl)
-same_options None (Some y) f g = g y refl
-same_options None None f g = refl
-
-pub reads_named : ReadsNamedBytes
-reads_named dims a b same =
-    let n = number_at 2 2 a in
-    let count : n ≡ number_at 2 2 b = head_same dims n a b same 2 2 (omega arith) in
-    same_options (bucket_at dims a) (bucket_at dims b)
-    (λ c is. spelled dims b c (spells_same dims n a b same c refl (spells dims a c is)))
-    (λ c is. spelled dims a c (spells_same dims n b a (λ k named. sym (same k named)) c count (spells dims b c is)))
+pub reads_named_bytes : ReadsNamedBytes
+reads_named_bytes dims = reads_named (bucket_at dims) (names dims)
+    (λ a b c same is. spelled dims b c (spells_same dims (number_at 2 2 a) a b same c refl (spells dims a c is)))
+    (λ a b same k of. subst (λ n. IsNamed dims n k) (sym (head_same dims (number_at 2 2 a) a b same 2 2 (omega arith))) of)
 
 pub reads_spelled : ReadsWhatIsSpelled
 reads_spelled dims page c = (spells dims page c, spelled dims page c)
@@ -66,7 +54,7 @@ spells_buckets dims page c bytes s =
       some = omega arith;
       few = omega arith;
       boxes = λ k other lt.
-          let at : get_or c.entries k other ≡ object_at dims page k = ap (λ (es : List (ℕ × Bounds)). get_or es k other) s.entries ∙ get_or-objects_at dims page (number_at 2 2 page) k other (omega arith) in
+          let at : get_or c.entries k other ≡ object_at dims page k = ap (λ (es : List (ℕ × Bounds)). get_or es k other) s.entries ∙ get_or-first_places (object_at dims page) (number_at 2 2 page) k other (omega arith) in
           subst (λ (object : ℕ × Bounds). IsBox dims object.1) (sym at)
           (box_at-is_box dims page (entry_place dims k + 8) (entry_place dims k + 8 + 4 * dims) 4 bytes (s.ordered k (omega arith)));
     }

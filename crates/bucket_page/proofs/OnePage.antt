@@ -1,15 +1,17 @@
 -- A bucket has one page: what a page spells fixes each byte that it names, and the others are zero.
-use Rattle.std.proofs.Common.{◌≡◌, ℕ, ◌+◌, ◌-◌, ◌*◌, ◌/◌, ◌<◌, ◌≤◌, ℤ, List, length, get_or, sym, ◌∙◌, ap, arith, inl, inr, ⊎_elim}
+use Rattle.std.proofs.Common.{◌≡◌, ℕ, ◌+◌, ◌-◌, ◌*◌, ◌/◌, ◌<◌, ◌≤◌, ℤ, List, length, get_or, subst, sym, ◌∙◌, ap, arith, inl, inr, ⊎_elim}
 use Rattle.std.proofs.Math.Nat.{lt-mul-div-succ, div-lt_iff_lt-mul, mul-div-le}
 use Rattle.std.proofs.lemmas.Bool.{cases_lt}
-use Rattle.block_bytes.specs.Numbers.{number_at, signed_at, AreBytes}
-use Rattle.block_bytes.specs.Laws.{number_at-fixes, signed_at-fixes}
-use Rattle.box_math.specs.Bounds.{Bounds, on_axis}
+use Rattle.block_bytes.specs.FormLaws.{has_one_page}
+use Rattle.block_bytes.specs.PlaceLaws.{get_or-first_places}
+use Rattle.block_bytes.specs.Numbers.{number_at, AreBytes}
+use Rattle.block_bytes.specs.Laws.{number_at-fixes}
+use Rattle.box_math.specs.Bounds.{Bounds}
 use Rattle.box_bytes.specs.Corners.{corner_at}
-use Rattle.box_bytes.specs.Laws.{on_axis-corner_at}
-use Rattle.bucket_page.specs.Layout.{Content, Spells, IsNamed, entry_place, object_at, objects_at}
-use Rattle.bucket_page.specs.PageLaws.{HasOnePage}
-use Rattle.bucket_page.proofs.Reading.{size_of, get_or-objects_at}
+use Rattle.box_bytes.specs.Laws.{corner_at-fixes}
+use Rattle.bucket_page.specs.Layout.{BucketContent, Spells, IsNamed, bucket_at, names, entry_place, object_at, objects_at}
+use Rattle.bucket_page.specs.PageLaws.{BucketsHaveOnePage}
+use Rattle.bucket_page.proofs.Reading.{size_of, spells}
 
 -- ---- an object fixes its bytes
 
@@ -25,13 +27,7 @@ row_of w n from k pos_w le lt =
     (row, below, omega arith, omega arith)
 
 corner_bytes : (dims at : ℕ) (a b : List ℕ) → AreBytes a → AreBytes b → corner_at dims a at 4 ≡ corner_at dims b at 4 → (k : ℕ) → at ≤ k → k < at + 4 * dims → number_at 1 k a ≡ number_at 1 k b
-corner_bytes dims at a b ba bb e k le lt =
-    let row = row_of 4 dims at k (omega arith) le lt in
-    let axis = row.0 in
-    let below = row.1 in
-    let signed : signed_at (at + 4 * axis) a ≡ signed_at (at + 4 * axis) b =
-    sym (on_axis-corner_at dims a at 4 axis below) ∙ ap (λ (p : List ℤ). on_axis p axis) e ∙ on_axis-corner_at dims b at 4 axis below in
-    number_at-fixes 4 (at + 4 * axis) a b ba bb (signed_at-fixes (at + 4 * axis) a b ba bb signed) k row.2 row.3
+corner_bytes dims at a b ba bb e k le lt = let row = row_of 4 dims at k (omega arith) le lt in corner_at-fixes dims at 4 a b ba bb e k (row.0, row.1, row.2, row.3)
 
 pub object_bytes : (dims place : ℕ) (a b : List ℕ) → AreBytes a → AreBytes b → object_at dims a place ≡ object_at dims b place
     → (k : ℕ) → entry_place dims place ≤ k → k < entry_place dims place + (8 + 8 * dims) → number_at 1 k a ≡ number_at 1 k b
@@ -48,7 +44,7 @@ object_bytes dims place a b ba bb e k le lt =
 
 -- ---- a bucket fixes its page
 
-entry_bytes : (dims : ℕ) (a b : List ℕ) (c : Content) → AreBytes a → AreBytes b → Spells dims a c → Spells dims b c
+entry_bytes : (dims : ℕ) (a b : List ℕ) (c : BucketContent) → AreBytes a → AreBytes b → Spells dims a c → Spells dims b c
     → (k : ℕ) → 16 ≤ k → k < entry_place dims (length c.entries) → number_at 1 k a ≡ number_at 1 k b
 unfolding entry_place
 entry_bytes dims a b c ba bb sa sb k le lt =
@@ -60,28 +56,21 @@ entry_bytes dims a b c ba bb sa sb k le lt =
     let same : objects_at dims a (number_at 2 2 a) ≡ objects_at dims b (number_at 2 2 b) = sym sa.entries ∙ sb.entries in
     let none = object_at dims a place in
     let object : object_at dims a place ≡ object_at dims b place =
-    sym (get_or-objects_at dims a (number_at 2 2 a) place none in_a) ∙ ap (λ (os : List (ℕ × Bounds)). get_or os place none) same ∙ get_or-objects_at dims b (number_at 2 2 b) place none in_b in
+    sym (get_or-first_places (object_at dims a) (number_at 2 2 a) place none in_a) ∙ ap (λ (os : List (ℕ × Bounds)). get_or os place none) same ∙ get_or-first_places (object_at dims b) (number_at 2 2 b) place none in_b in
     object_bytes dims place a b ba bb object k row.2 (omega (arith, row.3))
 
-head_bytes : (dims : ℕ) (a b : List ℕ) (c : Content) → AreBytes a → AreBytes b → Spells dims a c → Spells dims b c → (k : ℕ) → k < 8 → number_at 1 k a ≡ number_at 1 k b
+head_bytes : (dims : ℕ) (a b : List ℕ) (c : BucketContent) → AreBytes a → AreBytes b → Spells dims a c → Spells dims b c → (k : ℕ) → k < 8 → number_at 1 k a ≡ number_at 1 k b
 head_bytes dims a b c ba bb sa sb k lt =
     ⊎_elim (λ (h : k < 1). number_at-fixes 1 0 a b ba bb (sa.head.kind ∙ sym sb.head.kind) k (omega arith) h)
     (λ (h : 1 ≤ k). ⊎_elim (λ (l : k < 2). number_at-fixes 1 1 a b ba bb (sa.head.dims_is ∙ sym sb.head.dims_is) k h l)
     (λ (l : 2 ≤ k). ⊎_elim (λ (m : k < 4). number_at-fixes 2 2 a b ba bb (size_of dims a c sa ∙ sym (size_of dims b c sb)) k l m)
     (λ (m : 4 ≤ k). number_at-fixes 4 4 a b ba bb (sa.next ∙ sym sb.next) k m lt) (cases_lt k 4)) (cases_lt k 2)) (cases_lt k 1)
 
-reserved : (dims count k : ℕ) → 8 ≤ k → k < 16 → IsNamed dims count k → ⊥
-reserved dims count k ge lt (inl h) = absurd (omega arith)
-reserved dims count k ge lt (inr h) = let from = h.0 in absurd (omega arith)
+named_bytes : (dims : ℕ) (a b : List ℕ) (c : BucketContent) → AreBytes a → AreBytes b → Spells dims a c → Spells dims b c → (k : ℕ) → names dims a k → number_at 1 k a ≡ number_at 1 k b
+named_bytes dims a b c ba bb sa sb k (inl lt) = head_bytes dims a b c ba bb sa sb k lt
+named_bytes dims a b c ba bb sa sb k (inr of) = entry_bytes dims a b c ba bb sa sb k of.0 (subst (λ n. k < entry_place dims n) (size_of dims a c sa) of.1)
 
-behind : (dims count k : ℕ) → 16 ≤ k → entry_place dims count ≤ k → IsNamed dims count k → ⊥
-behind dims count k ge le (inl h) = absurd (omega arith)
-behind dims count k ge le (inr h) = let to = h.1 in absurd (omega arith)
-
-pub one_page : HasOnePage
-one_page dims a b c ba bb pa pb k =
-    ⊎_elim (λ (h : k < 8). head_bytes dims a b c ba bb pa.spelled pb.spelled k h)
-    (λ (h : 8 ≤ k). ⊎_elim (λ (l : k < 16). pa.rest k (reserved dims (length c.entries) k h l) ∙ sym (pb.rest k (reserved dims (length c.entries) k h l)))
-    (λ (l : 16 ≤ k). ⊎_elim (λ (m : k < entry_place dims (length c.entries)). entry_bytes dims a b c ba bb pa.spelled pb.spelled k l m)
-    (λ (m : entry_place dims (length c.entries) ≤ k). pa.rest k (behind dims (length c.entries) k l m) ∙ sym (pb.rest k (behind dims (length c.entries) k l m)))
-    (cases_lt k (entry_place dims (length c.entries)))) (cases_lt k 16)) (cases_lt k 8)
+pub one_page : BucketsHaveOnePage
+one_page dims = has_one_page (bucket_at dims) (names dims)
+    (λ a b c ba bb ia ib. named_bytes dims a b c ba bb (spells dims a c ia) (spells dims b c ib))
+    (λ a b c ia ib k of. subst (λ n. IsNamed dims n k) (size_of dims b c (spells dims b c ib) ∙ sym (size_of dims a c (spells dims a c ia))) of)

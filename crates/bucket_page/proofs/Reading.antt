@@ -2,42 +2,13 @@
 use Rattle.std.proofs.Common.{◌≡◌, ℕ, zero, suc, ◌+◌, ◌<◌, ◌≤◌, ◌&&◌, ◌==◌, Bool, true, nat_le, List, [], ◌∷◌, ◌++◌, length, get_or, Option, Some, None, refl, sym, ◌∙◌, ap, arith, below_more}
 use Rattle.std.proofs.lemmas.Bool.Decides.{nat_tests}
 use Rattle.std.proofs.lemmas.Option.{cond_some}
-use Rattle.std.proofs.lemmas.List.FromFn.{map-range_with_len_more, length-map-range_with_len, get_or-map-range_with_len}
+use Rattle.block_bytes.specs.FormLaws.{none_read}
 use Rattle.block_bytes.specs.Numbers.{number_at}
+use Rattle.block_bytes.specs.PlaceLaws.{get_or-first_places, length-first_places}
 use Rattle.box_math.specs.Bounds.{Bounds, all_over}
+use Rattle.box_bytes.specs.Laws.{all_over-each, all_over-from}
 use Rattle.box_math.proofs.TestLaws.{ordered_test_true}
-use Rattle.bucket_page.specs.Layout.{Content, entry_place, object_at, objects_at, HasOrderedBox, HasBucketHead, Spells, is_ordered, bucket_test, bucket_at}
-
-pub objects_at-none : (dims : ℕ) (page : List ℕ) → objects_at dims page 0 ≡ []
-unfolding objects_at
-objects_at-none dims page = refl
-
-pub objects_at-more : (dims : ℕ) (page : List ℕ) (n : ℕ) → objects_at dims page (n + 1) ≡ objects_at dims page n ++ object_at dims page n ∷ []
-unfolding objects_at
-objects_at-more dims page n = map-range_with_len_more (object_at dims page) 0 n n (omega arith)
-
-pub length-objects_at : (dims : ℕ) (page : List ℕ) (n : ℕ) → length (objects_at dims page n) ≡ n
-unfolding objects_at
-length-objects_at dims page n = length-map-range_with_len (object_at dims page) 0 n
-
-pub get_or-objects_at : (dims : ℕ) (page : List ℕ) (n i : ℕ) (other : ℕ × Bounds) → i < n → get_or (objects_at dims page n) i other ≡ object_at dims page i
-unfolding objects_at
-get_or-objects_at dims page n i other lt = get_or-map-range_with_len (object_at dims page) 0 n i i other lt (omega arith)
-
--- ---- a test of each number below a bound
-
-all_over-each : (n : ℕ) (t : ℕ → Bool) → all_over n t ≡ true → (k : ℕ) → k < n → t k ≡ true
-all_over-each zero t h = λ k lt. absurd (omega arith)
-all_over-each (suc n) t h =
-    let both : (all_over n t ≡ true) × (t n ≡ true) = grind (arith, nat_tests) in
-    λ k lt. below_more (λ j. t j ≡ true) n (all_over-each n t both.0) both.1 k (omega arith)
-
-all_over-from : (n : ℕ) (t : ℕ → Bool) → ((k : ℕ) → k < n → t k ≡ true) → all_over n t ≡ true
-all_over-from zero t each = refl
-all_over-from (suc n) t each =
-    let before : all_over n t ≡ true = all_over-from n t (λ k lt. each k (omega arith)) in
-    let last : t n ≡ true = each n (omega arith) in
-    grind (arith, nat_tests)
+use Rattle.bucket_page.specs.Layout.{BucketContent, entry_place, object_at, objects_at, HasOrderedBox, HasBucketHead, Spells, is_ordered, bucket_test, bucket_at}
 
 head_means : (k d dims n : ℕ) (b : Bool) → (k == 4 && d == dims && nat_le 1 n && nat_le n 100 && b) ≡ true → (k ≡ 4) × (d ≡ dims) × (1 ≤ n) × (n ≤ 100) × (b ≡ true)
 head_means k d dims n b h = (grind (arith, nat_tests), grind (arith, nat_tests), grind (arith, nat_tests), grind (arith, nat_tests), grind (arith, nat_tests))
@@ -46,7 +17,7 @@ head_test : (k d dims n : ℕ) (b : Bool) → k ≡ 4 → d ≡ dims → 1 ≤ n
 head_test k d dims n b kind is some few holds = grind (arith, nat_tests)
 
 -- where the page spells a bucket, reading it gives that bucket
-pub spelled : (dims : ℕ) (page : List ℕ) (c : Content) → Spells dims page c → bucket_at dims page ≡ Some c
+pub spelled : (dims : ℕ) (page : List ℕ) (c : BucketContent) → Spells dims page c → bucket_at dims page ≡ Some c
 unfolding bucket_at bucket_test
 spelled dims page c s =
     let n = number_at 2 2 page in
@@ -56,7 +27,7 @@ spelled dims page c s =
     rw passes (ap (λ next. Some (record { next = next; entries = objects_at dims page n })) s.next ∙ ap (λ es. Some (record { next = c.next; entries = es })) (sym s.entries))
 
 -- and what reading gives is spelled so
-pub spells : (dims : ℕ) (page : List ℕ) (c : Content) → bucket_at dims page ≡ Some c → Spells dims page c
+pub spells : (dims : ℕ) (page : List ℕ) (c : BucketContent) → bucket_at dims page ≡ Some c → Spells dims page c
 unfolding bucket_at bucket_test
 spells dims page c h =
     let n = number_at 2 2 page in
@@ -65,44 +36,40 @@ spells dims page c h =
     let means = head_means (number_at 1 0 page) (number_at 1 1 page) dims n test parts.0 in
     record {
       head = record { kind = means.0; dims_is = means.1; some = means.2; few = means.3 };
-      next = ap (λ (x : Content). x.next) parts.1;
+      next = ap (λ (x : BucketContent). x.next) parts.1;
       ordered = λ place lt. (ordered_test_true dims (object_at dims page place).1.low (object_at dims page place).1.high).0 (all_over-each n (λ k. is_ordered dims (object_at dims page k)) means.4 place lt);
-      entries = sym (ap (λ (x : Content). x.entries) parts.1);
+      entries = sym (ap (λ (x : BucketContent). x.entries) parts.1);
     }
 
 -- ---- what readers of a page that spells a bucket know
 
-pub size_of : (dims : ℕ) (page : List ℕ) (c : Content) → Spells dims page c → number_at 2 2 page ≡ length c.entries
-size_of dims page c s = sym (ap length s.entries ∙ length-objects_at dims page (number_at 2 2 page))
+pub size_of : (dims : ℕ) (page : List ℕ) (c : BucketContent) → Spells dims page c → number_at 2 2 page ≡ length c.entries
+size_of dims page c s = sym (ap length s.entries ∙ length-first_places (object_at dims page) (number_at 2 2 page))
 
-pub count_of_bucket : (dims : ℕ) (page : List ℕ) (c : Content) → bucket_at dims page ≡ Some c → number_at 2 2 page ≡ length c.entries
+pub count_of_bucket : (dims : ℕ) (page : List ℕ) (c : BucketContent) → bucket_at dims page ≡ Some c → number_at 2 2 page ≡ length c.entries
 count_of_bucket dims page c is = size_of dims page c (spells dims page c is)
 
-pub next_of_bucket : (dims : ℕ) (page : List ℕ) (c : Content) → bucket_at dims page ≡ Some c → number_at 4 4 page ≡ c.next
+pub next_of_bucket : (dims : ℕ) (page : List ℕ) (c : BucketContent) → bucket_at dims page ≡ Some c → number_at 4 4 page ≡ c.next
 next_of_bucket dims page c is = (spells dims page c is).next
 
-pub object_of_bucket : (dims : ℕ) (page : List ℕ) (c : Content) (place : ℕ) (other : ℕ × Bounds) → bucket_at dims page ≡ Some c → place < length c.entries → get_or c.entries place other ≡ object_at dims page place
+pub object_of_bucket : (dims : ℕ) (page : List ℕ) (c : BucketContent) (place : ℕ) (other : ℕ × Bounds) → bucket_at dims page ≡ Some c → place < length c.entries → get_or c.entries place other ≡ object_at dims page place
 object_of_bucket dims page c place other is lt =
     let s = spells dims page c is in
     let size = size_of dims page c s in
-    ap (λ (es : List (ℕ × Bounds)). get_or es place other) s.entries ∙ get_or-objects_at dims page (number_at 2 2 page) place other (omega arith)
+    ap (λ (es : List (ℕ × Bounds)). get_or es place other) s.entries ∙ get_or-first_places (object_at dims page) (number_at 2 2 page) place other (omega arith)
 
-pub box_of_bucket : (dims : ℕ) (page : List ℕ) (c : Content) (place : ℕ) → bucket_at dims page ≡ Some c → place < length c.entries → HasOrderedBox dims (object_at dims page place)
+pub box_of_bucket : (dims : ℕ) (page : List ℕ) (c : BucketContent) (place : ℕ) → bucket_at dims page ≡ Some c → place < length c.entries → HasOrderedBox dims (object_at dims page place)
 box_of_bucket dims page c place is lt = let s = spells dims page c is in let size = size_of dims page c s in s.ordered place (omega arith)
 
 -- ---- decoding
 
-none_of : (o : Option Content) → ((c : Content) → o ≡ Some c → ⊥) → o ≡ None
-none_of None never = refl
-none_of (Some c) never = absurd (never c refl)
-
 -- without its head the page spells no bucket
 pub no_head : (dims : ℕ) (page : List ℕ) → (HasBucketHead dims page → ⊥) → bucket_at dims page ≡ None
-no_head dims page none = none_of (bucket_at dims page) (λ c is. none (spells dims page c is).head)
+no_head dims page none = none_read (bucket_at dims page) (λ c is. none (spells dims page c is).head)
 
 -- nor with a place that holds no object
 pub no_place : (dims place : ℕ) (page : List ℕ) → place < number_at 2 2 page → (HasOrderedBox dims (object_at dims page place) → ⊥) → bucket_at dims page ≡ None
-no_place dims place page lt none = none_of (bucket_at dims page) (λ c is. none ((spells dims page c is).ordered place lt))
+no_place dims place page lt none = none_read (bucket_at dims page) (λ c is. none ((spells dims page c is).ordered place lt))
 
 -- with its head and an object in each place it spells a bucket
 pub all_places : (dims count next : ℕ) (page : List ℕ) → HasBucketHead dims page → count ≡ number_at 2 2 page → next ≡ number_at 4 4 page → ((place : ℕ) → place < count → HasOrderedBox dims (object_at dims page place))
@@ -118,12 +85,12 @@ all_places dims count next page head same is each =
 -- ---- one object
 
 -- an object in a bucket is found as it is
-pub some_of_bucket : (dims : ℕ) (page : List ℕ) (c : Content) (place : ℕ) (other object : ℕ × Bounds) → bucket_at dims page ≡ Some c → place < length c.entries → object ≡ object_at dims page place
+pub some_of_bucket : (dims : ℕ) (page : List ℕ) (c : BucketContent) (place : ℕ) (other object : ℕ × Bounds) → bucket_at dims page ≡ Some c → place < length c.entries → object ≡ object_at dims page place
     → ◌≡◌ {A = Option (ℕ × Bounds)} (Some object) (Some (get_or c.entries place other))
 some_of_bucket dims page c place other object is lt e = ap (λ (x : ℕ × Bounds). Some x) (e ∙ sym (object_of_bucket dims page c place other is lt))
 
 -- and so is its identifier
-pub id_of_bucket : (dims : ℕ) (page : List ℕ) (c : Content) (place : ℕ) (other : ℕ × Bounds) → bucket_at dims page ≡ Some c → place < length c.entries
+pub id_of_bucket : (dims : ℕ) (page : List ℕ) (c : BucketContent) (place : ℕ) (other : ℕ × Bounds) → bucket_at dims page ≡ Some c → place < length c.entries
     → (get_or c.entries place other).0 ≡ number_at 8 (entry_place dims place) page
 unfolding object_at
 id_of_bucket dims page c place other is lt = ap (λ (x : ℕ × Bounds). x.0) (object_of_bucket dims page c place other is lt)

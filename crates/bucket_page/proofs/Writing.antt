@@ -1,7 +1,7 @@
 -- The objects of a bucket, written one after the other.
 use Rattle.std.proofs.Common.{◌≡◌, ◌⊎◌, ℕ, ◌+◌, ◌<◌, ◌≤◌, List, [], length, get_or, sym, ◌∙◌, subst, arith, below_more, inl, inr, ⊎_elim}
-use Rattle.std.proofs.lemmas.List.FromFn.{fill_by_all}
 use Rattle.block_bytes.specs.Numbers.{number_at}
+use Rattle.block_bytes.specs.PlaceLaws.{first_places-are}
 use Rattle.box_math.specs.Bounds.{Bounds, IsBox}
 use Rattle.box_bytes.specs.Corners.{Keeps}
 use Rattle.bucket_page.specs.Layout.{object_at, objects_at, entry_place, HasOrderedBox, IsClearOfEntry, IsHead, Spells, IsNamed}
@@ -55,9 +55,11 @@ pub written_more : (dims next : ℕ) (items : List (ℕ × Bounds)) (place : ℕ
 written_more dims next items place old new object w size is box item keeps = record {
   size = size;
   head = record {
-    kind = keeps 1 0 (head_clear dims place 1 0 (omega arith)) ∙ w.head.kind;
-    dims_is = keeps 1 1 (head_clear dims place 1 1 (omega arith)) ∙ w.head.dims_is;
-    count_is = keeps 2 2 (head_clear dims place 2 2 (omega arith)) ∙ w.head.count_is;
+    head = record {
+      kind_is = keeps 1 0 (head_clear dims place 1 0 (omega arith)) ∙ w.head.head.kind_is;
+      dims_is = keeps 1 1 (head_clear dims place 1 1 (omega arith)) ∙ w.head.head.dims_is;
+      count_is = keeps 2 2 (head_clear dims place 2 2 (omega arith)) ∙ w.head.head.count_is;
+    };
     next_is = keeps 4 4 (head_clear dims place 4 4 (omega arith)) ∙ w.head.next_is;
   };
   each = below_more (λ k. (other : ℕ × Bounds) → get_or items k other ≡ object_at dims new k) place
@@ -70,12 +72,11 @@ written_more dims next items place old new object w size is box item keeps = rec
 
 pub written_spells : (dims next : ℕ) (items : List (ℕ × Bounds)) (place : ℕ) (page : List ℕ) → Written dims next items place page → length items ≤ place → length items ≤ 100 → 0 < length items
     → Spells dims page (record { next = next; entries = items })
-unfolding objects_at
 written_spells dims next items place page w all few some =
-    let count : number_at 2 2 page ≡ length items = w.head.count_is in
+    let count : number_at 2 2 page ≡ length items = w.head.head.count_is in
     record {
-      head = record { kind = w.head.kind; dims_is = w.head.dims_is; some = omega arith; few = omega arith };
+      head = record { kind = w.head.head.kind_is; dims_is = w.head.head.dims_is; some = omega arith; few = omega arith };
       next = w.head.next_is;
       ordered = λ k lt. w.ordered k (omega arith);
-      entries = fill_by_all (object_at dims page) items (number_at 2 2 page) nothing (sym count) (λ k lt. w.each k (omega arith) nothing);
+      entries = first_places-are (object_at dims page) (number_at 2 2 page) items nothing (sym count) (λ k lt. w.each k (omega arith) nothing);
     }

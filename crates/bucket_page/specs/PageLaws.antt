@@ -1,26 +1,21 @@
 -- The laws of what pages spell.
-use Rattle.std.specs.Prelude.{◌≡◌, ℕ, ◌↔◌, List, length, Some}
-use Rattle.block_bytes.specs.Numbers.{number_at, AreBytes}
-use Rattle.bucket_page.specs.Layout.{Content, IsBucket, Spells, bucket_at, IsNamed}
+use Rattle.std.specs.Prelude.{◌≡◌, ℕ, ◌↔◌, List, Some}
+use Rattle.block_bytes.specs.Forms.{HasOnePage, ReadsNamed}
+use Rattle.block_bytes.specs.Numbers.{AreBytes}
+use Rattle.bucket_page.specs.Layout.{BucketContent, IsBucket, Spells, bucket_at, names}
 
 -- reading gives exactly what is spelled
 abbrev pub ReadsWhatIsSpelled : Type 0
-ReadsWhatIsSpelled = (dims : ℕ) (page : List ℕ) (c : Content) → (bucket_at dims page ≡ Some c) ↔ Spells dims page c
+ReadsWhatIsSpelled = (dims : ℕ) (page : List ℕ) (c : BucketContent) → (bucket_at dims page ≡ Some c) ↔ Spells dims page c
 
 -- only named bytes are read
 abbrev pub ReadsNamedBytes : Type 0
-ReadsNamedBytes = (dims : ℕ) (a b : List ℕ) → ((k : ℕ) → IsNamed dims (number_at 2 2 a) k → number_at 1 k a ≡ number_at 1 k b) → bucket_at dims a ≡ bucket_at dims b
+ReadsNamedBytes = (dims : ℕ) → ReadsNamed (bucket_at dims) (names dims)
 
 -- what a page of bytes spells is a bucket
 abbrev pub SpellsBuckets : Type 0
-SpellsBuckets = (dims : ℕ) (page : List ℕ) (c : Content) → AreBytes page → Spells dims page c → IsBucket dims c
-
--- the page of this bucket: it spells the bucket, and each byte that is not named is zero
-pub record IsPageOf (dims : ℕ) (page : List ℕ) (c : Content) : Type 0 where
-  pub spelled : Spells dims page c
-  pub rest : (k : ℕ) → (IsNamed dims (length c.entries) k → ⊥) → number_at 1 k page ≡ 0
+SpellsBuckets = (dims : ℕ) (page : List ℕ) (c : BucketContent) → AreBytes page → Spells dims page c → IsBucket dims c
 
 -- a bucket has one page
-abbrev pub HasOnePage : Type 0
-HasOnePage = (dims : ℕ) (a b : List ℕ) (c : Content) → AreBytes a → AreBytes b → IsPageOf dims a c → IsPageOf dims b c
-    → (k : ℕ) → number_at 1 k a ≡ number_at 1 k b
+abbrev pub BucketsHaveOnePage : Type 0
+BucketsHaveOnePage = (dims : ℕ) → HasOnePage (bucket_at dims) (names dims)

@@ -3,9 +3,9 @@
 ghost use Rattle.std.specs.Prelude.{◌≡◌, ℕ, ◌<◌, ◌≤◌, ◌↔◌, Some, length, IsTrue};
 ghost use Rattle.block_bytes.specs.Numbers.{number_at};
 ghost use Rattle.box_math.specs.Bounds.{IsDims};
-ghost use Rattle.bucket_page.specs.Layout.{Content, HasBucketHead, IsHead, bucket_at};
+ghost use Rattle.bucket_page.specs.Layout.{BucketContent, HasBucketHead, IsHead, bucket_at};
 
-use block_bytes::{read_u8, read_u16, read_u32, write_u8, write_u16, write_u32, zero_block};
+use block_bytes::{BUCKET_KIND, read_u8, read_u16, read_u32, write_u32};
 
 /// Whether the page begins as a bucket page of that dimension does: its kind, its dimension, and a count of
 /// 1 to 100. Its boxes are not looked at.
@@ -14,14 +14,14 @@ pub fn has_bucket_head<const D: usize>(page: &[u8; 4096]) -> bool
     ensures { IsTrue result ↔ HasBucketHead D page.now }
 {
     let count = count_at(page);
-    read_u8(page, 0) == 4 && usize::from(read_u8(page, 1)) == D && 1 <= count && count <= 100
+    read_u8(page, 0) == BUCKET_KIND && usize::from(read_u8(page, 1)) == D && 1 <= count && count <= 100
 }
 
 /// How many objects a bucket page says it has: the number in the two bytes at 2.
 #[inline]
 pub fn count_at(page: &[u8; 4096]) -> usize
     ensures value { result ≡ number_at 2 2 page.now }
-    ensures of_bucket { (dims : ℕ) (c : Content) → bucket_at dims page.now ≡ Some c → result ≡ length c.entries }
+    ensures of_bucket { (dims : ℕ) (c : BucketContent) → bucket_at dims page.now ≡ Some c → result ≡ length c.entries }
 {
     usize::from(read_u16(page, 2))
 }
@@ -30,7 +30,7 @@ pub fn count_at(page: &[u8; 4096]) -> usize
 #[inline]
 pub fn next_at(page: &[u8; 4096]) -> u32
     ensures value { result ≡ number_at 4 4 page.now }
-    ensures of_bucket { (dims : ℕ) (c : Content) → bucket_at dims page.now ≡ Some c → result ≡ c.next }
+    ensures of_bucket { (dims : ℕ) (c : BucketContent) → bucket_at dims page.now ≡ Some c → result ≡ c.next }
 {
     read_u32(page, 4)
 }
@@ -41,9 +41,6 @@ pub(crate) fn write_head<const D: usize>(page: &mut [u8; 4096], count: u16, next
     ensures head { IsHead D count next page.new }
     ensures rest { (k : ℕ) → 8 ≤ k → number_at 1 k page.new ≡ 0 }
 {
-    *page = zero_block();
-    write_u8(page, 0, 4);
-    write_u8(page, 1, D as u8);
-    write_u16(page, 2, count);
+    block_bytes::write_head(page, BUCKET_KIND, D as u8, count);
     write_u32(page, 4, next);
 }

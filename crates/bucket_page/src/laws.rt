@@ -4,7 +4,7 @@
 ghost use Rattle.std.specs.Prelude.{◌≡◌, ◌<◌, Some, length, option_map};
 ghost use Rattle.box_math.specs.Bounds.{IsDims};
 ghost use Rattle.bucket_page.specs.Layout.{content_of};
-ghost use Rattle.bucket_page.specs.PageLaws.{ReadsWhatIsSpelled, ReadsNamedBytes, SpellsBuckets, HasOnePage};
+ghost use Rattle.bucket_page.specs.PageLaws.{ReadsWhatIsSpelled, ReadsNamedBytes, SpellsBuckets, BucketsHaveOnePage};
 
 use crate::bucket::Bucket;
 use crate::page::{decode, encode};
@@ -27,7 +27,7 @@ pub fn what_is_spelled_is_a_bucket()
 /// A bucket has one page: two that spell it, with zeros in all bytes that it does not name, have the same bytes.
 /// So `encode` leaves nothing open.
 pub fn a_bucket_has_one_page()
-    ensures { HasOnePage }
+    ensures { BucketsHaveOnePage }
 {}
 
 /// A bucket that is encoded is decoded again.

@@ -1,6 +1,7 @@
 -- Worked examples of what the tests do not reach: the list that a page spells by the definitions alone, which bytes
 -- are named, and what a catalog has. No other proof rests on them.
 use Rattle.std.proofs.Common.{◌≡◌, ℕ, zero, suc, ◌-◌, ◌⊎◌, List, [], ◌∷◌, ◌++◌, replicate, Some, None, refl, map, arith, inl, inr}
+use Rattle.block_bytes.specs.Places.{first_places}
 use Rattle.block_bytes.specs.Numbers.{number_at}
 use Rattle.catalog_page.specs.Layout.{Record, IsRecord, IsCatalog, IsOfRecord, IsNamed, bytes_at, record_from, record_place, first_records, catalog_test, records_at}
 
@@ -16,11 +17,11 @@ abbrev layer : ℕ → Record
 layer long = record { name = replicate long 97; dims = 128; fanout = 129; level = 130; root = 16909060; directory = 84281096; count = 651345242494996240 }
 
 pages_of_one : map records_at (page_of 1 1 1 ∷ page_of 1 1 24 ∷ page_of 1 0 1 ∷ []) ≡ Some (layer 1 ∷ []) ∷ Some (layer 24 ∷ []) ∷ Some [] ∷ []
-unfolding records_at catalog_test first_records record_from bytes_at number_at
+unfolding records_at catalog_test first_places record_from number_at
 pages_of_one = refl
 
 others_spell_none : map records_at (page_of 4 1 1 ∷ page_of 1 1 0 ∷ page_of 1 1 25 ∷ page_of 1 2 1 ∷ []) ≡ None ∷ None ∷ None ∷ None ∷ []
-unfolding records_at catalog_test first_records record_from bytes_at number_at
+unfolding records_at catalog_test first_places record_from number_at
 others_spell_none = refl
 
 records_begin_at_their_places : map record_place (0 ∷ 1 ∷ 59 ∷ []) ≡ 256 ∷ 320 ∷ 4032 ∷ []

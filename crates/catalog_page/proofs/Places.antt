@@ -1,6 +1,6 @@
 -- Names and records: read from their own bytes alone.
 use Rattle.std.proofs.Common.{◌≡◌, ◌⊎◌, ℕ, ◌+◌, ◌<◌, ◌≤◌, ◌↔◌, List, [], ◌∷◌, ◌++◌, length, get_or, slice_index, refl, sym, ◌∙◌, ap, arith, inl, inr, ⊎_elim}
-use Rattle.std.proofs.lemmas.List.FromFn.{map-range_with_len_more, length-map-range_with_len, get_or-map-range_with_len, fill_by_all}
+use Rattle.block_bytes.specs.PlaceLaws.{first_places-same, get_or-first_places, length-first_places}
 use Rattle.block_bytes.specs.Numbers.{number_at, IsApart}
 use Rattle.block_bytes.specs.Laws.{number_at-same, number_at-lt}
 use Rattle.catalog_page.specs.Layout.{Record, HasName, IsRecord, HasNumbers, bytes_at, record_place, record_at, record_from, IsOfRecord, ChangesOnly, ChangesRecord}
@@ -10,29 +10,8 @@ le_or_lt a b = grind arith
 
 -- ---- bytes
 
-pub bytes_at-none : (at : ℕ) (page : List ℕ) → bytes_at 0 at page ≡ []
-unfolding bytes_at
-bytes_at-none at page = refl
-
-pub bytes_at-more : (n at : ℕ) (page : List ℕ) → bytes_at (n + 1) at page ≡ bytes_at n at page ++ number_at 1 (at + n) page ∷ []
-unfolding bytes_at
-bytes_at-more n at page = map-range_with_len_more (λ k. number_at 1 (at + k) page) 0 n n (omega arith)
-
-pub length-bytes_at : (n at : ℕ) (page : List ℕ) → length (bytes_at n at page) ≡ n
-unfolding bytes_at
-length-bytes_at n at page = length-map-range_with_len (λ k. number_at 1 (at + k) page) 0 n
-
-pub get_or-bytes_at : (n at k other : ℕ) (page : List ℕ) → k < n → get_or (bytes_at n at page) k other ≡ number_at 1 (at + k) page
-unfolding bytes_at
-get_or-bytes_at n at k other page lt = get_or-map-range_with_len (λ j. number_at 1 (at + j) page) 0 n k k other lt (omega arith)
-
--- a list of the bytes that stand there
-pub bytes_are : (n at : ℕ) (page bytes : List ℕ) → length bytes ≡ n → ((k : ℕ) → k < n → get_or bytes k 0 ≡ number_at 1 (at + k) page) → bytes_at n at page ≡ bytes
-unfolding bytes_at
-bytes_are n at page bytes size each = sym (fill_by_all (λ k. number_at 1 (at + k) page) bytes n 0 size (λ k lt. each k lt))
-
 pub bytes_at-same : (n at : ℕ) (a b : List ℕ) → ((k : ℕ) → k < n → number_at 1 (at + k) a ≡ number_at 1 (at + k) b) → bytes_at n at a ≡ bytes_at n at b
-bytes_at-same n at a b same = sym (bytes_are n at b (bytes_at n at a) (length-bytes_at n at a) (λ k lt. get_or-bytes_at n at k 0 a lt ∙ same k lt))
+bytes_at-same n at a b same = first_places-same (λ k. number_at 1 (at + k) a) (λ k. number_at 1 (at + k) b) n 0 same
 
 -- ---- records
 
@@ -55,7 +34,7 @@ unfolding record_from
 name-record_from at page = refl
 
 pub length-name : (at : ℕ) (page : List ℕ) → length (record_from at page).name ≡ number_at 1 at page
-length-name at page = ap length (name-record_from at page) ∙ length-bytes_at (number_at 1 at page) (at + 1) page
+length-name at page = ap length (name-record_from at page) ∙ length-first_places (λ k. number_at 1 (at + 1 + k) page) (number_at 1 at page)
 
 has_numbers : (at : ℕ) (page : List ℕ) → HasNumbers at (record_from at page) page
 unfolding record_from
@@ -137,7 +116,7 @@ record_fits at page bytes named =
       named = named;
       name_bytes = λ k other lt.
           let there : get_or (record_from at page).name k other ≡ number_at 1 (at + 1 + k) page =
-          ap (λ (xs : List ℕ). get_or xs k other) (name-record_from at page) ∙ get_or-bytes_at (number_at 1 at page) (at + 1) k other page (omega (arith, length-name at page)) in
+          ap (λ (xs : List ℕ). get_or xs k other) (name-record_from at page) ∙ get_or-first_places (λ j. number_at 1 (at + 1 + j) page) (number_at 1 at page) k other (omega (arith, length-name at page)) in
           omega (arith, there, number_at-lt 1 (at + 1 + k) page bytes);
       dims_fits = omega (arith, numbers.dims_is);
       fanout_fits = omega (arith, numbers.fanout_is);

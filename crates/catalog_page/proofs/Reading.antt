@@ -5,27 +5,10 @@ use Rattle.std.proofs.lemmas.Bool.Decides.{nat_tests}
 use Rattle.std.proofs.lemmas.Option.{cond_some}
 use Rattle.std.proofs.lemmas.List.Elements.{All-weaker}
 use Rattle.std.proofs.lemmas.List.Sums.{AllPass-from_list_all, list_all-from_AllPass}
-use Rattle.std.proofs.lemmas.List.FromFn.{map-range_with_len_more, length-map-range_with_len, get_or-map-range_with_len}
+use Rattle.block_bytes.specs.FormLaws.{none_read}
 use Rattle.block_bytes.specs.Numbers.{number_at}
+use Rattle.block_bytes.specs.PlaceLaws.{get_or-first_places, length-first_places}
 use Rattle.catalog_page.specs.Layout.{Record, HasName, has_name, record_at, first_records, Spells, catalog_test, records_at}
-
-pub first_records-none : (page : List ℕ) → first_records page 0 ≡ []
-unfolding first_records
-first_records-none page = refl
-
-pub first_records-more : (page : List ℕ) (n : ℕ) → first_records page (n + 1) ≡ first_records page n ++ record_at page n ∷ []
-unfolding first_records
-first_records-more page n = map-range_with_len_more (record_at page) 0 n n (omega arith)
-
-pub length-first_records : (page : List ℕ) (n : ℕ) → length (first_records page n) ≡ n
-unfolding first_records
-length-first_records page n = length-map-range_with_len (record_at page) 0 n
-
-pub get_or-first_records : (page : List ℕ) (n k : ℕ) (other : Record) → k < n → get_or (first_records page n) k other ≡ record_at page k
-unfolding first_records
-get_or-first_records page n k other lt = get_or-map-range_with_len (record_at page) 0 n k k other lt (omega arith)
-
--- ---- the test
 
 named_means : (n : ℕ) → (nat_le 1 n && nat_le n 24) ≡ true → (1 ≤ n) × (n ≤ 24)
 named_means n h = (grind (arith, nat_tests), grind (arith, nat_tests))
@@ -75,26 +58,22 @@ spells page layers h =
 
 -- ---- decoding
 
-none_of : (o : Option (List Record)) → ((layers : List Record) → o ≡ Some layers → ⊥) → o ≡ None
-none_of None never = refl
-none_of (Some layers) never = absurd (never layers refl)
-
 -- a page of another kind spells no layers
 pub no_kind : (page : List ℕ) → (number_at 1 0 page ≡ 1 → ⊥) → records_at page ≡ None
-no_kind page other = none_of (records_at page) (λ layers is. other (spells page layers is).kind)
+no_kind page other = none_read (records_at page) (λ layers is. other (spells page layers is).kind)
 
 -- nor does one with a greater count
 pub no_count : (page : List ℕ) → 60 < number_at 1 1 page → records_at page ≡ None
-no_count page many = none_of (records_at page) (λ layers is. let few = (spells page layers is).few in omega arith)
+no_count page many = none_read (records_at page) (λ layers is. let few = (spells page layers is).few in omega arith)
 
 -- nor one with a record without a name
 pub no_name : (page : List ℕ) (place : ℕ) → place < number_at 1 1 page → (HasName (record_at page place) → ⊥) → records_at page ≡ None
 no_name page place lt none =
-    none_of (records_at page) (λ layers is.
+    none_read (records_at page) (λ layers is.
     let s = spells page layers is in
     let first = subst (All HasName) s.records s.named in
-    none (subst HasName (get_or-first_records page (number_at 1 1 page) place (record_at page place) lt)
-    (first place (record_at page place) (omega (arith, length-first_records page (number_at 1 1 page))))))
+    none (subst HasName (get_or-first_places (record_at page) (number_at 1 1 page) place (record_at page place) lt)
+    (first place (record_at page place) (omega (arith, length-first_places (record_at page) (number_at 1 1 page))))))
 
 -- and any other spells its records
 pub all_names : (page : List ℕ) (count : ℕ) → number_at 1 0 page ≡ 1 → count ≡ number_at 1 1 page → count ≤ 60 → All HasName (first_records page count) → records_at page ≡ Some (first_records page count)

@@ -1,6 +1,6 @@
 -- The records of a catalog, written one after the other.
 use Rattle.std.proofs.Common.{◌≡◌, ◌⊎◌, ℕ, ◌+◌, ◌<◌, ◌≤◌, List, length, get_or, sym, ◌∙◌, ap, subst, arith, below_more, inl, inr, ⊎_elim}
-use Rattle.std.proofs.lemmas.List.FromFn.{fill_by_all}
+use Rattle.block_bytes.specs.PlaceLaws.{first_places-are}
 use Rattle.block_bytes.specs.Numbers.{number_at, zeros, put_number}
 use Rattle.block_bytes.specs.Laws.{number_at-put, number_at-put_other, number_at-zeros, length-put, length-zeros}
 use Rattle.catalog_page.specs.Layout.{Record, HasName, record_place, record_at, first_records, Spells, IsOfRecord, IsNamed, ChangesOnly, ChangesRecord}
@@ -98,14 +98,13 @@ written_more layers place old new layer w long is has item changes =
     }
 
 pub written_spells : (layers : List Record) (place : ℕ) (page : List ℕ) → Written layers place page → length layers ≤ place → length layers ≤ 60 → Spells page layers
-unfolding first_records
 written_spells layers place page w all few =
     let count : number_at 1 1 page ≡ length layers = w.count_is in
     record {
       kind = w.kind;
       few = omega arith;
       named = λ k other lt. subst HasName (sym (w.each k (omega arith) other)) (w.named k (omega arith));
-      records = fill_by_all (record_at page) layers (number_at 1 1 page) (record_at page 0) (sym count) (λ k lt. w.each k (omega arith) (record_at page 0));
+      records = first_places-are (record_at page) (number_at 1 1 page) layers (record_at page 0) (sym count) (λ k lt. w.each k (omega arith) (record_at page 0));
     }
 
 pub written_rest : (layers : List Record) (place : ℕ) (page : List ℕ) → Written layers place page → place ≤ length layers → (k : ℕ) → (IsNamed page k → ⊥) → number_at 1 k page ≡ 0

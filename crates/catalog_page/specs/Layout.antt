@@ -1,9 +1,11 @@
 -- How a page spells the catalog, the list of a file's layers (our format, docs/FORMAT.md): byte 0 is 1, byte 1 the
 -- count of layers, and from 256 on a record of 64 bytes for each, one behind the other.
 use Rattle.std.specs.Prelude.{◌≡◌, ℕ, ◌+◌, ◌*◌, ◌^◌, ◌<◌, ◌≤◌, ◌&&◌, ◌==◌, ◌⊎◌, Bool, nat_le, List, length, All, map, Option, Some, None, if◌then◌else◌}
-use Rattle.std.specs.List.{range_with_len, list_all}
+use Rattle.std.specs.List.{list_all}
 use Rattle.arrayvec.specs.ArrayVec.{ArrayVec}
+use Rattle.block_bytes.specs.Kinds.{catalog_kind}
 use Rattle.block_bytes.specs.Numbers.{number_at, IsApart}
+use Rattle.block_bytes.specs.Places.{first_places}
 use Rattle.catalog_page.specs.declared.layer_record.LayerRecord.{LayerRecord}
 
 -- what the catalog says of a layer
@@ -56,8 +58,8 @@ pub record IsCatalog (layers : List Record) : Type 0 where
 -- ---- one record
 
 -- the n bytes from a place
-unfoldable pub bytes_at : ℕ → ℕ → List ℕ → List ℕ
-bytes_at n at page = map (λ k. number_at 1 (at + k) page) (range_with_len 0 n)
+abbrev pub bytes_at : ℕ → ℕ → List ℕ → List ℕ
+bytes_at n at page = first_places (λ k. number_at 1 (at + k) page) n
 
 -- where the record in a place begins
 abbrev pub record_place : ℕ → ℕ
@@ -89,14 +91,14 @@ abbrev pub record_at : List ℕ → ℕ → Record
 record_at page place = record_from (record_place place) page
 
 -- the records in the first places
-unfoldable pub first_records : List ℕ → ℕ → List Record
-first_records page count = map (record_at page) (range_with_len 0 count)
+abbrev pub first_records : List ℕ → ℕ → List Record
+first_records page count = first_places (record_at page) count
 
 -- ---- the page
 
 -- the page spells these layers
 pub record Spells (page : List ℕ) (layers : List Record) : Type 0 where
-  pub kind : number_at 1 0 page ≡ 1
+  pub kind : number_at 1 0 page ≡ catalog_kind
   pub few : number_at 1 1 page ≤ 60
   pub named : All HasName layers
   pub records : layers ≡ first_records page (number_at 1 1 page)
@@ -107,7 +109,7 @@ has_name layer = nat_le 1 (length layer.name) && nat_le (length layer.name) 24
 
 -- whether the page spells layers
 unfoldable pub catalog_test : List ℕ → Bool
-catalog_test page = number_at 1 0 page == 1 && nat_le (number_at 1 1 page) 60 && list_all has_name (first_records page (number_at 1 1 page))
+catalog_test page = number_at 1 0 page == catalog_kind && nat_le (number_at 1 1 page) 60 && list_all has_name (first_records page (number_at 1 1 page))
 
 -- the list of layers that the page spells, if it spells one
 unfoldable pub records_at : List ℕ → Option (List Record)

@@ -3,7 +3,7 @@
 
 ghost use Rattle.std.specs.Prelude.{◌≡◌, ◌<◌, All, Some, length, option_map};
 ghost use Rattle.catalog_page.specs.Layout.{records_of};
-ghost use Rattle.catalog_page.specs.PageLaws.{ReadsWhatIsSpelled, ReadsNamedBytes, SpellsCatalogs, BeginsEmpty, HasOnePage};
+ghost use Rattle.catalog_page.specs.PageLaws.{ReadsWhatIsSpelled, ReadsNamedBytes, SpellsCatalogs, BeginsEmpty, CatalogsHaveOnePage};
 
 use crate::layer_record::LayerRecord;
 use crate::page::{decode, encode};
@@ -32,7 +32,7 @@ pub fn a_new_catalog_has_no_layers()
 /// A list of layers has one page: two that spell it, with zeros in all bytes that it does not name, have the same
 /// bytes. So `encode` leaves nothing open.
 pub fn a_catalog_has_one_page()
-    ensures { HasOnePage }
+    ensures { CatalogsHaveOnePage }
 {}
 
 /// Layers that are encoded are decoded again.

@@ -7,7 +7,7 @@ ghost use Rattle.catalog_page.specs.Layout.{records_of, records_at, IsCatalog, S
 use crate::layer_record::LayerRecord;
 use crate::records::{read_record, write_record};
 use arrayvec::ArrayVec;
-use block_bytes::{read_u8, write_u8, zero_block};
+use block_bytes::{CATALOG_KIND, read_u8, write_u8, zero_block};
 
 /// The records that the page spells, or `None` where it spells none: where its kind is not 1, its count is above
 /// 60, or the length of some name is not 1 to 24.
@@ -15,7 +15,7 @@ pub fn decode(page: &[u8; 4096]) -> Option<ArrayVec<LayerRecord, 60>>
     ensures spelled { option_map records_of result ≡ records_at page.now }
     ensures is_catalog { IfSome result (λ layers. IsCatalog (records_of layers)) }
 {
-    if read_u8(page, 0) != 1 {
+    if read_u8(page, 0) != CATALOG_KIND {
         return None;
     }
     let count = usize::from(read_u8(page, 1));
@@ -42,7 +42,7 @@ pub fn encode(layers: &ArrayVec<LayerRecord, 60>, page: &mut [u8; 4096])
 {
     let count = layers.len();
     *page = zero_block();
-    write_u8(page, 0, 1);
+    write_u8(page, 0, CATALOG_KIND);
     write_u8(page, 1, count as u8);
     for place in 0..count {
         write_record(page, place, &layers[place]);

@@ -2,13 +2,13 @@
 use Rattle.std.proofs.Common.{◌≡◌, ℕ, zero, suc, ◌+◌, ◌*◌, ◌<◌, ◌≤◌, ℤ, pos, List, [], length, get_or, map, replicate, refl, sym, ◌∙◌, ap, arith}
 use Rattle.std.proofs.lemmas.List.{get_or-map, length-map}
 use Rattle.block_bytes.specs.Numbers.{signed_at}
+use Rattle.block_bytes.specs.PlaceLaws.{get_or-first_places, length-first_places}
 use Rattle.box_math.specs.Bounds.{on_axis}
 use Rattle.box_bytes.specs.Corners.{corner_at}
 use Rattle.box_bytes.specs.Laws.{on_axis-corner_at}
 use Rattle.node_page.specs.Columns.{cell, AreColumns}
 use Rattle.tree_node.specs.Nodes.{Item}
 use Rattle.node_page.specs.Layout.{item_at, items_at}
-use Rattle.node_page.proofs.Reading.{length-items_at, get_or-items_at}
 use Rattle.node_page.proofs.Writing.{nothing}
 
 -- zeros to begin with
@@ -22,11 +22,11 @@ module _ (dims count first : ℕ) (page : List ℕ) (columns : List (List ℤ)) 
     (read : (axis place : ℕ) → axis < dims → place < count → cell columns axis place ≡ signed_at (first + 800 * axis + 4 * place) page)
     (zeros : (axis place : ℕ) → axis < dims → count ≤ place → cell columns axis place ≡ pos 0) where
   many : length (map point_of (items_at dims page count)) ≡ count
-  many = length-map (items_at dims page count) point_of ∙ length-items_at dims page count
+  many = length-map (items_at dims page count) point_of ∙ length-first_places (item_at dims page) count
 
   point_is : (place : ℕ) → place < count → get_or (map point_of (items_at dims page count)) place [] ≡ corner_at dims page (first + 4 * place) 800
   point_is place lt =
-      get_or-map point_of (items_at dims page count) place nothing [] (omega (arith, length-items_at dims page count)) ∙ ap point_of (get_or-items_at dims page count place nothing lt) ∙ place_is place
+      get_or-map point_of (items_at dims page count) place nothing [] (omega (arith, length-first_places (item_at dims page) count)) ∙ ap point_of (get_or-first_places (item_at dims page) count place nothing lt) ∙ place_is place
 
   are_columns : AreColumns dims (map point_of (items_at dims page count)) columns
   are_columns = record {

@@ -1,6 +1,7 @@
 -- Worked examples of what the tests do not reach: the node that a page spells by the definitions alone, where entries
 -- are, which bytes are named, what a node has, and what columns are. No other proof rests on them.
 use Rattle.std.proofs.Common.{◌≡◌, ℕ, zero, suc, ◌<◌, ◌≤◌, ◌⊎◌, ℤ, List, [], ◌∷◌, ◌++◌, get_or, replicate, Some, None, refl, pos, negsuc, map, arith, inl, inr}
+use Rattle.block_bytes.specs.Places.{first_places}
 use Rattle.block_bytes.specs.Numbers.{number_at, signed_at}
 use Rattle.box_math.specs.Bounds.{on_axis, ordered_test}
 use Rattle.box_bytes.specs.Corners.{corner_at}
@@ -21,28 +22,28 @@ abbrev item : ℕ → Item
 item reference = record { bounds = record { low = negsuc 0 ∷ pos 2 ∷ []; high = pos 3 ∷ pos 4 ∷ [] }; reference = reference }
 
 a_leaf_of_one : node_at 2 (page_of (2 ∷ 2 ∷ 0 ∷ 1 ∷ 0 ∷ []) (0 ∷ 0 ∷ 0 ∷ 1 ∷ [])) ≡ Some (record { level = 0; entries = item 1 ∷ [] })
-unfolding node_at node_test items_at item_at corner_at signed_at number_at ordered_test
+unfolding node_at node_test first_places item_at corner_at signed_at number_at ordered_test
 a_leaf_of_one = refl
 
 a_node_of_one : node_at 2 (page_of (2 ∷ 2 ∷ 0 ∷ 1 ∷ 255 ∷ []) (127 ∷ 255 ∷ 255 ∷ 255 ∷ [])) ≡ Some (record { level = 255; entries = item 2147483647 ∷ [] })
-unfolding node_at node_test items_at item_at corner_at signed_at number_at ordered_test
+unfolding node_at node_test first_places item_at corner_at signed_at number_at ordered_test
 a_node_of_one = refl
 
 references_to_no_child_spell_none : map (λ reference. node_at 2 (page_of (2 ∷ 2 ∷ 0 ∷ 1 ∷ 1 ∷ []) reference)) ((0 ∷ 0 ∷ 0 ∷ 2 ∷ []) ∷ (128 ∷ 0 ∷ 0 ∷ 0 ∷ []) ∷ []) ≡ None ∷ None ∷ []
-unfolding node_at node_test items_at item_at corner_at signed_at number_at ordered_test
+unfolding node_at node_test first_places item_at corner_at signed_at number_at ordered_test
 references_to_no_child_spell_none = refl
 
 other_heads_spell_none : map (λ head. node_at 2 (page_of head (0 ∷ 0 ∷ 0 ∷ 3 ∷ []))) ((4 ∷ 2 ∷ 0 ∷ 1 ∷ 1 ∷ []) ∷ (2 ∷ 3 ∷ 0 ∷ 1 ∷ 1 ∷ []) ∷ (2 ∷ 2 ∷ 0 ∷ 0 ∷ 1 ∷ []) ∷ []) ≡ None ∷ None ∷ None ∷ []
-unfolding node_at node_test items_at item_at corner_at signed_at number_at ordered_test
+unfolding node_at node_test first_places item_at corner_at signed_at number_at ordered_test
 other_heads_spell_none = refl
 
 an_empty_leaf_and_too_full_ones : map (node_at 2) ((2 ∷ 2 ∷ []) ∷ (2 ∷ 2 ∷ 0 ∷ 101 ∷ []) ∷ []) ≡ Some (record { level = 0; entries = [] }) ∷ None ∷ []
-unfolding node_at node_test items_at item_at corner_at signed_at number_at ordered_test
+unfolding node_at node_test first_places item_at corner_at signed_at number_at ordered_test
 an_empty_leaf_and_too_full_ones = refl
 
 -- a low of 2 in the place of the lows, and a high of 0
 a_turned_box_spells_none : node_at 2 (filled_to 11 (2 ∷ 2 ∷ 0 ∷ 1 ∷ 0 ∷ []) ++ 0 ∷ 0 ∷ 0 ∷ 2 ∷ []) ≡ None
-unfolding node_at node_test items_at item_at corner_at signed_at number_at ordered_test
+unfolding node_at node_test first_places item_at corner_at signed_at number_at ordered_test
 a_turned_box_spells_none = refl
 
 -- ---- where entries are

@@ -1,15 +1,16 @@
 -- The laws of what pages spell: which bytes are read, and what entries are.
 use Rattle.std.proofs.Common.{◌≡◌, ℕ, ◌+◌, ◌^◌, ◌<◌, ◌≤◌, List, Option, Some, None, refl, sym, ◌∙◌, ap, subst, arith, inl, inr}
-use Rattle.std.proofs.lemmas.List.FromFn.{fill_by_all}
+use Rattle.block_bytes.specs.FormLaws.{reads_named}
+use Rattle.block_bytes.specs.PlaceLaws.{first_places-same}
 use Rattle.block_bytes.specs.Numbers.{number_at, AreBytes}
 use Rattle.block_bytes.specs.Laws.{number_at-same, number_at-lt}
 use Rattle.box_math.specs.Bounds.{IsBox}
 use Rattle.box_bytes.specs.Laws.{box_at-is_box}
 use Rattle.tree_node.specs.Nodes.{Item, NodeContent}
-use Rattle.node_page.specs.Layout.{low_place, high_place, reference_place, item_at, items_at, IsEntry, Spells, node_at, IsNamed}
+use Rattle.node_page.specs.Layout.{low_place, high_place, reference_place, item_at, items_at, IsEntry, Spells, node_at, names, IsNamed}
 use Rattle.node_page.specs.PageLaws.{ReadsWhatIsSpelled, ReadsNamedBytes, SpellsNodes}
 use Rattle.node_page.proofs.Places.{item_same}
-use Rattle.node_page.proofs.Reading.{spells, spelled, spellable, size_of, item_of_node, length-items_at, get_or-items_at}
+use Rattle.node_page.proofs.Reading.{spells, spelled, spellable, size_of, item_of_node}
 use Rattle.node_page.proofs.Writing.{nothing}
 
 module _ (dims count : ℕ) (a b : List ℕ) (same : (k : ℕ) → IsNamed dims count k → number_at 1 k a ≡ number_at 1 k b) where
@@ -18,10 +19,6 @@ module _ (dims count : ℕ) (a b : List ℕ) (same : (k : ℕ) → IsNamed dims 
 
   one_same : (place : ℕ) → place < count → item_at dims a place ≡ item_at dims b place
   one_same place lt = item_same dims place a b (λ k of. same k (inr (place, lt, of)))
-
-  all_same : items_at dims a count ≡ items_at dims b count
-  unfolding items_at
-  all_same = fill_by_all (item_at dims b) (items_at dims a count) count nothing (length-items_at dims a count) (λ k lt. get_or-items_at dims a count k nothing lt ∙ one_same k lt)
 
   spells_same : (c : NodeContent) → count ≡ number_at 2 2 a → Spells dims a c → Spells dims b c
   spells_same c is s =
@@ -36,21 +33,13 @@ module _ (dims count : ℕ) (a b : List ℕ) (same : (k : ℕ) → IsNamed dims 
           some = λ above. let some = s.head.some above in omega arith;
         };
         each = λ place lt. subst (IsEntry dims c.level) (one_same place (omega arith)) (s.each place (omega arith));
-        entries = s.entries ∙ ap (items_at dims a) (sym is) ∙ all_same ∙ ap (items_at dims b) (is ∙ count_same);
+        entries = s.entries ∙ ap (items_at dims a) (sym is) ∙ first_places-same (item_at dims a) (item_at dims b) count nothing one_same ∙ ap (items_at dims b) (is ∙ count_same);
       }
 
-same_options : {X : Type 0} (o p : Option X) → ((x : X) → o ≡ Some x → p ≡ Some x) → ((x : X) → p ≡ Some x → o ≡ Some x) → o ≡ p
-same_options (Some x) p f g = sym (f x refl)
-same_options None (Some y) f g = g y refl
-same_options None None f g = refl
-
-pub reads_named : ReadsNamedBytes
-reads_named dims a b same =
-    let n = number_at 2 2 a in
-    let count : n ≡ number_at 2 2 b = head_same dims n a b same 2 2 (omega arith) in
-    same_options (node_at dims a) (node_at dims b)
-    (λ c is. spelled dims b c (spells_same dims n a b same c refl (spells dims a c is)))
-    (λ c is. spelled dims a c (spells_same dims n b a (λ k named. sym (same k named)) c count (spells dims b c is)))
+pub reads_named_bytes : ReadsNamedBytes
+reads_named_bytes dims = reads_named (node_at dims) (names dims)
+    (λ a b c same is. spelled dims b c (spells_same dims (number_at 2 2 a) a b same c refl (spells dims a c is)))
+    (λ a b same k of. subst (λ n. IsNamed dims n k) (sym (head_same dims (number_at 2 2 a) a b same 2 2 (omega arith))) of)
 
 pub reads_spelled : ReadsWhatIsSpelled
 reads_spelled dims page c = (spells dims page c, spelled dims page c)

@@ -1,30 +1,22 @@
 -- A node has one page: what a page spells fixes each byte that it names, and the others are zero.
-use Rattle.std.proofs.Common.{◌≡◌, ℕ, ◌+◌, ◌*◌, ◌<◌, ◌≤◌, ℤ, List, length, sym, ◌∙◌, ap, arith, inl, inr, ⊎_elim}
-use Rattle.std.proofs.lemmas.Bool.{cases_lt, cases_eq}
-use Rattle.block_bytes.specs.Numbers.{number_at, signed_at, AreBytes}
-use Rattle.block_bytes.specs.Laws.{number_at-fixes, signed_at-fixes}
-use Rattle.box_math.specs.Bounds.{on_axis}
-use Rattle.box_bytes.specs.Corners.{corner_at, IsOfCorner}
-use Rattle.box_bytes.specs.Laws.{on_axis-corner_at}
+use Rattle.std.proofs.Common.{◌≡◌, ℕ, ◌+◌, ◌*◌, ◌<◌, ◌≤◌, ℤ, List, length, subst, sym, ◌∙◌, ap, arith, inl, inr, ⊎_elim}
+use Rattle.std.proofs.lemmas.Bool.{cases_lt}
+use Rattle.block_bytes.specs.FormLaws.{has_one_page}
+use Rattle.block_bytes.specs.Numbers.{number_at, AreBytes}
+use Rattle.block_bytes.specs.Laws.{number_at-fixes}
+use Rattle.box_bytes.specs.Laws.{corner_at-fixes}
 use Rattle.tree_node.specs.Nodes.{Item, NodeContent}
-use Rattle.node_page.specs.Layout.{low_place, high_place, reference_place, item_at, IsOfEntry, Spells, IsNamed}
-use Rattle.node_page.specs.PageLaws.{HasOnePage}
-use Rattle.node_page.proofs.Reading.{size_of, item_of_node}
+use Rattle.node_page.specs.Layout.{low_place, high_place, reference_place, item_at, IsOfEntry, Spells, IsNamed, names, node_at}
+use Rattle.node_page.specs.PageLaws.{NodesHaveOnePage}
+use Rattle.node_page.proofs.Reading.{size_of, item_of_node, spells}
 use Rattle.node_page.proofs.Writing.{nothing}
 
 -- ---- an entry fixes its bytes
 
-corner_bytes : (dims at stride : ℕ) (a b : List ℕ) → AreBytes a → AreBytes b → corner_at dims a at stride ≡ corner_at dims b at stride → (k : ℕ) → IsOfCorner dims at stride k → number_at 1 k a ≡ number_at 1 k b
-corner_bytes dims at stride a b ba bb e k of =
-    let axis = of.0 in
-    let signed : signed_at (at + stride * axis) a ≡ signed_at (at + stride * axis) b =
-    sym (on_axis-corner_at dims a at stride axis of.1) ∙ ap (λ (p : List ℤ). on_axis p axis) e ∙ on_axis-corner_at dims b at stride axis of.1 in
-    number_at-fixes 4 (at + stride * axis) a b ba bb (signed_at-fixes (at + stride * axis) a b ba bb signed) k of.2 of.3
-
 pub item_bytes : (dims place : ℕ) (a b : List ℕ) → AreBytes a → AreBytes b → item_at dims a place ≡ item_at dims b place → (k : ℕ) → IsOfEntry dims place k → number_at 1 k a ≡ number_at 1 k b
 unfolding item_at
-item_bytes dims place a b ba bb e k (inl of) = corner_bytes dims (low_place place) 800 a b ba bb (ap (λ (item : Item). item.bounds.low) e) k of
-item_bytes dims place a b ba bb e k (inr (inl of)) = corner_bytes dims (high_place place) 800 a b ba bb (ap (λ (item : Item). item.bounds.high) e) k of
+item_bytes dims place a b ba bb e k (inl of) = corner_at-fixes dims (low_place place) 800 a b ba bb (ap (λ (item : Item). item.bounds.low) e) k of
+item_bytes dims place a b ba bb e k (inr (inl of)) = corner_at-fixes dims (high_place place) 800 a b ba bb (ap (λ (item : Item). item.bounds.high) e) k of
 item_bytes dims place a b ba bb e k (inr (inr of)) = number_at-fixes 8 (reference_place dims place) a b ba bb (ap (λ (item : Item). item.reference) e) k of.0 of.1
 
 -- ---- a node fixes its page
@@ -36,15 +28,13 @@ head_bytes dims a b c ba bb sa sb k lt =
     (λ (l : 2 ≤ k). ⊎_elim (λ (m : k < 4). number_at-fixes 2 2 a b ba bb (size_of dims a c sa ∙ sym (size_of dims b c sb)) k l m)
     (λ (m : 4 ≤ k). number_at-fixes 1 4 a b ba bb (sa.head.level_is ∙ sym sb.head.level_is) k m lt) (cases_lt k 4)) (cases_lt k 2)) (cases_lt k 1)
 
-named_bytes : (dims : ℕ) (a b : List ℕ) (c : NodeContent) → AreBytes a → AreBytes b → Spells dims a c → Spells dims b c → (k : ℕ) → IsNamed dims (length c.entries) k → number_at 1 k a ≡ number_at 1 k b
+named_bytes : (dims : ℕ) (a b : List ℕ) (c : NodeContent) → AreBytes a → AreBytes b → Spells dims a c → Spells dims b c → (k : ℕ) → names dims a k → number_at 1 k a ≡ number_at 1 k b
 named_bytes dims a b c ba bb sa sb k (inl lt) = head_bytes dims a b c ba bb sa sb k lt
 named_bytes dims a b c ba bb sa sb k (inr of) =
-    item_bytes dims of.0 a b ba bb (sym (item_of_node dims a c of.0 nothing sa of.1) ∙ item_of_node dims b c of.0 nothing sb of.1) k of.2
+    let within : of.0 < length c.entries = omega (arith, of.1, size_of dims a c sa) in
+    item_bytes dims of.0 a b ba bb (sym (item_of_node dims a c of.0 nothing sa within) ∙ item_of_node dims b c of.0 nothing sb within) k of.2
 
--- bytes that differ would not be named, and so both be zero
-pub one_page : HasOnePage
-one_page dims a b c ba bb pa pb k =
-    let named = named_bytes dims a b c ba bb pa.spelled pb.spelled k in
-    ⊎_elim (λ (same : number_at 1 k a ≡ number_at 1 k b). same)
-    (λ (other : number_at 1 k a ≡ number_at 1 k b → ⊥). pa.rest k (λ is. other (named is)) ∙ sym (pb.rest k (λ is. other (named is))))
-    (cases_eq (number_at 1 k a) (number_at 1 k b))
+pub one_page : NodesHaveOnePage
+one_page dims = has_one_page (node_at dims) (names dims)
+    (λ a b c ba bb ia ib. named_bytes dims a b c ba bb (spells dims a c ia) (spells dims b c ib))
+    (λ a b c ia ib k of. subst (λ n. IsNamed dims n k) (size_of dims b c (spells dims b c ib) ∙ sym (size_of dims a c (spells dims a c ia))) of)

@@ -2,47 +2,16 @@
 use Rattle.std.proofs.Common.{◌≡◌, ◌≢◌, ℕ, zero, suc, ◌+◌, ◌^◌, ◌<◌, ◌≤◌, ◌&&◌, ◌||◌, ◌==◌, Bool, true, nat_le, nat_lt, List, [], ◌∷◌, ◌++◌, length, get_or, Option, Some, None, IfSome, IfNone, option_map, refl, sym, ◌∙◌, ap, subst, arith, below_more}
 use Rattle.std.proofs.lemmas.Bool.Decides.{nat_tests}
 use Rattle.std.proofs.lemmas.Option.{cond_some}
-use Rattle.std.proofs.lemmas.List.FromFn.{map-range_with_len_more, length-map-range_with_len, get_or-map-range_with_len}
 use Rattle.block_bytes.specs.Numbers.{number_at}
+use Rattle.block_bytes.specs.PlaceLaws.{get_or-first_places, length-first_places}
 use Rattle.box_math.specs.Bounds.{all_over, ordered_test}
+use Rattle.box_bytes.specs.Laws.{all_over-each, all_over-from}
 use Rattle.box_math.proofs.TestLaws.{ordered_test_true}
 use Rattle.tree_node.specs.declared.node.Node.{Node}
 use Rattle.tree_node.specs.Nodes.{Item, NodeContent, content_of}
 use Rattle.node_page.specs.Layout.{item_at, items_at, IsReference, IsSpellable, IsEntry, HasNodeHead, Spells, entry_test, node_test, node_at}
 
-pub items_at-none : (dims : ℕ) (page : List ℕ) → items_at dims page 0 ≡ []
-unfolding items_at
-items_at-none dims page = refl
-
-pub items_at-more : (dims : ℕ) (page : List ℕ) (n : ℕ) → items_at dims page (n + 1) ≡ items_at dims page n ++ item_at dims page n ∷ []
-unfolding items_at
-items_at-more dims page n = map-range_with_len_more (item_at dims page) 0 n n (omega arith)
-
-pub length-items_at : (dims : ℕ) (page : List ℕ) (n : ℕ) → length (items_at dims page n) ≡ n
-unfolding items_at
-length-items_at dims page n = length-map-range_with_len (item_at dims page) 0 n
-
-pub get_or-items_at : (dims : ℕ) (page : List ℕ) (n i : ℕ) (other : Item) → i < n → get_or (items_at dims page n) i other ≡ item_at dims page i
-unfolding items_at
-get_or-items_at dims page n i other lt = get_or-map-range_with_len (item_at dims page) 0 n i i other lt (omega arith)
-
--- how many entries there are, and which
-pub ruleset counts = (length-items_at, get_or-items_at)
-
 -- ---- the test of an entry, and of a page
-
-all_over-each : (n : ℕ) (t : ℕ → Bool) → all_over n t ≡ true → (k : ℕ) → k < n → t k ≡ true
-all_over-each zero t h = λ k lt. absurd (omega arith)
-all_over-each (suc n) t h =
-    let both : (all_over n t ≡ true) × (t n ≡ true) = grind (arith, nat_tests) in
-    λ k lt. below_more (λ j. t j ≡ true) n (all_over-each n t both.0) both.1 k (omega arith)
-
-all_over-from : (n : ℕ) (t : ℕ → Bool) → ((k : ℕ) → k < n → t k ≡ true) → all_over n t ≡ true
-all_over-from zero t each = refl
-all_over-from (suc n) t each =
-    let before : all_over n t ≡ true = all_over-from n t (λ k lt. each k (omega arith)) in
-    let last : t n ≡ true = each n (omega arith) in
-    grind (arith, nat_tests)
 
 refers_means : (level r : ℕ) (b : Bool) → (b && (level == 0 || (nat_le 3 r && nat_lt r (2 ^ 31)))) ≡ true → (b ≡ true) × IsReference level r
 refers_means level r b h = (grind (arith, nat_tests), λ above. (grind (arith, nat_tests), grind (arith, nat_tests)))
@@ -99,12 +68,12 @@ spells dims page c h =
 -- ---- what readers of a page that spells a node know
 
 pub size_of : (dims : ℕ) (page : List ℕ) (c : NodeContent) → Spells dims page c → number_at 2 2 page ≡ length c.entries
-size_of dims page c s = sym (ap length s.entries ∙ length-items_at dims page (number_at 2 2 page))
+size_of dims page c s = sym (ap length s.entries ∙ length-first_places (item_at dims page) (number_at 2 2 page))
 
 pub item_of_node : (dims : ℕ) (page : List ℕ) (c : NodeContent) (place : ℕ) (other : Item) → Spells dims page c → place < length c.entries → get_or c.entries place other ≡ item_at dims page place
 item_of_node dims page c place other s lt =
     let size = size_of dims page c s in
-    ap (λ (es : List Item). get_or es place other) s.entries ∙ get_or-items_at dims page (number_at 2 2 page) place other (omega arith)
+    ap (λ (es : List Item). get_or es place other) s.entries ∙ get_or-first_places (item_at dims page) (number_at 2 2 page) place other (omega arith)
 
 -- what a page spells can be spelled
 pub spellable : (dims : ℕ) (page : List ℕ) (c : NodeContent) → Spells dims page c → IsSpellable c

@@ -1,7 +1,7 @@
 -- The entries of a node, written one after the other.
 use Rattle.std.proofs.Common.{◌≡◌, ℕ, ◌+◌, ◌*◌, ◌^◌, ◌<◌, ◌≤◌, List, [], length, get_or, sym, ◌∙◌, subst, arith, below_more, inl, inr, ⊎_elim}
-use Rattle.std.proofs.lemmas.List.FromFn.{fill_by_all}
 use Rattle.block_bytes.specs.Numbers.{number_at, IsApart}
+use Rattle.block_bytes.specs.PlaceLaws.{first_places-are}
 use Rattle.box_math.specs.Bounds.{IsBox, IsOrdered}
 use Rattle.box_bytes.specs.Corners.{Keeps}
 use Rattle.tree_node.specs.Nodes.{Item}
@@ -59,9 +59,11 @@ pub written_more : (dims level : ℕ) (items : List Item) (place : ℕ) (old new
 written_more dims level items place old new item w within size is box there keeps = record {
   size = size;
   head = record {
-    kind = keeps 1 0 (head_clear dims place 1 0 (omega arith)) ∙ w.head.kind;
-    dims_is = keeps 1 1 (head_clear dims place 1 1 (omega arith)) ∙ w.head.dims_is;
-    count_is = keeps 2 2 (head_clear dims place 2 2 (omega arith)) ∙ w.head.count_is;
+    head = record {
+      kind_is = keeps 1 0 (head_clear dims place 1 0 (omega arith)) ∙ w.head.head.kind_is;
+      dims_is = keeps 1 1 (head_clear dims place 1 1 (omega arith)) ∙ w.head.head.dims_is;
+      count_is = keeps 2 2 (head_clear dims place 2 2 (omega arith)) ∙ w.head.head.count_is;
+    };
     level_is = keeps 1 4 (head_clear dims place 1 4 (omega arith)) ∙ w.head.level_is;
   };
   each = below_more (λ k. (other : Item) → get_or items k other ≡ item_at dims new k) place
@@ -74,17 +76,16 @@ written_more dims level items place old new item w within size is box there keep
 
 pub written_spells : (dims level : ℕ) (items : List Item) (place : ℕ) (page : List ℕ) → Written dims level items place page → length items ≤ place → IsSpellable (record { level = level; entries = items })
     → Spells dims page (record { level = level; entries = items })
-unfolding items_at
 written_spells dims level items place page w all s =
-    let count : number_at 2 2 page ≡ length items = w.head.count_is in
+    let count : number_at 2 2 page ≡ length items = w.head.head.count_is in
     let few = s.few in
     record {
-      head = record { kind = w.head.kind; dims_is = w.head.dims_is; level_is = w.head.level_is; few = omega arith; some = λ above. let some = s.some above in omega arith };
+      head = record { kind = w.head.head.kind_is; dims_is = w.head.head.dims_is; level_is = w.head.level_is; few = omega arith; some = λ above. let some = s.some above in omega arith };
       each = λ k lt. record {
         ordered = w.ordered k (omega arith);
         refers = λ above. subst (λ (x : Item). (3 ≤ x.reference) × (x.reference < 2 ^ 31)) (w.each k (omega arith) nothing) (s.refers k nothing (omega arith) above);
       };
-      entries = fill_by_all (item_at dims page) items (number_at 2 2 page) nothing (sym count) (λ k lt. w.each k (omega arith) nothing);
+      entries = first_places-are (item_at dims page) (number_at 2 2 page) items nothing (sym count) (λ k lt. w.each k (omega arith) nothing);
     }
 
 -- what is written in all places, of which none is left

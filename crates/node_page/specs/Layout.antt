@@ -1,8 +1,9 @@
 -- How a page spells a node of a tree (our format, docs/FORMAT.md): byte 0 is 2, byte 1 the dimension, at 2 the count,
 -- byte 4 the level, and from 16 on columns of 100 places: lows and highs of each axis by turns, and then references.
 use Rattle.std.specs.Prelude.{◌≡◌, ℕ, ◌+◌, ◌*◌, ◌^◌, ◌<◌, ◌≤◌, ◌&&◌, ◌||◌, ◌==◌, ◌⊎◌, Bool, nat_le, nat_lt, List, length, All, map, Option, Some, None, if◌then◌else◌}
-use Rattle.std.specs.List.{range_with_len}
+use Rattle.block_bytes.specs.Kinds.{HasHead, node_kind}
 use Rattle.block_bytes.specs.Numbers.{number_at, IsApart}
+use Rattle.block_bytes.specs.Places.{first_places}
 use Rattle.box_math.specs.Bounds.{IsDims, IsBox, IsOrdered, ordered_test, all_over}
 use Rattle.box_bytes.specs.Corners.{box_at, IsClearOfBox, IsOfCorner}
 use Rattle.tree_node.specs.Nodes.{Item, NodeContent}
@@ -45,8 +46,8 @@ unfoldable pub item_at : ℕ → List ℕ → ℕ → Item
 item_at dims page place = record { bounds = box_at dims page (low_place place) (high_place place) 800; reference = number_at 8 (reference_place dims place) page }
 
 -- the entries in the first places
-unfoldable pub items_at : ℕ → List ℕ → ℕ → List Item
-items_at dims page count = map (item_at dims page) (range_with_len 0 count)
+abbrev pub items_at : ℕ → List ℕ → ℕ → List Item
+items_at dims page count = first_places (item_at dims page) count
 
 -- an entry of a node on this level: each low is at most its high, and the reference is one of the level
 pub record IsEntry (dims level : ℕ) (item : Item) : Type 0 where
@@ -68,14 +69,12 @@ IsOfEntry dims place k =
 
 -- the first bytes of a node page
 pub record IsHead (dims level count : ℕ) (page : List ℕ) : Type 0 where
-  pub kind : number_at 1 0 page ≡ 2
-  pub dims_is : number_at 1 1 page ≡ dims
-  pub count_is : number_at 2 2 page ≡ count
+  pub head : HasHead node_kind dims count page
   pub level_is : number_at 1 4 page ≡ level
 
 -- the page begins as a node page of this dimension and level does
 pub record HasNodeHead (dims level : ℕ) (page : List ℕ) : Type 0 where
-  pub kind : number_at 1 0 page ≡ 2
+  pub kind : number_at 1 0 page ≡ node_kind
   pub dims_is : number_at 1 1 page ≡ dims
   pub level_is : number_at 1 4 page ≡ level
   pub few : number_at 2 2 page ≤ 100
@@ -100,7 +99,7 @@ entry_test dims level item = ordered_test dims item.bounds.low item.bounds.high 
 -- whether the page spells a node
 unfoldable pub node_test : ℕ → List ℕ → Bool
 node_test dims page =
-    number_at 1 0 page == 2 && number_at 1 1 page == dims && nat_le (number_at 2 2 page) 100 && (number_at 1 4 page == 0 || nat_le 1 (number_at 2 2 page))
+    number_at 1 0 page == node_kind && number_at 1 1 page == dims && nat_le (number_at 2 2 page) 100 && (number_at 1 4 page == 0 || nat_le 1 (number_at 2 2 page))
     && all_over (number_at 2 2 page) (λ place. entry_test dims (number_at 1 4 page) (item_at dims page place))
 
 -- the node that the page spells, if it spells one
@@ -110,3 +109,7 @@ node_at dims page = if node_test dims page then Some (record { level = number_at
 -- a byte of the head or of one of the first entries
 abbrev pub IsNamed : ℕ → ℕ → ℕ → Type 0
 IsNamed dims count k = (k < 5) ⊎ ((place : ℕ) × (place < count) × IsOfEntry dims place k)
+
+-- a byte that this page names
+abbrev pub names : ℕ → List ℕ → ℕ → Type 0
+names dims page = IsNamed dims (number_at 2 2 page)

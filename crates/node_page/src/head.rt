@@ -5,7 +5,7 @@ ghost use Rattle.block_bytes.specs.Numbers.{number_at};
 ghost use Rattle.box_math.specs.Bounds.{IsDims};
 ghost use Rattle.node_page.specs.Layout.{HasNodeHead, IsHead};
 
-use block_bytes::{read_u8, read_u16, write_u8, write_u16, zero_block};
+use block_bytes::{NODE_KIND, read_u8, read_u16, write_u8};
 
 // Whether a node of the level may have so many entries: at most 100, and at least one above the leaves.
 #[inline]
@@ -20,7 +20,7 @@ fn is_count(level: u8, count: usize) -> bool
 pub(crate) fn has_node_head<const D: usize>(page: &[u8; 4096], level: u8) -> bool
     ensures { IsTrue result ↔ HasNodeHead D level page.now }
 {
-    read_u8(page, 0) == 2
+    read_u8(page, 0) == NODE_KIND
         && usize::from(read_u8(page, 1)) == D
         && read_u8(page, 4) == level
         && is_count(level, count_at(page))
@@ -40,9 +40,6 @@ pub(crate) fn write_head<const D: usize>(page: &mut [u8; 4096], level: u8, count
     ensures head { IsHead D level count page.new }
     ensures rest { (k : ℕ) → 5 ≤ k → number_at 1 k page.new ≡ 0 }
 {
-    *page = zero_block();
-    write_u8(page, 0, 2);
-    write_u8(page, 1, D as u8);
-    write_u16(page, 2, count);
+    block_bytes::write_head(page, NODE_KIND, D as u8, count);
     write_u8(page, 4, level);
 }

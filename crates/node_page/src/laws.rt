@@ -5,7 +5,7 @@ ghost use Rattle.std.specs.Prelude.{◌≡◌, ◌<◌, ◌≤◌, ◌^◌, ℕ,
 ghost use Rattle.box_math.specs.Bounds.{IsDims};
 ghost use Rattle.tree_node.specs.Nodes.{content_of};
 ghost use Rattle.node_page.specs.Layout.{IsSpellable};
-ghost use Rattle.node_page.specs.PageLaws.{ReadsWhatIsSpelled, ReadsNamedBytes, SpellsNodes, HasOnePage};
+ghost use Rattle.node_page.specs.PageLaws.{ReadsWhatIsSpelled, ReadsNamedBytes, SpellsNodes, NodesHaveOnePage};
 ghost use Rattle.node_page.specs.Changes.{TreesBelowStand, TreesBesideStand, WaitersBesideStand};
 ghost use Rattle.node_page.specs.Parts.{AllPagesMove, MovesBeside, MovesInTurn, OnePageMoves, StayingMoves, TheRestStays};
 ghost use Rattle.node_page.specs.Standing.{Stands};
@@ -40,7 +40,7 @@ pub fn what_is_spelled_is_a_node()
 /// A node has one page: two that spell it, with zeros in all bytes that it does not name, have the same bytes.
 /// So `encode` leaves nothing open.
 pub fn a_node_has_one_page()
-    ensures { HasOnePage }
+    ensures { NodesHaveOnePage }
 {}
 
 /// A node that is encoded is decoded again.

@@ -32,7 +32,7 @@ impl<'a, const D: usize> Model for NodeView<'a, D> {
     ghost invariant = { λ v. IsLaidOut D v.level v.count v.page.now };
 }
 
-#[tactic(auto, using(crate::proofs::Reading::counts))]
+#[tactic(auto, using(block_bytes::specs::PlaceLaws::places))]
 impl<'a, const D: usize> NodeView<'a, D> {
     /// The node that the page spells, or `None` where it spells none of that dimension and level, as `decode` tells.
     pub fn of(page: &'a [u8; 4096], level: u8) -> Option<NodeView<'a, D>>

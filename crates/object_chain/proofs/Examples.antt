@@ -4,7 +4,7 @@ use Rattle.std.proofs.Common.{◌≡◌, ◌∙◌, ℕ, zero, suc, ◌+◌, ◌
 use Rattle.std.proofs.lemmas.List.Elements.{All-nil, All-cons}
 use Rattle.block_bytes.specs.Numbers.{number_at}
 use Rattle.box_math.specs.Bounds.{Bounds}
-use Rattle.bucket_page.specs.Layout.{Content, bucket_at, bucket_test}
+use Rattle.bucket_page.specs.Layout.{BucketContent, bucket_at, bucket_test}
 use Rattle.object_chain.specs.Ascending.{IsAscending}
 use Rattle.object_chain.specs.Chain.{PageMap, bucket_in, Leads, objects_of, IsFilled, HoldsObjects, BreaksAt, KeepsPages, new_pages, pages_for}
 use Rattle.object_chain.specs.Continued.{GoesOn}
@@ -20,7 +20,7 @@ abbrev some : ℕ → ℕ → List (ℕ × Bounds)
 some id zero = []
 some id (suc count) = object id ∷ some (id + 1) count
 
-abbrev bucket : ℕ → List (ℕ × Bounds) → Content
+abbrev bucket : ℕ → List (ℕ × Bounds) → BucketContent
 bucket next entries = record { next = next; entries = entries }
 
 objects_in_the_order_of_buckets : objects_of (bucket 4 (some 1 2) ∷ bucket 0 (some 3 1) ∷ []) ≡ some 1 3
@@ -73,7 +73,7 @@ no_bucket_goes_on_with_the_last_identifier h = let no = h.ascending in absurd (c
 abbrev pages : List ℕ → List ℕ → PageMap
 pages a b n = if eqb n 3 then Some a else if eqb n 4 then Some b else if eqb n 5 then Some (5 ∷ []) else None
 
-a_page_is_read_as_its_bucket : (dims : ℕ) (a b : List ℕ) (c : Content) → bucket_at dims b ≡ Some c → bucket_in (pages a b) dims 4 ≡ Some c
+a_page_is_read_as_its_bucket : (dims : ℕ) (a b : List ℕ) (c : BucketContent) → bucket_at dims b ≡ Some c → bucket_in (pages a b) dims 4 ≡ Some c
 a_page_is_read_as_its_bucket dims a b c is = is
 
 no_page_is_no_bucket : (a b : List ℕ) → bucket_in (pages a b) 2 6 ≡ None
@@ -115,7 +115,7 @@ page_0_holds_nothing_else : (all : PageMap) (o : ℕ × Bounds) (os : List (ℕ 
 page_0_holds_nothing_else all o os h = let no = a_chain_holds_one_list all 2 0 [] (o ∷ os) (page_0_holds_no_objects all) h in absurd (cc)
 
 -- a chain that leads to a page whose bucket does not go on breaks there
-breaks_there : (all : PageMap) (n bad : ℕ) (before : List Content) (b : Content) → 0 < bad → Leads all 2 n before bad → IsFilled before → bucket_in all 2 bad ≡ Some b → (IsFilled (before ++ b ∷ []) → ⊥) → BreaksAt all 2 n bad
+breaks_there : (all : PageMap) (n bad : ℕ) (before : List BucketContent) (b : BucketContent) → 0 < bad → Leads all 2 n before bad → IsFilled before → bucket_in all 2 bad ≡ Some b → (IsFilled (before ++ b ∷ []) → ⊥) → BreaksAt all 2 n bad
 breaks_there all n bad before b page leads filled there breaks = record {
   before = before;
   linked = leads;

@@ -6,17 +6,17 @@ use Rattle.std.specs.Ordering.{nat_cmp}
 use Rattle.std.proofs.lemmas.List.{take-append-drop, drop-drop, drop_all, length-take, length-drop}
 use Rattle.std.proofs.lemmas.List.Elements.{All-cons}
 use Rattle.box_math.specs.Bounds.{Bounds}
-use Rattle.bucket_page.specs.Layout.{Content}
+use Rattle.bucket_page.specs.Layout.{BucketContent}
 use Rattle.object_chain.specs.Ascending.{IsAscending}
 use Rattle.object_chain.specs.Chain.{HoldsObjects, KeepsPages, Leads, PageMap, bucket_in, objects_of, pages_for}
 use Rattle.object_chain.specs.Laws.{kept_bucket, kept_leads}
 
-abbrev pub AllFull : List Content → Type 0
+abbrev pub AllFull : List BucketContent → Type 0
 AllFull bs = All (λ b. length b.entries ≡ 100) bs
 
 -- from page n on a chain holds the objects behind the first so many, and is full where some are left
 pub record IsLinked (pages : PageMap) (dims n left : ℕ) (objects : List (ℕ × Bounds)) : Type 0 where
-  pub buckets : List Content
+  pub buckets : List BucketContent
   pub leads : Leads pages dims n buckets 0
   pub full : AllFull (drop 1 buckets)
   pub all_full : 0 < left → AllFull buckets
@@ -34,14 +34,14 @@ nothing_linked pages dims left objects le = record {
 pub one_more_linked : (old new : PageMap) (dims n m left from : ℕ) (objects part : List (ℕ × Bounds)) → IsLinked old dims n left objects → KeepsPages old new → 0 < m → 0 < left → left ≤ length objects
     → from ≡ left - 100 → part ≡ take (left - from) (drop from objects) → bucket_in new dims m ≡ Some (record { next = n; entries = part }) → IsLinked new dims m from objects
 one_more_linked old new dims n m left from objects part linked keeps page some within is cut there =
-    let bucket : Content = record { next = n; entries = part } in
+    let bucket : BucketContent = record { next = n; entries = part } in
     record {
       buckets = bucket ∷ linked.buckets;
       leads = (page, there, kept_leads old new dims n 0 linked.buckets (λ k b e. kept_bucket old new dims k b keeps e) linked.leads);
       full = linked.all_full some;
       all_full = λ more.
           let size : length part ≡ 100 = ap length cut ∙ omega (arith, length-take (left - from) (drop from objects), length-drop from objects) in
-          All-cons (λ (b : Content). length b.entries ≡ 100) bucket linked.buckets size (linked.all_full some);
+          All-cons (λ (b : BucketContent). length b.entries ≡ 100) bucket linked.buckets size (linked.all_full some);
       rest =
           let le : from + (left - from) ≡ left = omega arith in
           let behind : drop (left - from) (drop from objects) ≡ drop left objects = drop-drop (left - from) from objects ∙ ap (λ (k : ℕ). drop k objects) le in

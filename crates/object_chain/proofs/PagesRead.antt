@@ -7,7 +7,7 @@ use Rattle.std.proofs.lemmas.List.Concat.{flat_map-append}
 use Rattle.std.proofs.lemmas.List.Elements.{All-push}
 use Rattle.block_device.specs.Device.{Blocks}
 use Rattle.box_math.specs.Bounds.{Bounds}
-use Rattle.bucket_page.specs.Layout.{Content, bucket_at}
+use Rattle.bucket_page.specs.Layout.{BucketContent, bucket_at}
 use Rattle.bucket_page.proofs.Reading.{count_of_bucket, spells}
 use Rattle.page_file.specs.Fault.{IsOfDevice}
 use Rattle.page_file.specs.Given.{given_is}
@@ -20,12 +20,12 @@ use Rattle.object_chain.specs.Continued.{GoesOn}
 use Rattle.object_chain.specs.Laws.{bucket_page}
 
 -- a bucket in a page has an object
-pub some_objects : (dims : ℕ) (page : List ℕ) (b : Content) → bucket_at dims page ≡ Some b → 0 < length b.entries
+pub some_objects : (dims : ℕ) (page : List ℕ) (b : BucketContent) → bucket_at dims page ≡ Some b → 0 < length b.entries
 some_objects dims page b is = omega (arith, (spells dims page b is).head.some, count_of_bucket dims page b is)
 
 -- from page `first` on these objects were read, and page `next` is the next one
 pub record HasRead (pages : PageMap) (dims first next : ℕ) (rows : List (ℕ × Bounds)) : Type 0 where
-  pub before : List Content
+  pub before : List BucketContent
   pub leads : Leads pages dims first before next
   pub filled : IsFilled before
   pub rows_are : rows ≡ objects_of before
@@ -48,47 +48,47 @@ all_read pages dims first next rows read none = record {
 
 -- ---- one bucket more
 
-leads_on : (pages : PageMap) (dims first next : ℕ) (bs : List Content) (b : Content) → Leads pages dims first bs next → 0 < next → bucket_in pages dims next ≡ Some b → Leads pages dims first (bs ++ b ∷ []) b.next
+leads_on : (pages : PageMap) (dims first next : ℕ) (bs : List BucketContent) (b : BucketContent) → Leads pages dims first bs next → 0 < next → bucket_in pages dims next ≡ Some b → Leads pages dims first (bs ++ b ∷ []) b.next
 leads_on pages dims first next [] b leads page there =
     let P : ℕ → Type 0 = λ n. 0 < n in
     (subst P (sym leads) page, ap (bucket_in pages dims) leads ∙ there, refl)
 leads_on pages dims first next (x ∷ xs) b leads page there = (leads.0, leads.1, leads_on pages dims x.next next xs b leads.2 page there)
 
-objects_push : (bs : List Content) (b : Content) → objects_of (bs ++ b ∷ []) ≡ objects_of bs ++ b.entries
-objects_push bs b = flat_map-append (λ (c : Content). c.entries) bs (b ∷ []) ∙ ap (λ (os : List (ℕ × Bounds)). objects_of bs ++ os) (append-nil b.entries)
+objects_push : (bs : List BucketContent) (b : BucketContent) → objects_of (bs ++ b ∷ []) ≡ objects_of bs ++ b.entries
+objects_push bs b = flat_map-append (λ (c : BucketContent). c.entries) bs (b ∷ []) ∙ ap (λ (os : List (ℕ × Bounds)). objects_of bs ++ os) (append-nil b.entries)
 
 -- the first bucket of a chain has an object
-no_rows : (pages : PageMap) (dims first next : ℕ) (bs : List Content) → Leads pages dims first bs next → objects_of bs ≡ [] → bs ≡ []
+no_rows : (pages : PageMap) (dims first next : ℕ) (bs : List BucketContent) → Leads pages dims first bs next → objects_of bs ≡ [] → bs ≡ []
 no_rows pages dims first next [] leads none = refl
 no_rows pages dims first next (b ∷ bs) leads none =
     let at = bucket_page pages dims first b leads.1 in
     absurd (omega (arith, some_objects dims at.page b at.spelled, length-append b.entries (objects_of bs), ap length none))
 
-full_on : (bs : List Content) (b : Content) → All (λ b. length b.entries ≡ 100) (drop 1 bs) → (bs ≡ []) ⊎ (length b.entries ≡ 100) → All (λ b. length b.entries ≡ 100) (drop 1 (bs ++ b ∷ []))
+full_on : (bs : List BucketContent) (b : BucketContent) → All (λ b. length b.entries ≡ 100) (drop 1 bs) → (bs ≡ []) ⊎ (length b.entries ≡ 100) → All (λ b. length b.entries ≡ 100) (drop 1 (bs ++ b ∷ []))
 full_on [] b full next = λ k d lt. absurd (omega (arith, lt))
 full_on (x ∷ xs) b full (inl none) = absurd (omega (arith, ap length none))
 full_on (x ∷ xs) b full (inr size) = All-push (λ b. length b.entries ≡ 100) xs b full size
 
-full_last : (bs : List Content) (b : Content) → All (λ b. length b.entries ≡ 100) (drop 1 (bs ++ b ∷ [])) → (bs ≡ []) ⊎ (length b.entries ≡ 100)
+full_last : (bs : List BucketContent) (b : BucketContent) → All (λ b. length b.entries ≡ 100) (drop 1 (bs ++ b ∷ [])) → (bs ≡ []) ⊎ (length b.entries ≡ 100)
 full_last [] b full = inl refl
 full_last (x ∷ xs) b full =
     let size : length (get_or (xs ++ b ∷ []) (length xs) b).entries ≡ 100 = full (length xs) b (omega (arith, length-append xs (b ∷ []))) in
-    inr (sym (ap (λ (c : Content). length c.entries) (get_or_push xs b b (length xs) refl)) ∙ size)
+    inr (sym (ap (λ (c : BucketContent). length c.entries) (get_or_push xs b b (length xs) refl)) ∙ size)
 
 -- a bucket goes on behind what was read exactly where the chain with it is filled
-pub filled_on : (pages : PageMap) (dims first next : ℕ) (rows : List (ℕ × Bounds)) (b : Content) (read : HasRead pages dims first next rows) → GoesOn rows b → IsFilled (read.before ++ b ∷ [])
+pub filled_on : (pages : PageMap) (dims first next : ℕ) (rows : List (ℕ × Bounds)) (b : BucketContent) (read : HasRead pages dims first next rows) → GoesOn rows b → IsFilled (read.before ++ b ∷ [])
 filled_on pages dims first next rows b read on = record {
   full = full_on read.before b read.filled.full (⊎_elim (λ (none : rows ≡ []). inl (no_rows pages dims first next read.before read.leads (sym read.rows_are ∙ none))) (λ (size : length b.entries ≡ 100). inr size) on.full);
   ascending = subst IsAscending (ap (λ (os : List (ℕ × Bounds)). os ++ b.entries) read.rows_are ∙ sym (objects_push read.before b)) on.ascending;
 }
 
-goes_on : (pages : PageMap) (dims first next : ℕ) (rows : List (ℕ × Bounds)) (b : Content) (read : HasRead pages dims first next rows) → IsFilled (read.before ++ b ∷ []) → GoesOn rows b
+goes_on : (pages : PageMap) (dims first next : ℕ) (rows : List (ℕ × Bounds)) (b : BucketContent) (read : HasRead pages dims first next rows) → IsFilled (read.before ++ b ∷ []) → GoesOn rows b
 goes_on pages dims first next rows b read filled = record {
   full = ⊎_elim (λ (none : read.before ≡ []). inl (read.rows_are ∙ ap objects_of none)) (λ (size : length b.entries ≡ 100). inr size) (full_last read.before b filled.full);
   ascending = subst IsAscending (objects_push read.before b ∙ ap (λ (os : List (ℕ × Bounds)). os ++ b.entries) (sym read.rows_are)) filled.ascending;
 }
 
-pub one_more_read : (pages : PageMap) (dims first next after : ℕ) (rows all : List (ℕ × Bounds)) (page : List ℕ) (b : Content) → HasRead pages dims first next rows → 0 < next → pages next ≡ Some page → bucket_at dims page ≡ Some b → GoesOn rows b
+pub one_more_read : (pages : PageMap) (dims first next after : ℕ) (rows all : List (ℕ × Bounds)) (page : List ℕ) (b : BucketContent) → HasRead pages dims first next rows → 0 < next → pages next ≡ Some page → bucket_at dims page ≡ Some b → GoesOn rows b
     → all ≡ rows ++ b.entries → after ≡ b.next → HasRead pages dims first after all
 one_more_read pages dims first next after rows all page b read is_page there spelled on more named = record {
   before = read.before ++ b ∷ [];
@@ -100,7 +100,7 @@ one_more_read pages dims first next after rows all page b read is_page there spe
 
 -- ---- where it breaks
 
-pub breaks_here : (pages : PageMap) (dims first next : ℕ) (rows : List (ℕ × Bounds)) → HasRead pages dims first next rows → 0 < next → ((b : Content) → bucket_in pages dims next ≡ Some b → ¬ (GoesOn rows b)) → BreaksAt pages dims first next
+pub breaks_here : (pages : PageMap) (dims first next : ℕ) (rows : List (ℕ × Bounds)) → HasRead pages dims first next rows → 0 < next → ((b : BucketContent) → bucket_in pages dims next ≡ Some b → ¬ (GoesOn rows b)) → BreaksAt pages dims first next
 breaks_here pages dims first next rows read is_page never = record {
   before = read.before;
   linked = read.leads;
@@ -111,7 +111,7 @@ breaks_here pages dims first next rows read is_page never = record {
 
 -- at a page that goes on with no bucket
 pub breaks_at_page : (pages : PageMap) (dims first next : ℕ) (rows : List (ℕ × Bounds)) (page : List ℕ) → HasRead pages dims first next rows → 0 < next → pages next ≡ Some page
-    → ((b : Content) → bucket_at dims page ≡ Some b → ¬ (GoesOn rows b)) → BreaksAt pages dims first next
+    → ((b : BucketContent) → bucket_at dims page ≡ Some b → ¬ (GoesOn rows b)) → BreaksAt pages dims first next
 breaks_at_page pages dims first next rows page read is_page there never =
     breaks_here pages dims first next rows read is_page (λ b is. never b (sym (ap (option_and_then (bucket_at dims)) there) ∙ is))
 

@@ -3,9 +3,9 @@ use Rattle.std.specs.Prelude.{◌≡◌, ℕ, ◌⊎◌, List, [], ◌++◌, len
 use Rattle.std.specs.FinMap.{is_sorted}
 use Rattle.std.specs.Ordering.{nat_cmp}
 use Rattle.box_math.specs.Bounds.{Bounds}
-use Rattle.bucket_page.specs.Layout.{Content}
+use Rattle.bucket_page.specs.Layout.{BucketContent}
 
 -- the bucket goes on behind these objects: it is the first one or full, and the identifiers ascend
-pub record GoesOn (objects : List (ℕ × Bounds)) (b : Content) : Type 0 where
+pub record GoesOn (objects : List (ℕ × Bounds)) (b : BucketContent) : Type 0 where
   pub full : (objects ≡ []) ⊎ (length b.entries ≡ 100)
   pub ascending : IsTrue (is_sorted nat_cmp (objects ++ b.entries))

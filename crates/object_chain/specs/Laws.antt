@@ -8,7 +8,7 @@ use Rattle.std.proofs.lemmas.List.{append_assoc, get_or_append_left, length-appe
 use Rattle.std.proofs.lemmas.List.Elements.{All-append, All-nil}
 use Rattle.box_math.specs.Bounds.{Bounds, IsBox}
 use Rattle.block_bytes.specs.Numbers.{number_at}
-use Rattle.bucket_page.specs.Layout.{Content, bucket_at}
+use Rattle.bucket_page.specs.Layout.{BucketContent, bucket_at}
 use Rattle.bucket_page.proofs.Named.{spells_buckets}
 use Rattle.bucket_page.proofs.Reading.{spells}
 use Rattle.page_file.specs.declared.file.PageFile.{PageFile}
@@ -20,14 +20,14 @@ use Rattle.object_chain.specs.Chain.{BreaksAt, HoldsObjects, IsFilled, KeepsPage
 -- ---- the pages that lead from one to another
 
 -- the buckets from a page on are those that they are
-same_leads : (pages : PageMap) (dims n : ℕ) (xs ys : List Content) → Leads pages dims n xs 0 → Leads pages dims n ys 0 → xs ≡ ys
+same_leads : (pages : PageMap) (dims n : ℕ) (xs ys : List BucketContent) → Leads pages dims n xs 0 → Leads pages dims n ys 0 → xs ≡ ys
 same_leads pages dims n [] [] a b = refl
 same_leads pages dims n [] (y ∷ ys) a b = absurd (omega (arith, a, b.0))
 same_leads pages dims n (x ∷ xs) [] a b = absurd (omega (arith, b, a.0))
 same_leads pages dims n (x ∷ xs) (y ∷ ys) a b =
     let same : Some x ≡ Some y = sym a.1 ∙ b.1 in
     let is : x ≡ y = cc in
-    let rest : Leads pages dims x.next ys 0 = subst (λ (c : Content). Leads pages dims c.next ys 0) (sym is) b.2 in
+    let rest : Leads pages dims x.next ys 0 = subst (λ (c : BucketContent). Leads pages dims c.next ys 0) (sym is) b.2 in
     let more : xs ≡ ys = same_leads pages dims x.next xs ys a.2 rest in cc
 
 -- a chain holds one list of objects
@@ -47,14 +47,14 @@ page_0_holds_nothing pages dims = record {
 -- ---- where a chain breaks
 
 -- the bucket of the page that a front of a chain leads to
-pub record HasNext (pages : PageMap) (dims : ℕ) (all before : List Content) (bad : ℕ) : Type 0 where
-  pub bucket : Content
-  pub behind : List Content
+pub record HasNext (pages : PageMap) (dims : ℕ) (all before : List BucketContent) (bad : ℕ) : Type 0 where
+  pub bucket : BucketContent
+  pub behind : List BucketContent
   pub there : bucket_in pages dims bad ≡ Some bucket
   pub whole : all ≡ before ++ bucket ∷ behind
 
 -- a front of a whole chain leads to a page that is there
-goes_on : (pages : PageMap) (dims n bad : ℕ) (all before : List Content) → 0 < bad → Leads pages dims n all 0 → Leads pages dims n before bad → HasNext pages dims all before bad
+goes_on : (pages : PageMap) (dims n bad : ℕ) (all before : List BucketContent) → 0 < bad → Leads pages dims n all 0 → Leads pages dims n before bad → HasNext pages dims all before bad
 goes_on pages dims n bad [] [] page a b = absurd (omega (arith, a, b, page))
 goes_on pages dims n bad [] (y ∷ ys) page a b = absurd (omega (arith, a, b.0))
 goes_on pages dims n bad (x ∷ xs) [] page a b = record {
@@ -66,43 +66,43 @@ goes_on pages dims n bad (x ∷ xs) [] page a b = record {
 goes_on pages dims n bad (x ∷ xs) (y ∷ ys) page a b =
     let same : Some x ≡ Some y = sym a.1 ∙ b.1 in
     let is : x ≡ y = cc in
-    let rest : Leads pages dims x.next ys bad = subst (λ (c : Content). Leads pages dims c.next ys bad) (sym is) b.2 in
+    let rest : Leads pages dims x.next ys bad = subst (λ (c : BucketContent). Leads pages dims c.next ys bad) (sym is) b.2 in
     let more = goes_on pages dims x.next bad xs ys page a.2 rest in
     let e : xs ≡ ys ++ more.bucket ∷ more.behind = more.whole in
     record { bucket = more.bucket; behind = more.behind; there = more.there; whole = cc }
 
 -- a front of a filled chain is filled
-full_front : (xs ys : List Content) → All (λ b. length b.entries ≡ 100) (drop 1 (xs ++ ys)) → All (λ b. length b.entries ≡ 100) (drop 1 xs)
+full_front : (xs ys : List BucketContent) → All (λ b. length b.entries ≡ 100) (drop 1 (xs ++ ys)) → All (λ b. length b.entries ≡ 100) (drop 1 xs)
 full_front [] ys h = λ k d lt. absurd (omega (arith, lt))
 full_front (x ∷ xs) ys h = all_front xs ys h
   where
-    all_front : (xs ys : List Content) → All (λ b. length b.entries ≡ 100) (xs ++ ys) → All (λ b. length b.entries ≡ 100) xs
+    all_front : (xs ys : List BucketContent) → All (λ b. length b.entries ≡ 100) (xs ++ ys) → All (λ b. length b.entries ≡ 100) xs
     all_front xs ys h = λ k d lt. rw (← get_or_append_left xs ys d k lt) (h k d (omega (arith, length-append xs ys)))
 
-pub filled_front : (xs ys : List Content) → IsFilled (xs ++ ys) → IsFilled xs
+pub filled_front : (xs ys : List BucketContent) → IsFilled (xs ++ ys) → IsFilled xs
 filled_front xs ys filled = record {
   full = full_front xs ys filled.full;
-  ascending = ascending_front (objects_of xs) (objects_of ys) (subst IsAscending (flat_map-append (λ (b : Content). b.entries) xs ys) filled.ascending);
+  ascending = ascending_front (objects_of xs) (objects_of ys) (subst IsAscending (flat_map-append (λ (b : BucketContent). b.entries) xs ys) filled.ascending);
 }
 
 -- two fronts of a chain end at one page, or one of them goes on behind the other
-one_end : (pages : PageMap) (dims n p q : ℕ) (xs ys : List Content) → 0 < p → 0 < q → Leads pages dims n xs p → Leads pages dims n ys q → (p ≡ q) ⊎ (HasNext pages dims ys xs p ⊎ HasNext pages dims xs ys q)
+one_end : (pages : PageMap) (dims n p q : ℕ) (xs ys : List BucketContent) → 0 < p → 0 < q → Leads pages dims n xs p → Leads pages dims n ys q → (p ≡ q) ⊎ (HasNext pages dims ys xs p ⊎ HasNext pages dims xs ys q)
 one_end pages dims n p q [] [] page other a b = inl (sym a ∙ b)
 one_end pages dims n p q [] (y ∷ ys) page other a b = inr (inl (record { bucket = y; behind = ys; there = ap (bucket_in pages dims) (sym a) ∙ b.1; whole = refl }))
 one_end pages dims n p q (x ∷ xs) [] page other a b = inr (inr (record { bucket = x; behind = xs; there = ap (bucket_in pages dims) (sym b) ∙ a.1; whole = refl }))
 one_end pages dims n p q (x ∷ xs) (y ∷ ys) page other a b =
     let same : Some x ≡ Some y = sym a.1 ∙ b.1 in
     let is : x ≡ y = cc in
-    let rest : Leads pages dims x.next ys q = subst (λ (c : Content). Leads pages dims c.next ys q) (sym is) b.2 in
+    let rest : Leads pages dims x.next ys q = subst (λ (c : BucketContent). Leads pages dims c.next ys q) (sym is) b.2 in
     ⊎_elim (λ (e : p ≡ q). inl e)
     (λ more. inr (⊎_elim
-    (λ (m : HasNext pages dims ys xs p). inl (record { bucket = m.bucket; behind = m.behind; there = m.there; whole = ap (λ (c : Content). c ∷ ys) (sym is) ∙ ap (λ (cs : List Content). x ∷ cs) m.whole }))
-    (λ (m : HasNext pages dims xs ys q). inr (record { bucket = m.bucket; behind = m.behind; there = m.there; whole = ap (λ (cs : List Content). x ∷ cs) m.whole ∙ ap (λ (c : Content). c ∷ (ys ++ m.bucket ∷ m.behind)) is }))
+    (λ (m : HasNext pages dims ys xs p). inl (record { bucket = m.bucket; behind = m.behind; there = m.there; whole = ap (λ (c : BucketContent). c ∷ ys) (sym is) ∙ ap (λ (cs : List BucketContent). x ∷ cs) m.whole }))
+    (λ (m : HasNext pages dims xs ys q). inr (record { bucket = m.bucket; behind = m.behind; there = m.there; whole = ap (λ (cs : List BucketContent). x ∷ cs) m.whole ∙ ap (λ (c : BucketContent). c ∷ (ys ++ m.bucket ∷ m.behind)) is }))
     more))
     (one_end pages dims x.next p q xs ys page other a.2 rest)
 
 -- where a front of a chain breaks, no longer front is filled
-no_longer : (pages : PageMap) (dims n bad : ℕ) (all : List Content) (broken : BreaksAt pages dims n bad) → IsFilled all → HasNext pages dims all broken.before bad → ⊥
+no_longer : (pages : PageMap) (dims n bad : ℕ) (all : List BucketContent) (broken : BreaksAt pages dims n bad) → IsFilled all → HasNext pages dims all broken.before bad → ⊥
 no_longer pages dims n bad all broken filled more =
     let split : all ≡ (broken.before ++ more.bucket ∷ []) ++ more.behind = more.whole ∙ sym (append_assoc broken.before (more.bucket ∷ []) more.behind) in
     broken.breaks more.bucket more.there (filled_front (broken.before ++ more.bucket ∷ []) more.behind (subst IsFilled split filled))
@@ -124,12 +124,12 @@ a_chain_breaks_at_one_page pages dims n a b x y = ⊎_elim (λ (e : a ≡ b). e)
 -- ---- chains in other maps
 
 -- what a page says of a bucket there
-pub record IsBucketPage (pages : PageMap) (dims n : ℕ) (b : Content) : Type 0 where
+pub record IsBucketPage (pages : PageMap) (dims n : ℕ) (b : BucketContent) : Type 0 where
   pub page : List ℕ
   pub there : pages n ≡ Some page
   pub spelled : bucket_at dims page ≡ Some b
 
-pub bucket_page : (pages : PageMap) (dims n : ℕ) (b : Content) → bucket_in pages dims n ≡ Some b → IsBucketPage pages dims n b
+pub bucket_page : (pages : PageMap) (dims n : ℕ) (b : BucketContent) → bucket_in pages dims n ≡ Some b → IsBucketPage pages dims n b
 bucket_page pages dims n b e = case (pages n) refl e
   where
     case : (o : Option (List ℕ)) → pages n ≡ o → option_and_then (bucket_at dims) o ≡ Some b → IsBucketPage pages dims n b
@@ -137,11 +137,11 @@ bucket_page pages dims n b e = case (pages n) refl e
     case (Some page) is e = record { page = page; there = is; spelled = e }
 
 -- buckets that stay lead where they led
-pub kept_leads : (old new : PageMap) (dims n last : ℕ) (bs : List Content) → ((k : ℕ) (b : Content) → bucket_in old dims k ≡ Some b → bucket_in new dims k ≡ Some b) → Leads old dims n bs last → Leads new dims n bs last
+pub kept_leads : (old new : PageMap) (dims n last : ℕ) (bs : List BucketContent) → ((k : ℕ) (b : BucketContent) → bucket_in old dims k ≡ Some b → bucket_in new dims k ≡ Some b) → Leads old dims n bs last → Leads new dims n bs last
 kept_leads old new dims n last [] keeps l = l
 kept_leads old new dims n last (b ∷ bs) keeps l = (l.0, keeps n b l.1, kept_leads old new dims b.next last bs keeps l.2)
 
-kept_objects : (old new : PageMap) (dims n : ℕ) (objects : List (ℕ × Bounds)) → ((k : ℕ) (b : Content) → bucket_in old dims k ≡ Some b → bucket_in new dims k ≡ Some b) → HoldsObjects old dims n objects → HoldsObjects new dims n objects
+kept_objects : (old new : PageMap) (dims n : ℕ) (objects : List (ℕ × Bounds)) → ((k : ℕ) (b : BucketContent) → bucket_in old dims k ≡ Some b → bucket_in new dims k ≡ Some b) → HoldsObjects old dims n objects → HoldsObjects new dims n objects
 kept_objects old new dims n objects keeps h = record {
   buckets = h.buckets;
   linked = kept_leads old new dims n 0 h.buckets keeps h.linked;
@@ -149,7 +149,7 @@ kept_objects old new dims n objects keeps h = record {
   objects_are = h.objects_are;
 }
 
-pub kept_bucket : (old new : PageMap) (dims k : ℕ) (b : Content) → KeepsPages old new → bucket_in old dims k ≡ Some b → bucket_in new dims k ≡ Some b
+pub kept_bucket : (old new : PageMap) (dims k : ℕ) (b : BucketContent) → KeepsPages old new → bucket_in old dims k ≡ Some b → bucket_in new dims k ≡ Some b
 kept_bucket old new dims k b keeps e =
     let at = bucket_page old dims k b e in
     ap (option_and_then (bucket_at dims)) (keeps k at.page at.there) ∙ at.spelled
@@ -198,7 +198,7 @@ a_given_chain_is_live file dims n objects map h =
 pub objects_ascend : (pages : PageMap) (dims n : ℕ) (objects : List (ℕ × Bounds)) → HoldsObjects pages dims n objects → IsTrue (is_sorted nat_cmp objects)
 objects_ascend pages dims n objects h = subst IsAscending (sym h.objects_are) h.filled.ascending
 
-boxes_of : (pages : PageMap) (dims n last : ℕ) (bs : List Content) → ((k : ℕ) (page : List ℕ) → pages k ≡ Some page → (i : ℕ) → slice_index page i < 256) → Leads pages dims n bs last
+boxes_of : (pages : PageMap) (dims n last : ℕ) (bs : List BucketContent) → ((k : ℕ) (page : List ℕ) → pages k ≡ Some page → (i : ℕ) → slice_index page i < 256) → Leads pages dims n bs last
     → All (λ object. IsBox dims object.1) (objects_of bs)
 boxes_of pages dims n last [] bytes l = All-nil (λ (object : ℕ × Bounds). IsBox dims object.1)
 boxes_of pages dims n last (b ∷ bs) bytes l =

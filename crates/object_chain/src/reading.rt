@@ -4,7 +4,7 @@ ghost use Rattle.std.specs.Prelude.{◌≡◌, ℕ, ◌<◌, ◌^◌, ◌↔◌,
 ghost use Rattle.std.specs.FinMap.{is_sorted};
 ghost use Rattle.std.specs.Ordering.{nat_cmp};
 ghost use Rattle.box_math.specs.Bounds.{Bounds, IsDims};
-ghost use Rattle.bucket_page.specs.Layout.{Content, bucket_at};
+ghost use Rattle.bucket_page.specs.Layout.{BucketContent, bucket_at};
 ghost use Rattle.page_file.specs.Fault.{HasCause, IsOfDevice, IsDamage};
 ghost use Rattle.page_file.specs.File.{blocks_of, device_of, given, IsHonest, KeepsGate, KeepsMap};
 ghost use Rattle.page_file.specs.declared.fault.Fault.TheVariants as fault;
@@ -65,13 +65,13 @@ fn append_page<const D: usize, A: Allocator + Copy>(
     requires dims { IsDims D }
     requires ascending { IsTrue (is_sorted nat_cmp rows.items) }
     ensures appended { IfOk result
-        (λ all. (b : Content) × (bucket_at D page.now ≡ Some b) × GoesOn rows.items b
+        (λ all. (b : BucketContent) × (bucket_at D page.now ≡ Some b) × GoesOn rows.items b
         × (all.items ≡ rows.items ++ b.entries)) }
     ensures ascending { IfOk result (λ all. IsTrue (is_sorted nat_cmp all.items)) }
     ensures longer { IfOk result (λ all. (length rows.items < length all.items) × (length all.items < 2 ^ 64)) }
     ensures refused { IfErr result
         (λ f. (f ≡ fault.Memory)
-        ⊎ ((f ≡ fault.Damaged n) × ((b : Content) → bucket_at D page.now ≡ Some b → ¬ (GoesOn rows.items b)))) }
+        ⊎ ((f ≡ fault.Damaged n) × ((b : BucketContent) → bucket_at D page.now ≡ Some b → ¬ (GoesOn rows.items b)))) }
 {
     let Some(bucket) = decode::<D>(page) else {
         return Err(Fault::Damaged(n));

@@ -1,9 +1,10 @@
 -- Without its head, or with an object without a box, the page spells no bucket, and else that of its places.
 use Rattle.std.proofs.Common.{◌≡◌, ◌+◌, ◌++◌, ◌∷◌, ℕ, List, [], length, true, false, refl, sym, ◌∙◌, ap, arith, rules, below_more, Some, slice_index, ◌<◌}
+use Rattle.block_bytes.specs.PlaceLaws.{first_places-more, first_places-none, length-first_places}
 use Rattle.box_math.specs.Bounds.{Bounds}
-use Rattle.bucket_page.specs.Layout.{Content, object_at, objects_at, HasOrderedBox}
+use Rattle.bucket_page.specs.Layout.{BucketContent, object_at, objects_at, HasOrderedBox}
 use Rattle.bucket_page.proofs.Named.{spells_buckets}
-use Rattle.bucket_page.proofs.Reading.{spells, no_head, no_place, all_places, objects_at-none, objects_at-more, length-objects_at}
+use Rattle.bucket_page.proofs.Reading.{spells, no_head, no_place, all_places}
 use Rattle.bucket_page.proofs.page.decode.Goals as goal
 
 pub returns-then-not-has_bucket_head-clause-spelled : goal.returns-then-not-has_bucket_head-clause-spelled
@@ -11,7 +12,7 @@ returns-then-not-has_bucket_head-clause-spelled g c = sym (no_head g.row.D c.arg
 
 pub loop-place-init : goal.loop-place-init
 loop-place-init g c = record {
-  read = c.new-entries.ensures ∙ sym (objects_at-none g.row.D c.args.page.now);
+  read = c.new-entries.ensures ∙ sym (first_places-none (object_at g.row.D c.args.page.now));
   many = ap length c.new-entries.ensures;
   ordered = λ k lt. absurd (omega arith);
 }
@@ -26,9 +27,9 @@ loop-place-preserved g c =
     let page = c.args.page.now in
     let place = c.loop-place.place in
     let all : c.push.new.self.items ≡ objects_at D page (place + 1) =
-    c.push.ensures.items ∙ ap (λ (xs : List (ℕ × Bounds)). xs ++ c.in-Some.entry ∷ []) before.read ∙ ap (λ (x : ℕ × Bounds). objects_at D page place ++ x ∷ []) c.in-Some.ensures.value ∙ sym (objects_at-more D page place) in record {
+    c.push.ensures.items ∙ ap (λ (xs : List (ℕ × Bounds)). xs ++ c.in-Some.entry ∷ []) before.read ∙ ap (λ (x : ℕ × Bounds). objects_at D page place ++ x ∷ []) c.in-Some.ensures.value ∙ sym (first_places-more (object_at D page) place) in record {
       read = all;
-      many = ap length all ∙ length-objects_at D page (place + 1);
+      many = ap length all ∙ length-first_places (object_at D page) (place + 1);
       ordered = below_more (λ k. HasOrderedBox D (object_at D page k)) place before.ordered (c.in-Some.ensures.some.0 refl);
     }
 
@@ -40,5 +41,5 @@ returns-clause-spelled g c =
 pub returns-clause-is_bucket : goal.returns-clause-is_bucket
 returns-clause-is_bucket g c =
     let bytes : (k : ℕ) → slice_index c.args.page.now k < 256 = search rules in
-    let bucket : Content = record { next = c.next_at.result; entries = c.loop-place.entries.items } in
+    let bucket : BucketContent = record { next = c.next_at.result; entries = c.loop-place.entries.items } in
     spells_buckets g.row.D c.args.page.now bucket bytes (spells g.row.D c.args.page.now bucket (sym (returns-clause-spelled g c)))

@@ -1,6 +1,7 @@
 -- The length and then each byte is written in its place, and no other place changes.
-use Rattle.std.proofs.Common.{◌<◌, get_or, arith, rules, refl}
-use Rattle.catalog_page.proofs.Places.{bytes_are}
+use Rattle.std.proofs.Common.{◌+◌, ◌<◌, get_or, sym, arith, rules, refl}
+use Rattle.block_bytes.specs.Numbers.{number_at}
+use Rattle.block_bytes.specs.PlaceLaws.{first_places-are}
 use Rattle.catalog_page.proofs.Writing.{name_first, name_more}
 use Rattle.catalog_page.proofs.names.write_name.Goals as goal
 
@@ -16,4 +17,4 @@ loop-k-preserved c =
     (name_more c.loop-k.k c.args.at byte name c.args.page.now c.loop-k.page c.loop-k.invariant c.requires (omega arith) small refl)
 
 pub returns-clause-bytes : goal.returns-clause-bytes
-returns-clause-bytes c = bytes_are _ _ c.loop-k.page c.args.name.now.items refl (λ k lt. c.loop-k.invariant.bytes k (omega arith))
+returns-clause-bytes c = sym (first_places-are (λ k. number_at 1 (c.args.at + 1 + k) c.loop-k.page) _ c.args.name.now.items 0 refl (λ k lt. c.loop-k.invariant.bytes k (omega arith)))

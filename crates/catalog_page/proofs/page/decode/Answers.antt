@@ -5,18 +5,19 @@ use Rattle.std.proofs.lemmas.List.Elements.{All-nil, All-push}
 use Rattle.block_bytes.specs.Numbers.{number_at}
 use Rattle.catalog_page.specs.Layout.{Record, HasName, record_of, records_of, record_at, first_records}
 use Rattle.catalog_page.proofs.Named.{spells_catalogs}
-use Rattle.catalog_page.proofs.Reading.{spells, no_kind, no_count, no_name, all_names, first_records-none, first_records-more}
+use Rattle.catalog_page.proofs.Reading.{spells, no_kind, no_count, no_name, all_names}
+use Rattle.block_bytes.specs.PlaceLaws.{first_places-more, first_places-none}
 use Rattle.catalog_page.proofs.page.decode.Goals as goal
 
-pub returns-then-read_u8-ne1-clause-spelled : goal.returns-then-read_u8-ne1-clause-spelled
-returns-then-read_u8-ne1-clause-spelled c = sym (no_kind c.args.page.now (λ is. absurd (omega (arith, is))))
+pub returns-then-read_u8-ne-CATALOG_KIND-clause-spelled : goal.returns-then-read_u8-ne-CATALOG_KIND-clause-spelled
+returns-then-read_u8-ne-CATALOG_KIND-clause-spelled c = sym (no_kind c.args.page.now (λ is. absurd (omega (arith, is))))
 
 pub returns-then-count-gt60-clause-spelled : goal.returns-then-count-gt60-clause-spelled
 returns-then-count-gt60-clause-spelled c = sym (no_count c.args.page.now (omega arith))
 
 pub loop-place-init : goal.loop-place-init
 loop-place-init c =
-    let none = first_records-none c.args.page.now in
+    let none = first_places-none (record_at c.args.page.now) in
     record {
       read = ap (map record_of) c.new-layers.ensures ∙ sym none;
       many = ap length c.new-layers.ensures;
@@ -31,7 +32,7 @@ loop-place-preserved c =
     let before = c.loop-place.invariant in
     let page = c.args.page.now in
     let place = c.loop-place.place in
-    let more = first_records-more page place in
+    let more = first_places-more (record_at page) place in
     record {
       read = ap (map record_of) c.push.ensures.items ∙ map_push record_of c.loop-place.layers.items c.in-Some.layer ∙ ap (λ (xs : List Record). xs ++ record_of c.in-Some.layer ∷ []) before.read
           ∙ ap (λ (x : Record). first_records page place ++ x ∷ []) c.in-Some.ensures.value ∙ sym more;

@@ -1,11 +1,12 @@
 -- Without its head, or with a place that holds no entry of the level, the page spells no node of it, and else that of its places.
 use Rattle.std.proofs.Common.{◌≡◌, ◌++◌, ◌∷◌, ℕ, List, [], length, map, true, false, refl, sym, ◌∙◌, ap, arith, rules, below_more, slice_index, ◌<◌}
 use Rattle.std.proofs.lemmas.List.{map-append}
+use Rattle.block_bytes.specs.PlaceLaws.{first_places-more, first_places-none}
 use Rattle.tree_node.specs.declared.node.Entry.{Entry}
 use Rattle.tree_node.specs.Nodes.{Item, NodeContent, item_of}
 use Rattle.node_page.specs.Layout.{item_at, items_at, IsEntry}
 use Rattle.node_page.proofs.Named.{spells_nodes}
-use Rattle.node_page.proofs.Reading.{spells, spellable, no_head, no_place, all_places, items_at-none, items_at-more}
+use Rattle.node_page.proofs.Reading.{spells, spellable, no_head, no_place, all_places}
 use Rattle.node_page.proofs.page.decode.Goals as goal
 
 pub returns-then-not-has_node_head-clause-none : goal.returns-then-not-has_node_head-clause-none
@@ -13,7 +14,7 @@ returns-then-not-has_node_head-clause-none g c = no_head g.row.D c.args.level c.
 
 pub loop-place-init : goal.loop-place-init
 loop-place-init g c = record {
-  read = ap (map item_of) c.new-entries.ensures ∙ sym (items_at-none g.row.D c.args.page.now);
+  read = ap (map item_of) c.new-entries.ensures ∙ sym (first_places-none (item_at g.row.D c.args.page.now));
   many = ap length c.new-entries.ensures;
   each = λ k lt. absurd (omega arith);
 }
@@ -30,7 +31,7 @@ loop-place-preserved g c =
     let items : List (Entry D) = c.loop-place.entries.items in
     record {
       read = ap (map item_of) c.push.ensures.items ∙ map-append item_of items (c.in-Some.entry ∷ []) ∙ ap (λ (xs : List Item). xs ++ item_of c.in-Some.entry ∷ []) before.read
-          ∙ ap (λ (x : Item). items_at D page place ++ x ∷ []) c.in-Some.ensures.value ∙ sym (items_at-more D page place);
+          ∙ ap (λ (x : Item). items_at D page place ++ x ∷ []) c.in-Some.ensures.value ∙ sym (first_places-more (item_at D page) place);
       many = search rules;
       each = below_more (λ k. IsEntry D c.args.level (item_at D page k)) place before.each (c.in-Some.ensures.some.0 refl);
     }

@@ -1,7 +1,7 @@
 -- The page that is written is one that was not live, and spells the bucket.
 use Rattle.std.proofs.Common.{◌∙◌, ap}
 use Rattle.std.specs.Prelude.{is_some, option_and_then}
-use Rattle.bucket_page.specs.Layout.{Content, bucket_at}
+use Rattle.bucket_page.specs.Layout.{BucketContent, bucket_at}
 use Rattle.bucket_page.proofs.Reading.{spelled}
 use Rattle.page_file.specs.File.{IsLive, pages}
 use Rattle.page_file.specs.Laws.{the_gate_is_kept_in_turn}
@@ -12,7 +12,7 @@ pub returns-clause-written : goal.returns-clause-written
 returns-clause-written g c = λ map.
     let fresh = c.in_ok-n.ensures.fresh map in
     let live : IsLive c.allocate.new.self c.in_ok-n.n = ap is_some fresh.1 in
-    let bucket : Content = record { next = c.args.next; entries = c.args.objects.now } in
+    let bucket : BucketContent = record { next = c.args.next; entries = c.args.objects.now } in
     ap (option_and_then (bucket_at g.row.D)) (c.in_ok-write.ensures.written (c.in_ok-n.ensures.sound map).honest live)
     ∙ spelled g.row.D c.page_of-page.result bucket c.page_of-page.ensures
 
