@@ -1,10 +1,10 @@
-//! The program `rstore`: `rstore [--cache N] [--create] [FILE]` (docs/COMMANDS.md).
+//! The program `rstore`: `rstore [--cache N] [--create] [FILE]` (docs/COMMANDS.md, "The program").
 #![tactic(auto)]
 
-use command_line::serve;
+use command_line::{greet, serve};
 use command_shell::tell_refusal;
 use layer_store::Refusal;
-use std::io::{BufWriter, Write};
+use std::io::{BufWriter, IsTerminal, Write};
 use std::process::ExitCode;
 use std::{env, io};
 
@@ -31,13 +31,11 @@ fn run(rt: &HostRuntime) -> io::Result<u8> {
     for word in &owned {
         words.push(word.as_str())?;
     }
+    let mut errors = rt.stderr();
+    if rt.stdin().is_terminal() {
+        greet(alloc, words.as_slice(), &mut errors);
+    }
     let mut output = BufWriter::new(alloc, io::writer(rt))?;
     let mut input = rt.reader();
-    Ok(serve(
-        rt,
-        words.as_slice(),
-        &mut input,
-        &mut output,
-        &mut rt.stderr(),
-    ))
+    Ok(serve(rt, words.as_slice(), &mut input, &mut output, &mut errors))
 }

@@ -1,0 +1,29 @@
+-- What a run of the program over a device leaves.
+use Rattle.std.specs.Prelude.{ℕ, ◌≡◌, ◌==◌, List, Option}
+use Rattle.block_device.specs.Device.{Blocks, LeavesOnly, Only}
+use Rattle.store_law.specs.Sessions.{SessionState}
+use Rattle.store_law.specs.States.StoreState.{Alive}
+use Rattle.plain_table.specs.Table.{Table}
+use Rattle.command_shell.specs.Runs.{RunsToClose}
+use Rattle.command_shell.specs.Serving.{run_state}
+use Rattle.command_line.specs.declared.program.Served.{Served}
+
+-- The store could not be made or opened: nothing was read and no reply written, and a stop left blocks that have P.
+pub record IsRefusedStart {D R W : Type 0} (moment : D → ℕ) (left_since : D → ℕ → Blocks → Type 0) (P : Blocks → Type 0) (device : D) (r r' : R) (w w' : W) (left : Served D) : Type 0 where
+  pub failed : left.status ≡ 1
+  pub unread : r' ≡ r
+  pub unwritten : w' ≡ w
+  pub stops : LeavesOnly moment left_since device left.device P
+
+-- It could not be opened, and the blocks are as they were, also after a stop.
+abbrev pub IsRefusedOpening : {D R W : Type 0} → (D → Blocks) → (D → ℕ) → (D → ℕ → Blocks → Type 0) → (D → Blocks → Type 0) → D → R → R → W → W → Served D → Type 0
+IsRefusedOpening shown moment left_since may_leave device r r' w w' left = IsRefusedStart moment left_since (may_leave device) device r r' w w' left × (shown left.device ≡ shown device)
+
+-- Commands were answered by a lawful session that begins with this table. With status 0 all that the reader had was read,
+-- each reply was written, and the blocks are an image of the table at the session's end, also after a stop.
+pub record HasServed {D : Type 0} (shown : D → Blocks) (may_leave : D → Blocks → Type 0) (t : Table) (unread unread' written written' : Option (List ℕ)) (left : Served D) : Type 0 where
+  pub old : SessionState
+  pub new : SessionState
+  pub begins : old.state ≡ Alive t
+  pub runs : RunsToClose (left.status == 0) (shown left.device) (run_state old unread written) (run_state new unread' written')
+  pub durable : left.status ≡ 0 → Only (shown left.device) (may_leave left.device)
