@@ -1,9 +1,6 @@
 -- A store that was made or opened, or was refused.
-use Rattle.std.proofs.Common.{◌≡◌, ℕ, List, Option, Result, Ok, Err, refl, sym, subst, take_all, length, take, arith}
-use Rattle.std.specs.Prelude.{IfOk, IfErr}
+use Rattle.std.proofs.Common.{◌≡◌, ℕ, Result, Ok, Err, refl, sym, subst}
 use Rattle.block_device.specs.Device.{Blocks, LeavesOnly}
-use Rattle.command_shell.specs.Writing.{AppendsSome, Writes}
-use Rattle.std.specs.Io.KnownBytes.{Appends}
 use Rattle.command_line.specs.Serving.{IsRefusedStart}
 use Rattle.command_line.specs.declared.program.Served.{Served}
 
@@ -22,8 +19,3 @@ refused_start moment left_since P device d r r' w w' left so stops = record {
   unwritten = so.3;
   stops = subst (λ x. LeavesOnly moment left_since device x P) (sym so.1) stops;
 }
-
--- a write appends all of the text, or a front of it
-pub some_written : {E T : Type 0} (a b : Option (List ℕ)) (r : Result T E) (text : List ℕ) → Writes a b r text → AppendsSome a b text
-some_written a b (Ok v) text h = (length text, subst (Appends a b) (sym (take_all (length text) text (omega arith))) h)
-some_written a b (Err e) text h = (h.0, h.2)
