@@ -1,4 +1,4 @@
--- The lines of texts, and the commands of lines, one text behind another.
+-- The lines of texts, and the commands of lines, one text after another.
 use Rattle.std.proofs.Common.{◌≡◌, ◌≢◌, ℕ, ◌<◌, ltb, Bool, true, false, cond, ◌==◌, List, [], ◌∷◌, ◌++◌, length, refl, sym, ap, ◌∙◌, arith, append_assoc, subst}
 use Rattle.std.proofs.lemmas.Bool.Decides.{nat_tests}
 use Rattle.store_law.specs.States.{Request}
@@ -37,7 +37,7 @@ lines_of-ends : (x more : List ℕ) → lines_of ((x ++ newline ∷ []) ++ more)
 lines_of-ends [] more = refl
 lines_of-ends (a ∷ x) more = whole_step a (lines_of (x ++ newline ∷ [])) (lines_of more) (lines_of ((x ++ newline ∷ []) ++ more)) (lines_of-ends x more) (begun_whole x) (a == newline)
 
--- behind whole lines the lines go on
+-- after whole lines the lines go on
 pub lines_of-whole : (text more : List ℕ) → IsWhole text → lines_of (text ++ more) ≡ lines_of text ++ lines_of more
 lines_of-whole text more whole_none = refl
 lines_of-whole text more (ends x) = lines_of-ends x more
@@ -62,7 +62,7 @@ pub whole_more : (text more : List ℕ) → IsWhole text → IsWhole more → Is
 whole_more text more h whole_none = subst IsWhole (sym (append_none text)) h
 whole_more text more h (ends x) = subst IsWhole (append_assoc text x (newline ∷ [])) (ends (text ++ x))
 
--- behind the commands of whole lines the commands go on
+-- after the commands of whole lines the commands go on
 pub commands_more : {ended : Bool} {ls ms : List (List ℕ)} {rs ss : List Request} → AreCommands false ls rs → AreCommands ended ms ss → AreCommands ended (ls ++ ms) (rs ++ ss)
 commands_more none q = q
 commands_more {ended = ended} {ms = ms} {ss = ss} (one {line = line} {lines = lines} {ss = ts} rs h p) q = subst (AreCommands ended (line ∷ (lines ++ ms))) (sym (append_assoc rs ts ss)) (one rs h (commands_more p q))

@@ -51,7 +51,7 @@ begins_later xs seen n h p q = record {
 pub drop_span : (s e n : ℕ) (xs : List ℕ) → s + n ≤ e → take (e - (s + n)) (drop (s + n) xs) ≡ drop n (take (e - s) (drop s xs))
 drop_span s e n xs h = let m : e - s ≡ n + (e - (s + n)) = omega arith in rw (m, drop-take n (e - (s + n)) (drop s xs), drop-drop) refl
 
--- what was read stands behind what was there
+-- what was read stands after what was there
 pub filled : (buffer new post : List ℕ) (s e n : ℕ) → s ≡ 0 → e ≤ length buffer → n ≤ length new → take (e + n - s) (drop s (take e buffer ++ (new ++ post))) ≡ take (e - s) (drop s buffer) ++ take n new
 filled buffer new post s e n z h k =
     let l : length (take e buffer) ≡ e = length-take-le e buffer h in

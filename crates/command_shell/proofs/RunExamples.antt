@@ -154,7 +154,7 @@ whole_front : {text : List ℕ} (rest : List ℕ) → IsWhole text → codes "x"
 whole_front rest nothing e = refl
 whole_front rest (ends line) e = absurd (no_whole_front line rest e)
 
--- a line without its newline is not answered where a read failed behind it
+-- a line without its newline is not answered where a read failed after it
 a_read_fault_answers_no_unfinished_line : (s s' : SessionState) (left written : List ℕ) → Runs ReadFault (at s (codes "x") []) (at s' left written) → (written ≡ []) × (s' ≡ s)
 a_read_fault_answers_no_unfinished_line s s' left written (unread, part, run) =
     let all : codes "x" ≡ run.text ++ (unread ++ left) = run.reads.read.read ∙ ap (λ m. m ++ left) run.reads.read.so ∙ append_assoc run.text unread left in

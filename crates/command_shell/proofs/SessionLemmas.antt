@@ -48,7 +48,7 @@ wrote_more false a b c x y p q = record {
   written = subst (Appends a c) (sym (append_assoc (texts_of x) (texts_of q.before) _) ∙ ap (λ t. t ++ take q.shown (answer_text q.last)) (sym (flat_map-append answer_text x q.before))) (appends_more a b c (texts_of x) _ p q.written);
 }
 
--- what holds in each standing also holds in another form
+-- what holds in each state also holds in another form
 pub takes_on : {S : Type 0} {Represents : S → SessionState → Type 0} {old new : S} {P Q : SessionState → SessionState → Type 0} → Takes Represents old new P → ((s s' : SessionState) → P s s' → Q s s') → Takes Represents old new Q
 takes_on h f = λ s is. let a = h s is in record { next = a.next; represents = a.represents; so = f s a.next a.so }
 

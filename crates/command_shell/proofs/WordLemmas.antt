@@ -7,7 +7,7 @@ use Rattle.command_shell.specs.Lines.{is_blank, words_of, begins_word, onto_firs
 abbrev pub in_word : ℕ → Bool
 in_word b = not (is_blank b)
 
--- the text behind its first blanks
+-- the text after its first blanks
 abbrev pub from_word : List ℕ → List ℕ
 from_word xs = drop (prefix_len is_blank xs) xs
 
@@ -55,7 +55,7 @@ taken : (ys : List ℕ) → begins_word ys ≡ true → 0 < prefix_len in_word y
 taken [] b = absurd (false≢true b)
 taken (y ∷ ys) b = rw b (omega arith)
 
--- a text that begins no word behind its blanks has none
+-- a text that begins no word after its blanks has none
 pub no_word : (xs : List ℕ) → prefix_len in_word (from_word xs) ≡ 0 → words_of xs ≡ []
 no_word xs h = ⊎_elim (λ e. sym (words_of-from_word xs) ∙ ap words_of e) (λ b. absurd (omega (arith, taken (from_word xs) b))) (from_word-begins xs)
 

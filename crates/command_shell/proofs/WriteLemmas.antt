@@ -39,3 +39,6 @@ pub front_of_all : {X : Type 0} (f : X → List ℕ) (a b c : Option (List ℕ))
 front_of_all f a b c xs i d x h e p q =
     let whole : flat_map f xs ≡ (flat_map f (take i xs) ++ f x) ++ flat_map f (drop (suc i) xs) = ap (flat_map f) (sym (take-append-drop i xs) ∙ ap (λ t. take i xs ++ t) (drop-cons xs i d h)) ∙ flat_map-append f (take i xs) (get_or xs i d ∷ drop (suc i) xs) ∙ ap (λ y. flat_map f (take i xs) ++ (f y ++ flat_map f (drop (suc i) xs))) (sym e) ∙ sym (append_assoc (flat_map f (take i xs)) (f x) _) in
     rw whole (front_more a c (flat_map f (take i xs) ++ f x) _ (front_then a b c (flat_map f (take i xs)) (f x) p q))
+
+-- what writing functions need
+pub ruleset writing = (front_more, front_then, writes_then, appends_more)

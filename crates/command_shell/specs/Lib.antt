@@ -10,4 +10,5 @@ pub mod Pending
 pub mod Answering
 pub mod TextCommands
 pub mod Serving
+pub mod TextAnswers
 pub mod Runs

@@ -36,7 +36,7 @@ abbrev pub reopen_of : List (List ℕ) → Option Command
 reopen_of [] = Some Reopen
 reopen_of ws = None
 
--- what the words behind the name of a command mean
+-- what the words after the name of a command mean
 abbrev pub command_of : List ℕ → List (List ℕ) → Meaning
 command_of name ws =
     if bytes_eq name (codes "create") then asked (create_of ws)

@@ -18,7 +18,7 @@ number_in w = if is_numeral w && nat_lt (digits_value 10 w) (2 ^ 64) then Some (
 abbrev pub minus : ℕ
 minus = 45
 
--- a size behind a minus: it is at most 2^31
+-- a size after a minus: it is at most 2^31
 abbrev pub negative_of : ℕ → Option ℤ
 negative_of n = if nat_le n (2 ^ 31) then Some (neg_ℤ (pos n)) else None
 

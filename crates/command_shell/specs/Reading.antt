@@ -23,12 +23,12 @@ pub record ReadsTo (old new : Option (List ℕ)) (P : List ℕ → Type 0) : Typ
   pub read : Consumes old new more
   pub so : P more
 
--- where the text that was taken stops: behind a newline, or, where it has ended, at the end of all that the reader had
+-- where the text that was taken stops: after a newline, or, where it has ended, at the end of all that the reader had
 abbrev pub StopsAt : Bool → Type 0 → List ℕ → List ℕ → Type 0
 StopsAt false at_end text left = IsWhole text
 StopsAt true at_end text left = (left ≡ []) × at_end
 
--- From bytes that were pending, and what the reader gave behind them, this text was taken, and some bytes are left.
+-- From bytes that were pending, and what the reader gave after them, this text was taken, and some bytes are left.
 pub record Reads (ended : Bool) (old new : Option (List ℕ)) (pending left text : List ℕ) : Type 0 where
   pub stops : StopsAt ended (IsAtEnd new) text left
   pub read : ReadsTo old new (λ more. pending ++ more ≡ text ++ left)

@@ -13,7 +13,7 @@ AsksAlone Bad rs = rs ≡ BadCommand ∷ []
 AsksAlone (Means c) rs = rs ≡ Asks c ∷ []
 
 -- The commands of lines, in their order. A relation, so that a command may take further lines with it; `ended` says
--- whether the text has ended behind these lines, so that the last command may lack some of its own.
+-- whether the text has ended after these lines, so that the last command may lack some of its own.
 pub data AreCommands (ended : Bool) : List (List ℕ) → List Request → Type 0 where
   none : AreCommands ended [] []
   one : {line : List ℕ} {lines : List (List ℕ)} {ss : List Request} (rs : List Request) → AsksAlone (meaning_of line) rs → AreCommands ended lines ss → AreCommands ended (line ∷ lines) (rs ++ ss)

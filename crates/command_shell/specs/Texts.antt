@@ -20,7 +20,7 @@ space = 32
 abbrev pub coordinate_text : ℤ → List ℕ
 coordinate_text c = space ∷ signed_decimal c
 
--- coordinates, each behind its space
+-- coordinates, each after its space
 abbrev pub coordinates_text : List ℤ → List ℕ
 coordinates_text cs = flat_map coordinate_text cs
 
@@ -32,7 +32,7 @@ bounds_text b = coordinates_text b.low ++ coordinates_text b.high
 abbrev pub row_text : ℕ × Bounds → List ℕ
 row_text row = decimal row.0 ++ bounds_text row.1 ++ newline ∷ []
 
--- the number that some refusals have behind their names: the identifier, the page or the cause
+-- the number that some refusals have after their names: the identifier, the page or the cause
 abbrev pub detail_text : Refusal → List ℕ
 detail_text (refusal.DuplicateInLoad id) = space ∷ decimal id
 detail_text (refusal.Damaged page) = space ∷ decimal page
@@ -53,7 +53,7 @@ answer_text Done = codes "ok\n"
 answer_text (Refused r) = refusal_text r
 answer_text (Boxes rows) = count_text (length rows) ++ flat_map row_text rows
 
--- the texts of answers, one behind the other
+-- the texts of answers, one after the other
 abbrev pub texts_of : List Answer → List ℕ
 texts_of answers = flat_map answer_text answers
 

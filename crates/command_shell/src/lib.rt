@@ -1,9 +1,11 @@
 //! The command shell of the store: command lines in, replies out (docs/COMMANDS.md).
 //!
-//! `run` answers the lines of a reader, and its contract is the theorem of a whole run. `parse_line` and
+//! `run` answers the lines of a reader, and its contract is the theorem of a whole run; `answers_to` has it of a store in
+//! memory, with no premise. `parse_line` and
 //! `write_reply` are its two ends: a line's meaning and a reply's text. `run_and_close` is what the program does.
 #![tactic(auto)]
 
+mod in_memory;
 mod lines;
 mod parse;
 mod program;
@@ -14,6 +16,7 @@ mod session;
 mod tests;
 mod words;
 
+pub use in_memory::answers_to;
 pub use parse::{Line, MAX_LINE, parse_line};
 pub use program::{Ended, run_and_close, tell_refusal};
 pub use replies::{Reply, write_reply};

@@ -1,6 +1,7 @@
 //! The lines of a reader, found in one buffer.
 
-ghost use Rattle.std.specs.Prelude.{◌≡◌, ℕ, ◌+◌, ◌<◌, ◌≤◌, ◌^◌, ◌++◌, [], length, take, drop, MatchOption, MatchResult, OnOk, OnErr, IfOk, IfSome};
+ghost use Rattle.std.specs.Prelude.{◌≡◌, ℕ, ◌+◌, ◌<◌, ◌≤◌, ◌^◌, ◌++◌, []};
+ghost use Rattle.std.specs.Prelude.{length, take, drop, MatchOption, MatchResult, OnOk, OnErr, IfOk, IfSome};
 ghost use Rattle.command_shell.specs.Lines.{IsOneLine};
 ghost use Rattle.command_shell.specs.Reading.{buffer_size, most_calls, BeginsLine, ReadsTo};
 ghost use Rattle.std.specs.Io.KnownBytes.{IsAtEnd, Keeps};
@@ -59,7 +60,7 @@ impl LineReader {
         }
     }
 
-    // Reads once, behind what is pending. It answers how many bytes came, none only at the end.
+    // Reads once, after what is pending. It answers how many bytes came, none only at the end.
     fn fill<R: Read>(&mut self, reader: &mut R) -> io::Result<usize>
         requires { length (pending self.old) < CAPACITY }
         ensures ok { IfOk result (λ n. ReadsTo (R.remaining reader.old) (R.remaining reader.new)
@@ -121,8 +122,8 @@ impl LineReader {
         self.start += count;
     }
 
-    /// Finds the next line, which is so long where it is known to be pending. It stays pending, unless it was too long. It
-    /// reads only where no whole line is pending; where a read fails no newline was read.
+    /// Finds the next line, which is so long where it is known to be pending. It stays pending, unless it was too
+    /// long. It reads only where no whole line is pending; where a read fails no newline was read.
     ///
     /// A line is known to be too long once more than `MAX_LINE` bytes of it are pending and no newline is. A line
     /// whose newline is pending is given whatever its length.
@@ -131,7 +132,8 @@ impl LineReader {
         ensures found { MatchResult result
             (λ found. ReadsTo (R.remaining reader.old) (R.remaining reader.new) (λ more.
             Finds (IsAtEnd (R.remaining reader.new)) found (pending self.old ++ more) (pending self.new)))
-            (λ _. ReadsTo (R.remaining reader.old) (R.remaining reader.new) (λ more. IsOneLine (pending self.old ++ more))) }
+            (λ _. ReadsTo (R.remaining reader.old) (R.remaining reader.new)
+            (λ more. IsOneLine (pending self.old ++ more))) }
         ensures lazy { (n : ℕ) → BeginsLine (pending self.old) n → reader.new ≡ reader.old }
         ensures fewer { IfOk result (λ found. work_left self.new + work_done found ≤ work_left self.old) }
     {
@@ -146,7 +148,8 @@ impl LineReader {
         ensures found { MatchResult result
             (λ found. ReadsTo (R.remaining reader.old) (R.remaining reader.new) (λ more.
             Finds (IsAtEnd (R.remaining reader.new)) found (pending self.old ++ more) (pending self.new)))
-            (λ _. ReadsTo (R.remaining reader.old) (R.remaining reader.new) (λ more. IsOneLine (pending self.old ++ more))) }
+            (λ _. ReadsTo (R.remaining reader.old) (R.remaining reader.new)
+            (λ more. IsOneLine (pending self.old ++ more))) }
         ensures lazy { (n : ℕ) → BeginsLine (pending self.old) n → reader.new ≡ reader.old }
         ensures fewer { IfOk result (λ found. work_left self.new + work_done found ≤ work_left self.old) }
     {
@@ -189,7 +192,8 @@ impl LineReader {
         ensures found { MatchResult result
             (λ found. ReadsTo (R.remaining reader.old) (R.remaining reader.new) (λ more.
             Finds (IsAtEnd (R.remaining reader.new)) found (pending self.old ++ more) (pending self.new)))
-            (λ _. ReadsTo (R.remaining reader.old) (R.remaining reader.new) (λ more. IsOneLine (pending self.old ++ more))) }
+            (λ _. ReadsTo (R.remaining reader.old) (R.remaining reader.new)
+            (λ more. IsOneLine (pending self.old ++ more))) }
         ensures fewer { IfOk result (λ found. work_left self.new + work_done found ≤ work_left self.old) }
     {
         let len = self.pending().len();

@@ -1,7 +1,8 @@
 //! Lines, and what each of them asks.
 
 ghost use Rattle.std.specs.Prelude.{◌≡◌, ◌<◌, length, Some, IfSome, IfNone};
-ghost use Rattle.command_shell.specs.Meanings.{meaning_of, create_of, insert_of, window_of, reopen_of, command_of, asked};
+ghost use Rattle.command_shell.specs.Meanings.{meaning_of, create_of, insert_of};
+ghost use Rattle.command_shell.specs.Meanings.{window_of, reopen_of, command_of, asked};
 ghost use Rattle.command_shell.specs.Numbers.{coordinates_of, box_of};
 ghost use Rattle.command_shell.specs.Said.{said, said_or_bad};
 
@@ -71,7 +72,7 @@ pub fn parse_line(line: &[u8]) -> Line<'_>
     }
 }
 
-// The command of that name, from the words behind it.
+// The command of that name, from the words after it.
 fn command<'a>(name: &[u8], words: Words<'a>) -> Option<Line<'a>>
     ensures { said_or_bad result ≡ command_of name.now words.entry }
 {

@@ -31,8 +31,8 @@ pub struct Ended<D: BlockDevice> {
 /// Answers the lines of a reader, flushes the replies and closes the store, however the run ended. Where something
 /// failed, it says so in a line to `errors`, whose own faults are passed over.
 ///
-/// Where all went well, all that the reader had was read, each of its commands was answered by a lawful session, and the
-/// device's blocks are an image of the table at its end; and a stop leaves nothing else.
+/// Where all went well, all that the reader had was read, each of its commands was answered by a lawful session, and
+/// the device's blocks are an image of the table at its end; and a stop leaves nothing else.
 pub fn run_and_close<D: BlockDevice, A: Allocator + Copy, R: Read, W: Write, E: Write>(
     store: Store<D, A>,
     input: &mut R,
@@ -44,7 +44,8 @@ pub fn run_and_close<D: BlockDevice, A: Allocator + Copy, R: Read, W: Write, E: 
         (run_state s (R.remaining input.old) (W.contents output.old))
         (run_state s' (R.remaining input.new) (W.contents output.new)) }
     ensures told { TellsEnd result.went_well (E.contents errors.old) (E.contents errors.new) }
-    ensures durable { (s : SessionState) → Represents store s → result.went_well ≡ true → Only (D.shown result.device) (D.may_leave result.device) }
+    ensures durable { (s : SessionState) → Represents store s → result.went_well ≡ true →
+        Only (D.shown result.device) (D.may_leave result.device) }
 {
     let mut store = store;
     let end = run(&mut store, input, output);

@@ -1,5 +1,5 @@
 //! Replies, and the texts that are written for them.
-#![tactic(auto, using(crate::proofs::WriteLemmas::front_more, crate::proofs::WriteLemmas::front_then, crate::proofs::WriteLemmas::writes_then, crate::proofs::WriteLemmas::appends_more))]
+#![tactic(auto, using(crate::proofs::WriteLemmas::writing))]
 
 ghost use Rattle.std.specs.Prelude.{◌++◌, length, map, flat_map};
 ghost use Rattle.plain_table.specs.Answers.{row_of};

@@ -1,5 +1,5 @@
 //! One line of a reply, built before it is written.
-#![tactic(auto, using(crate::proofs::WriteLemmas::front_more, crate::proofs::WriteLemmas::front_then, crate::proofs::WriteLemmas::writes_then, crate::proofs::WriteLemmas::appends_more))]
+#![tactic(auto, using(crate::proofs::WriteLemmas::writing))]
 
 ghost use Rattle.std.specs.Prelude.{◌≡◌, ◌+◌, ◌*◌, ◌≤◌, ◌++◌, ◌∷◌, [], length, decimal};
 ghost use Rattle.plain_table.specs.Boxes.{bounds_of};
@@ -57,7 +57,7 @@ impl ReplyLine {
         self.push(itoa::Buffer::new().format(number).as_bytes());
     }
 
-    /// Appends the number that some refusals have behind their names.
+    /// Appends the number that some refusals have after their names.
     pub fn push_detail(&mut self, detail: u64)
         requires { length self.old ≤ 90 }
         ensures text { self.new ≡ self.old ++ space ∷ decimal detail }

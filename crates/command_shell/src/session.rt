@@ -27,25 +27,25 @@ use std::io::{Read, Write};
 pub enum RunEnd {
     /// All that the reader had was read, and each of its commands was answered.
     Finished,
-    /// The reader failed, or was called 2^62 times. Each command that was read to its last newline was answered.
+    /// Given where the reader fails, or was called 2^62 times. Each command that was read to its last newline was
+    /// answered.
     ReadFault,
-    /// The writer failed. Where a write did, the last reply is written in part, and no line after it was answered; where a
-    /// flush did, each command that was read to its last newline was answered.
+    /// Given where a write or a flush fails. What [`run`] promises of it is this: the last reply is written in part, and no
+    /// line after it was answered; or each command that was read to its last newline was answered.
     WriteFault,
 }
 
 /// Answers the lines of a reader, each before the next one is looked for, until the text ends or a read or a write
 /// fails.
 ///
-/// Whatever the store stands for, the commands of the text that was read are a lawful session from there, the store
-/// stands for its end, and what was written are the texts of its answers; [`RunEnd`] says how much of the text and of
-/// the last answer's text that is. So a stop at any moment of the run leaves blocks that opening refuses, or an image of
-/// a table that one before it may have left or that the run closed (docs/FORMAT.md, "What stops leave of a store").
-/// Where reader or writer does not make its bytes known, nothing is
-/// said of them.
+/// Whatever the store represents, the commands of the text that was read are a lawful session from there, the store
+/// represents its end, and what was written are the texts of its answers; [`RunEnd`] says how much of the text and of
+/// the last answer's text that is. So a stop at any moment of the run leaves blocks that opening refuses, or an image
+/// of a table that one before it may have left or that the run closed (docs/FORMAT.md, "What stops leave of a
+/// store"). Where reader or writer does not make its bytes known, nothing is said of them.
 ///
-/// The writer is flushed before more is read, unless a whole line is pending; at the end it is not. An interrupted read is
-/// a fault like any other. Beside what the store takes, it takes no memory.
+/// The writer is flushed before more is read, unless a whole line is pending; at the end it is not. An interrupted
+/// read is a fault like any other. Beside what the store takes, it takes no memory.
 pub fn run<D: BlockDevice, A: Allocator + Copy, R: Read, W: Write>(
     store: &mut Store<D, A>,
     input: &mut R,
@@ -111,7 +111,7 @@ fn step<D: BlockDevice, A: Allocator + Copy, R: Read, W: Write>(
     }
 }
 
-// How the run ends after an answer, if it does. The text may have ended behind the line.
+// How the run ends after an answer, if it does. The text may have ended after the line.
 fn end_after(written: io::Result<()>, ended: bool) -> Option<RunEnd>
     ensures { MatchResult written
         (λ _. result ≡ (if ended then Some RunEnd.Finished else None))

@@ -1,6 +1,7 @@
 //! The words of a line, and the numbers that words are.
 
-ghost use Rattle.std.specs.Prelude.{◌≡◌, ◌+◌, ◌*◌, ◌^◌, ◌<◌, ◌≤◌, ◌↔◌, [], ◌∷◌, length, not, true, false, MatchOption, IsTrue};
+ghost use Rattle.std.specs.Prelude.{◌≡◌, ◌+◌, ◌*◌, ◌^◌, ◌<◌, ◌≤◌, ◌↔◌};
+ghost use Rattle.std.specs.Prelude.{[], ◌∷◌, length, not, true, false, MatchOption, IsTrue};
 ghost use Rattle.std.specs.List.{prefix_len};
 ghost use Rattle.std.specs.Char.{is_ascii_digit, digit_value};
 ghost use Rattle.command_shell.specs.Lines.{is_blank, words_of};
@@ -103,7 +104,7 @@ fn digit(byte: u8) -> Option<u64>
     }
 }
 
-// The value of a numeral with a digit behind it.
+// The value of a numeral with a digit after it.
 fn followed_by(value: u64, digit: u64) -> Option<u64>
     ensures { MatchOption result (2 ^ 64 ≤ value * 10 + digit)
         (λ next. (next ≡ value * 10 + digit) × (next < 2 ^ 64)) }

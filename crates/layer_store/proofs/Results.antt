@@ -14,7 +14,7 @@ pub if_ok : {T E : Type 0} {P Q : T → Type 0} (r : Result T E) → ((v : T) �
 if_ok (Ok v) f h = f v h
 if_ok (Err e) f h = h
 
--- under a premise that stands before the result, or behind it
+-- under a premise that stands before the result, or after it
 pub if_err_given : {T E H : Type 0} {P Q : E → Type 0} (r : Result T E) → (H → IfErr r P) → ((e : E) → H → P e → Q e) → IfErr r (λ e. H → Q e)
 if_err_given (Ok v) h f = tt
 if_err_given (Err e) h f = λ k. f e k (h k)

@@ -116,7 +116,7 @@ module _ {D : Type 0} {m : _} where
       (λ (closed : ¬ (gate_of old ≡ Open)). leaves_weaker m.moment m.left_since old.device new.device (λ c. SameButGate c (blocks_of old)) (IsRefusedOrImageOf ts) (λ c same. rests closed c same) (stops closed))
       (is_open (gate_of old))
 
-  -- and pages were written behind it
+  -- and pages were written after it
   pub pages_written : (old mid new : PageFile D m) (ts : List Table) → IsHonest mid → gate_of mid ≡ Open → LeavesOnly m.moment m.left_since old.device mid.device (IsRefusedOrImageOf ts) → KeepsGate mid new → LeavesOnly m.moment m.left_since old.device new.device (IsRefusedOrImageOf ts)
   pages_written old mid new ts honest opened before keeps =
       leaves_weaker m.moment m.left_since old.device new.device (λ c. IsRefusedOrImageOf ts c ⊎ StopSince (gate_of mid) (blocks_of mid) c) (IsRefusedOrImageOf ts)

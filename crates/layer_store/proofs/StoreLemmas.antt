@@ -295,13 +295,13 @@ module _ {D A : Type 0} {m : _} where
         });
       }
 
-  -- what a live store that stands for a table is
+  -- what a live store that represents a table is
   pub record IsAliveWith (store : Store D A m) (t : Table) : Type 0 where
     pub going : store.failed ≡ false
     pub table : store.stored.table ≡ t
     pub sound : IsSound store.stored
 
-  -- in a standing
+  -- in a state of its session
   pub represents_table : (store : Store D A m) (s : SessionState) (t : Table) → Represents store s → s.state ≡ Alive t → RepresentsTable store t
   represents_table store s t represents alive = record { next = s; represents = represents; so = alive }
 

@@ -7,7 +7,7 @@ use Rattle.std.specs.Ordering.{nat_cmp}
 use Rattle.catalog_page.specs.Layout.{Record}
 use Rattle.plain_table.specs.Table.{is_layer_name, is_dims, is_fanout, most_objects}
 
--- 0, or a page given out behind the catalog
+-- 0, or a page given out after the catalog
 abbrev pub is_page_or_none : ℕ → ℕ → Bool
 is_page_or_none next n = n == 0 || (nat_le 3 n && nat_lt n next)
 

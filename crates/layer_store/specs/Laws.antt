@@ -96,7 +96,7 @@ broken_first pages (x ∷ front) [] rest rest' r r' (e ∷ es) es' n m same h k 
 broken_first pages (x ∷ front) (y ∷ front') rest rest' r r' [] es' n m same h k broken broken' = elim h [ ]
 broken_first pages (x ∷ front) (y ∷ front') rest rest' r r' (e ∷ es) [] n m same h k broken broken' = elim k [ ]
 broken_first pages (x ∷ front) (y ∷ front') rest rest' r r' (e ∷ es) (e' ∷ es') n m same h k broken broken' =
-    let behind : front ++ r ∷ rest ≡ front' ++ r' ∷ rest' = cc in broken_first pages front front' rest rest' r r' es es' n m behind h.1 k.1 broken broken'
+    let later : front ++ r ∷ rest ≡ front' ++ r' ∷ rest' = cc in broken_first pages front front' rest rest' r r' es es' n m later h.1 k.1 broken broken'
 
 -- one page is damaged at most
 pub one_page_is_damaged : (pages : PageMap) (next n m : ℕ) → IsDamaged pages next n → IsDamaged pages next m → n ≡ m

@@ -1,4 +1,4 @@
-//! The checks of the catalog, which opening makes behind those of gate and header (docs/FORMAT.md, "Opening").
+//! The checks of the catalog, which opening makes after those of gate and header (docs/FORMAT.md, "Opening").
 
 ghost use Rattle.std.specs.Prelude.{◌≡◌, ◌≤◌, map as each, nat_le, length};
 ghost use Rattle.std.specs.Cmp.Lexicographic.{slice_cmp};
@@ -47,14 +47,14 @@ fn has_no_tree(layer: &LayerRecord) -> bool
     layer.level == 0 && layer.root == 0
 }
 
-// Whether this is 0, or the number of a page given out behind the catalog.
+// Whether this is 0, or the number of a page given out after the catalog.
 fn is_page_or_none(next: u32, n: u32) -> bool
     ensures { result ≡ catalog.is_page_or_none next n }
 {
     n == 0 || n >= 3 && n < next
 }
 
-// Whether each name is below all those behind it.
+// Whether each name is below all those after it.
 fn names_ascend(records: &[LayerRecord]) -> bool
     ensures { result ≡ catalog.names_ascend (each record_of records.now) }
 {
@@ -67,7 +67,8 @@ fn names_ascend(records: &[LayerRecord]) -> bool
 
 // Whether the first name is below those of all the records.
 fn is_below_all(first: &LayerRecord, records: &[LayerRecord]) -> bool
-    ensures { result ≡ list_all (λ (layer : Layer). is_lt (slice_cmp nat_cmp first.now.name.items layer.name.items)) records.now }
+    ensures { result ≡ list_all (λ (layer : Layer). is_lt
+        (slice_cmp nat_cmp first.now.name.items layer.name.items)) records.now }
 {
     records.iter().all(|record| is_below(first, record))
 }

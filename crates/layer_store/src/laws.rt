@@ -7,7 +7,8 @@ ghost use Rattle.plain_table.specs.Table.{Table};
 ghost use Rattle.store_law.specs.Sessions.{SessionState};
 ghost use Rattle.store_law.specs.States.{StoreState};
 ghost use Rattle.layer_store.specs.Image.{Holds, IsImage, MayRemain, IsRefusedOrImageOf, OpeningRefuses};
-ghost use Rattle.layer_store.specs.Representation.{IsInState, IsOfStore, Represents, blocks_in, device_in, from_now, resting_on};
+ghost use Rattle.layer_store.specs.Representation.{IsInState, IsOfStore, Represents};
+ghost use Rattle.layer_store.specs.Representation.{blocks_in, device_in, from_now, resting_on};
 ghost use Rattle.layer_store.specs.declared.store.Store.{Store};
 
 use block_device::BlockDevice;
@@ -31,11 +32,12 @@ pub fn blocks_are_refused_in_one_way()
 /// A table that pages hold stays where those pages stay, and more may be given out.
 #[tactic(auto, using(crate::specs::Laws::a_held_table_stays))]
 pub fn a_held_table_stays()
-    ensures { (old new : PageMap) (next after : ℕ) (t : Table) → KeepsPages old new → next ≤ after → Holds old next t → Holds new after t }
+    ensures { (old new : PageMap) (next after : ℕ) (t : Table) → KeepsPages old new → next ≤ after →
+        Holds old next t → Holds new after t }
 {}
 
-/// A stop between two calls leaves of a store what the state of its session says, and one at any moment since the beginning
-/// left blocks that opening refuses, or an image of one of that state's tables.
+/// A stop between two calls leaves of a store what the state of its session says, and one at any moment since the
+/// beginning left blocks that opening refuses, or an image of one of that state's tables.
 pub fn stops_leave_what_the_session_state_says<D: BlockDevice, A: Allocator>()
     ensures now { (store : Store D A ⟦<D as BlockDevice>⟧) (s : SessionState) → Represents store s →
         (c : Blocks) → D.may_leave (device_in store) c → MayRemain s.stops.now c }
@@ -43,7 +45,8 @@ pub fn stops_leave_what_the_session_state_says<D: BlockDevice, A: Allocator>()
         (c : Blocks) → D.left_since (device_in store) s.stops.since c → IsRefusedOrImageOf s.stops.so_far c }
 {}
 
-/// The state of a session is that of its store, with the faults of its device and the page numbers given out of its file.
+/// The state of a session is that of its store, with the faults of its device and the page numbers given out of its
+/// file.
 pub fn a_session_state_is_of_its_store<D: BlockDevice, A: Allocator>()
     ensures { (store : Store D A ⟦<D as BlockDevice>⟧) (s : SessionState) → Represents store s → IsOfStore store s }
 {}
@@ -51,18 +54,21 @@ pub fn a_session_state_is_of_its_store<D: BlockDevice, A: Allocator>()
 /// A store is in one state. While it answers from a table in memory, any store is in one, also on a device that is not
 /// honest.
 pub fn a_store_is_in_one_state<D: BlockDevice, A: Allocator>()
-    ensures one { (store : Store D A ⟦<D as BlockDevice>⟧) (s t : StoreState) → IsInState store s → IsInState store t → s ≡ t }
+    ensures one { (store : Store D A ⟦<D as BlockDevice>⟧) (s t : StoreState) → IsInState store s →
+        IsInState store t → s ≡ t }
     ensures some { (store : Store D A ⟦<D as BlockDevice>⟧) → (s : StoreState) × IsInState store s }
 {}
 
 /// Each moment may be taken for the beginning: the tables so far are then those that a stop now may leave.
 pub fn a_session_state_begins_at_each_call<D: BlockDevice, A: Allocator>()
-    ensures { (store : Store D A ⟦<D as BlockDevice>⟧) (s : SessionState) → Represents store s → Represents store (from_now s (D.moment (device_in store))) }
+    ensures { (store : Store D A ⟦<D as BlockDevice>⟧) (s : SessionState) → Represents store s →
+        Represents store (from_now s (D.moment (device_in store))) }
 {}
 
 /// Where the blocks of a store are an image of a table, a stop leaves of them no other table's, whatever closings were
 /// refused before.
 pub fn an_image_rests_on_its_table<D: BlockDevice, A: Allocator>()
-    ensures { (store : Store D A ⟦<D as BlockDevice>⟧) (s : SessionState) (t : Table) → Represents store s → IsImage (blocks_in store) t →
+    ensures { (store : Store D A ⟦<D as BlockDevice>⟧) (s : SessionState) (t : Table) → Represents store s →
+        IsImage (blocks_in store) t →
         Represents store (resting_on s (D.moment (device_in store)) t) }
 {}

@@ -1,6 +1,7 @@
 //! The store: its commands, and its closing.
 
-ghost use Rattle.std.specs.Prelude.{◌≡◌, ◌⊎◌, ◌≤◌, ◌+◌, ◌^◌, ◌∷◌, length, Ok, Err, IsOk, IsErrOf, IfOk, IfErr, OnErr, OnOk};
+ghost use Rattle.std.specs.Prelude.{◌≡◌, ◌⊎◌, ◌≤◌, ◌+◌, ◌^◌, ◌∷◌, length};
+ghost use Rattle.std.specs.Prelude.{Ok, Err, IsOk, IsErrOf, IfOk, IfErr, OnErr, OnOk};
 ghost use Rattle.block_device.specs.Device.{LeavesOnly, Only};
 ghost use Rattle.plain_table.specs.Answers.{done_answer, boxes_answer};
 ghost use Rattle.plain_table.specs.Commands.Command.{Create, Insert, Window, Reopen};
@@ -40,7 +41,8 @@ pub struct Store<D: BlockDevice, A: Allocator = Global> {
 }
 
 impl<D: BlockDevice, A: Allocator + Copy> Store<D, A> {
-    ghost use Rattle.layer_store.specs.Representation.{AnswersInMemory, Represents, RepresentsTable, HasFailed, IsInState, IsSettled, blocks_in, device_in, file_in};
+    ghost use Rattle.layer_store.specs.Representation.{AnswersInMemory, Represents, RepresentsTable, HasFailed};
+    ghost use Rattle.layer_store.specs.Representation.{IsInState, IsSettled, blocks_in, device_in, file_in};
 
     /// Makes an empty layer of that name with 2 or 3 axes, whose nodes may have 4 to 100 entries.
     ///
@@ -103,13 +105,16 @@ impl<D: BlockDevice, A: Allocator + Copy> Store<D, A> {
     /// table.
     pub fn reopen(&mut self) -> Result<(), Refusal>
         ensures step { Takes Represents self.old self.new (λ s s'. LawfulStep s (Asks Reopen) (done_answer result) s') }
-        ensures closed { (t : Table) → RepresentsTable self.old t → IsOk result ⊎ HasFailed self.new → IsImage (blocks_in self.new) t }
+        ensures closed { (t : Table) → RepresentsTable self.old t → IsOk result ⊎ HasFailed self.new →
+            IsImage (blocks_in self.new) t }
 
         // A stop leaves what one before the call leaves, or an image of the table; and after a closing that is finished
         // nothing but what is read.
         ensures stops { (s : SessionState) (t : Table) → Represents self.old s → s.state ≡ Alive t →
-            LeavesOnly D.moment D.left_since (device_in self.old) (device_in self.new) (IsRefusedOrImageOf (t ∷ tables_left s.stops.now)) }
-        ensures durable { (t : Table) → RepresentsTable self.old t → IsOk result ⊎ HasFailed self.new → Only (blocks_in self.new) (D.may_leave (device_in self.new)) }
+            LeavesOnly D.moment D.left_since (device_in self.old) (device_in self.new)
+            (IsRefusedOrImageOf (t ∷ tables_left s.stops.now)) }
+        ensures durable { (t : Table) → RepresentsTable self.old t → IsOk result ⊎ HasFailed self.new →
+            Only (blocks_in self.new) (D.may_leave (device_in self.new)) }
 
         // One that is settled is only read: a stop leaves the blocks as they are.
         ensures now_settled { IsOk result → IsSettled self.new }
@@ -121,11 +126,12 @@ impl<D: BlockDevice, A: Allocator + Copy> Store<D, A> {
         // One that has failed stays so, on any device.
         ensures dead { IsInState self.old Dead → (result ≡ Err (refusal.StoreFailed 19)) × (self.new ≡ self.old) }
 
-        // One that is refused behind its closing has failed.
+        // One that is refused after its closing has failed.
         ensures ends { OnErr result (IsSettled self.new → IsInState self.new Dead) }
 
         // It takes no more page numbers than the objects fill pages.
-        ensures few { (t : Table) → RepresentsTable self.old t → OnOk result (next_of (file_in self.new) ≤ next_of (file_in self.old) + pages_filled t) }
+        ensures few { (t : Table) → RepresentsTable self.old t →
+            OnOk result (next_of (file_in self.new) ≤ next_of (file_in self.old) + pages_filled t) }
 
         // One that failed leaves the device as it is.
         ensures failed { HasFailed self.old → device_in self.new ≡ device_in self.old }
@@ -158,15 +164,19 @@ impl<D: BlockDevice, A: Allocator + Copy> Store<D, A> {
         // A stop leaves what one before the call leaves, or an image of the table; and after a closing that is finished
         // nothing but what is read.
         ensures stops { (s : SessionState) (t : Table) → Represents self s → s.state ≡ Alive t → IfOk result (λ device.
-            LeavesOnly D.moment D.left_since (device_in self) device (IsRefusedOrImageOf (t ∷ tables_left s.stops.now))) }
-        ensures refused_stops { (s : SessionState) (t : Table) → Represents self s → s.state ≡ Alive t → IfErr result (λ e.
+            LeavesOnly D.moment D.left_since (device_in self) device
+            (IsRefusedOrImageOf (t ∷ tables_left s.stops.now))) }
+        ensures refused_stops { (s : SessionState) (t : Table) → Represents self s → s.state ≡ Alive t →
+            IfErr result (λ e.
             LeavesOnly D.moment D.left_since (device_in self) e.1 (IsRefusedOrImageOf (t ∷ tables_left s.stops.now))) }
-        ensures durable { (t : Table) → RepresentsTable self t → IfOk result (λ device. Only (D.shown device) (D.may_leave device)) }
+        ensures durable { (t : Table) → RepresentsTable self t →
+            IfOk result (λ device. Only (D.shown device) (D.may_leave device)) }
 
         // Of one that is settled already the device comes back as it is.
         ensures quiet { (t : Table) → RepresentsTable self t → IsSettled self → result ≡ Ok (device_in self) }
 
-        ensures refused { (t : Table) → RepresentsTable self t → IfErr result (λ e. IsMemoryOrDevice e.0 ⊎ ((e.0 ≡ refusal.NoPages) × (2 ^ 31 ≤ length (D.shown e.1)))) }
+        ensures refused { (t : Table) → RepresentsTable self t →
+            IfErr result (λ e. IsMemoryOrDevice e.0 ⊎ ((e.0 ≡ refusal.NoPages) × (2 ^ 31 ≤ length (D.shown e.1)))) }
         ensures dead { IsInState self Dead → result ≡ Err (refusal.StoreFailed 19, device_in self) }
         ensures failed { HasFailed self → result ≡ Err (refusal.StoreFailed 19, device_in self) }
         ensures no_fault { IfOk result (λ device. D.faults device ≡ D.faults (device_in self)) }

@@ -11,7 +11,7 @@ use Rattle.std.specs.FinMap.Entries.{below_all, by_order}
 use Rattle.std.proofs.lemmas.List.{get_or_default}
 use Rattle.list_table.specs.Entries.{IsEntryAt, BelongsAt, IsSearched}
 
-less_is : (o : Ordering) → T (is_lt o) → o ≡ Less
+pub less_is : (o : Ordering) → T (is_lt o) → o ≡ Less
 less_is Less h = refl
 less_is Equal h = absurd h
 less_is Greater h = absurd h
@@ -23,11 +23,11 @@ is_true : (b : Bool) → T b → IsTrue b
 is_true true h = refl
 is_true false h = absurd h
 
-left_of : (a b : Bool) → T (a && b) → T a
+pub left_of : (a b : Bool) → T (a && b) → T a
 left_of true b h = tt
 left_of false b h = h
 
-right_of : (a b : Bool) → T (a && b) → T b
+pub right_of : (a b : Bool) → T (a && b) → T b
 right_of true b h = h
 right_of false b h = absurd h
 

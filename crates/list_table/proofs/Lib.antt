@@ -2,4 +2,5 @@
 pub mod EntryLemmas
 pub mod LayerLemmas
 pub mod ListLemmas
+pub mod SearchLemmas
 pub mod TableLemmas

@@ -1,5 +1,5 @@
-//! The objects of one layer in a list, ascending by identifier. Plain and slow: each search looks at one after the
-//! other.
+//! The objects of one layer in a list, ascending by identifier. An identifier is found by halving the list; a window
+//! looks at one object after the other.
 
 ghost use Rattle.std.specs.Prelude.{◌≡◌, IsTrue, IfOk, MatchResult, None, Some, filter, map as each};
 ghost use Rattle.std.specs.FinMap.{is_sorted};
@@ -60,9 +60,11 @@ pub fn admit<const D: usize>(
     requires dims { IsDims D }
     requires sorted { IsTrue (is_sorted nat_cmp objects.now) }
     ensures { MatchResult result
-        (λ place. (first_refusal (object_checks D objects.now id (record { low = low.entry; high = high.entry }) is_full) ≡ None)
+        (λ place. (first_refusal (object_checks D objects.now id
+        (record { low = low.entry; high = high.entry }) is_full) ≡ None)
         × BelongsAt nat_cmp objects.now id place.0 × (place.1 ≡ record { low = low.entry; high = high.entry }))
-        (λ e. first_refusal (object_checks D objects.now id (record { low = low.entry; high = high.entry }) is_full) ≡ Some e) }
+        (λ e. first_refusal (object_checks D objects.now id
+        (record { low = low.entry; high = high.entry }) is_full) ≡ Some e) }
 {
     let Some(bounds) = BBox::try_new(low, high) else {
         return Err(Refusal::BadBox);
@@ -82,14 +84,17 @@ fn search<const D: usize>(objects: &[(u64, BBox<D>)], id: u64) -> Result<usize, 
     requires sorted { IsTrue (is_sorted nat_cmp objects.now) }
     ensures { IsSearched nat_cmp objects.now id result }
 {
-    for (place, object) in objects.iter().enumerate() {
-        match id.cmp(&object.0) {
-            Ordering::Greater => {}
-            Ordering::Equal => return Ok(place),
-            Ordering::Less => return Err(place),
+    let mut low = 0;
+    let mut high = objects.len();
+    while low < high {
+        let middle = low + (high - low) / 2;
+        match id.cmp(&objects[middle].0) {
+            Ordering::Greater => low = middle + 1,
+            Ordering::Equal => return Ok(middle),
+            Ordering::Less => high = middle,
         }
     }
-    Err(objects.len())
+    Err(low)
 }
 
 /// The objects whose boxes meet the window, in their order. It fails only for want of memory.

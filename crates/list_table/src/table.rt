@@ -153,12 +153,15 @@ fn search<A: Allocator>(layers: &[ListedLayer<A>], name: &[u8]) -> Result<usize,
     requires { IsTrue (is_sorted (slice_cmp nat_cmp) (each entry_of layers.now)) }
     ensures { IsSearched (slice_cmp nat_cmp) (each entry_of layers.now) name.now result }
 {
-    for (place, layer) in layers.iter().enumerate() {
-        match name.cmp(layer.name.as_slice()) {
-            Ordering::Greater => {}
-            Ordering::Equal => return Ok(place),
-            Ordering::Less => return Err(place),
+    let mut low = 0;
+    let mut high = layers.len();
+    while low < high {
+        let middle = low + (high - low) / 2;
+        match name.cmp(layers[middle].name.as_slice()) {
+            Ordering::Greater => low = middle + 1,
+            Ordering::Equal => return Ok(middle),
+            Ordering::Less => high = middle,
         }
     }
-    Err(layers.len())
+    Err(low)
 }

@@ -53,7 +53,7 @@ most_objects = 2 ^ 30
 abbrev pub object_count : Table → ℕ
 object_count t = sum_by (λ layer. map.len layer.objects) (map.values t)
 
--- what stands for the layer where there is none of that name
+-- what is taken for the layer where there is none of that name
 abbrev pub no_layer : Layer
 no_layer = record { dims = 0; fanout = 0; objects = map.empty }
 

@@ -13,7 +13,7 @@ const CATALOGS: [(usize, usize, u64); 31] = [
     (1, 1, 4),
     (1, 1, 61),
     (1, 1, 255),
-    // no name, one that is too long, `0`, `A`, `a-`, and `a` with a zero behind it
+    // no name, one that is too long, `0`, `A`, `a-`, and `a` with a zero after it
     (256, 1, 0),
     (320, 1, 0),
     (256, 1, 25),
@@ -180,7 +180,7 @@ fn bytes_that_are_not_named_are_not_looked_at(rt: HostRuntime) -> Result<(), Fai
 #[test]
 fn pages_in_no_chain_are_allowed(rt: HostRuntime) -> Result<(), Fail> {
     let mut device = image(rt.alloc())?;
-    // page 7 was given out, block 8 was not, and the chain of `a` begins behind page 5
+    // page 7 was given out, block 8 was not, and the chain of `a` begins after page 5
     put(&mut device, 7, &[255; 4096])?;
     put(&mut device, 8, &[4; 4096])?;
     patch(&mut device, 1, 12, 4, 8)?;

@@ -11,7 +11,7 @@ use std::test::Fail;
 
 type Fused = FuseDevice<MemoryDevice>;
 
-// The device of the scene, closed, of whose calls the one behind so many fails.
+// The device of the scene, closed, of whose calls the one after so many fails.
 fn closed_scene(alloc: Global, passes: u64) -> Result<Fused, Refusal> {
     let mut store = new_store(alloc, CACHE)?;
     set_scene(&mut store)?;
@@ -19,7 +19,7 @@ fn closed_scene(alloc: Global, passes: u64) -> Result<Fused, Refusal> {
     Ok(fused(device, passes))
 }
 
-// A device of whose calls the one behind so many fails.
+// A device of whose calls the one after so many fails.
 fn fused(device: MemoryDevice, passes: u64) -> Fused {
     // A fuse is made for fewer than 2^64 - 1 calls, and no test makes a thousand.
     FuseDevice::new(device, passes.min(1000), FuseMode::Once)
@@ -98,7 +98,7 @@ fn check_failed(
     Ok(())
 }
 
-// What reopening a changed store answers where the call behind so many fails. The table is not lost by it.
+// What reopening a changed store answers where the call after so many fails. The table is not lost by it.
 fn reopening(
     rt: &impl Abort,
     alloc: Global,
@@ -124,7 +124,7 @@ fn reopening(
     Ok(answer)
 }
 
-// Behind the 7 calls of the opening come 13 of the closing (the gate with its sync, three pages each made and written,
+// After the 7 calls of the opening come 13 of the closing (the gate with its sync, three pages each made and written,
 // the catalog, the header and the gate each with a sync), and 7 of an opening.
 #[test]
 fn a_reopening_that_fails_loses_nothing(rt: HostRuntime) -> Result<(), Fail> {

@@ -38,8 +38,8 @@ fn scene<'a>(lists: &'a Heap, blocks: &'a Heap) -> Result<Lean<'a>, Refusal> {
     Ok(store)
 }
 
-// OpeningRefuses the growths of a change from each one on, until none is refused and the change is made. After each refusal
-// the store stands for the table before it. How often it was refused.
+// Refuses the growths of a change from each one on, until none is refused and the change is made. After each refusal
+// the store represents the table before it. How often it was refused.
 fn refusals_of_change(
     rt: &impl Abort,
     due: &Heap,

@@ -52,7 +52,7 @@ impl<A: Allocator> Write for Short<A> {
     }
 }
 
-/// Gives a part a call, or fails where there is none, and nothing behind the last.
+/// Gives a part a call, or is interrupted where there is none, and gives nothing after the last.
 #[derive(Drop)]
 pub struct Parts<'a> {
     pub parts: &'a [Option<&'a [u8]>],
@@ -66,13 +66,13 @@ impl Read for Parts<'_> {
         };
         self.calls = self.calls.saturating_add(1);
         match *part {
-            None => Err(io::Error::from(ErrorKind::Other)),
+            None => Err(io::Error::from(ErrorKind::Interrupted)),
             Some(mut bytes) => bytes.read(buffer),
         }
     }
 }
 
-/// Takes all, but for one call that fails.
+/// Takes all, but for one call that is interrupted.
 #[derive(Drop)]
 pub struct FailsOnce<A: Allocator> {
     pub written: Vec<u8, A>,
@@ -84,7 +84,7 @@ impl<A: Allocator> Write for FailsOnce<A> {
         let fails = self.passes == Some(0);
         self.passes = self.passes.and_then(|passes| passes.checked_sub(1));
         if fails {
-            return Err(io::Error::from(ErrorKind::Other));
+            return Err(io::Error::from(ErrorKind::Interrupted));
         }
         match self.written.extend_from_slice(bytes) {
             Ok(()) => Ok(bytes.len()),

@@ -78,9 +78,9 @@ fn ends_where_a_write_fails(rt: HostRuntime) -> Result<(), Fail> {
     Ok(())
 }
 
-// The line behind a read that failed is not read, and the lines before it are answered first.
+// An interrupted read is not tried again: the line after it is not read, and the lines before it are answered first.
 #[test]
-fn ends_where_a_read_fails_once(rt: HostRuntime) -> Result<(), Fail> {
+fn ends_where_a_read_is_interrupted_once(rt: HostRuntime) -> Result<(), Fail> {
     let mut store = new_store(rt.alloc())?;
     let mut input = Parts {
         parts: &[Some(b"drop\ndrop\nd"), None, Some(b"rop\n")],
@@ -94,8 +94,9 @@ fn ends_where_a_read_fails_once(rt: HostRuntime) -> Result<(), Fail> {
     Ok(())
 }
 
+// Nor is an interrupted write.
 #[test]
-fn ends_where_a_write_fails_once(rt: HostRuntime) -> Result<(), Fail> {
+fn ends_where_a_write_is_interrupted_once(rt: HostRuntime) -> Result<(), Fail> {
     for passes in 0..2 {
         let mut store = new_store(rt.alloc())?;
         let mut input = TEXT;

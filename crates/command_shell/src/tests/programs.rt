@@ -2,7 +2,7 @@
 
 use super::fakes::{FailsOnce, Parts, Short, Unflushed};
 use super::new_store;
-use crate::{run_and_close, tell_refusal};
+use crate::{RunEnd, answers_to, run, run_and_close, tell_refusal};
 use block_device::{BlockDevice, FuseDevice, FuseMode, MemoryDevice};
 use layer_store::{Refusal, create_store, open_store};
 use std::alloc::Global;
@@ -67,7 +67,7 @@ fn a_run_whose_output_fails_is_closed(rt: HostRuntime) -> Result<(), Fail> {
     Ok(())
 }
 
-// One flush comes before the only line is read, and one behind its reply.
+// One flush comes before the only line is read, and one after its reply.
 #[test]
 fn a_run_whose_last_flush_fails_did_not_go_well(rt: HostRuntime) -> Result<(), Fail> {
     for (passes, said) in [(1, FAILED), (2, b"".as_slice())] {
@@ -86,7 +86,7 @@ fn a_run_whose_last_flush_fails_did_not_go_well(rt: HostRuntime) -> Result<(), F
     Ok(())
 }
 
-// The device fails behind the making of the store.
+// The device fails after the making of the store.
 #[test]
 fn a_refused_closing_is_told(rt: HostRuntime) -> Result<(), Fail> {
     let fuse = FuseDevice::new(MemoryDevice::new(rt.alloc()), 8, FuseMode::Onward);
@@ -101,6 +101,57 @@ fn a_refused_closing_is_told(rt: HostRuntime) -> Result<(), Fail> {
     assert_eq!(rt; output.as_slice(), b"ok\nok\n".as_slice());
     assert_eq!(rt; errors.as_slice(), b"rstore: fail 17 Device\n".as_slice());
     assert_eq!(rt; ended.device.blocks(), 3);
+    Ok(())
+}
+
+// Where the closing is refused and the output failed too, the closing's refusal is told.
+#[test]
+fn a_refused_closing_is_told_before_a_failed_output(rt: HostRuntime) -> Result<(), Fail> {
+    let fuse = FuseDevice::new(MemoryDevice::new(rt.alloc()), 8, FuseMode::Onward);
+    let Ok(store) = create_store(rt.alloc(), fuse, 64) else {
+        return Err(Fail::from("make"));
+    };
+    let mut input = TEXT;
+    let mut output = Short {
+        written: Vec::new(rt.alloc()),
+        room: 3,
+        fails: true,
+    };
+    let mut errors = Vec::new(rt.alloc());
+    let ended = run_and_close(store, &mut input, &mut output, &mut errors);
+    assert!(rt; !ended.went_well);
+    assert_eq!(rt; errors.as_slice(), b"rstore: fail 17 Device\n".as_slice());
+    Ok(())
+}
+
+// A reopening of a store that is closed already reads it all the same. The device fails after the making of the store.
+#[test]
+fn a_reopening_reads_what_is_closed(rt: HostRuntime) -> Result<(), Fail> {
+    let fuse = FuseDevice::new(MemoryDevice::new(rt.alloc()), 8, FuseMode::Onward);
+    let Ok(mut store) = create_store(rt.alloc(), fuse, 64) else {
+        return Err(Fail::from("make"));
+    };
+    let mut input = b"reopen\nwindow a 0 0 1 1\n".as_slice();
+    let mut output = Vec::new(rt.alloc());
+    let end = run(&mut store, &mut input, &mut output);
+    assert_eq!(rt; end, RunEnd::Finished);
+    assert_eq!(rt;
+        output.as_slice(),
+        b"fail 19 StoreFailed 17\nfail 19 StoreFailed 19\n".as_slice()
+    );
+    Ok(())
+}
+
+#[test]
+fn a_text_is_answered_in_memory(rt: HostRuntime) -> Result<(), Fail> {
+    let text = b"create a 2 4\ninsert a 7 0 0 1 1\nwindow a 1 1 2 2\nwindow b 0 0 1 1\nx\nreopen";
+    let Some(replies) = answers_to(rt.alloc(), text.as_slice()) else {
+        return Err(Fail::from("memory"));
+    };
+    assert_eq!(rt;
+        replies.as_slice(),
+        b"ok\nok\nok 1\n7 0 0 1 1\nfail 3 NoLayer\nfail 24 BadLine\nok\n".as_slice()
+    );
     Ok(())
 }
 

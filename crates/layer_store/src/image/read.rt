@@ -27,7 +27,7 @@ use std::alloc::Allocator;
 
 /// Reads the table that the pages given out hold. A page that is not what it must be is `Damaged` with its number;
 /// any other refusal is `Memory` or `Device`. The file stays as it is.
-#[tactic(auto, using(page_file::specs::Laws::no_call_keeps_the_gate, page_file::specs::Laws::the_gate_is_kept_in_turn, page_file::specs::Laws::no_call_keeps_the_map, page_file::specs::Laws::the_map_is_kept_in_turn))]
+#[tactic(auto, using(crate::proofs::FileLemmas::kept_by_reads))]
 pub fn read_table<D: BlockDevice, A: Allocator + Copy>(
     alloc: A,
     file: &mut PageFile<D>,
@@ -36,7 +36,9 @@ pub fn read_table<D: BlockDevice, A: Allocator + Copy>(
     ensures map { KeepsMap file.old file.new }
     ensures blocks { IsHonest file.old → blocks_of file.new ≡ blocks_of file.old }
     ensures holds { IsHonest file.old → IfOk result (λ table. Holds (given file.old) (next_of file.old) table) }
-    ensures damaged { IsHonest file.old → IfErr result (λ f. IsOfDevice f ⊎ ((n : ℕ) × (f ≡ fault.Damaged n) × IsDamaged (given file.old) (next_of file.old) n)) }
+    ensures damaged { IsHonest file.old →
+        IfErr result (λ f. IsOfDevice f ⊎
+        ((n : ℕ) × (f ≡ fault.Damaged n) × IsDamaged (given file.old) (next_of file.old) n)) }
     ensures only { IfErr result (λ f. IsOfDevice f ⊎ IsDamage f) }
     ensures cause { HasCause (D.faults (device_of file.old)) (D.faults (device_of file.new)) result }
 {
@@ -56,9 +58,12 @@ fn read_catalog<D: BlockDevice>(file: &mut PageFile<D>) -> Result<ArrayVec<Layer
     ensures gate { KeepsGate file.old file.new }
     ensures map { KeepsMap file.old file.new }
     ensures blocks { IsHonest file.old → blocks_of file.new ≡ blocks_of file.old }
-    ensures catalog { IsHonest file.old → IfOk result (λ records. catalog_in (given file.old) ≡ Some (records_of records)) }
+    ensures catalog { IsHonest file.old →
+        IfOk result (λ records. catalog_in (given file.old) ≡ Some (records_of records)) }
     ensures good { IfOk result (λ records. IsTrue (catalog.is_good_catalog (next_of file.old) (records_of records))) }
-    ensures damaged { IsHonest file.old → IfErr result (λ f. IsOfDevice f ⊎ ((f ≡ fault.Damaged 2) × HasNoCatalog (given file.old) (next_of file.old))) }
+    ensures damaged { IsHonest file.old →
+        IfErr result (λ f. IsOfDevice f ⊎
+        ((f ≡ fault.Damaged 2) × HasNoCatalog (given file.old) (next_of file.old))) }
     ensures only { IfErr result (λ f. IsOfDevice f ⊎ IsDamage f) }
     ensures cause { HasCause (D.faults (device_of file.old)) (D.faults (device_of file.new)) result }
 {
@@ -83,10 +88,13 @@ fn read_layer<D: BlockDevice, A: Allocator + Copy>(
     ensures gate { KeepsGate file.old file.new }
     ensures map { KeepsMap file.old file.new }
     ensures blocks { IsHonest file.old → blocks_of file.new ≡ blocks_of file.old }
-    ensures holds { IsHonest file.old → IfOk result (λ layer. HoldsLayer (given file.old) (record_of row.now) (entry_of layer)) }
+    ensures holds { IsHonest file.old →
+        IfOk result (λ layer. HoldsLayer (given file.old) (record_of row.now) (entry_of layer)) }
     ensures name { IfOk result (λ layer. layer.name.items ≡ row.now.name.items) }
     ensures count { IfOk result (λ layer. length (entries_of layer.objects) ≡ row.now.count) }
-    ensures damaged { IsHonest file.old → IfErr result (λ f. IsOfDevice f ⊎ ((n : ℕ) × (f ≡ fault.Damaged n) × IsBroken (given file.old) (record_of row.now) n)) }
+    ensures damaged { IsHonest file.old →
+        IfErr result (λ f. IsOfDevice f ⊎
+        ((n : ℕ) × (f ≡ fault.Damaged n) × IsBroken (given file.old) (record_of row.now) n)) }
     ensures only { IfErr result (λ f. IsOfDevice f ⊎ IsDamage f) }
     ensures cause { HasCause (D.faults (device_of file.old)) (D.faults (device_of file.new)) result }
 {
@@ -116,9 +124,12 @@ fn read_objects<D: BlockDevice, A: Allocator + Copy>(
     ensures map { KeepsMap file.old file.new }
     ensures blocks { IsHonest file.old → blocks_of file.new ≡ blocks_of file.old }
     ensures dims { IfOk result (λ objects. axes_of objects ≡ dims) }
-    ensures holds { IsHonest file.old → IfOk result (λ objects. HoldsObjects (given file.old) dims first (entries_of objects)) }
+    ensures holds { IsHonest file.old →
+        IfOk result (λ objects. HoldsObjects (given file.old) dims first (entries_of objects)) }
     ensures ascending { IfOk result (λ objects. IsTrue (is_sorted nat_cmp (entries_of objects))) }
-    ensures damaged { IsHonest file.old → IfErr result (λ f. IsOfDevice f ⊎ ((n : ℕ) × (f ≡ fault.Damaged n) × BreaksAt (given file.old) dims first n)) }
+    ensures damaged { IsHonest file.old →
+        IfErr result (λ f. IsOfDevice f ⊎
+        ((n : ℕ) × (f ≡ fault.Damaged n) × BreaksAt (given file.old) dims first n)) }
     ensures only { IfErr result (λ f. IsOfDevice f ⊎ IsDamage f) }
     ensures cause { HasCause (D.faults (device_of file.old)) (D.faults (device_of file.new)) result }
 {

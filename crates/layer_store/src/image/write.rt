@@ -24,8 +24,8 @@ use object_chain::write_chain;
 use page_file::{Fault, PageFile};
 use std::alloc::Allocator;
 
-/// Writes the table into newly allocated pages, no more than its objects fill, and the catalog that names them. The gate
-/// has to be open.
+/// Writes the table into newly allocated pages, no more than its objects fill, and the catalog that names them. The
+/// gate has to be open.
 ///
 /// `NoPages` comes only where all page numbers were given out; with a sound map any other refusal is `Memory` or
 /// `Device`. After a refusal the pages hold any table or none.
@@ -61,7 +61,9 @@ fn write_layer<D: BlockDevice, A: Allocator + Copy>(
 ) -> Result<LayerRecord, Fault>
     requires { gate_of file.old ≡ Open }
     ensures gate { KeepsGate file.old file.new }
-    ensures holds { IsPageMap file.old → IfOk result (λ r. HoldsLayer (new_pages (pages file.old) (pages file.new)) (record_of r) (entry_of layer.now)) }
+    ensures holds { IsPageMap file.old →
+        IfOk result (λ r. HoldsLayer (new_pages (pages file.old) (pages file.new)) (record_of r)
+        (entry_of layer.now)) }
     ensures good { IfOk result (λ r. IsTrue (is_layer_record (next_of file.new) (record_of r))) }
     ensures others { IsPageMap file.old → KeepsPages (pages file.old) (pages file.new) }
     ensures sound { IsPageMap file.old → IsPageMap file.new }
@@ -94,7 +96,9 @@ fn write_objects<D: BlockDevice, A: Allocator + Copy>(
     requires ascending { IsTrue (is_sorted nat_cmp (entries_of objects.now)) }
     requires open { gate_of file.old ≡ Open }
     ensures gate { KeepsGate file.old file.new }
-    ensures chain { IsPageMap file.old → IfOk result (λ n. HoldsObjects (new_pages (pages file.old) (pages file.new)) (axes_of objects.now) n (entries_of objects.now)) }
+    ensures chain { IsPageMap file.old →
+        IfOk result (λ n. HoldsObjects (new_pages (pages file.old) (pages file.new)) (axes_of objects.now) n
+        (entries_of objects.now)) }
     ensures first { IfOk result (λ n. IsTrue (is_page_or_none (next_of file.new) n)) }
     ensures others { IsPageMap file.old → KeepsPages (pages file.old) (pages file.new) }
     ensures sound { IsPageMap file.old → IsPageMap file.new }

@@ -84,26 +84,31 @@ pub fn create_store<D: BlockDevice, A: Allocator + Copy>(
 /// (docs/FORMAT.md, "Opening"), and nothing is written. The store takes its memory from this allocator and caches so
 /// many pages (8 to 4096; not used yet).
 ///
-/// On an honest device an image of a table is opened as a store of that table, but for `Memory` and `Device`; and blocks
-/// are opened only where no check refuses them.
+/// On an honest device an image of a table is opened as a store of that table, but for `Memory` and `Device`; and
+/// blocks are opened only where no check refuses them.
 ///
-/// Refused by `BadCache`, before any call of the device. On an honest device any other refusal is `Memory`, `Device`, or
-/// that of the first check that fails. The device comes back, with its blocks as they were.
+/// Refused by `BadCache`, before any call of the device. On an honest device any other refusal is `Memory`, `Device`,
+/// or that of the first check that fails. The device comes back, with its blocks as they were.
 pub fn open_store<D: BlockDevice, A: Allocator + Copy>(
     alloc: A,
     device: D,
     cache: u32,
 ) -> Result<Store<D, A>, (Refusal, D)>
     ensures bad_cache { is_cache cache ≡ false → result ≡ Err (refusal.BadCache, device) }
-    ensures image { (t : Table) → D.honest device → IsImage (D.shown device) t → IfOk result (λ store. BeginsWith store (D.moment (device_in store)) t) }
+    ensures image { (t : Table) → D.honest device → IsImage (D.shown device) t →
+        IfOk result (λ store. BeginsWith store (D.moment (device_in store)) t) }
     ensures opened { IfOk result (λ store. D.honest device → (f : Fault) → OpeningRefuses (D.shown device) f → ⊥) }
-    ensures table { IfOk result (λ store. D.honest device → (t : Table) × IsInState store (Alive t) × HoldsIn (D.shown device) t) }
-    ensures refused { is_cache cache ≡ true → IfErr result (λ e. D.honest device → IsMemoryOrDevice e.0 ⊎ OpeningRefusesAs (D.shown device) e.0) }
+    ensures table { IfOk result (λ store. D.honest device → (t : Table) × IsInState store (Alive t) ×
+        HoldsIn (D.shown device) t) }
+    ensures refused { is_cache cache ≡ true →
+        IfErr result (λ e. D.honest device → IsMemoryOrDevice e.0 ⊎ OpeningRefusesAs (D.shown device) e.0) }
 
     // A stop leaves nothing but what one before the call might have left; and once the store is opened nothing but what
     // is read.
-    ensures stops { IfOk result (λ store. D.honest device → LeavesOnly D.moment D.left_since device (device_in store) (D.may_leave device)) }
-    ensures refused_stops { is_cache cache ≡ true → IfErr result (λ e. D.honest device → LeavesOnly D.moment D.left_since device e.1 (D.may_leave device)) }
+    ensures stops { IfOk result (λ store. D.honest device →
+        LeavesOnly D.moment D.left_since device (device_in store) (D.may_leave device)) }
+    ensures refused_stops { is_cache cache ≡ true →
+        IfErr result (λ e. D.honest device → LeavesOnly D.moment D.left_since device e.1 (D.may_leave device)) }
     ensures durable { IfOk result (λ store. D.honest device → Only (blocks_in store) (D.may_leave (device_in store))) }
 
     ensures now_settled { IfOk result IsSettled }
@@ -128,13 +133,19 @@ fn read_store<D: BlockDevice, A: Allocator + Copy>(
     alloc: A,
     file: PageFile<D>,
 ) -> Result<Store<D, A>, (Refusal, D)>
-    ensures begins { IsPageMap file → gate_of file ≡ Shut → IfOk result (λ store. (t : Table) → Holds (given file) (next_of file) t → IsImage (blocks_of file) t → BeginsWith store (D.moment (device_in store)) t) }
+    ensures begins { IsPageMap file → gate_of file ≡ Shut →
+        IfOk result (λ store. (t : Table) → Holds (given file) (next_of file) t → IsImage (blocks_of file) t →
+        BeginsWith store (D.moment (device_in store)) t) }
     ensures opened { IfOk result (λ store. IsHonest file → (n : ℕ) → IsDamaged (given file) (next_of file) n → ⊥) }
-    ensures table { IfOk result (λ store. IsHonest file → (t : Table) × IsInState store (Alive t) × Holds (given file) (next_of file) t) }
-    ensures refused { IsHonest file → IfErr result (λ e. IsMemoryOrDevice e.0 ⊎ ((n : ℕ) × (e.0 ≡ refusal.Damaged n) × IsDamaged (given file) (next_of file) n)) }
+    ensures table { IfOk result (λ store. IsHonest file → (t : Table) × IsInState store (Alive t) ×
+        Holds (given file) (next_of file) t) }
+    ensures refused { IsHonest file →
+        IfErr result (λ e. IsMemoryOrDevice e.0 ⊎
+        ((n : ℕ) × (e.0 ≡ refusal.Damaged n) × IsDamaged (given file) (next_of file) n)) }
     ensures gate { IfOk result (λ store. KeepsGate file (file_in store)) }
     ensures now_settled { gate_of file ≡ Shut → IfOk result IsSettled }
-    ensures refused_stops { IfErr result (λ e. IsHonest file → AddsOnly D.moment D.left_since (device_of file) e.1 (StopSince (gate_of file) (blocks_of file))) }
+    ensures refused_stops { IfErr result (λ e. IsHonest file →
+        AddsOnly D.moment D.left_since (device_of file) e.1 (StopSince (gate_of file) (blocks_of file))) }
     ensures no_fault { IfOk result (λ store. D.faults (device_in store) ≡ D.faults (device_of file)) }
     ensures cause { IfErr result (λ e. D.faults e.1 ≡ faults_after_refusal e.0 (D.faults (device_of file))) }
     ensures blocks { IfOk result (λ store. IsHonest file → blocks_in store ≡ blocks_of file) }

@@ -1,4 +1,4 @@
--- A stop before the gate is open leaves what was left at rest, one behind it a refusal.
+-- A stop before the gate is open leaves what was left at rest, one after it a refusal.
 use Rattle.std.proofs.Common.{◌≡◌, ◌∙◌, true, false}
 use Rattle.page_file.specs.File.{device_of}
 use Rattle.layer_store.proofs.StopLemmas.{gate_opened, none_made, pages_written}
