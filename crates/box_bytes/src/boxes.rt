@@ -23,7 +23,8 @@ pub fn read_box<const D: usize>(
     ensures value { IfSome result (λ b. b ≡ box_at D block.now low high stride) }
     ensures is_box { IfSome result (λ b. IsBox D b) }
     ensures some { IsSome result ↔ IsOrdered D (corner_at D block.now low stride) (corner_at D block.now high stride) }
-    ensures test { is_some result ≡ ordered_test D (corner_at D block.now low stride) (corner_at D block.now high stride) }
+    ensures test { is_some result
+        ≡ ordered_test D (corner_at D block.now low stride) (corner_at D block.now high stride) }
 {
     let lows = read_corner(block, low, stride);
     let highs = read_corner(block, high, stride);

@@ -4,7 +4,8 @@ ghost use Rattle.std.specs.Prelude.{◌≡◌, ℕ, ◌+◌, ◌*◌, ◌<◌, �
 ghost use Rattle.block_bytes.specs.Numbers.{number_at};
 ghost use Rattle.box_math.specs.Bounds.{Bounds, IsDims, IsBox};
 ghost use Rattle.box_bytes.specs.Corners.{Keeps};
-ghost use Rattle.bucket_page.specs.Layout.{BucketContent, entry_place, object_at, HasOrderedBox, IsClearOfEntry, bucket_at};
+ghost use Rattle.bucket_page.specs.Layout.{BucketContent, entry_place, object_at, bucket_at};
+ghost use Rattle.bucket_page.specs.Layout.{HasOrderedBox, IsClearOfEntry};
 
 use block_bytes::{read_u64, write_u64};
 use box_bytes::{read_box, write_box};
@@ -27,8 +28,8 @@ pub fn id_at<const D: usize>(page: &[u8; 4096], place: usize) -> u64
     requires dims { IsDims D }
     requires within { place < 100 }
     ensures value { result ≡ number_at 8 (entry_place D place) page.now }
-    ensures of_bucket { (c : BucketContent) (other : ℕ × Bounds) → bucket_at D page.now ≡ Some c → place < length c.entries
-        → result ≡ (slice_index_or c.entries place other).0 }
+    ensures of_bucket { (c : BucketContent) (other : ℕ × Bounds) → bucket_at D page.now ≡ Some c
+        → place < length c.entries → result ≡ (slice_index_or c.entries place other).0 }
 {
     read_u64(page, place_of::<D>(place))
 }
@@ -41,8 +42,8 @@ pub fn entry_at<const D: usize>(page: &[u8; 4096], place: usize) -> Option<(u64,
     requires within { place < 100 }
     ensures value { IfSome result (λ entry. entry ≡ object_at D page.now place) }
     ensures some { IsSome result ↔ HasOrderedBox D (object_at D page.now place) }
-    ensures of_bucket { (c : BucketContent) (other : ℕ × Bounds) → bucket_at D page.now ≡ Some c → place < length c.entries
-        → result ≡ Some (slice_index_or c.entries place other) }
+    ensures of_bucket { (c : BucketContent) (other : ℕ × Bounds) → bucket_at D page.now ≡ Some c
+        → place < length c.entries → result ≡ Some (slice_index_or c.entries place other) }
 {
     let at = place_of::<D>(place);
     match read_box(page, at + 8, at + 8 + 4 * D, 4) {

@@ -14,7 +14,10 @@ pub fn has_bucket_head<const D: usize>(page: &[u8; 4096]) -> bool
     ensures { IsTrue result ↔ HasBucketHead D page.now }
 {
     let count = count_at(page);
-    read_u8(page, 0) == BUCKET_KIND && usize::from(read_u8(page, 1)) == D && 1 <= count && count <= 100
+    read_u8(page, 0) == BUCKET_KIND
+        && usize::from(read_u8(page, 1)) == D
+        && 1 <= count
+        && count <= 100
 }
 
 /// How many objects a bucket page says it has: the number in the two bytes at 2.

@@ -3,7 +3,8 @@
 
 ghost use Rattle.std.specs.Prelude.{◌≡◌, ◌<◌, All, Some, length, option_map};
 ghost use Rattle.catalog_page.specs.Layout.{records_of};
-ghost use Rattle.catalog_page.specs.PageLaws.{ReadsWhatIsSpelled, ReadsNamedBytes, SpellsCatalogs, BeginsEmpty, CatalogsHaveOnePage};
+ghost use Rattle.catalog_page.specs.PageLaws.{ReadsWhatIsSpelled, ReadsNamedBytes, SpellsCatalogs};
+ghost use Rattle.catalog_page.specs.PageLaws.{BeginsEmpty, CatalogsHaveOnePage};
 
 use crate::layer_record::LayerRecord;
 use crate::page::{decode, encode};

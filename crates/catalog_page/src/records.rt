@@ -1,7 +1,8 @@
 //! One record in its place of the catalog's page.
 
 ghost use Rattle.std.specs.Prelude.{◌≡◌, ◌+◌, ◌<◌, ◌≤◌, ◌↔◌, length, IsSome, IfSome};
-ghost use Rattle.catalog_page.specs.Layout.{record_of, record_place, record_at, record_from, HasName, HasNumbers, ChangesOnly, ChangesRecord};
+ghost use Rattle.catalog_page.specs.Layout.{record_of, record_place, record_at, record_from};
+ghost use Rattle.catalog_page.specs.Layout.{HasName, HasNumbers, ChangesOnly, ChangesRecord};
 
 use crate::layer_record::LayerRecord;
 use crate::names::{read_name, write_name};

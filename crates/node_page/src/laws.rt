@@ -7,7 +7,8 @@ ghost use Rattle.tree_node.specs.Nodes.{content_of};
 ghost use Rattle.node_page.specs.Layout.{IsSpellable};
 ghost use Rattle.node_page.specs.PageLaws.{ReadsWhatIsSpelled, ReadsNamedBytes, SpellsNodes, NodesHaveOnePage};
 ghost use Rattle.node_page.specs.Changes.{TreesBelowStand, TreesBesideStand, WaitersBesideStand};
-ghost use Rattle.node_page.specs.Parts.{AllPagesMove, MovesBeside, MovesInTurn, OnePageMoves, StayingMoves, TheRestStays};
+ghost use Rattle.node_page.specs.Parts.{AllPagesMove, MovesBeside, MovesInTurn};
+ghost use Rattle.node_page.specs.Parts.{OnePageMoves, StayingMoves, TheRestStays};
 ghost use Rattle.node_page.specs.Standing.{Stands};
 ghost use Rattle.node_page.specs.StandingLaws.{BoxesAreBoxes, ChildPagesAreReferences, EqualPagesStand, LevelsAreKept};
 ghost use Rattle.node_page.specs.StandingLaws.{OneTreeStands, PagesAreThere, ReplacedNodeStands};
@@ -103,8 +104,8 @@ pub fn pages_of_a_tree_were_given_out<B: BlockDevice, A: Allocator + Copy>(cache
     let _ = cache;
 }
 
-/// What a change of some pages makes of a part of the live pages: one page given out, written or freed is such a change,
-/// and so are two in turn. Other live pages stay, and may be counted with either part.
+/// What a change of some pages makes of a part of the live pages: one page given out, written or freed is such a
+/// change, and so are two in turn. Other live pages stay, and may be counted with either part.
 #[tactic(auto, using(crate::proofs::PartLemmas::part_laws))]
 pub fn parts_of_the_pages_move()
     ensures one { OnePageMoves }

@@ -21,8 +21,8 @@ use tree_node::{Node, Root};
 /// The identifiers of each leaf of a tree, by position, and the leaves from left to right. It has one list for a root
 /// that is a leaf, be it empty.
 ///
-/// On an honest device, where the pages stand for a tree at that page and level, a refusal is `Memory` or `Device`. Map and
-/// gate stay, also after a refusal.
+/// On an honest device, where the pages stand for a tree at that page and level, a refusal is `Memory` or `Device`. Map
+/// and gate stay, also after a refusal.
 pub fn leaf_lists<const D: usize, B: BlockDevice, A: Allocator + Copy, H: Allocator + Copy>(
     alloc: H,
     cache: &mut PageCache<B, A>,
@@ -30,9 +30,11 @@ pub fn leaf_lists<const D: usize, B: BlockDevice, A: Allocator + Copy, H: Alloca
 ) -> Result<Vec<Vec<u64, H>, H>, Fault>
     requires { IsDims D }
     ensures asks { Asks cache.old cache.new result }
-    ensures lists { IsHonest cache.old → (t : Tree) → t.page ≡ root.page → t.level ≡ root.level → Stands D (pages cache.old) t →
+    ensures lists { IsHonest cache.old → (t : Tree) → t.page ≡ root.page → t.level ≡ root.level
+        → Stands D (pages cache.old) t →
         IfOk result (λ lists. lists_of lists ≡ leaf_ids t.level t.row) }
-    ensures stands { IsHonest cache.old → (t : Tree) → t.page ≡ root.page → t.level ≡ root.level → Stands D (pages cache.old) t →
+    ensures stands { IsHonest cache.old → (t : Tree) → t.page ≡ root.page → t.level ≡ root.level
+        → Stands D (pages cache.old) t →
         IfErr result IsOfDevice }
     ensures other_faults { IfErr result (λ f. IsOfDevice f ⊎ IsDamage f) }
 {
@@ -52,7 +54,8 @@ fn add_leaves<const D: usize, B: BlockDevice, A: Allocator + Copy, H: Allocator 
     ensures asks { Asks cache.old cache.new result }
     ensures lists { IsHonest cache.old → (row : Row) → StandsAt D (pages cache.old) root.page root.level row →
         OnOk result (lists_of lists.new ≡ lists_of lists.old ++ leaf_ids root.level row) }
-    ensures stands { IsHonest cache.old → (row : Row) → StandsAt D (pages cache.old) root.page root.level row → IfErr result IsOfDevice }
+    ensures stands { IsHonest cache.old → (row : Row) → StandsAt D (pages cache.old) root.page root.level row
+        → IfErr result IsOfDevice }
     ensures other_faults { IfErr result (λ f. IsOfDevice f ⊎ IsDamage f) }
 {
     let node = read_node::<D, B, A>(cache, root.page, root.level)?;

@@ -7,7 +7,8 @@ ghost use Rattle.page_file.specs.Fault.{IsDamage, IsOfDevice};
 ghost use Rattle.page_file.specs.Pages.{SameBut};
 ghost use Rattle.page_file.specs.declared.fault.Fault.TheVariants as fault;
 ghost use Rattle.page_file.specs.declared.gate.Gate.TheVariants.{Open};
-ghost use Rattle.page_cache.specs.Cache.{IsHonest, IsLive, IsPageMap, IsUnchanged, device_of, gate_of, given, looks_of, next_of, pages};
+ghost use Rattle.page_cache.specs.Cache.{IsHonest, IsLive, IsPageMap, IsUnchanged, device_of, gate_of, given, looks_of};
+ghost use Rattle.page_cache.specs.Cache.{next_of, pages};
 ghost use Rattle.page_cache.specs.Calls.{Asks, Changes};
 ghost use Rattle.tree_node.specs.Nodes.{NodeContent, content_of};
 ghost use Rattle.node_page.specs.Layout.{IsSpellable};
@@ -35,16 +36,20 @@ pub fn read_node<const D: usize, B: BlockDevice, A: Allocator + Copy>(
 ) -> Result<Node<D>, Fault>
     requires { IsDims D }
     ensures asks { Asks cache.old cache.new result }
-    ensures node { IsHonest cache.old → IsLive cache.old page → IfOk result (λ node. node_in D (pages cache.old page) ≡ Some (content_of node)) }
-    ensures given_node { IsHonest cache.old → IfOk result (λ node. node_in D (given cache.old page) ≡ Some (content_of node)) }
+    ensures node { IsHonest cache.old → IsLive cache.old page
+        → IfOk result (λ node. node_in D (pages cache.old page) ≡ Some (content_of node)) }
+    ensures given_node { IsHonest cache.old
+        → IfOk result (λ node. node_in D (given cache.old page) ≡ Some (content_of node)) }
     ensures level { IfOk result (λ node. node.level ≡ level) }
     ensures spellable { IfOk result (λ node. IsSpellable (content_of node)) }
     ensures boxes { IfOk result (λ node. All (λ item. IsBox D item.bounds) (content_of node).entries) }
     ensures looks { OnOk result (looks_of cache.new ≡ one_more (looks_of cache.old)) }
-    ensures refused_looks { OnErr result ((looks_of cache.new ≡ looks_of cache.old) ⊎ (looks_of cache.new ≡ one_more (looks_of cache.old))) }
+    ensures refused_looks { OnErr result
+        ((looks_of cache.new ≡ looks_of cache.old) ⊎ (looks_of cache.new ≡ one_more (looks_of cache.old))) }
     ensures outside { (page < 2) ⊎ (next_of cache.old ≤ page) → IsErrOf result (fault.Damaged page) }
     ensures quiet { (page < 2) ⊎ (next_of cache.old ≤ page) → device_of cache.new ≡ device_of cache.old }
-    ensures there { IsHonest cache.old → (c : NodeContent) → node_in D (pages cache.old page) ≡ Some c → c.level ≡ level → IfErr result IsOfDevice }
+    ensures there { IsHonest cache.old → (c : NodeContent) → node_in D (pages cache.old page) ≡ Some c
+        → c.level ≡ level → IfErr result IsOfDevice }
     ensures faults { IsHonest cache.old → IfErr result (λ f. IsOfDevice f ⊎ (f ≡ fault.Damaged page)) }
     ensures other_faults { IfErr result (λ f. IsOfDevice f ⊎ IsDamage f) }
 {
@@ -57,9 +62,9 @@ pub fn read_node<const D: usize, B: BlockDevice, A: Allocator + Copy>(
 /// Writes a node into a live page. The gate has to be open. The node has at most 100 entries, and one that is no leaf
 /// has at least one, all of which refer to pages from 3 to 2^31 - 1.
 ///
-/// A number outside 2 to the last one given out is `Damaged` with that number, and changes nothing. After another refusal,
-/// which on an honest device is `Memory` or `Device`, the page is still live and may hold any bytes; all others are as
-/// before.
+/// A number outside 2 to the last one given out is `Damaged` with that number, and changes nothing. After another
+/// refusal, which on an honest device is `Memory` or `Device`, the page is still live and may hold any bytes; all others
+/// are as before.
 pub fn write_node<const D: usize, B: BlockDevice, A: Allocator + Copy>(
     cache: &mut PageCache<B, A>,
     page: u32,
@@ -69,13 +74,15 @@ pub fn write_node<const D: usize, B: BlockDevice, A: Allocator + Copy>(
     requires open { gate_of cache.old ≡ Open }
     requires spellable { IsSpellable (content_of node.now) }
     ensures changes { Changes cache.old cache.new result }
-    ensures written { IsHonest cache.old → IsLive cache.old page → OnOk result (node_in D (pages cache.new page) ≡ Some (content_of node.now)) }
+    ensures written { IsHonest cache.old → IsLive cache.old page
+        → OnOk result (node_in D (pages cache.new page) ≡ Some (content_of node.now)) }
     ensures live { IsHonest cache.old → IsLive cache.old page → IsLive cache.new page }
     ensures others { IsHonest cache.old → IsLive cache.old page → SameBut page (pages cache.old) (pages cache.new) }
     ensures sound { IsPageMap cache.old → IsLive cache.old page → IsPageMap cache.new }
     ensures next { next_of cache.new ≡ next_of cache.old }
     ensures looks { looks_of cache.new ≡ looks_of cache.old }
-    ensures outside { (page < 2) ⊎ (next_of cache.old ≤ page) → (result ≡ Err (fault.Damaged page)) × IsUnchanged cache.old cache.new }
+    ensures outside { (page < 2) ⊎ (next_of cache.old ≤ page)
+        → (result ≡ Err (fault.Damaged page)) × IsUnchanged cache.old cache.new }
     ensures faults { IsHonest cache.old → IsLive cache.old page → IfErr result IsOfDevice }
     ensures other_faults { IfErr result (λ f. IsOfDevice f ⊎ IsDamage f) }
 {

@@ -1,6 +1,7 @@
 //! A node read in the page that spells it, without decoding the page.
 
-ghost use Rattle.std.specs.Prelude.{◌≡◌, ◌≢◌, ℕ, ◌+◌, ◌*◌, ◌<◌, ◌≤◌, pos, Some, All, length, map, IfSome, IfNone, slice_index_or};
+ghost use Rattle.std.specs.Prelude.{◌≡◌, ◌≢◌, ℕ, ◌+◌, ◌*◌, ◌<◌, ◌≤◌, pos, Some, IfSome, IfNone};
+ghost use Rattle.std.specs.Prelude.{All, length, map, slice_index_or};
 ghost use Rattle.block_bytes.specs.Numbers.{signed_at};
 ghost use Rattle.box_math.specs.Bounds.{IsDims, IsBox, on_axis};
 ghost use Rattle.node_page.specs.Columns.{cell, AreColumns};

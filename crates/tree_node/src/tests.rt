@@ -1,7 +1,8 @@
 //! The tests of entries.
 
-use crate::Entry;
+use crate::{Entry, box_of, least, picked, reference_of, see_boxes};
 use box_math::BBox;
+use std::test::Fail;
 
 #[test]
 fn the_default_entry_is_the_origin(rt: HostRuntime) {
@@ -13,4 +14,24 @@ fn the_default_entry_is_the_origin(rt: HostRuntime) {
             reference: 0
         }
     );
+}
+
+// An entry of the box (low,-low) to (high,high).
+fn entry(reference: u64, low: i32, high: i32) -> Option<Entry<2>> {
+    let bounds = BBox::try_new([low, low.checked_neg()?], [high, high])?;
+    Some(Entry { bounds, reference })
+}
+
+#[test]
+fn entries_are_picked_and_enclosed(rt: HostRuntime) -> Result<(), Fail> {
+    let first = entry(7, 1, 2).expect(&rt, "a box");
+    let second = entry(8, 3, 5).expect(&rt, "a box");
+    let entries = [first, second];
+    see_boxes(&entries);
+    assert!(rt; box_of(&entries, 1) == second.bounds);
+    assert_eq!(rt; reference_of(&entries, 0), 7);
+    assert!(rt; Some(least(&entries)) == BBox::try_new([1, -3], [5, 5]));
+    let turned = picked(&entries, &[1, 0, 1]);
+    assert!(rt; turned.as_slice() == [second, first, second].as_slice());
+    Ok(())
 }
