@@ -73,10 +73,7 @@ def killed(program, file, closed, moment):
 
 
 def whole_run(program, file):
-    """How many seconds a session takes here that is not killed."""
-    make(program, file)
-    begun = time.monotonic()
-    killed(program, file, 0, 0.0)
+    """About how many seconds a session takes here that is not killed."""
     make(program, file)
     text = "".join(insert(ident) for ident in range(1, BATCH + 1)) + "reopen\n"
     begun = time.monotonic()
