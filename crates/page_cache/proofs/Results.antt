@@ -1,5 +1,5 @@
 -- A fact of an answer from facts of it.
-use Rattle.std.specs.Prelude.{Result, Ok, Err, OnOk, OnErr, IfOk}
+use Rattle.std.specs.Prelude.{Result, Ok, Err, OnOk, OnErr, IfOk, IfErr}
 
 module _ {T E : Type 0} where
   -- an answer of the one kind or the other
@@ -42,3 +42,11 @@ module _ {T E : Type 0} where
   pub if_ok_map : {P Q : T → Type 0} (r : Result T E) → IfOk r P → ((x : T) → P x → Q x) → IfOk r Q
   if_ok_map (Ok x) p f = f x p
   if_ok_map (Err e) p f = tt
+
+  pub if_err_map : {P Q : E → Type 0} (r : Result T E) → IfErr r P → ((e : E) → P e → Q e) → IfErr r Q
+  if_err_map (Ok x) p f = tt
+  if_err_map (Err e) p f = f e p
+
+  pub on_err_any : {P : Type 0} (r : Result T E) → P → OnErr r P
+  on_err_any (Ok x) p = tt
+  on_err_any (Err e) p = p

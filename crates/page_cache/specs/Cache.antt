@@ -3,7 +3,7 @@ use Rattle.std.specs.Prelude.{◌≡◌, ◌↔◌, ℕ, List, Option, None, IsS
 use Rattle.block_device.specs.Device.{Blocks}
 use Rattle.page_file.specs.File as below
 use Rattle.page_file.specs.Opening.{failed_check}
-use Rattle.page_file.specs.Pages.{HasFreeChain, IsSoundMap, given_pages, next_in, page_of, pages_in}
+use Rattle.page_file.specs.Pages.{HasFreeChain, IsSoundMap, free_pages_of, given_pages, next_in, page_of, pages_in}
 use Rattle.page_file.specs.declared.gate.Gate.{Gate}
 use Rattle.page_cache.specs.Frames.{changed_pages, frame_at, laid_over}
 use Rattle.page_cache.specs.declared.cache.PageCache.{PageCache}
@@ -37,6 +37,10 @@ pages cache n = page_of (blocks_behind cache) (below.header_of cache.file) n
 -- the pages given out, live or free
 abbrev pub given : {D A : Type 0} {m : _} → PageCache D A m → ℕ → Option (List ℕ)
 given cache n = given_pages (blocks_behind cache) (next_of cache) n
+
+-- the free pages, in their order
+abbrev pub free_of : {D A : Type 0} {m : _} → PageCache D A m → List ℕ
+free_of cache = free_pages_of (blocks_behind cache) (below.header_of cache.file)
 
 -- the page of this number is live
 abbrev pub IsLive : {D A : Type 0} {m : _} → PageCache D A m → ℕ → Type 0

@@ -3,3 +3,4 @@ pub mod Examples
 mod PageExamples
 pub mod Results
 pub mod Moments
+pub mod Walk

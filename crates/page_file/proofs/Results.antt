@@ -1,5 +1,6 @@
 -- A fact of an answer from facts of it.
-use Rattle.std.specs.Prelude.{Result, Ok, Err, OnOk, OnErr, IfOk, IfErr}
+use Rattle.std.proofs.Common.{subst, sym}
+use Rattle.std.specs.Prelude.{◌≡◌, Result, Ok, Err, OnOk, OnErr, IfOk, IfErr, IsErrAnd}
 
 module _ {T E : Type 0} where
   -- an answer of the one kind or the other
@@ -22,3 +23,8 @@ module _ {T E : Type 0} where
   pub on_ok_map : {P Q : Type 0} (r : Result T E) → (P → Q) → OnOk r P → OnOk r Q
   on_ok_map (Ok x) f p = f p
   on_ok_map (Err e) f p = p
+
+  -- an answer that hands on a fault
+  pub is_handed_on : (r : Result T E) (e : E) (P : E → Type 0) → IsErrAnd r (λ x. x ≡ e) → P e → IfErr r P
+  is_handed_on (Ok x) e P is p = tt
+  is_handed_on (Err x) e P is p = subst P (sym is) p

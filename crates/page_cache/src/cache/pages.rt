@@ -3,10 +3,10 @@ ghost use Rattle.std.specs.Prelude.{◌≡◌, ◌⊎◌, ◌≤◌, ◌<◌, �
 ghost use Rattle.std.specs.Borrow.{sem};
 ghost use Rattle.block_bytes.specs.Numbers.{zeros};
 ghost use Rattle.page_file.specs.Fault.{HasCause, IsOfDevice, IsDamage};
-ghost use Rattle.page_file.specs.Pages.{SameBut};
+ghost use Rattle.page_file.specs.Pages.{SameBut, TakesFirst};
 ghost use Rattle.page_file.specs.declared.fault.Fault.TheVariants as fault;
 ghost use Rattle.page_file.specs.declared.gate.Gate.TheVariants.{Open};
-ghost use Rattle.page_cache.specs.Cache.{IsHeld, IsHonest, IsLive, IsPageMap, IsUnchanged, KeepsGate, KeepsMap, capacity_of, device_of, gate_of, given, looks_of, next_of, pages};
+ghost use Rattle.page_cache.specs.Cache.{IsHeld, IsHonest, IsLive, IsPageMap, IsUnchanged, KeepsGate, KeepsMap, capacity_of, device_of, free_of, gate_of, given, looks_of, next_of, pages};
 ghost use Rattle.page_cache.specs.Calls.{Changes, IsLookedAt};
 ghost use Rattle.page_cache.specs.Frames.{frame_at};
 ghost use Rattle.page_cache.specs.Keeps.{KeepsBlocks, SameFrames};
@@ -126,15 +126,20 @@ impl<D: BlockDevice, A: Allocator + Copy> PageCache<D, A> {
         self.make_room()
     }
 
-    /// Gives out a page of zeros that was not live. The gate has to be open.
+    /// Gives out a page of zeros that was not live: the first free page where there is one, and else one of a new
+    /// number. The gate has to be open.
     ///
     /// After a refusal one page that was not live may hold any bytes, and may be live; all others are as
-    /// before. `NoPages` comes only where all numbers up to 2^31 - 1 were given out.
+    /// before. `NoPages` comes only where each number from 2 to 2^31 - 1 is live. `Damaged` comes with the number of the
+    /// first free page, where that is no free page (docs/FORMAT.md, "Pages"); the map stays then.
     #[tactic(auto, using(crate::specs::Calls::counted_by_end))]
     pub fn allocate(&mut self) -> Result<u32, Fault>
         requires { gate_of self.old ≡ Open }
         ensures changes { Changes self.old self.new result }
-        ensures fresh { IsPageMap self.old → IfOk result (λ n. (pages self.old n ≡ None) × (pages self.new n ≡ Some zeros) × SameBut n (pages self.old) (pages self.new)) }
+        ensures fresh { IsPageMap self.old →
+            IfOk result (λ n. (pages self.old n ≡ None) × (pages self.new n ≡ Some zeros) × SameBut n (pages self.old) (pages self.new)) }
+        ensures taken { IsPageMap self.old →
+            IfOk result (λ n. TakesFirst n (free_of self.old) (next_of self.old) (free_of self.new) (next_of self.new)) }
         ensures given_others { IsHonest self.old → IfOk result (λ n. SameBut n (given self.old) (given self.new)) }
         ensures given_refused { IsHonest self.old → OnErr result ((n : ℕ) × SameBut n (given self.old) (given self.new)) }
         ensures refused { IsPageMap self.old → OnErr result ((n : ℕ) × (pages self.old n ≡ None) × SameBut n (pages self.old) (pages self.new)) }
@@ -143,9 +148,13 @@ impl<D: BlockDevice, A: Allocator + Copy> PageCache<D, A> {
         ensures next { (next_of self.old ≤ next_of self.new) × (next_of self.new ≤ next_of self.old + 1) }
         ensures looks { looks_of self.new ≡ looks_of self.old }
         ensures no_pages { IsErrOf result fault.NoPages → next_of self.old ≡ 2 ^ 31 }
+        ensures all_live { IsErrOf result fault.NoPages → (n : ℕ) → 2 ≤ n → n < 2 ^ 31 → IsLive self.old n }
         ensures faults { IsPageMap self.old → IfErr result (λ f. IsOfDevice f ⊎ (f ≡ fault.NoPages)) }
         ensures other_faults { IfErr result (λ f. IsOfDevice f ⊎ ((f ≡ fault.NoPages) ⊎ IsDamage f)) }
     {
+        // The block of the page that is given out next is read and written below, so that page is not held.
+        let first = self.file.first_free();
+        self.release(first)?;
         self.file.allocate()
     }
 

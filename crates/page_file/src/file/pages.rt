@@ -16,6 +16,7 @@ use crate::header::Header;
 use crate::layout::{free_link, free_page};
 use block_bytes::zero_block;
 use block_device::BlockDevice;
+use std::alloc::Allocator;
 
 const MAX_PAGES: u32 = 1 << 31;
 
@@ -46,6 +47,7 @@ impl<D: BlockDevice> PageFile<D> {
         ensures number { IfOk result (λ n. (3 ≤ n) × (n < next_of self.new)) }
         ensures next { (next_of self.old ≤ next_of self.new) × (next_of self.new ≤ next_of self.old + 1) }
         ensures no_pages { IsErrOf result fault.NoPages → next_of self.old ≡ 2 ^ 31 }
+        ensures none_free { IsErrOf result fault.NoPages → (header_of self.old).count ≡ 0 }
         ensures all_live { IsErrOf result fault.NoPages → (n : ℕ) → 2 ≤ n → n < 2 ^ 31 → IsLive self.old n }
         ensures faults { IsPageMap self.old → IfErr result (λ f. IsOfDevice f ⊎ (f ≡ fault.NoPages)) }
         ensures damaged { IsHonest self.old → IfErr result (λ f. IsOfDevice f ⊎ ((f ≡ fault.NoPages) ⊎ IsBroken self.old self.new f)) }
@@ -152,6 +154,32 @@ impl<D: BlockDevice> PageFile<D> {
             Some(link) => Ok(link),
             None => Err(Fault::Damaged(n)),
         }
+    }
+
+    /// The free pages, in the order in which they are given out again. `Damaged` where they are no chain of free pages as the
+    /// format has it (docs/FORMAT.md, "Pages"), with the number of the page at which it ends to be one: where a page of it
+    /// is of another kind, where it closes on itself, and where it is longer or shorter than the count.
+    pub fn free_pages<A: Allocator>(&mut self, alloc: A) -> Result<Vec<u32, A>, Fault>
+        ensures gate { KeepsGate self.old self.new }
+        ensures map { KeepsMap self.old self.new }
+        ensures header { header_of self.new ≡ header_of self.old }
+        ensures blocks { IsHonest self.old → blocks_of self.new ≡ blocks_of self.old }
+        ensures pages { IsHonest self.old → IfOk result (λ found. found.items ≡ free_of self.old) }
+        ensures sound { IsHonest self.old → OnOk result (IsPageMap self.old) }
+        ensures faults { IsPageMap self.old → IfErr result IsOfDevice }
+        ensures other_faults { IfErr result (λ f. IsOfDevice f ⊎ IsDamage f) }
+        ensures cause { HasCause (D.faults (device_of self.old)) (D.faults (device_of self.new)) result }
+    {
+        let mut found = Vec::new(alloc);
+        let mut next = self.header.first;
+        let mut left = self.header.count;
+        while left > 0 {
+            let link = self.read_link(next, left)?;
+            found.push(next)?;
+            next = link;
+            left -= 1;
+        }
+        Ok(found)
     }
 
     /// The first free page, 0 where there is none.

@@ -1,120 +1,163 @@
 -- The goals of `PageCache::allocate` that are proved by hand.
-use Rattle.std.proofs.Common.{◌≡◌, ◌∙◌, ℕ, ◌≤◌, length, Some, None, is_some, ap, sym, subst, arith}
+use Rattle.std.proofs.Common.{inl, inr, ◌≡◌, ◌⊎◌, ◌∙◌, ℕ, ◌≤◌, ◌<◌, length, Option, Some, None, is_some, IsSome, ap, refl, sym, subst, arith, ⊎_elim}
 use Rattle.block_bytes.specs.Numbers.{zeros}
-use Rattle.block_device.specs.Device.{Blocks, Torn, block_at, written}
-use Rattle.block_device.specs.Written.{block_at-written, torn_other}
+use Rattle.block_device.specs.Device.{Blocks, block_at}
+use Rattle.page_file.specs.Fault.{IsOfDevice}
 use Rattle.page_file.specs.File as below
-use Rattle.page_file.specs.Live.{fresh_free, fresh_lives, fresh_none, fresh_others, page_live, refused_free, refused_others}
-use Rattle.page_file.specs.Given.{given_more, given_torn}
-use Rattle.page_file.specs.Pages.{HasFreeChain, SameBut, given_pages, page_of, with_one_given}
-use Rattle.page_file.specs.Settled.{sound_says}
+use Rattle.page_file.specs.Pages.{HasFreeChain, HasGiven, MayHaveGiven, SameBut, TakesFirst, free_page_link, free_pages_of, given_pages, next_given, page_of}
+use Rattle.page_file.specs.Reused.{all_live, chain_refused, chain_stays, given_is_zeros, given_refused, given_stays, none_before, others_refused, others_stay, sound_link, takes_first}
+use Rattle.page_file.specs.declared.fault.Fault.TheVariants as fault
+use Rattle.page_file.specs.declared.file.PageFile.{PageFile}
 use Rattle.page_file.specs.declared.header.Header.{Header}
-use Rattle.page_cache.specs.Cache.{IsHonest, blocks_behind, blocks_of}
-use Rattle.page_cache.specs.Frames.{changed_pages, frame_at, laid_over}
-use Rattle.page_cache.specs.Laid.{length-laid, written_below}
+use Rattle.page_cache.specs.Cache.{IsHonest, IsPageMap, blocks_behind, blocks_of}
+use Rattle.page_cache.specs.Frames.{changed_pages, frame_at, laid_over, newer_bytes}
+use Rattle.page_cache.specs.Keeps.{KeepsBlocks}
+use Rattle.page_cache.specs.Laid.{length-laid}
 use Rattle.page_cache.specs.declared.cache.PageCache.{PageCache}
-use Rattle.page_cache.proofs.Changed.{given_grown, none_from, torn_below}
+use Rattle.page_cache.specs.declared.frame.Frame.{Frame}
+use Rattle.page_cache.proofs.Behind.{map_kept}
+use Rattle.page_cache.proofs.Changed.{given_grown}
 use Rattle.page_cache.proofs.Kept.{kept_below}
-use Rattle.page_cache.proofs.Results.{either_if, if_ok_both, if_ok_map, on_err_map}
+use Rattle.page_cache.proofs.Results.{either, if_err_map, if_ok_both, on_err_any, on_err_map}
+use Rattle.page_cache.proofs.Reused.{either_given, first_same, gives_behind, may_behind}
 use Rattle.page_cache.proofs.cache.PageCache.allocate.Goals as goal
 
--- a page more behind what is held: the blocks, as they were and are, and the header
-module _ (old new : Blocks) (h h' : Header) (start : 3 ≤ h.next) (room : h.next ≤ length old) (free : HasFreeChain old h) (torn : Torn h.next old new) where
-  pub none_there : page_of old h h.next ≡ None
-  none_there = fresh_none old new h start room free torn
+-- no page is held that was not given out
+none_next : {A : Type 0} (frames : ℕ → Option (Frame A)) (next : ℕ) → ((n : ℕ) → IsSome (frames n) → (2 ≤ n) × (n < next)) → frames next ≡ None
+none_next frames next within = case (frames next) refl
+  where
+    case : (o : Option _) → frames next ≡ o → o ≡ None
+    case None e = refl
+    case (Some f) e = absurd (let w = within next (ap is_some e) in omega (arith, w.1))
 
-  module _ (more : h' ≡ with_one_given h) where
-    pub zeros_there : new ≡ written h.next zeros old → page_of new h' h.next ≡ Some zeros
-    zeros_there is = ap (λ (x : Header). page_of new x h.next) more
-        ∙ page_live new (with_one_given h) h.next (fresh_lives old new h start room free torn)
-        ∙ ap Some (ap (block_at h.next) is ∙ block_at-written h.next zeros old room)
+-- the cache before, the one of which the first free page was let go, and the file behind which a page was given out
+module _ {D A : Type 0} {m : _} (old mid : PageCache D A m) (file : PageFile D m) (keeps : KeepsBlocks old mid) (first : ℕ) (is : first ≡ mid.file.header.first) (gone : frame_at mid.frames.entries first ≡ None) where
+  at_first : frame_at mid.frames.entries mid.file.header.first ≡ None
+  at_first = subst (λ (n : ℕ). frame_at mid.frames.entries n ≡ None) is gone
 
-    pub others_stay : SameBut h.next (page_of old h) (page_of new h')
-    others_stay k ne = ap (λ (x : Header). page_of new x k) more ∙ fresh_others old new h start room free torn k ne
+  at_next : frame_at mid.frames.entries mid.file.header.next ≡ None
+  at_next = none_next (frame_at mid.frames.entries) mid.file.header.next mid.within
 
-    pub free_more : HasFreeChain new h'
-    free_more = subst (λ (x : Header). HasFreeChain new x) (sym more) (fresh_free old new h start room free torn)
+  pub at_given : frame_at mid.frames.entries (next_given mid.file.header) ≡ None
+  at_given = either_given (λ n. frame_at mid.frames.entries n ≡ None) mid.file.header at_next at_first
 
-  module _ (same : h' ≡ h) where
-    pub others_refused : SameBut h.next (page_of old h) (page_of new h')
-    others_refused k ne = ap (λ (x : Header). page_of new x k) same ∙ refused_others old new h start room free torn k ne
+  abbrev pub after : Blocks
+  after = laid_over (changed_pages mid.frames.entries) (below.blocks_of file)
 
-    pub free_refused : HasFreeChain new h'
-    free_refused = subst (λ (x : Header). HasFreeChain new x) (sym same) (refused_free old new h start room free torn)
+  pub room : IsHonest old → old.file.header.next ≤ length (blocks_behind old)
+  room h = let size = length-laid (changed_pages old.frames.entries) (blocks_of old) in omega (arith, size, old.file.room h)
 
-module _ {D A : Type 0} {m : _} (cache : PageCache D A m) where
-  none_next : changed_pages cache.frames.entries cache.file.header.next ≡ None
-  none_next = none_from (frame_at cache.frames.entries) cache.file.header.next cache.within
+  pub gives : IsHonest old → HasGiven (blocks_of mid) (below.blocks_of file) mid.file.header file.header → HasGiven (blocks_behind old) after old.file.header file.header
+  gives h given = subst (λ (x : Header). HasGiven (blocks_behind old) after x file.header) keeps.header
+      (subst (λ (b : Blocks). HasGiven b after mid.file.header file.header) (keeps.blocks h)
+      (gives_behind (changed_pages mid.frames.entries) (blocks_of mid) mid.file.header mid.file.sound (mid.file.room (keeps.gate.honest.0 h)) (below.blocks_of file) file.header (ap newer_bytes at_first) (ap newer_bytes at_next) given))
 
-  room : IsHonest cache → cache.file.header.next ≤ length (blocks_behind cache)
-  room h = let size = length-laid (changed_pages cache.frames.entries) (blocks_of cache) in omega (arith, size, cache.file.room h)
+  pub may : IsHonest old → MayHaveGiven (blocks_of mid) (below.blocks_of file) mid.file.header file.header → MayHaveGiven (blocks_behind old) after old.file.header file.header
+  may h given = subst (λ (x : Header). MayHaveGiven (blocks_behind old) after x file.header) keeps.header
+      (subst (λ (b : Blocks). MayHaveGiven b after mid.file.header file.header) (keeps.blocks h)
+      (may_behind (changed_pages mid.frames.entries) (blocks_of mid) mid.file.header mid.file.sound (mid.file.room (keeps.gate.honest.0 h)) (below.blocks_of file) file.header (ap newer_bytes at_first) (ap newer_bytes at_next) given))
 
-  torn_there : IsHonest cache → (bs : Blocks) → Torn cache.file.header.next (blocks_of cache) bs → Torn cache.file.header.next (blocks_behind cache) (laid_over (changed_pages cache.frames.entries) bs)
-  torn_there h bs torn = torn_below (changed_pages cache.frames.entries) cache.file.header.next (blocks_of cache) bs (cache.file.room h) none_next torn
+  pub which : (n : ℕ) → n ≡ next_given mid.file.header → n ≡ next_given old.file.header
+  which n e = e ∙ ap (λ (x : Header). next_given x) keeps.header
 
-  written_there : IsHonest cache → (bs : Blocks) → bs ≡ written cache.file.header.next zeros (blocks_of cache) → laid_over (changed_pages cache.frames.entries) bs ≡ written cache.file.header.next zeros (blocks_behind cache)
-  written_there h bs is = ap (laid_over (changed_pages cache.frames.entries)) is ∙ written_below (changed_pages cache.frames.entries) cache.file.header.next zeros (blocks_of cache) (cache.file.room h) none_next
-
-  start : 3 ≤ cache.file.header.next
-  start = (sound_says cache.file.header cache.file.sound).start
+  -- the block of the first free page is as it is behind what is held
+  pub same_link : IsHonest old → free_page_link mid.file.header.count mid.file.header.next (block_at mid.file.header.first (blocks_of mid)) ≡ free_page_link old.file.header.count old.file.header.next (block_at old.file.header.first (blocks_behind old))
+  same_link h =
+      ap (free_page_link mid.file.header.count mid.file.header.next) (sym (first_same (changed_pages mid.frames.entries) (blocks_of mid) mid.file.header mid.file.sound (mid.file.room (keeps.gate.honest.0 h)) (ap newer_bytes at_first)))
+      ∙ ap (λ (b : Blocks). free_page_link mid.file.header.count mid.file.header.next (block_at mid.file.header.first b)) (keeps.blocks h)
+      ∙ ap (λ (x : Header). free_page_link x.count x.next (block_at x.first (blocks_behind old))) keeps.header
 
 pub invariant_of-self : goal.invariant_of-self
 invariant_of-self g c =
-    let cache = c.args.self.now in let new = c.allocate.new.self in
-    let kept = kept_below cache.file new (frame_at cache.frames.entries) c.allocate.ensures.next.0 c.allocate.ensures.gate.gate c.allocate.ensures.gate.honest.1
-    (λ h n f is clean. let w = cache.within n (ap is_some is) in
-    given_grown (blocks_of cache) (below.blocks_of new) cache.file.header.next new.header.next n w.0 w.1 c.allocate.ensures.next.0
-    (torn_other cache.file.header.next n (blocks_of cache) (below.blocks_of new) (c.allocate.ensures.torn h) (cache.file.room h) (λ e. absurd (omega (arith, w.1, e)))))
-    (record { within = cache.within; true_to = cache.true_to; behind_the_gate = cache.behind_the_gate }) in
-    record { within = kept.within; true_to = kept.true_to; behind_the_gate = kept.behind_the_gate; counted = cache.counted }
+    let mid = c.release.new.self in let new = c.allocate.new.self in
+    let first = c.first_free-first.ensures ∙ ap (λ (x : Header). x.first) (sym c.release.ensures.kept.header) in
+    let kept = kept_below mid.file new (frame_at mid.frames.entries) c.allocate.ensures.next.0 c.allocate.ensures.gate.gate c.allocate.ensures.gate.honest.1
+    (λ h n f is clean.
+    let apart : n ≡ next_given mid.file.header → ⊥ = λ e. let none = at_given c.args.self.now mid new c.release.ensures.kept c.first_free-first.result first c.in_ok-release.ensures.gone in let some = sym (ap (frame_at mid.frames.entries) e) ∙ is in absurd (let bad = sym none ∙ some in cc) in
+    either c.allocate.result (c.allocate.ensures.gives h) (c.allocate.ensures.may_give h)
+    (λ gives. given_stays (blocks_of mid) (below.blocks_of new) mid.file.header new.header mid.file.sound (mid.file.room h) gives n apart)
+    (λ may. given_refused (blocks_of mid) (below.blocks_of new) mid.file.header new.header mid.file.sound (mid.file.room h) may n apart))
+    (record { within = mid.within; true_to = mid.true_to; behind_the_gate = mid.behind_the_gate }) in
+    record { within = kept.within; true_to = kept.true_to; behind_the_gate = kept.behind_the_gate; counted = mid.counted }
 
 pub returns-clause-fresh : goal.returns-clause-fresh
 returns-clause-fresh g c = λ map.
-    let cache = c.args.self.now in let h = map.honest in let bs = below.blocks_of c.allocate.new.self in
-    let X = blocks_behind cache in let Y = laid_over (changed_pages cache.frames.entries) bs in
-    let torn = torn_there cache h bs (c.allocate.ensures.torn h) in
-    if_ok_both c.allocate.result c.allocate.ensures.header (c.allocate.ensures.block h)
-    (λ n is block. subst (λ (k : ℕ). (page_of X cache.file.header k ≡ None) × (page_of Y c.allocate.new.self.header k ≡ Some zeros) × SameBut k (page_of X cache.file.header) (page_of Y c.allocate.new.self.header)) (sym is.0) (
-      none_there X Y cache.file.header c.allocate.new.self.header (start cache) (room cache h) map.free torn,
-      zeros_there X Y cache.file.header c.allocate.new.self.header (start cache) (room cache h) map.free torn is.1 (written_there cache h bs block),
-      others_stay X Y cache.file.header c.allocate.new.self.header (start cache) (room cache h) map.free torn is.1,
+    let old = c.args.self.now in let mid = c.release.new.self in let new = c.allocate.new.self in let h = map.honest in let k = c.release.ensures.kept in
+    let first = c.first_free-first.ensures ∙ ap (λ (x : Header). x.first) (sym k.header) in let gone = c.in_ok-release.ensures.gone in
+    let X = blocks_behind old in let Y = after old mid new k c.first_free-first.result first gone in
+    if_ok_both c.allocate.result c.allocate.ensures.which (c.allocate.ensures.gives (k.gate.honest.0 h))
+    (λ n is given. subst (λ (i : ℕ). (page_of X old.file.header i ≡ None) × (page_of Y new.header i ≡ Some zeros) × SameBut i (page_of X old.file.header) (page_of Y new.header)) (sym (which old mid new k c.first_free-first.result first gone n is)) (
+      none_before X Y old.file.header new.header old.file.sound (room old mid new k c.first_free-first.result first gone h) map.free,
+      given_is_zeros X Y old.file.header new.header old.file.sound (room old mid new k c.first_free-first.result first gone h) map.free (gives old mid new k c.first_free-first.result first gone h given),
+      others_stay X Y old.file.header new.header old.file.sound (room old mid new k c.first_free-first.result first gone h) map.free (gives old mid new k c.first_free-first.result first gone h given),
     ))
+
+pub returns-clause-taken : goal.returns-clause-taken
+returns-clause-taken g c = λ map.
+    let old = c.args.self.now in let mid = c.release.new.self in let new = c.allocate.new.self in let h = map.honest in let k = c.release.ensures.kept in
+    let first = c.first_free-first.ensures ∙ ap (λ (x : Header). x.first) (sym k.header) in let gone = c.in_ok-release.ensures.gone in
+    let X = blocks_behind old in let Y = after old mid new k c.first_free-first.result first gone in
+    if_ok_both c.allocate.result c.allocate.ensures.which (c.allocate.ensures.gives (k.gate.honest.0 h))
+    (λ n is given. subst (λ (i : ℕ). TakesFirst i (free_pages_of X old.file.header) old.file.header.next (free_pages_of Y new.header) new.header.next) (sym (which old mid new k c.first_free-first.result first gone n is))
+    (takes_first X Y old.file.header new.header old.file.sound (room old mid new k c.first_free-first.result first gone h) map.free (gives old mid new k c.first_free-first.result first gone h given)))
+
+pub returns-clause-given_others : goal.returns-clause-given_others
+returns-clause-given_others g c = λ h.
+    let old = c.args.self.now in let mid = c.release.new.self in let new = c.allocate.new.self in let k = c.release.ensures.kept in
+    let first = c.first_free-first.ensures ∙ ap (λ (x : Header). x.first) (sym k.header) in let gone = c.in_ok-release.ensures.gone in
+    let X = blocks_behind old in let Y = after old mid new k c.first_free-first.result first gone in
+    if_ok_both c.allocate.result c.allocate.ensures.which (c.allocate.ensures.gives (k.gate.honest.0 h))
+    (λ n is given. subst (λ (i : ℕ). SameBut i (given_pages X old.file.header.next) (given_pages Y new.header.next)) (sym (which old mid new k c.first_free-first.result first gone n is))
+    (given_stays X Y old.file.header new.header old.file.sound (room old mid new k c.first_free-first.result first gone h) (gives old mid new k c.first_free-first.result first gone h given)))
+
+pub returns-clause-given_refused : goal.returns-clause-given_refused
+returns-clause-given_refused g c = λ h.
+    let old = c.args.self.now in let mid = c.release.new.self in let new = c.allocate.new.self in let k = c.release.ensures.kept in
+    let first = c.first_free-first.ensures ∙ ap (λ (x : Header). x.first) (sym k.header) in let gone = c.in_ok-release.ensures.gone in
+    let X = blocks_behind old in let Y = after old mid new k c.first_free-first.result first gone in
+    on_err_map c.allocate.result (c.allocate.ensures.may_give (k.gate.honest.0 h))
+    (λ given. (next_given old.file.header, given_refused X Y old.file.header new.header old.file.sound (room old mid new k c.first_free-first.result first gone h) (may old mid new k c.first_free-first.result first gone h given)))
 
 pub returns-clause-refused : goal.returns-clause-refused
 returns-clause-refused g c = λ map.
-    let cache = c.args.self.now in let h = map.honest in let bs = below.blocks_of c.allocate.new.self in
-    let X = blocks_behind cache in let Y = laid_over (changed_pages cache.frames.entries) bs in
-    let torn = torn_there cache h bs (c.allocate.ensures.torn h) in
-    on_err_map c.allocate.result c.allocate.ensures.refused_header
-    (λ same. (
-      cache.file.header.next,
-      none_there X Y cache.file.header c.allocate.new.self.header (start cache) (room cache h) map.free torn,
-      others_refused X Y cache.file.header c.allocate.new.self.header (start cache) (room cache h) map.free torn same,
+    let old = c.args.self.now in let mid = c.release.new.self in let new = c.allocate.new.self in let h = map.honest in let k = c.release.ensures.kept in
+    let first = c.first_free-first.ensures ∙ ap (λ (x : Header). x.first) (sym k.header) in let gone = c.in_ok-release.ensures.gone in
+    let X = blocks_behind old in let Y = after old mid new k c.first_free-first.result first gone in
+    on_err_map c.allocate.result (c.allocate.ensures.may_give (k.gate.honest.0 h))
+    (λ given. (
+      next_given old.file.header,
+      none_before X Y old.file.header new.header old.file.sound (room old mid new k c.first_free-first.result first gone h) map.free,
+      others_refused X Y old.file.header new.header old.file.sound (room old mid new k c.first_free-first.result first gone h) map.free (may old mid new k c.first_free-first.result first gone h given),
     ))
 
 pub returns-clause-sound : goal.returns-clause-sound
 returns-clause-sound g c = λ map.
-    let cache = c.args.self.now in let h = map.honest in let bs = below.blocks_of c.allocate.new.self in
-    let X = blocks_behind cache in let Y = laid_over (changed_pages cache.frames.entries) bs in
-    let torn = torn_there cache h bs (c.allocate.ensures.torn h) in record {
-      honest = c.allocate.ensures.gate.honest.0 h;
-      free = either_if c.allocate.result c.allocate.ensures.header c.allocate.ensures.refused_header
-          (λ n is. free_more X Y cache.file.header c.allocate.new.self.header (start cache) (room cache h) map.free torn is.1)
-          (λ same. free_refused X Y cache.file.header c.allocate.new.self.header (start cache) (room cache h) map.free torn same);
+    let old = c.args.self.now in let mid = c.release.new.self in let new = c.allocate.new.self in let h = map.honest in let k = c.release.ensures.kept in
+    let first = c.first_free-first.ensures ∙ ap (λ (x : Header). x.first) (sym k.header) in let gone = c.in_ok-release.ensures.gone in
+    let X = blocks_behind old in let Y = after old mid new k c.first_free-first.result first gone in record {
+      honest = c.allocate.ensures.gate.honest.0 (k.gate.honest.0 h);
+      free = either c.allocate.result (c.allocate.ensures.gives (k.gate.honest.0 h)) (c.allocate.ensures.may_give (k.gate.honest.0 h))
+          (λ given. chain_stays X Y old.file.header new.header old.file.sound (room old mid new k c.first_free-first.result first gone h) map.free (gives old mid new k c.first_free-first.result first gone h given))
+          (λ given. chain_refused X Y old.file.header new.header old.file.sound (room old mid new k c.first_free-first.result first gone h) map.free (may old mid new k c.first_free-first.result first gone h given));
     }
 
-pub returns-clause-given_others : goal.returns-clause-given_others
-returns-clause-given_others g c = λ h.
-    let cache = c.args.self.now in let bs = below.blocks_of c.allocate.new.self in
-    if_ok_map c.allocate.result c.allocate.ensures.header
-    (λ n is. subst (λ (k : ℕ). SameBut k (given_pages (blocks_behind cache) cache.file.header.next) (given_pages (laid_over (changed_pages cache.frames.entries) bs) c.allocate.new.self.header.next)) (sym is.0)
-    (subst (λ (x : ℕ). SameBut cache.file.header.next (given_pages (blocks_behind cache) cache.file.header.next) (given_pages (laid_over (changed_pages cache.frames.entries) bs) x)) (sym (ap (λ (x : Header). x.next) is.1))
-    (given_more cache.file.header.next (blocks_behind cache) (laid_over (changed_pages cache.frames.entries) bs) (torn_there cache h bs (c.allocate.ensures.torn h)) (room cache h))))
+pub returns-clause-all_live : goal.returns-clause-all_live
+returns-clause-all_live g c = λ is n low below.
+    let old = c.args.self.now in let header = c.release.ensures.kept.header in
+    all_live (blocks_behind old) old.file.header (sym (ap (λ (x : Header). x.count) header) ∙ c.allocate.ensures.none_free is) n low
+    (omega (arith, below, c.allocate.ensures.no_pages is, ap (λ (x : Header). x.next) header))
 
-pub returns-clause-given_refused : goal.returns-clause-given_refused
-returns-clause-given_refused g c = λ h.
-    let cache = c.args.self.now in let bs = below.blocks_of c.allocate.new.self in
-    on_err_map c.allocate.result c.allocate.ensures.refused_header
-    (λ same. (cache.file.header.next,
-    subst (λ (x : ℕ). SameBut cache.file.header.next (given_pages (blocks_behind cache) cache.file.header.next) (given_pages (laid_over (changed_pages cache.frames.entries) bs) x)) (sym (ap (λ (x : Header). x.next) same))
-    (given_torn cache.file.header.next (blocks_behind cache) (laid_over (changed_pages cache.frames.entries) bs) cache.file.header.next (torn_there cache h bs (c.allocate.ensures.torn h)) (room cache h))))
+pub returns-clause-faults : goal.returns-clause-faults
+returns-clause-faults g c = λ map.
+    let old = c.args.self.now in let mid = c.release.new.self in let new = c.allocate.new.self in let h = map.honest in let k = c.release.ensures.kept in
+    let first = c.first_free-first.ensures ∙ ap (λ (x : Header). x.first) (sym k.header) in let gone = c.in_ok-release.ensures.gone in
+    if_err_map c.allocate.result (c.allocate.ensures.damaged (k.gate.honest.0 h))
+    (λ f is. ⊎_elim
+    (λ (device : IsOfDevice f). inl device)
+    (λ rest. ⊎_elim
+    (λ (none : f ≡ fault.NoPages). inr none)
+    (λ (broken : below.IsBroken mid.file new f).
+    let some : 0 < old.file.header.count = subst (λ (x : Header). 0 < x.count) k.header broken.some in
+    let link = sound_link (blocks_behind old) old.file.header map.free some in let none = sym (same_link old mid new k c.first_free-first.result first gone h) ∙ broken.no_link in absurd (let bad = sym none ∙ link in cc))
+    rest)
+    is)

@@ -1,0 +1,27 @@
+-- The goals of `PageFile::free_pages` that are proved by hand.
+use Rattle.std.proofs.Common.{arith, ⊎_elim}
+use Rattle.page_file.specs.Fault.{IsOfDevice}
+use Rattle.page_file.proofs.Results.{is_handed_on}
+use Rattle.page_file.proofs.Walk.{not_broken, not_walked, walked_all, walked_on}
+use Rattle.page_file.proofs.file.PageFile.free_pages.Goals as goal
+
+pub loop-left-init : goal.loop-left-init
+loop-left-init g c = not_walked c.args.self.now _ c.new-found.ensures.items
+
+pub loop-left-preserved : goal.loop-left-preserved
+loop-left-preserved g c = walked_on c.loop-left.invariant c.read_link.new.self c.in_ok-link.link _ (omega (arith, c.loop-left-test.true)) c.read_link.ensures.gate c.read_link.ensures.map c.read_link.ensures.header c.read_link.ensures.blocks
+    c.in_ok-link.ensures.cause.ok c.in_ok-link.ensures.there c.in_ok-link.ensures.link c.in_ok-push.ensures.items
+
+pub returns-clause-pages : goal.returns-clause-pages
+returns-clause-pages g c = λ h. (walked_all c.loop-left.invariant (omega (arith, c.loop-left-test.false)) h).0
+
+pub returns-clause-sound : goal.returns-clause-sound
+returns-clause-sound g c = λ h. record { honest = h; free = (walked_all c.loop-left.invariant (omega (arith, c.loop-left-test.false)) h).1 }
+
+pub returns-in_err-link-clause-faults : goal.returns-in_err-link-clause-faults
+returns-in_err-link-clause-faults g c = λ map.
+    let here = c.loop-left.invariant in let f = c.in_err-link.field-0.0 in
+    is_handed_on c.from_residual.result f IsOfDevice c.from_residual.ensures.1
+    (⊎_elim (λ (device : IsOfDevice f). device)
+    (λ broken. absurd (not_broken here map.honest map.free (omega (arith, c.loop-left-test.true)) broken.1))
+    (c.in_err-link.ensures.damaged (here.gate.honest.0 map.honest)))
