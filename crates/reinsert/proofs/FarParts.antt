@@ -11,6 +11,7 @@ use Rattle.tree_node.specs.Positions.{total, AreParts}
 use Rattle.tree_node.specs.Orders.{in_order}
 use Rattle.tree_node.proofs.PositionLemmas.{total-append}
 use Rattle.tree_node.proofs.OrderSums.{total-take_drop, total-in_order}
+use Rattle.tree_node.proofs.PartPermutations.{total-range}
 use Rattle.reinsert.specs.Far.{far_places, near_places, farther, far_order}
 
 zero_there : (a b : ℕ) → ¬ (a ≡ b) → ◌≡◌ {A = ℕ} (cond (eqb a b) 1 0) 0
@@ -63,17 +64,6 @@ total-filter f t (x ∷ xs) = total-filter_test f (t x) x (total (λ i. cond (t 
 total-reverse : (f : ℕ → ℕ) (xs : List ℕ) → total f (reverse xs) ≡ total f xs
 total-reverse f [] = refl
 total-reverse f (x ∷ xs) = rw (reverse-append (x ∷ []) xs) (omega (arith, total-append f (reverse xs) (x ∷ []), total-reverse f xs))
-
-total-range_from : (f : ℕ → ℕ) (a n : ℕ) → total f (range_with_len a n) + sum_over a f ≡ sum_over (a + n) f
-total-range_from f a zero = let e : a + 0 ≡ a = omega arith in rw e (omega arith)
-total-range_from f a (suc n) =
-    let e : a + suc n ≡ suc a + n = omega arith in
-    let b : a + 1 ≡ suc a = omega arith in
-    let h : total f (range_with_len (a + 1) n) + sum_over (suc a) f ≡ sum_over (suc a + n) f = rw b (total-range_from f (suc a) n) in
-    rw e (omega (arith, h))
-
-total-range : (f : ℕ → ℕ) (n : ℕ) → total f (range_with_len 0 n) ≡ sum_over n f
-total-range f n = let e : 0 + n ≡ n = omega arith in let h : total f (range_with_len 0 n) + 0 ≡ sum_over n f = rw e at (total-range_from f 0 n) in omega (arith, h)
 
 -- a position is below the count at most once
 none_past : (i n : ℕ) → n ≤ i → sum_over n (λ k. cond (eqb k i) 1 0) ≡ 0

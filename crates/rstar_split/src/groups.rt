@@ -1,6 +1,6 @@
 //! The choice of the axis and of the cut.
 
-ghost use Rattle.std.specs.Prelude.{◌≡◌, ℕ, ◌+◌, ◌-◌, ◌*◌, ◌^◌, ◌<◌, ◌≤◌, [], ◌∷◌, length};
+ghost use Rattle.std.specs.Prelude.{◌≡◌, ℕ, ◌+◌, ◌-◌, ◌*◌, ◌^◌, ◌<◌, ◌≤◌, [], ◌∷◌, ◌++◌, length, IsPermutation};
 ghost use Rattle.arrayvec.specs.ArrayVec.{array_vec_len};
 ghost use Rattle.box_math.specs.Bounds.{IsDims};
 ghost use Rattle.tree_node.specs.Nodes.{items_of};
@@ -108,6 +108,7 @@ pub fn split<const D: usize>(
     requires most { (4 ≤ m_max) × (m_max ≤ 100) }
     requires count { array_vec_len entries.now ≡ m_max + 1 }
     ensures divided { IsDividedBySplit D m_max entries.now.items result.0.items result.1.items }
+    ensures all { IsPermutation entries.now.items (result.0.items ++ result.1.items) }
     ensures whole { array_vec_len result.0 + array_vec_len result.1 ≡ m_max + 1 }
     ensures full { (least_entries m_max ≤ array_vec_len result.0) × (least_entries m_max ≤ array_vec_len result.1) }
 {

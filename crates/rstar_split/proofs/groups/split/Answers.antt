@@ -6,6 +6,7 @@ use Rattle.tree_node.specs.Shape.{least_entries}
 use Rattle.tree_node.specs.Keys.{AtMost, IsFirstLeast}
 use Rattle.rstar_split.specs.declared.sorting.Bound.{Bound}
 use Rattle.rstar_split.specs.Cuts.{order_of, axis_margin, cut_key}
+use Rattle.rstar_split.proofs.SplitParts.{divided_whole}
 use Rattle.rstar_split.proofs.groups.split.Goals as goal
 
 pub returns-clause-divided : goal.returns-clause-divided
@@ -41,3 +42,6 @@ returns-clause-divided g c =
       first_is = cc;
       second_is = cc;
     }
+
+pub returns-clause-all : goal.returns-clause-all
+returns-clause-all g c = divided_whole g.row.D c.args.m_max _ _ _ (returns-clause-divided g c)
