@@ -13,5 +13,6 @@ pub mod LeastBoxes
 pub mod SearchLemmas
 pub mod JoinLemmas
 pub mod ObjectLemmas
+pub mod PartPermutations
 pub mod TreeExamples
 mod SearchExamples

@@ -1,0 +1,11 @@
+use Rattle.std.proofs.Common.{◌*◌, ◌^◌, ◌≤◌}
+use Rattle.tree_node.specs.Nodes.{items_of}
+use Rattle.choose_subtree.proofs.OverlapLaws.{GrewBy}
+use Rattle.choose_subtree.proofs.overlap.overlap_growth_up_to.Given as goal
+
+abbrev pub invariant-loop-i : goal.invariant-loop-i
+invariant-loop-i g l = record {
+  value : GrewBy g.row.D (items_of l.entries) l.new l.k l.i l.sum;
+  bound : l.sum ≤ l.i * 2 ^ 96;
+  small : l.sum ≤ l.limit;
+}

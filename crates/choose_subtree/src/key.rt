@@ -1,0 +1,59 @@
+//! What decides between the entries of a node.
+
+ghost use Rattle.std.specs.Prelude.{◌≡◌, ℕ, ◌^◌, ◌<◌, ◌↔◌, List, length, IsTrue};
+ghost use Rattle.box_math.specs.Bounds.{IsDims};
+ghost use Rattle.box_math.specs.Measures.{volume_of};
+ghost use Rattle.tree_node.specs.Nodes.{items_of};
+ghost use Rattle.tree_node.specs.Boxes.{box_at};
+ghost use Rattle.tree_node.specs.Keys.{AtMost};
+ghost use Rattle.choose_subtree.specs.Choice.{numbers_of, growth_of};
+
+use box_math::BBox;
+use tree_node::{Entry, box_of};
+
+/// What decides between entries, the first that differs; the position is last, so ties go to the least one.
+#[derive(Clone, Copy)]
+pub(crate) struct Key {
+    pub(crate) overlap: u128,
+    pub(crate) growth: u128,
+    pub(crate) area: u128,
+    pub(crate) position: usize,
+}
+
+// How much the area of a box grows where it takes in another.
+fn growth<const D: usize>(a: &BBox<D>, b: &BBox<D>) -> u128
+    requires { IsDims D }
+    ensures value { result ≡ growth_of D a.now b.now }
+    ensures bound { result < 2 ^ 96 }
+{
+    let joined = a.join(b);
+    let _ = a.low();
+    joined.volume() - a.volume()
+}
+
+/// Whether a key is at most another.
+pub(crate) fn at_most(a: &Key, b: &Key) -> bool
+    ensures { IsTrue result ↔ AtMost (numbers_of a.now) (numbers_of b.now) }
+{
+    (a.overlap, a.growth, a.area, a.position) <= (b.overlap, b.growth, b.area, b.position)
+}
+
+/// The key of an entry, the growth of its overlap being known.
+pub(crate) fn key_of<const D: usize>(
+    entries: &[Entry<D>],
+    new: &BBox<D>,
+    k: usize,
+    overlap: u128,
+) -> Key
+    requires dims { IsDims D }
+    requires within { k < length entries.now }
+    ensures { result ≡ record { overlap = overlap; growth = growth_of D (box_at (items_of entries.now) k) new.now; area = volume_of D (box_at (items_of entries.now) k); position = k } }
+{
+    let bounds = box_of(entries, k);
+    Key {
+        overlap,
+        growth: growth(&bounds, new),
+        area: bounds.volume(),
+        position: k,
+    }
+}

@@ -1,0 +1,197 @@
+ghost use Rattle.std.specs.Prelude.{◌≡◌, ◌≤◌, ◌<◌, length};
+ghost use Rattle.arrayvec.specs.ArrayVec.{array_vec_len};
+
+use arrayvec::ArrayVec;
+use box_math::BBox;
+use choose_subtree::choose;
+use tree_node::{Entry, Node};
+use reinsert::farthest;
+use rstar_split::split;
+
+/// A box of two axes.
+fn plane(low: [i32; 2], high: [i32; 2]) -> BBox<2> {
+    BBox::try_new(low, high).unwrap_or_default()
+}
+
+/// Points with their references.
+fn points(all: &[(u64, i32, i32)]) -> ArrayVec<Entry<2>, 101>
+    requires { length all.now ≤ 101 }
+    ensures { array_vec_len result ≡ length all.now }
+{
+    let mut entries = ArrayVec::new();
+    for i in 0..all.len() {
+        let (reference, x, y) = all[i];
+        entries.push(Entry {
+            bounds: plane([x, y], [x, y]),
+            reference,
+        });
+    }
+    entries
+}
+
+/// Whether the references are these.
+fn are<const D: usize>(entries: &ArrayVec<Entry<D>, 101>, references: &[u64]) -> bool {
+    if entries.len() != references.len() {
+        return false;
+    }
+    for (i, entry) in entries.iter().enumerate() {
+        if i < references.len() && entry.reference != references[i] {
+            return false;
+        }
+    }
+    true
+}
+
+#[test]
+fn chooses_by_overlap_on_the_first_level_alone(rt: HostRuntime) {
+    for (level, want) in [(1u8, 1usize), (2, 0)] {
+        let mut entries = ArrayVec::new();
+        entries.push(Entry {
+            bounds: plane([0, 0], [2, 100]),
+            reference: 10,
+        });
+        entries.push(Entry {
+            bounds: plane([2, 0], [30, 4]),
+            reference: 11,
+        });
+        let node = Node { level, entries };
+        assert!(rt; level > 0);
+        let point = plane([3, 100], [3, 100]);
+        assert_eq!(rt; choose(&node, &point), want, "on level {level}");
+    }
+}
+
+#[test]
+fn chooses_the_first_of_equal_children(rt: HostRuntime) {
+    for level in [1u8, 2, 40] {
+        let mut entries = ArrayVec::new();
+        entries.push(Entry {
+            bounds: plane([0, 0], [5, 5]),
+            reference: 10,
+        });
+        entries.push(Entry {
+            bounds: plane([0, 0], [5, 5]),
+            reference: 11,
+        });
+        let node = Node { level, entries };
+        assert!(rt; level > 0);
+        assert_eq!(rt;
+            choose(&node, &plane([9, 9], [9, 9])),
+            0,
+            "on level {level}"
+        );
+    }
+}
+
+#[test]
+fn chooses_between_two_leaves(rt: HostRuntime) {
+    let near = plane([0, 0], [2, 2]);
+    let grown = plane([0, 0], [42, 42]);
+    let far = plane([100, 100], [104, 102]);
+    let wide = plane([60, 60], [104, 102]);
+    for (first, second, at, want) in [
+        (near, far, [60, 60], 1usize),
+        (near, wide, [42, 42], 0),
+        (grown, wide, [103, 101], 1),
+        (grown, far, [60, 60], 0),
+    ] {
+        let mut entries = ArrayVec::new();
+        entries.push(Entry {
+            bounds: first,
+            reference: 10,
+        });
+        entries.push(Entry {
+            bounds: second,
+            reference: 11,
+        });
+        let node = Node { level: 1, entries };
+        assert_eq!(rt; choose(&node, &plane(at, at)), want, "at {at:?}");
+    }
+}
+
+#[test]
+fn splits_worked_points(rt: HostRuntime) {
+    let (first, second) = split(
+        &points(&[(1, 0, 0), (2, 1, 0), (3, 2, 0), (4, 3, 0), (5, 10, 0)]),
+        4,
+    );
+    assert!(rt; are(&first, &[1, 2]) && are(&second, &[3, 4, 5]));
+    let (first, second) = split(
+        &points(&[
+            (1, 0, 0),
+            (2, 2, 2),
+            (3, 100, 100),
+            (4, 102, 102),
+            (5, 104, 100),
+        ]),
+        4,
+    );
+    assert!(rt; are(&first, &[1, 2]) && are(&second, &[3, 4, 5]));
+    let (first, second) = split(
+        &points(&[(9, 5, 0), (4, 0, 5), (7, -5, 0), (2, 0, -5), (5, 3, 4)]),
+        4,
+    );
+    assert!(rt; are(&first, &[2, 7]) && are(&second, &[9, 5, 4]));
+    let (first, second) = split(
+        &points(&[(8, -5, 0), (9, -6, 0), (1, 5, 0), (2, 6, 0), (3, 7, 0)]),
+        4,
+    );
+    assert!(rt; are(&first, &[9, 8]) && are(&second, &[1, 2, 3]));
+    let (first, second) = split(
+        &points(&[(2, 1, 0), (6, 11, 0), (7, 4, 0), (8, 5, 0), (1, 0, 0)]),
+        4,
+    );
+    assert!(rt; are(&first, &[1, 2]) && are(&second, &[7, 8, 6]));
+}
+
+/// As many of the greatest boxes of three axes as a node has room for, the last reference first.
+fn greatest() -> ArrayVec<Entry<3>, 101> {
+    let whole: BBox<3> = BBox::try_new([-2147483648; 3], [2147483647; 3]).unwrap_or_default();
+    let mut entries: ArrayVec<Entry<3>, 101> = ArrayVec::new();
+    for i in 0..101u64 {
+        if !entries.is_full() {
+            entries.push(Entry {
+                bounds: whole,
+                reference: 100 - i,
+            });
+        }
+    }
+    entries
+}
+
+#[test]
+fn splits_the_greatest_boxes(rt: HostRuntime) {
+    let entries = greatest();
+    assert!(rt; entries.len() == 101);
+    let (first, second) = split(&entries, 100);
+    assert_eq!(rt; first.len(), 40);
+    assert_eq!(rt; second.len(), 61);
+    assert!(rt; first.iter().enumerate().all(|(i, entry)| entry.reference == i as u64));
+}
+
+#[test]
+fn takes_out_the_greatest_boxes_by_reference(rt: HostRuntime) {
+    let entries = greatest();
+    assert!(rt; entries.len() == 101);
+    let (kept, far) = farthest(&entries, 30);
+    assert_eq!(rt; kept.len(), 71);
+    assert!(rt; far.iter().enumerate().all(|(i, entry)| entry.reference + i as u64 == 29));
+}
+
+#[test]
+fn takes_out_the_farthest(rt: HostRuntime) {
+    let leaf = points(&[(1, 0, 0), (2, 1, 0), (6, 11, 0), (7, 4, 0), (8, 5, 0)]);
+    let (kept, far) = farthest(&leaf, 3);
+    assert!(rt; are(&kept, &[7, 8]) && are(&far, &[2, 6, 1]));
+    let (kept, far) = farthest(&leaf, 1);
+    assert!(rt; are(&kept, &[2, 6, 7, 8]) && are(&far, &[1]));
+    let leaf = points(&[
+        (3, 100, 100),
+        (4, 102, 102),
+        (5, 104, 100),
+        (6, 60, 60),
+        (8, 103, 101),
+    ]);
+    let (kept, far) = farthest(&leaf, 1);
+    assert!(rt; are(&kept, &[3, 4, 5, 8]) && are(&far, &[6]));
+}
