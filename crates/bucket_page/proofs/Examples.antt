@@ -5,7 +5,7 @@ use Rattle.block_bytes.specs.Places.{first_places}
 use Rattle.block_bytes.specs.Numbers.{number_at, signed_at}
 use Rattle.box_math.specs.Bounds.{Bounds, ordered_test}
 use Rattle.box_bytes.specs.Corners.{corner_at}
-use Rattle.bucket_page.specs.Layout.{IsBucket, IsNamed, entry_place, object_at, objects_at, bucket_test, bucket_at}
+use Rattle.bucket_page.specs.Layout.{IsBucket, IsNamed, entry_place, object_at, bucket_test, bucket_at}
 
 -- one object in two dimensions, its identifier 1 and its box (-1,2) to (3,4), and 7 in the places that are not named
 abbrev head : ℕ → ℕ → ℕ → List ℕ

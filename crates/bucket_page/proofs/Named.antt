@@ -1,5 +1,5 @@
 -- The laws of what pages spell: which bytes are read, and what objects are.
-use Rattle.std.proofs.Common.{◌≡◌, ℕ, ◌+◌, ◌*◌, ◌<◌, ◌≤◌, List, [], get_or, Option, Some, None, refl, sym, ◌∙◌, ap, subst, arith, inl, inr}
+use Rattle.std.proofs.Common.{◌≡◌, ℕ, ◌+◌, ◌*◌, ◌<◌, ◌≤◌, List, [], get_or, refl, sym, ◌∙◌, ap, subst, arith, inl, inr}
 use Rattle.block_bytes.specs.FormLaws.{reads_named}
 use Rattle.block_bytes.specs.Numbers.{number_at}
 use Rattle.block_bytes.specs.PlaceLaws.{first_places-same, get_or-first_places}

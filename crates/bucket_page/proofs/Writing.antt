@@ -4,7 +4,7 @@ use Rattle.block_bytes.specs.Numbers.{number_at}
 use Rattle.block_bytes.specs.PlaceLaws.{first_places-are}
 use Rattle.box_math.specs.Bounds.{Bounds, IsBox}
 use Rattle.box_bytes.specs.Corners.{Keeps}
-use Rattle.bucket_page.specs.Layout.{object_at, objects_at, entry_place, HasOrderedBox, IsClearOfEntry, IsHead, Spells, IsNamed}
+use Rattle.bucket_page.specs.Layout.{object_at, entry_place, HasOrderedBox, IsClearOfEntry, IsHead, Spells, IsNamed}
 use Rattle.bucket_page.proofs.Places.{entry_place-more, entry_place-above, object_stays}
 
 le_or_lt : (a b : ℕ) → (a ≤ b) ⊎ (b < a)

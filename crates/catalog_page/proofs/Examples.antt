@@ -3,7 +3,7 @@
 use Rattle.std.proofs.Common.{◌≡◌, ℕ, zero, suc, ◌-◌, ◌⊎◌, List, [], ◌∷◌, ◌++◌, replicate, Some, None, refl, map, arith, inl, inr}
 use Rattle.block_bytes.specs.Places.{first_places}
 use Rattle.block_bytes.specs.Numbers.{number_at}
-use Rattle.catalog_page.specs.Layout.{Record, IsRecord, IsCatalog, IsOfRecord, IsNamed, bytes_at, record_from, record_place, first_records, catalog_test, records_at}
+use Rattle.catalog_page.specs.Layout.{Record, IsRecord, IsCatalog, IsOfRecord, IsNamed, record_from, record_place, catalog_test, records_at}
 
 -- a record's numbers, each byte of them another
 abbrev numbers : List ℕ

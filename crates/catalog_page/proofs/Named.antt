@@ -1,5 +1,5 @@
 -- The laws of what pages spell: which bytes are read, and what layers are.
-use Rattle.std.proofs.Common.{◌≡◌, ℕ, ◌<◌, ◌&&◌, ◌==◌, nat_le, List, [], length, get_or, Some, None, sym, ◌∙◌, ap, subst, arith, inl, inr, if◌then◌else◌}
+use Rattle.std.proofs.Common.{◌≡◌, ℕ, ◌&&◌, ◌==◌, nat_le, List, [], length, get_or, Some, None, sym, ◌∙◌, ap, subst, arith, inl, inr, if◌then◌else◌}
 use Rattle.std.specs.List.{list_all}
 use Rattle.std.proofs.lemmas.List.Elements.{All-nil}
 use Rattle.block_bytes.specs.PlaceLaws.{first_places-none, first_places-same, get_or-first_places, length-first_places}

@@ -1,5 +1,5 @@
 -- Names and records: read from their own bytes alone.
-use Rattle.std.proofs.Common.{◌≡◌, ◌⊎◌, ℕ, ◌+◌, ◌<◌, ◌≤◌, ◌↔◌, List, [], ◌∷◌, ◌++◌, length, get_or, slice_index, refl, sym, ◌∙◌, ap, arith, inl, inr, ⊎_elim}
+use Rattle.std.proofs.Common.{◌≡◌, ◌⊎◌, ℕ, ◌+◌, ◌<◌, ◌≤◌, ◌↔◌, List, length, get_or, slice_index, refl, sym, ◌∙◌, ap, arith, inl, inr, ⊎_elim}
 use Rattle.block_bytes.specs.PlaceLaws.{first_places-same, get_or-first_places, length-first_places}
 use Rattle.block_bytes.specs.Numbers.{number_at, IsApart}
 use Rattle.block_bytes.specs.Laws.{number_at-same, number_at-lt}

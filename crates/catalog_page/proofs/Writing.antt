@@ -3,7 +3,7 @@ use Rattle.std.proofs.Common.{◌≡◌, ◌⊎◌, ℕ, ◌+◌, ◌<◌, ◌�
 use Rattle.block_bytes.specs.PlaceLaws.{first_places-are}
 use Rattle.block_bytes.specs.Numbers.{number_at, zeros, put_number}
 use Rattle.block_bytes.specs.Laws.{number_at-put, number_at-put_other, number_at-zeros, length-put, length-zeros}
-use Rattle.catalog_page.specs.Layout.{Record, HasName, record_place, record_at, first_records, Spells, IsOfRecord, IsNamed, ChangesOnly, ChangesRecord}
+use Rattle.catalog_page.specs.Layout.{Record, HasName, record_place, record_at, Spells, IsOfRecord, IsNamed, ChangesOnly, ChangesRecord}
 use Rattle.catalog_page.proofs.Places.{length-name, record_stays}
 
 -- ---- the bytes of a name
