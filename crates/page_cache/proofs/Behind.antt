@@ -1,18 +1,20 @@
 -- Maps behind what is held: kept where those blocks are, and the file's own where no page is changed.
-use Rattle.std.proofs.Common.{◌≡◌, ◌∙◌, ℕ, Bool, true, false, cond, Option, Some, None, is_some, nat_eq, unwrap_or, arith, refl, sym, ap, subst, ⊎_elim}
+use Rattle.std.proofs.Common.{inl, inr, ◌⊎◌, ◌≡◌, ◌∙◌, ℕ, Bool, true, false, cond, Option, Some, None, is_some, nat_eq, unwrap_or, arith, refl, sym, ap, subst, ⊎_elim}
 use Rattle.std.specs.Prelude.{◌↔◌}
 use Rattle.block_device.specs.Device.{Blocks, block_at}
 use Rattle.page_file.specs.File as below
 use Rattle.page_file.specs.Given.{given_is, is_given}
 use Rattle.page_file.specs.Laws as kept
-use Rattle.page_file.specs.Pages.{HasFreeChain, given_pages, page_of}
+use Rattle.page_file.specs.Opening.{IsRefused}
+use Rattle.page_file.specs.Stops.{SameButGate}
+use Rattle.page_file.specs.Pages.{HasFreeChain, free_pages_of, given_pages, page_of}
 use Rattle.page_file.specs.declared.file.PageFile.{PageFile}
-use Rattle.page_file.specs.declared.gate.Gate.TheVariants.{Open}
+use Rattle.page_file.specs.declared.gate.Gate.TheVariants.{Open, Shut}
 use Rattle.page_file.specs.declared.header.Header.{Header}
 use Rattle.page_cache.specs.declared.cache.PageCache.{PageCache}
 use Rattle.page_cache.specs.declared.frame.Frame.{Frame}
 use Rattle.page_cache.specs.Frames.{changed_pages, frame_at, laid_over, newer_bytes}
-use Rattle.page_cache.specs.Cache.{IsHonest, IsPageMap, IsUnchanged, IsWritten, KeepsMap, LiesIn, blocks_behind, blocks_of, capacity_of, gate_of, given, looks_of, next_of, pages}
+use Rattle.page_cache.specs.Cache.{IsHonest, IsPageMap, IsUnchanged, IsWritten, KeepsMap, LiesIn, blocks_behind, blocks_of, capacity_of, free_of, gate_of, given, looks_of, next_of, pages}
 use Rattle.page_cache.specs.Keeps.{KeepsBlocks, SameFrames}
 use Rattle.page_cache.proofs.Kept.{changed_read}
 use Rattle.page_cache.specs.Laid.{block_at-laid, laid_none, laid_same}
@@ -140,10 +142,23 @@ module _ {D A : Type 0} {m : _} (cache : PageCache D A m) (none : (k : ℕ) → 
     λ l. record { passes = l.passes; next = l.next; pages_there = λ k. l.pages_there k ∙ sym (pages_below k); sound = (λ p. l.sound.0 (map_below.0 p), λ s. map_below.1 (l.sound.1 s)) },
   )
 
+  pub free_below : below.free_of cache.file ≡ free_of cache
+  free_below = ap (λ (b : Blocks). free_pages_of b (below.header_of cache.file)) (sym behind_none)
+
   pub is_written : IsWritten cache
   is_written k = sym (given_below k)
 
 module _ {D A : Type 0} {m : _} where
+  pub free_kept : (old new : PageCache D A m) → KeepsBlocks old new → IsHonest old → free_of new ≡ free_of old
+  free_kept old new keeps h = ap (λ (b : Blocks). free_pages_of b (below.header_of new.file)) (keeps.blocks h) ∙ ap (λ (x : Header). free_pages_of (blocks_behind old) x) keeps.header
+
+  -- a map whose gate is not open lies in its blocks, where that is shut, and but for the gate where it is unsure
+  pub shut_lies : (cache : PageCache D A m) → IsHonest cache → gate_of cache ≡ Shut → LiesIn cache (blocks_of cache)
+  shut_lies cache h shut = (lies_below cache (none_changed cache (λ e. let bad = sym shut ∙ e in cc)) (blocks_of cache)).1 (kept.a_shut_file_lies_in_its_blocks cache.file h shut)
+
+  pub aside_lies : (cache : PageCache D A m) (c : Blocks) → IsHonest cache → ¬ (gate_of cache ≡ Open) → SameButGate c (blocks_of cache) → IsRefused c ⊎ LiesIn cache c
+  aside_lies cache c h closed same = ⊎_elim (λ refused. inl refused) (λ lies. inr ((lies_below cache (none_changed cache closed) c).1 lies)) (kept.a_gate_aside_finds_the_file cache.file c h closed same)
+
   -- a call of the file, while no page is changed
   pub map_by_file : (old new : PageCache D A m) → ((k : ℕ) → changed_pages old.frames.entries k ≡ None) → ((k : ℕ) → changed_pages new.frames.entries k ≡ None) → below.KeepsMap old.file new.file → KeepsMap old new
   map_by_file old new none_old none_new keeps = record {

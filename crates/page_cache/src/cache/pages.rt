@@ -7,7 +7,7 @@ ghost use Rattle.page_file.specs.Pages.{SameBut, TakesFirst};
 ghost use Rattle.page_file.specs.declared.fault.Fault.TheVariants as fault;
 ghost use Rattle.page_file.specs.declared.gate.Gate.TheVariants.{Open};
 ghost use Rattle.page_cache.specs.Cache.{IsHeld, IsHonest, IsLive, IsPageMap, IsUnchanged, KeepsGate, KeepsMap, capacity_of, device_of, free_of, gate_of, given, looks_of, next_of, pages};
-ghost use Rattle.page_cache.specs.Calls.{Changes, IsLookedAt};
+ghost use Rattle.page_cache.specs.Calls.{Asks, Changes, IsLookedAt};
 ghost use Rattle.page_cache.specs.Frames.{frame_at};
 ghost use Rattle.page_cache.specs.Keeps.{KeepsBlocks, SameFrames};
 ghost use Rattle.page_cache.specs.Loan.{EndsLookedAt};
@@ -182,5 +182,22 @@ impl<D: BlockDevice, A: Allocator + Copy> PageCache<D, A> {
         }
         self.forget(n);
         self.file.free(n)
+    }
+
+    /// The free pages, in the order in which they are given out again. `Damaged` where they are no chain of free pages as the
+    /// format has it (docs/FORMAT.md, "Pages"), with the number of the page at which it ends to be one.
+    ///
+    /// What was put is written first, and no page is held afterwards. Map and gate stay.
+    #[tactic(auto, using(crate::specs::Calls::counted_by_end))]
+    pub fn free_pages<H: Allocator>(&mut self, alloc: H) -> Result<Vec<u32, H>, Fault>
+        ensures asks { Asks self.old self.new result }
+        ensures pages { IsHonest self.old → IfOk result (λ found. found.items ≡ free_of self.old) }
+        ensures sound { IsHonest self.old → OnOk result (IsPageMap self.old) }
+        ensures looks { looks_of self.new ≡ looks_of self.old }
+        ensures faults { IsPageMap self.old → IfErr result IsOfDevice }
+        ensures other_faults { IfErr result (λ f. IsOfDevice f ⊎ IsDamage f) }
+    {
+        self.write_all()?;
+        self.file.free_pages(alloc)
     }
 }
