@@ -1,8 +1,8 @@
 #!/usr/bin/env bash
 # Measures a device in a file: a cached file of 64 MiB is appended, written and read by blocks, through FileDevice
 # (file_times) and by pwrite and pread (file_times.cpp), in turn. Prints the microseconds that a block takes, the least of
-# the rounds (20, or the number after the script's name), and their ratio. The program of the first is proved and built in
-# a copy of the crates below it.
+# the rounds (20, or the number after the script's name), and their ratio. The program of the first (file_times.rattle) is
+# proved and built in a copy of the crates below it.
 set -eu
 here=$(cd "$(dirname "$0")" && pwd)
 rounds=${1:-20}
@@ -13,7 +13,8 @@ mkdir -p "$work/crates"
 for crate in refusing block_device file_device; do
     cp -a "$here/../crates/$crate" "$work/crates/$crate"
 done
-cp -a "$here/file_times" "$work/crates/file_times"
+mkdir -p "$work/crates/file_times/src"
+cp "$here/file_times.rattle" "$work/crates/file_times/src/main.rt"
 grep -E '^(refusing|block_device|file_device):' "$here/../crates.txt" >"$work/crates.txt"
 echo 'file_times: file_device block_device anyhow' >>"$work/crates.txt"
 git -C "$work" init -q
