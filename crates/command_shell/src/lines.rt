@@ -1,6 +1,6 @@
 //! The lines of a reader, found in one buffer.
 
-ghost use Rattle.std.specs.Prelude.{◌≡◌, ℕ, ◌+◌, ◌<◌, ◌≤◌, ◌^◌, ◌++◌, []};
+ghost use Rattle.std.specs.Prelude.{◌≡◌, ℕ, ◌+◌, ◌<◌, ◌≤◌, ◌++◌, []};
 ghost use Rattle.std.specs.Prelude.{length, take, drop, MatchOption, MatchResult, OnOk, OnErr, IfOk, IfSome};
 ghost use Rattle.command_shell.specs.Lines.{IsOneLine};
 ghost use Rattle.command_shell.specs.Reading.{buffer_size, most_calls, BeginsLine, ReadsTo};

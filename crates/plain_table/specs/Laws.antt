@@ -2,7 +2,7 @@
 use Rattle.std.proofs.Common.{◌≡◌, Option, Some, None, refl, sym}
 use Rattle.plain_table.specs.Commands.{Command}
 use Rattle.plain_table.specs.Commands.Command.{Create, Insert, Window, Reopen}
-use Rattle.plain_table.specs.Step.{Answer, after, answer_of, changed, kept_or, refused_or, refusal_of, reply_of}
+use Rattle.plain_table.specs.Step.{after, answer_of, changed, kept_or, refused_or, refusal_of, reply_of}
 use Rattle.plain_table.specs.Step.Answer.{Refused}
 use Rattle.plain_table.specs.Table.{Table}
 use Rattle.plain_table.specs.declared.refusal.Refusal.{Refusal}

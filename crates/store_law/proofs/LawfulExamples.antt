@@ -15,7 +15,7 @@ use Rattle.store_law.specs.States.Request.{BadCommand, Asks}
 use Rattle.store_law.specs.States.StoreState.{Alive, Dead}
 use Rattle.plain_table.specs.Laws.{a_refused_command_changes_nothing}
 use Rattle.store_law.specs.Laws.{a_bad_line_is_lawful}
-use Rattle.plain_table.specs.Step.{Answer, after}
+use Rattle.plain_table.specs.Step.{Answer}
 use Rattle.plain_table.specs.Step.Answer.{Done, Refused}
 use Rattle.plain_table.specs.Table.{Table, Layer}
 use Rattle.plain_table.specs.declared.boxes.RawBox.TheVariants.{Two}

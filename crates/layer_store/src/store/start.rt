@@ -18,8 +18,8 @@ ghost use Rattle.layer_store.specs.Starting.{OpeningRefusesAs, is_cache};
 
 use crate::faults::as_refusal;
 use crate::image::read_table;
-use crate::stored_table::StoredTable;
 use crate::store::Store;
+use crate::stored_table::StoredTable;
 use block_device::BlockDevice;
 use list_table::ListTable;
 use page_file::{PageFile, create_pages, open_pages};

@@ -39,12 +39,14 @@ pub returns-after-not-went_well-clause-run : goal.returns-after-not-went_well-cl
 returns-after-not-went_well-clause-run g c = λ s represents.
     let left = c.run-end.ensures s represents in
     let closed = c.in-Ok.ensures in
-    let of_table = has_table c.run-end.new.store left.next left.represents (λ failed. ok_is_no_refusal (closed.failed failed)) in
-    (left.next, record {
-      end = c.run-end.result;
-      runs = runs_kept c.run-end.result (run_state s (g.R.Read.remaining c.args.input.now) (g.W.Write.contents c.args.output.now)) (run_state left.next (g.R.Read.remaining c.run-end.new.input) (g.W.Write.contents c.run-end.new.output)) (g.W.Write.contents c.flush-flushed.new.self) left.so c.flush-flushed.ensures.bytes;
-      well = λ well. (c.is_whole-went_well.ensures well, of_table.table, of_table.alive, closed.closed of_table.table of_table.represents);
-    })
+    let of_table = has_table c.run-end.new.store left.next left.represents (λ failed. ok_is_no_refusal (closed.failed failed)) in (
+      left.next,
+      record {
+        end = c.run-end.result;
+        runs = runs_kept c.run-end.result (run_state s (g.R.Read.remaining c.args.input.now) (g.W.Write.contents c.args.output.now)) (run_state left.next (g.R.Read.remaining c.run-end.new.input) (g.W.Write.contents c.run-end.new.output)) (g.W.Write.contents c.flush-flushed.new.self) left.so c.flush-flushed.ensures.bytes;
+        well = λ well. (c.is_whole-went_well.ensures well, of_table.table, of_table.alive, closed.closed of_table.table of_table.represents);
+      },
+    )
 
 pub returns-after-not-went_well-clause-durable : goal.returns-after-not-went_well-clause-durable
 returns-after-not-went_well-clause-durable g c = λ s represents well.
@@ -55,12 +57,14 @@ returns-after-not-went_well-clause-durable g c = λ s represents well.
 
 pub returns-in-Err-clause-run : goal.returns-in-Err-clause-run
 returns-in-Err-clause-run g c = λ s represents.
-    let left = c.run-end.ensures s represents in
-    (left.next, record {
-      end = c.run-end.result;
-      runs = runs_kept c.run-end.result (run_state s (g.R.Read.remaining c.args.input.now) (g.W.Write.contents c.args.output.now)) (run_state left.next (g.R.Read.remaining c.run-end.new.input) (g.W.Write.contents c.run-end.new.output)) (g.W.Write.contents c.flush-flushed.new.self) left.so c.flush-flushed.ensures.bytes;
-      well = λ well. absurd (false_is_not_true well);
-    })
+    let left = c.run-end.ensures s represents in (
+      left.next,
+      record {
+        end = c.run-end.result;
+        runs = runs_kept c.run-end.result (run_state s (g.R.Read.remaining c.args.input.now) (g.W.Write.contents c.args.output.now)) (run_state left.next (g.R.Read.remaining c.run-end.new.input) (g.W.Write.contents c.run-end.new.output)) (g.W.Write.contents c.flush-flushed.new.self) left.so c.flush-flushed.ensures.bytes;
+        well = λ well. absurd (false_is_not_true well);
+      },
+    )
 
 -- a line was written where the run did not go well, or nothing where it did
 told : {E T : Type 0} (went_well : Bool) (a b : Option (List ℕ)) (r : Result T E) → went_well ≡ false → Writes a b r told_fault → TellsEnd went_well a b

@@ -1,5 +1,5 @@
 -- The goals of `search` that are proved by hand.
-use Rattle.std.proofs.Common.{ℕ, ap, ◌+◌, ◌-◌, ◌/◌, length, arith, sym, ◌∙◌, refl}
+use Rattle.std.proofs.Common.{ℕ, ap, ◌+◌, ◌-◌, ◌/◌, arith, sym, ◌∙◌, refl}
 use Rattle.std.specs.Cmp.{nat_cmp_total}
 use Rattle.std.specs.Ordering.{nat_cmp}
 use Rattle.box_math.specs.Bounds.{Bounds}

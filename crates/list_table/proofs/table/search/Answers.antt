@@ -1,5 +1,5 @@
 -- The goals of `search` that are proved by hand.
-use Rattle.std.proofs.Common.{◌+◌, ◌-◌, ◌/◌, length, map, arith, sym, ap, ◌∙◌}
+use Rattle.std.proofs.Common.{◌+◌, ◌-◌, ◌/◌, map, arith, sym, ap, ◌∙◌}
 use Rattle.std.proofs.lemmas.List.{length-map}
 use Rattle.std.specs.Cmp.Lexicographic.{slice_cmp, nat_list_cmp_total}
 use Rattle.std.specs.Ordering.{nat_cmp}
