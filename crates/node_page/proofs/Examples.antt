@@ -7,7 +7,7 @@ use Rattle.box_math.specs.Bounds.{on_axis, ordered_test}
 use Rattle.box_bytes.specs.Corners.{corner_at}
 use Rattle.node_page.specs.Columns.{cell, AreColumns}
 use Rattle.tree_node.specs.Nodes.{Item}
-use Rattle.node_page.specs.Layout.{IsSpellable, IsNode, IsNamed, low_place, high_place, reference_place, item_at, items_at, node_test, node_at}
+use Rattle.node_page.specs.Layout.{IsSpellable, IsNode, IsNamed, low_place, high_place, reference_place, item_at, node_test, node_at}
 
 -- one entry in two dimensions, its box (-1,2) to (3,4), and 7 in the places that are not named
 abbrev filled_to : ℕ → List ℕ → List ℕ

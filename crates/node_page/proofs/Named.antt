@@ -1,5 +1,5 @@
 -- The laws of what pages spell: which bytes are read, and what entries are.
-use Rattle.std.proofs.Common.{◌≡◌, ℕ, ◌+◌, ◌^◌, ◌<◌, ◌≤◌, List, Option, Some, None, refl, sym, ◌∙◌, ap, subst, arith, inl, inr}
+use Rattle.std.proofs.Common.{◌≡◌, ℕ, ◌+◌, ◌^◌, ◌<◌, ◌≤◌, List, refl, sym, ◌∙◌, ap, subst, arith, inl, inr}
 use Rattle.block_bytes.specs.FormLaws.{reads_named}
 use Rattle.block_bytes.specs.PlaceLaws.{first_places-same}
 use Rattle.block_bytes.specs.Numbers.{number_at, AreBytes}

@@ -1,5 +1,5 @@
 -- A node has one page: what a page spells fixes each byte that it names, and the others are zero.
-use Rattle.std.proofs.Common.{◌≡◌, ℕ, ◌+◌, ◌*◌, ◌<◌, ◌≤◌, ℤ, List, length, subst, sym, ◌∙◌, ap, arith, inl, inr, ⊎_elim}
+use Rattle.std.proofs.Common.{◌≡◌, ℕ, ◌<◌, ◌≤◌, List, length, subst, sym, ◌∙◌, ap, arith, inl, inr, ⊎_elim}
 use Rattle.std.proofs.lemmas.Bool.{cases_lt}
 use Rattle.block_bytes.specs.FormLaws.{has_one_page}
 use Rattle.block_bytes.specs.Numbers.{number_at, AreBytes}

@@ -5,7 +5,7 @@ use Rattle.block_bytes.specs.PlaceLaws.{first_places-are}
 use Rattle.box_math.specs.Bounds.{IsBox, IsOrdered}
 use Rattle.box_bytes.specs.Corners.{Keeps}
 use Rattle.tree_node.specs.Nodes.{Item}
-use Rattle.node_page.specs.Layout.{low_place, high_place, reference_place, item_at, items_at, IsSpellable, IsClearOfEntry, IsHead, Spells, IsNamed}
+use Rattle.node_page.specs.Layout.{low_place, high_place, reference_place, item_at, IsSpellable, IsClearOfEntry, IsHead, Spells, IsNamed}
 use Rattle.node_page.proofs.Places.{le_or_lt, item_stays}
 
 -- a byte that is not among n bytes is apart from them
