@@ -3,7 +3,8 @@ ghost use Rattle.std.specs.Prelude.{◌≡◌, ◌≤◌, ◌<◌, ◌+◌, ◌^
 ghost use Rattle.block_device.specs.declared.device.DeviceError.{DeviceError};
 ghost use Rattle.block_device.specs.declared.device.DeviceError.TheVariants.{Memory};
 ghost use Rattle.std.specs.List.{All};
-ghost use Rattle.block_device.specs.Device.{Blocks, IsBlock, Only, LeavesNoMore, Follows, Torn, Elapses, Counts, block_at, written};
+ghost use Rattle.block_device.specs.Device.{Blocks, IsBlock, Only, LeavesNoMore, Follows, Torn, Elapses, Counts};
+ghost use Rattle.block_device.specs.Device.{block_at, written};
 
 use std::alloc::{AllocError, AllocFailed};
 use thiserror::Error;
@@ -63,7 +64,8 @@ pub trait BlockDevice {
 
     /// What a device of this kind says beyond the trait of a read: of the device, the block's number,
     /// the buffer, the answer, and then the buffer and the device.
-    ghost read_gives: { Self → ℕ → List ℕ → Result (Unit {0}) DeviceError → List ℕ → Self → Type 0 } = { λ _ _ _ _ _ _. ⊤ };
+    ghost read_gives: { Self → ℕ → List ℕ → Result (Unit {0}) DeviceError → List ℕ →
+        Self → Type 0 } = { λ _ _ _ _ _ _. ⊤ };
 
     /// The same of a write: of the device, the block's number, the bytes, the answer and the device.
     ghost write_gives: { Self → ℕ → List ℕ → Result (Unit {0}) DeviceError → Self → Type 0 } = { λ _ _ _ _ _. ⊤ };
@@ -84,7 +86,9 @@ pub trait BlockDevice {
 
         // A stop within the call or after it leaves what one before it might have left.
         ensures stops { honest self.old → LeavesNoMore (may_leave self.old) (may_leave self.new) }
-        ensures time { honest self.old → Elapses (moment self.old) (moment self.new) (left_since self.old) (left_since self.new) (may_leave self.new) }
+        ensures time { honest self.old →
+            Elapses (moment self.old) (moment self.new) (left_since self.old) (left_since self.new)
+            (may_leave self.new) }
 
         ensures honest { honest self.old ↔ honest self.new }
         ensures faults { Counts (faults self.old) (faults self.new) result }
@@ -100,7 +104,9 @@ pub trait BlockDevice {
 
         // A stop leaves what one before the call might have left, with any bytes in this block.
         ensures stops { honest self.old → Follows (Torn i) (may_leave self.old) (may_leave self.new) }
-        ensures time { honest self.old → Elapses (moment self.old) (moment self.new) (left_since self.old) (left_since self.new) (may_leave self.new) }
+        ensures time { honest self.old →
+            Elapses (moment self.old) (moment self.new) (left_since self.old) (left_since self.new)
+            (may_leave self.new) }
 
         ensures honest { honest self.old ↔ honest self.new }
         ensures faults { Counts (faults self.old) (faults self.new) result }
@@ -112,7 +118,9 @@ pub trait BlockDevice {
         ensures shown { honest self.old → shown self.new ≡ shown self.old }
 
         ensures stops { honest self.old → LeavesNoMore (may_leave self.old) (may_leave self.new) }
-        ensures time { honest self.old → Elapses (moment self.old) (moment self.new) (left_since self.old) (left_since self.new) (may_leave self.new) }
+        ensures time { honest self.old →
+            Elapses (moment self.old) (moment self.new) (left_since self.old) (left_since self.new)
+            (may_leave self.new) }
 
         ensures honest { honest self.old ↔ honest self.new }
         ensures faults { Counts (faults self.old) (faults self.new) result }

@@ -1,7 +1,8 @@
 //! A device that fails at a call of one's choice, for tests of what its users then do.
 ghost use Rattle.std.specs.Prelude.{◌≡◌, ◌<◌, ◌≤◌, ◌^◌, ◌-◌, true, if◌then◌else◌};
 ghost use Rattle.block_device.specs.Device.{one_more};
-ghost use Rattle.block_device.specs.Fuse.{inner_of, passes_of, mode_of, calls_of, blown_of, fails_next, faults_with, faults_with-fits, CallsBelow};
+ghost use Rattle.block_device.specs.Fuse.{inner_of, passes_of, mode_of, calls_of, blown_of, fails_next, faults_with};
+ghost use Rattle.block_device.specs.Fuse.{faults_with-fits, CallsBelow};
 
 use crate::{BlockDevice, DeviceError};
 
@@ -95,9 +96,11 @@ impl<D: BlockDevice> BlockDevice for FuseDevice<D> {
 
     // A read that the fuse fails leaves the buffer, too.
     ghost read_gives = { λ f i into result bytes g.
-        CallsBelow f g result (D.read_gives (inner_of f) i into result bytes (inner_of g)) × (fails_next f ≡ true → bytes ≡ into) };
+        CallsBelow f g result (D.read_gives (inner_of f) i into result bytes (inner_of g)) ×
+        (fails_next f ≡ true → bytes ≡ into) };
 
-    ghost write_gives = { λ f i bytes result g. CallsBelow f g result (D.write_gives (inner_of f) i bytes result (inner_of g)) };
+    ghost write_gives = { λ f i bytes result g.
+        CallsBelow f g result (D.write_gives (inner_of f) i bytes result (inner_of g)) };
 
     ghost sync_gives = { λ f result g. CallsBelow f g result (D.sync_gives (inner_of f) result (inner_of g)) };
 

@@ -36,27 +36,35 @@ pub fn a_stop_between_calls_is_during_none<D: BlockDevice>()
 
 /// A sync makes all outcomes one, and calls that leave no more keep it so.
 pub fn a_sync_makes_all_outcomes_one<D: BlockDevice>()
-    ensures one { (d : D) (blocks a b : Blocks) → Only blocks (D.may_leave d) → D.may_leave d a → D.may_leave d b → a ≡ b }
+    ensures one { (d : D) (blocks a b : Blocks) → Only blocks (D.may_leave d) → D.may_leave d a → D.may_leave d b →
+        a ≡ b }
     ensures shown { (d : D) (blocks : Blocks) → D.honest d → Only blocks (D.may_leave d) → D.shown d ≡ blocks }
-    ensures stays { (d e : D) (blocks : Blocks) → Only blocks (D.may_leave d) → LeavesNoMore (D.may_leave d) (D.may_leave e) → Only blocks (D.may_leave e) }
-    ensures in_memory { (blocks : Blocks) (es : List Event) (c : Blocks) → All IsBlock blocks → MayLeave blocks (Synced ∷ es) c ↔ (c ≡ blocks) }
+    ensures stays { (d e : D) (blocks : Blocks) → Only blocks (D.may_leave d) →
+        LeavesNoMore (D.may_leave d) (D.may_leave e) → Only blocks (D.may_leave e) }
+    ensures in_memory { (blocks : Blocks) (es : List Event) (c : Blocks) → All IsBlock blocks →
+        MayLeave blocks (Synced ∷ es) c ↔ (c ≡ blocks) }
 {}
 
 /// A block that was written is read, and each other one as before.
 pub fn a_write_is_read_back()
-    ensures there { (i : ℕ) (bytes : List ℕ) (blocks : Blocks) → i ≤ length blocks → block_at i (written i bytes blocks) ≡ bytes }
-    ensures elsewhere { (i k : ℕ) (bytes : List ℕ) (blocks : Blocks) → i ≤ length blocks → ¬ (k ≡ i) → block_at k (written i bytes blocks) ≡ block_at k blocks }
+    ensures there { (i : ℕ) (bytes : List ℕ) (blocks : Blocks) → i ≤ length blocks →
+        block_at i (written i bytes blocks) ≡ bytes }
+    ensures elsewhere { (i k : ℕ) (bytes : List ℕ) (blocks : Blocks) → i ≤ length blocks → ¬ (k ≡ i) →
+        block_at k (written i bytes blocks) ≡ block_at k blocks }
 {}
 
 /// A write that is cut short changes no other block, and adds at most one.
 pub fn a_torn_write_is_in_one_block()
-    ensures elsewhere { (i k : ℕ) (old new : Blocks) → Torn i old new → i ≤ length old → ¬ (k ≡ i) → block_at k new ≡ block_at k old }
-    ensures length { (i : ℕ) (old new : Blocks) → Torn i old new → (length old ≤ length new) × (length new ≤ length old + 1) }
+    ensures elsewhere { (i k : ℕ) (old new : Blocks) → Torn i old new → i ≤ length old → ¬ (k ≡ i) →
+        block_at k new ≡ block_at k old }
+    ensures length { (i : ℕ) (old new : Blocks) → Torn i old new → (length old ≤ length new) ×
+        (length new ≤ length old + 1) }
 {}
 
 /// After two writes each outcome is an old one after both, each perhaps cut short.
 pub fn writes_join<D: BlockDevice>()
     ensures { (i k : ℕ) (first second third : D) →
-        Follows (Torn i) (D.may_leave first) (D.may_leave second) → Follows (Torn k) (D.may_leave second) (D.may_leave third) →
+        Follows (Torn i) (D.may_leave first) (D.may_leave second) →
+        Follows (Torn k) (D.may_leave second) (D.may_leave third) →
         Follows (Both (Torn i) (Torn k)) (D.may_leave first) (D.may_leave third) }
 {}

@@ -1,8 +1,10 @@
 //! The calls of a device in memory.
 ghost use Rattle.std.specs.Prelude.{false, true, slice_index_or, IsOk, ◌≡◌, ◌<◌, [], length, OnOk, OnErr, IsErrOf};
 ghost use Rattle.block_device.specs.Kept.{Keeps};
-ghost use Rattle.block_device.specs.Memory.{shown_of, history_of, writes_of, may_leave_of, moment_of, left_since_of, AnswersRead, AnswersWrite, AnswersSync};
-ghost use Rattle.block_device.specs.Outcomes.{shown_left, no_longer_left, now_since, since_now, since_earlier_left, none_fits};
+ghost use Rattle.block_device.specs.Memory.{shown_of, history_of, writes_of, may_leave_of, moment_of, left_since_of};
+ghost use Rattle.block_device.specs.Memory.{AnswersRead, AnswersWrite, AnswersSync};
+ghost use Rattle.block_device.specs.Outcomes.{shown_left, no_longer_left, now_since, since_now, since_earlier_left};
+ghost use Rattle.block_device.specs.Outcomes.{none_fits};
 
 use crate::append::append;
 use crate::log::Log;
