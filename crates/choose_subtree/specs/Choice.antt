@@ -1,4 +1,4 @@
--- The child that a new box goes to (Beckmann, Kriegel, Schneider and Seeger 1990; ties go to the least position, which is our rule).
+-- The child that a new box goes to (Beckmann, Kriegel, Schneider and Seeger 1990; ties go to the least position, which is our rule, docs/RULES.md).
 use Rattle.std.specs.Prelude.{ℕ, ◌-◌, ◌==◌, List, [], ◌∷◌, length, if◌then◌else◌}
 use Rattle.box_math.specs.Bounds.{Bounds, join_of}
 use Rattle.box_math.specs.Measures.{sum_over, volume_of, overlap_of}

@@ -1,4 +1,4 @@
--- How a node of one entry too many is split (Beckmann, Kriegel, Schneider and Seeger 1990; the ties are our rule).
+-- How a node of one entry too many is split (Beckmann, Kriegel, Schneider and Seeger 1990; the ties are our rule, docs/RULES.md).
 use Rattle.std.specs.Prelude.{◌≡◌, ℕ, ◌+◌, ◌-◌, ◌*◌, ◌<◌, ◌≤◌, ℤ, Bool, List, [], ◌∷◌, length, take, drop, slice_index_or}
 use Rattle.std.specs.Ordering.{nat_cmp, int_cmp, ordering_then, is_lt}
 use Rattle.box_math.specs.Bounds.{Bounds, on_axis}
