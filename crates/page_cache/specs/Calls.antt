@@ -113,3 +113,6 @@ module _ {D A : Type 0} {m : _} where
 
   pub changes_and_refuses : {T : Type 0} (old mid new : PageCache D A m) (f : Fault) (result : Result T Fault) → IsErrAnd result (λ e. e ≡ f) → ChangesUntil old mid None → ChangesUntil mid new (Some f) → Changes old new result
   changes_and_refuses old mid new f result is a b = subst (λ end. ChangesUntil old new end) (sym (ends_so result f is)) (changes_in_turn old mid new (Some f) a b)
+
+-- what calls in turn are proved by
+pub ruleset turns = (no_call_asks, asks_in_turn, asks_changes, changes_in_turn)

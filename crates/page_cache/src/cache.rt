@@ -33,7 +33,9 @@ pub struct PageCache<D: BlockDevice, A: Allocator> {
     spare: Option<Box<[u8; 4096], A>>,
     looks: u64,
     ghost within: { (n : ℕ) → IsSome (frame_at frames.entries n) → (2 ≤ n) × (n < next_of file) },
-    ghost true_to: { IsHonest file → (n : ℕ) (f : _) → frame_at frames.entries n ≡ Some f → f.changed ≡ false → given file n ≡ Some f.bytes.value },
-    ghost behind_the_gate: { (n : ℕ) (f : _) → frame_at frames.entries n ≡ Some f → f.changed ≡ true → gate_of file ≡ Open },
+    ghost true_to: { IsHonest file → (n : ℕ) (f : _) → frame_at frames.entries n ≡ Some f → f.changed ≡ false →
+        given file n ≡ Some f.bytes.value },
+    ghost behind_the_gate: { (n : ℕ) (f : _) → frame_at frames.entries n ≡ Some f → f.changed ≡ true →
+        gate_of file ≡ Open },
     ghost counted: { looks < 2 ^ 64 },
 }

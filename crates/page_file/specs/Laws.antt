@@ -166,3 +166,6 @@ a_live_page_is_a_block file n page h whole e = a_given_page_is_a_block file n pa
 -- one given out that is not of the free pages' kind is live
 pub a_page_in_use_is_live : {D : Type 0} {m : _} (file : PageFile D m) (n : ℕ) (page : List ℕ) → IsPageMap file → given file n ≡ Some page → ¬ (kind_of page ≡ 5) → pages file n ≡ Some page
 a_page_in_use_is_live {m = m} file n page map e other = given_is_live (m.shown file.device) file.header n page map.free e other
+
+-- what the laws of a file are proved by
+pub ruleset laws = (a_stop_follows_the_gate, a_stop_now_leaves_all_but_the_gate, a_live_page_was_given_out, the_catalog_is_live, a_gate_aside_is_refused_or_the_same, a_gate_aside_finds_the_file, no_call_keeps_the_gate, the_gate_is_kept_in_turn, no_call_keeps_the_map, the_map_is_kept_in_turn, a_live_page_is_given, a_page_in_use_is_live)

@@ -24,9 +24,12 @@ pub const NEW_HEADER: Header = Header {
 fn write_behind<D: BlockDevice>(device: &mut D, n: u32, bytes: &[u8; 4096]) -> Result<(), Fault>
     requires behind { 0 < n }
     requires small { n < 2 ^ 31 }
-    ensures written { D.honest device.old → OnOk result (D.shown device.new ≡ written n bytes.now (D.shown device.old)) }
-    ensures open { D.honest device.old → AllLeave (D.may_leave device.old) IsOpen → AllLeave (D.may_leave device.new) IsOpen }
-    ensures stops { D.honest device.old → AllLeave (D.may_leave device.old) IsOpen → LeavesOnly D.moment D.left_since device.old device.new IsRefused }
+    ensures written { D.honest device.old →
+        OnOk result (D.shown device.new ≡ written n bytes.now (D.shown device.old)) }
+    ensures open { D.honest device.old → AllLeave (D.may_leave device.old) IsOpen →
+        AllLeave (D.may_leave device.new) IsOpen }
+    ensures stops { D.honest device.old → AllLeave (D.may_leave device.old) IsOpen →
+        LeavesOnly D.moment D.left_since device.old device.new IsRefused }
     ensures below { n ≤ length (D.shown device.old) → IfErr result IsOfDevice }
     ensures only { IfErr result (λ f. IsOfDevice f ⊎ IsDamage f) }
     ensures honest { D.honest device.old ↔ D.honest device.new }
@@ -38,7 +41,8 @@ fn write_behind<D: BlockDevice>(device: &mut D, n: u32, bytes: &[u8; 4096]) -> R
 // Writes an open gate into an empty device, and syncs it.
 fn write_first<D: BlockDevice>(device: &mut D) -> Result<(), Fault>
     requires { length (D.shown device.old) ≡ 0 }
-    ensures shown { D.honest device.old → OnOk result (D.shown device.new ≡ written 0 (gate_block 0) (D.shown device.old)) }
+    ensures shown { D.honest device.old →
+        OnOk result (D.shown device.new ≡ written 0 (gate_block 0) (D.shown device.old)) }
     ensures open { D.honest device.old → OnOk result (AllLeave (D.may_leave device.new) IsOpen) }
     ensures stops { D.honest device.old → LeavesOnly D.moment D.left_since device.old device.new IsRefused }
     ensures only { IfErr result IsOfDevice }
@@ -78,7 +82,9 @@ pub fn create<D: BlockDevice>(device: &mut D) -> Result<(), Fault>
     ensures header { D.honest device.old → OnOk result (IsHeader new_header (block_at 1 (D.shown device.new))) }
     ensures catalog { D.honest device.old → OnOk result (block_at 2 (D.shown device.new) ≡ catalog_block) }
     ensures durable { D.honest device.old → OnOk result (Only (D.shown device.new) (D.may_leave device.new)) }
-    ensures stops { D.honest device.old → LeavesOnly D.moment D.left_since device.old device.new (λ c. IsRefused c ⊎ (SameButGate c (D.shown device.new) × IsNewFile c)) }
+    ensures stops { D.honest device.old →
+        LeavesOnly D.moment D.left_since device.old device.new (λ c. IsRefused c ⊎
+        (SameButGate c (D.shown device.new) × IsNewFile c)) }
     ensures below { D.honest device.old → IfErr result IsOfDevice }
     ensures only { IfErr result (λ f. IsOfDevice f ⊎ IsDamage f) }
     ensures honest { D.honest device.old ↔ D.honest device.new }

@@ -3,7 +3,8 @@ ghost use Rattle.std.specs.Prelude.{◌≡◌, ◌⊎◌, ◌↔◌, ◌≤◌, 
 ghost use Rattle.block_device.specs.Device.{Blocks, IsBlock};
 ghost use Rattle.page_file.specs.declared.file.PageFile.{PageFile};
 ghost use Rattle.page_file.specs.declared.gate.Gate.TheVariants.{Shut, Open};
-ghost use Rattle.page_file.specs.File.{IsHonest, IsLive, IsPageMap, KeepsGate, KeepsMap, LiesIn, blocks_of, device_of, gate_of, given, next_of, pages};
+ghost use Rattle.page_file.specs.File.{IsHonest, IsLive, IsPageMap, KeepsGate, KeepsMap, LiesIn, blocks_of};
+ghost use Rattle.page_file.specs.File.{device_of, gate_of, given, next_of, pages};
 ghost use Rattle.page_file.specs.Layout.{kind_of};
 ghost use Rattle.page_file.specs.Opening.{IsRefused};
 ghost use Rattle.page_file.specs.Stops.{SameButGate, StopSince};
@@ -11,26 +12,32 @@ ghost use Rattle.page_file.specs.Stops.{SameButGate, StopSince};
 use block_device::BlockDevice;
 
 /// A stop now leaves what the gate allows: the blocks as read where it is shut, blocks that opening
-/// refuses where it is open, and the blocks as read but for the gate where it is unsure. Where it is not open, all of the
+/// refuses where it is open, and the blocks as read but for the gate where it is unsure. Where it is not open, all
+/// of the
 /// blocks but the gate are left.
-#[tactic(auto, using(crate::specs::Laws::a_stop_follows_the_gate, crate::specs::Laws::a_stop_now_leaves_all_but_the_gate))]
+#[tactic(auto, using(crate::specs::Laws::laws))]
 pub fn a_stop_follows_the_gate<D: BlockDevice>()
-    ensures gate { (file : PageFile D ⟦<D as BlockDevice>⟧) (c : Blocks) → IsHonest file → D.may_leave (device_of file) c → StopSince (gate_of file) (blocks_of file) c }
-    ensures others { (file : PageFile D ⟦<D as BlockDevice>⟧) (c : Blocks) → IsHonest file → ¬ (gate_of file ≡ Open) → D.may_leave (device_of file) c → SameButGate c (blocks_of file) }
+    ensures gate { (file : PageFile D ⟦<D as BlockDevice>⟧) (c : Blocks) → IsHonest file →
+        D.may_leave (device_of file) c → StopSince (gate_of file) (blocks_of file) c }
+    ensures others { (file : PageFile D ⟦<D as BlockDevice>⟧) (c : Blocks) → IsHonest file →
+        ¬ (gate_of file ≡ Open) → D.may_leave (device_of file) c → SameButGate c (blocks_of file) }
 {}
 
 /// A file whose gate is shut lies in its blocks, and opening finds it there.
 #[tactic(auto, using(crate::specs::Laws::a_shut_file_lies_in_its_blocks))]
 pub fn a_shut_file_lies_in_its_blocks<D: BlockDevice>()
-    ensures { (file : PageFile D ⟦<D as BlockDevice>⟧) → IsHonest file → gate_of file ≡ Shut → LiesIn file (blocks_of file) }
+    ensures { (file : PageFile D ⟦<D as BlockDevice>⟧) → IsHonest file → gate_of file ≡ Shut →
+        LiesIn file (blocks_of file) }
 {}
 
 /// Of blocks that differ in the gate alone from blocks in which a file lies, or from those of a file whose gate is not
 /// open, opening refuses them or finds the same file.
-#[tactic(auto, using(crate::specs::Laws::a_gate_aside_is_refused_or_the_same, crate::specs::Laws::a_gate_aside_finds_the_file))]
+#[tactic(auto, using(crate::specs::Laws::laws))]
 pub fn a_gate_aside_is_refused_or_the_same<D: BlockDevice>()
-    ensures file { (file : PageFile D ⟦<D as BlockDevice>⟧) (c : Blocks) → IsHonest file → ¬ (gate_of file ≡ Open) → SameButGate c (blocks_of file) → IsRefused c ⊎ LiesIn file c }
-    ensures blocks { (file : PageFile D ⟦<D as BlockDevice>⟧) (blocks c : Blocks) → LiesIn file blocks → SameButGate c blocks → IsRefused c ⊎ LiesIn file c }
+    ensures file { (file : PageFile D ⟦<D as BlockDevice>⟧) (c : Blocks) → IsHonest file → ¬ (gate_of file ≡ Open) →
+        SameButGate c (blocks_of file) → IsRefused c ⊎ LiesIn file c }
+    ensures blocks { (file : PageFile D ⟦<D as BlockDevice>⟧) (blocks c : Blocks) → LiesIn file blocks →
+        SameButGate c blocks → IsRefused c ⊎ LiesIn file c }
 {}
 
 /// Two files that lie in the same blocks have the same map: a closed file opened again is the same.
@@ -41,33 +48,40 @@ pub fn a_file_opened_again_is_the_same<D: BlockDevice>()
 {}
 
 /// A live page is one given out, from the catalog on, and the catalog is always live.
-#[tactic(auto, using(crate::specs::Laws::a_live_page_was_given_out, crate::specs::Laws::the_catalog_is_live))]
+#[tactic(auto, using(crate::specs::Laws::laws))]
 pub fn a_live_page_was_given_out<D: BlockDevice>()
-    ensures given { (file : PageFile D ⟦<D as BlockDevice>⟧) (n : ℕ) → IsLive file n → (2 ≤ n) × (n < next_of file) × (next_of file ≤ 2 ^ 31) }
+    ensures given { (file : PageFile D ⟦<D as BlockDevice>⟧) (n : ℕ) → IsLive file n →
+        (2 ≤ n) × (n < next_of file) × (next_of file ≤ 2 ^ 31) }
     ensures catalog { (file : PageFile D ⟦<D as BlockDevice>⟧) → IsLive file 2 }
 {}
 
 /// The live pages are pages given out, and of those given out all are live that are not of the free pages'
 /// kind.
-#[tactic(auto, using(crate::specs::Laws::a_live_page_is_given, crate::specs::Laws::a_page_in_use_is_live))]
+#[tactic(auto, using(crate::specs::Laws::laws))]
 pub fn a_live_page_is_given<D: BlockDevice>()
-    ensures given { (file : PageFile D ⟦<D as BlockDevice>⟧) (n : ℕ) (page : List ℕ) → pages file n ≡ Some page → given file n ≡ Some page }
-    ensures live { (file : PageFile D ⟦<D as BlockDevice>⟧) (n : ℕ) (page : List ℕ) → IsPageMap file → given file n ≡ Some page → ¬ (kind_of page ≡ 5) → pages file n ≡ Some page }
+    ensures given { (file : PageFile D ⟦<D as BlockDevice>⟧) (n : ℕ) (page : List ℕ) → pages file n ≡ Some page →
+        given file n ≡ Some page }
+    ensures live { (file : PageFile D ⟦<D as BlockDevice>⟧) (n : ℕ) (page : List ℕ) → IsPageMap file →
+        given file n ≡ Some page → ¬ (kind_of page ≡ 5) → pages file n ≡ Some page }
 {}
 
 /// A page of an honest file is 4096 bytes.
 pub fn a_page_is_a_block<D: BlockDevice>()
-    ensures given { (file : PageFile D ⟦<D as BlockDevice>⟧) (n : ℕ) (page : List ℕ) → IsHonest file → given file n ≡ Some page → IsBlock page }
-    ensures live { (file : PageFile D ⟦<D as BlockDevice>⟧) (n : ℕ) (page : List ℕ) → IsHonest file → pages file n ≡ Some page → IsBlock page }
+    ensures given { (file : PageFile D ⟦<D as BlockDevice>⟧) (n : ℕ) (page : List ℕ) → IsHonest file →
+        given file n ≡ Some page → IsBlock page }
+    ensures live { (file : PageFile D ⟦<D as BlockDevice>⟧) (n : ℕ) (page : List ℕ) → IsHonest file →
+        pages file n ≡ Some page → IsBlock page }
 {}
 
 /// No call keeps gate and map, and calls in turn do where each does.
-#[tactic(auto, using(crate::specs::Laws::no_call_keeps_the_gate, crate::specs::Laws::the_gate_is_kept_in_turn, crate::specs::Laws::no_call_keeps_the_map, crate::specs::Laws::the_map_is_kept_in_turn))]
+#[tactic(auto, using(crate::specs::Laws::laws))]
 pub fn gate_and_map_are_kept_in_turn<D: BlockDevice>()
     ensures no_gate { (file : PageFile D ⟦<D as BlockDevice>⟧) → KeepsGate file file }
-    ensures gate { (old mid new : PageFile D ⟦<D as BlockDevice>⟧) → KeepsGate old mid → KeepsGate mid new → KeepsGate old new }
+    ensures gate { (old mid new : PageFile D ⟦<D as BlockDevice>⟧) → KeepsGate old mid → KeepsGate mid new →
+        KeepsGate old new }
     ensures no_map { (file : PageFile D ⟦<D as BlockDevice>⟧) → KeepsMap file file }
-    ensures map { (old mid new : PageFile D ⟦<D as BlockDevice>⟧) → (IsHonest old → IsHonest mid) → KeepsMap old mid → KeepsMap mid new → KeepsMap old new }
+    ensures map { (old mid new : PageFile D ⟦<D as BlockDevice>⟧) → (IsHonest old → IsHonest mid) →
+        KeepsMap old mid → KeepsMap mid new → KeepsMap old new }
 {}
 
 /// Each page number that was given out has its block on the device.

@@ -1,8 +1,10 @@
 //! The checks of opening, in their order.
-ghost use Rattle.std.specs.Prelude.{◌≡◌, ◌≤◌, ◌<◌, ◌^◌, ◌↔◌, ◌⊎◌, ◌++◌, Some, None, true, length, List, ℕ, IfOk, IfErr, OnOk};
+ghost use Rattle.std.specs.Prelude.{◌≡◌, ◌≤◌, ◌<◌, ◌^◌, ◌↔◌, ◌⊎◌, ◌++◌, Some, None, true, length, List, ℕ, IfOk};
+ghost use Rattle.std.specs.Prelude.{IfErr, OnOk};
 ghost use Rattle.block_device.specs.Device.{Blocks, Only, LeavesOnly, block_at};
 ghost use Rattle.page_file.specs.Fault.{HasCause, IsOfDevice, IsDamage};
-ghost use Rattle.page_file.specs.Opening.{Check, first_fault, gate_checks, header_checks, failed_check, header_of_block};
+ghost use Rattle.page_file.specs.Opening.{Check, first_fault, gate_checks, header_checks, failed_check};
+ghost use Rattle.page_file.specs.Opening.{header_of_block};
 ghost use Rattle.page_file.specs.Opening as opening;
 ghost use Rattle.page_file.specs.Pages.{header_in};
 ghost use Rattle.page_file.specs.declared.fault.Fault.TheVariants as fault;
@@ -58,13 +60,16 @@ fn check_header(page: &[u8; 4096], blocks: u32) -> Result<Header, Fault>
 pub fn check_opening<D: BlockDevice>(device: &mut D) -> Result<Header, Fault>
     ensures ok { D.honest device.old → OnOk result (failed_check (D.shown device.old) ≡ None) }
     ensures header { D.honest device.old → IfOk result (λ h. h ≡ header_in (D.shown device.old)) }
-    ensures err { D.honest device.old → IfErr result (λ f. IsOfDevice f ⊎ (failed_check (D.shown device.old) ≡ Some f)) }
+    ensures err { D.honest device.old →
+        IfErr result (λ f. IsOfDevice f ⊎ (failed_check (D.shown device.old) ≡ Some f)) }
     ensures sound { IfOk result (λ h. (opening.is_sound h ≡ true) × (h.next ≤ 2 ^ 31)) }
     ensures never { IfErr result (λ e. ¬ (e ≡ fault.NoPages)) }
     ensures shown { D.honest device.old → D.shown device.new ≡ D.shown device.old }
     ensures durable { D.honest device.old → OnOk result (Only (D.shown device.new) (D.may_leave device.new)) }
-    ensures refused_durable { D.honest device.old → IfErr result (λ f. IsOfDevice f ⊎ Only (D.shown device.new) (D.may_leave device.new)) }
-    ensures stops { D.honest device.old → LeavesOnly D.moment D.left_since device.old device.new (D.may_leave device.old) }
+    ensures refused_durable { D.honest device.old →
+        IfErr result (λ f. IsOfDevice f ⊎ Only (D.shown device.new) (D.may_leave device.new)) }
+    ensures stops { D.honest device.old →
+        LeavesOnly D.moment D.left_since device.old device.new (D.may_leave device.old) }
     ensures honest { D.honest device.old ↔ D.honest device.new }
     ensures cause { HasCause (D.faults device.old) (D.faults device.new) result }
 {

@@ -4,7 +4,8 @@ ghost use Rattle.block_device.specs.Device.{LeavesOnly, Only};
 ghost use Rattle.page_file.specs.Fault.{HasCause, IsDamage, IsOfDevice};
 ghost use Rattle.page_file.specs.Stops.{SameButGate};
 ghost use Rattle.page_file.specs.declared.gate.Gate.TheVariants.{Open, Unsure};
-ghost use Rattle.page_cache.specs.Cache.{IsHonest, IsUnchanged, IsWritten, KeepsGate, KeepsMap, blocks_of, capacity_of, device_of, gate_of, looks_of};
+ghost use Rattle.page_cache.specs.Cache.{IsHonest, IsUnchanged, IsWritten, KeepsGate, KeepsMap, blocks_of};
+ghost use Rattle.page_cache.specs.Cache.{capacity_of, device_of, gate_of, looks_of};
 ghost use Rattle.page_cache.specs.Calls.{Asks};
 
 use crate::cache::PageCache;
@@ -25,7 +26,8 @@ impl<D: BlockDevice, A: Allocator + Copy> PageCache<D, A> {
 
         // A stop leaves the blocks as they were, the gate aside.
         ensures stops { IsHonest self.old → ¬ (gate_of self.old ≡ Open) →
-            LeavesOnly D.moment D.left_since (device_of self.old) (device_of self.new) (λ c. SameButGate c (blocks_of self.old)) }
+            LeavesOnly D.moment D.left_since (device_of self.old) (device_of self.new)
+            (λ c. SameButGate c (blocks_of self.old)) }
 
         ensures looks { looks_of self.new ≡ looks_of self.old }
         ensures capacity { capacity_of self.new ≡ capacity_of self.old }
@@ -44,7 +46,8 @@ impl<D: BlockDevice, A: Allocator + Copy> PageCache<D, A> {
     pub fn flush(&mut self) -> Result<(), Fault>
         ensures asks { Asks self.old self.new result }
         ensures written { IsHonest self.old → OnOk result (IsWritten self.new) }
-        ensures durable { IsHonest self.old → OnOk result (Only (blocks_of self.new) (D.may_leave (device_of self.new))) }
+        ensures durable { IsHonest self.old →
+            OnOk result (Only (blocks_of self.new) (D.may_leave (device_of self.new))) }
         ensures looks { looks_of self.new ≡ looks_of self.old }
         ensures faults { IsHonest self.old → IfErr result IsOfDevice }
         ensures other_faults { IfErr result (λ f. IsOfDevice f ⊎ IsDamage f) }

@@ -5,7 +5,8 @@ ghost use Rattle.page_file.specs.Fault.{HasCause, IsOfDevice};
 ghost use Rattle.page_file.specs.File as below;
 ghost use Rattle.page_file.specs.declared.fault.Fault.TheVariants as fault;
 ghost use Rattle.page_file.specs.declared.gate.Gate.TheVariants.{Shut};
-ghost use Rattle.page_cache.specs.Cache.{IsHeld, IsHonest, IsPageMap, KeepsGate, KeepsMap, LiesIn, blocks_of, capacity_of, device_of, gate_of, given, looks_of, next_of, pages};
+ghost use Rattle.page_cache.specs.Cache.{IsHeld, IsHonest, IsPageMap, KeepsGate, KeepsMap, LiesIn, blocks_of};
+ghost use Rattle.page_cache.specs.Cache.{capacity_of, device_of, gate_of, given, looks_of, next_of, pages};
 
 use crate::cache::PageCache;
 use block_device::BlockDevice;

@@ -1,12 +1,14 @@
 //! The pages: given out, put, freed and lent.
-ghost use Rattle.std.specs.Prelude.{◌≡◌, ◌⊎◌, ◌≤◌, ◌<◌, ◌+◌, ◌^◌, ℕ, Some, None, Err, IsErrOf, IsOk, IfOk, IfErr, OnOk, OnErr, length, option_map, slice_get};
+ghost use Rattle.std.specs.Prelude.{◌≡◌, ◌⊎◌, ◌≤◌, ◌<◌, ◌+◌, ◌^◌, ℕ, Some, None, Err, IsErrOf, IsOk, IfOk, IfErr};
+ghost use Rattle.std.specs.Prelude.{OnOk, OnErr, length, option_map, slice_get};
 ghost use Rattle.std.specs.Borrow.{sem};
 ghost use Rattle.block_bytes.specs.Numbers.{zeros};
 ghost use Rattle.page_file.specs.Fault.{HasCause, IsOfDevice, IsDamage};
 ghost use Rattle.page_file.specs.Pages.{SameBut, TakesFirst};
 ghost use Rattle.page_file.specs.declared.fault.Fault.TheVariants as fault;
 ghost use Rattle.page_file.specs.declared.gate.Gate.TheVariants.{Open};
-ghost use Rattle.page_cache.specs.Cache.{IsHeld, IsHonest, IsLive, IsPageMap, IsUnchanged, KeepsGate, KeepsMap, capacity_of, device_of, free_of, gate_of, given, looks_of, next_of, pages};
+ghost use Rattle.page_cache.specs.Cache.{IsHeld, IsHonest, IsLive, IsPageMap, IsUnchanged, KeepsGate, KeepsMap};
+ghost use Rattle.page_cache.specs.Cache.{capacity_of, device_of, free_of, gate_of, given, looks_of, next_of, pages};
 ghost use Rattle.page_cache.specs.Calls.{Asks, Changes, IsLookedAt};
 ghost use Rattle.page_cache.specs.Frames.{frame_at};
 ghost use Rattle.page_cache.specs.Keeps.{KeepsBlocks, SameFrames};
@@ -43,7 +45,8 @@ impl<D: BlockDevice, A: Allocator + Copy> PageCache<D, A> {
     // Makes a page the one used last, and counts a look.
     fn look(&mut self, n: u32) -> Result<(), Fault>
         ensures looked_at { IsLookedAt self.old self.new n result }
-        ensures first { OnOk result ((f : _) × (slice_get self.new.frames.entries 0 ≡ Some (n, f)) × (IsHonest self.old → given self.old n ≡ Some f.bytes.value)) }
+        ensures first { OnOk result ((f : _) × (slice_get self.new.frames.entries 0 ≡ Some (n, f)) ×
+            (IsHonest self.old → given self.old n ≡ Some f.bytes.value)) }
         ensures held { IsHeld self.old n → IsOk result }
         ensures outside { (n < 2) ⊎ (next_of self.old ≤ n) → result ≡ Err (fault.Damaged n) }
         ensures faults { IsHonest self.old → 2 ≤ n → n < next_of self.old → IfErr result IsOfDevice }
@@ -59,7 +62,8 @@ impl<D: BlockDevice, A: Allocator + Copy> PageCache<D, A> {
         ensures kept { KeepsBlocks self.old self.new }
         ensures first { OnOk result (option_map (λ e. e.0) (slice_get self.new.frames.entries 0) ≡ Some n) }
         ensures held { IsHeld self.old n → (self.new.file ≡ self.old.file) × IsOk result }
-        ensures outside { (n < 2) ⊎ (next_of self.old ≤ n) → (result ≡ Err (fault.Damaged n)) × (self.new.file ≡ self.old.file) }
+        ensures outside { (n < 2) ⊎ (next_of self.old ≤ n) →
+            (result ≡ Err (fault.Damaged n)) × (self.new.file ≡ self.old.file) }
         ensures faults { IsHonest self.old → 2 ≤ n → n < next_of self.old → IfErr result IsOfDevice }
         ensures other_faults { IfErr result (λ f. IsOfDevice f ⊎ IsDamage f) }
         ensures cause { HasCause (D.faults (device_of self.old)) (D.faults (device_of self.new)) result }
@@ -73,7 +77,8 @@ impl<D: BlockDevice, A: Allocator + Copy> PageCache<D, A> {
         self.fetch(n)
     }
 
-    /// Changes a live page in memory, and holds it. The gate has to be open. A number outside 2 to the last one given out is
+    /// Changes a live page in memory, and holds it. The gate has to be open. A number outside 2 to the last one
+    /// given out is
     /// `Damaged` with that number, without a call of the device.
     ///
     /// After a refusal the page is still live and may hold any bytes; all others are as before. On an
@@ -91,7 +96,8 @@ impl<D: BlockDevice, A: Allocator + Copy> PageCache<D, A> {
         ensures next { next_of self.new ≡ next_of self.old }
         ensures looks { looks_of self.new ≡ looks_of self.old }
         ensures holds { OnOk result (IsHeld self.new n) }
-        ensures outside { (n < 2) ⊎ (next_of self.old ≤ n) → (result ≡ Err (fault.Damaged n)) × IsUnchanged self.old self.new }
+        ensures outside { (n < 2) ⊎ (next_of self.old ≤ n) →
+            (result ≡ Err (fault.Damaged n)) × IsUnchanged self.old self.new }
         ensures faults { IsHonest self.old → 2 ≤ n → n < next_of self.old → IfErr result IsOfDevice }
         ensures other_faults { IfErr result (λ f. IsOfDevice f ⊎ IsDamage f) }
     {
@@ -111,8 +117,10 @@ impl<D: BlockDevice, A: Allocator + Copy> PageCache<D, A> {
     fn admit(&mut self, n: u32) -> Result<(), Fault>
         ensures kept { KeepsBlocks self.old self.new }
         ensures within { OnOk result ((2 ≤ n) × (n < next_of self.old)) }
-        ensures room { OnOk result (frame_at self.new.frames.entries n ≡ None → length self.new.frames.entries < self.new.frames.cap) }
-        ensures outside { (n < 2) ⊎ (next_of self.old ≤ n) → (result ≡ Err (fault.Damaged n)) × SameFrames self.old self.new }
+        ensures room { OnOk result (frame_at self.new.frames.entries n ≡ None →
+            length self.new.frames.entries < self.new.frames.cap) }
+        ensures outside { (n < 2) ⊎ (next_of self.old ≤ n) →
+            (result ≡ Err (fault.Damaged n)) × SameFrames self.old self.new }
         ensures faults { IsHonest self.old → 2 ≤ n → n < next_of self.old → IfErr result IsOfDevice }
         ensures other_faults { IfErr result (λ f. IsOfDevice f ⊎ IsDamage f) }
         ensures cause { HasCause (D.faults (device_of self.old)) (D.faults (device_of self.new)) result }
@@ -130,19 +138,24 @@ impl<D: BlockDevice, A: Allocator + Copy> PageCache<D, A> {
     /// number. The gate has to be open.
     ///
     /// After a refusal one page that was not live may hold any bytes, and may be live; all others are as
-    /// before. `NoPages` comes only where each number from 2 to 2^31 - 1 is live. `Damaged` comes with the number of the
+    /// before. `NoPages` comes only where each number from 2 to 2^31 - 1 is live. `Damaged` comes with the
+    /// number of the
     /// first free page, where that is no free page (docs/FORMAT.md, "Pages"); the map stays then.
     #[tactic(auto, using(crate::specs::Calls::counted_by_end))]
     pub fn allocate(&mut self) -> Result<u32, Fault>
         requires { gate_of self.old ≡ Open }
         ensures changes { Changes self.old self.new result }
         ensures fresh { IsPageMap self.old →
-            IfOk result (λ n. (pages self.old n ≡ None) × (pages self.new n ≡ Some zeros) × SameBut n (pages self.old) (pages self.new)) }
+            IfOk result (λ n. (pages self.old n ≡ None) × (pages self.new n ≡ Some zeros) ×
+            SameBut n (pages self.old) (pages self.new)) }
         ensures taken { IsPageMap self.old →
-            IfOk result (λ n. TakesFirst n (free_of self.old) (next_of self.old) (free_of self.new) (next_of self.new)) }
+            IfOk result (λ n. TakesFirst n (free_of self.old) (next_of self.old) (free_of self.new)
+            (next_of self.new)) }
         ensures given_others { IsHonest self.old → IfOk result (λ n. SameBut n (given self.old) (given self.new)) }
-        ensures given_refused { IsHonest self.old → OnErr result ((n : ℕ) × SameBut n (given self.old) (given self.new)) }
-        ensures refused { IsPageMap self.old → OnErr result ((n : ℕ) × (pages self.old n ≡ None) × SameBut n (pages self.old) (pages self.new)) }
+        ensures given_refused { IsHonest self.old →
+            OnErr result ((n : ℕ) × SameBut n (given self.old) (given self.new)) }
+        ensures refused { IsPageMap self.old →
+            OnErr result ((n : ℕ) × (pages self.old n ≡ None) × SameBut n (pages self.old) (pages self.new)) }
         ensures sound { IsPageMap self.old → IsPageMap self.new }
         ensures number { IfOk result (λ n. (3 ≤ n) × (n < next_of self.new)) }
         ensures next { (next_of self.old ≤ next_of self.new) × (next_of self.new ≤ next_of self.old + 1) }
@@ -173,7 +186,8 @@ impl<D: BlockDevice, A: Allocator + Copy> PageCache<D, A> {
         ensures sound { IsPageMap self.old → IsLive self.old n → IsPageMap self.new }
         ensures next { next_of self.new ≡ next_of self.old }
         ensures looks { looks_of self.new ≡ looks_of self.old }
-        ensures outside { (n < 3) ⊎ (next_of self.old ≤ n) → (result ≡ Err (fault.Damaged n)) × IsUnchanged self.old self.new }
+        ensures outside { (n < 3) ⊎ (next_of self.old ≤ n) →
+            (result ≡ Err (fault.Damaged n)) × IsUnchanged self.old self.new }
         ensures faults { IsPageMap self.old → IsLive self.old n → ¬ (n ≡ 2) → IfErr result IsOfDevice }
         ensures other_faults { IfErr result (λ f. IsOfDevice f ⊎ IsDamage f) }
     {
@@ -184,7 +198,8 @@ impl<D: BlockDevice, A: Allocator + Copy> PageCache<D, A> {
         self.file.free(n)
     }
 
-    /// The free pages, in the order in which they are given out again. `Damaged` where they are no chain of free pages as the
+    /// The free pages, in the order in which they are given out again. `Damaged` where they are no chain of
+    /// free pages as the
     /// format has it (docs/FORMAT.md, "Pages"), with the number of the page at which it ends to be one.
     ///
     /// What was put is written first, and no page is held afterwards. Map and gate stay.

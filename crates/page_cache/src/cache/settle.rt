@@ -5,7 +5,8 @@ ghost use Rattle.page_file.specs.Fault.{HasCause, IsDamage, IsOfDevice, faults_a
 ghost use Rattle.page_file.specs.Opening.{IsRefused};
 ghost use Rattle.page_file.specs.Stops.{SameButGate};
 ghost use Rattle.page_file.specs.declared.gate.Gate.TheVariants.{Shut, Open, Unsure};
-ghost use Rattle.page_cache.specs.Cache.{IsHonest, IsUnchanged, KeepsMap, LiesIn, blocks_of, capacity_of, device_of, gate_of, looks_of};
+ghost use Rattle.page_cache.specs.Cache.{IsHonest, IsUnchanged, KeepsMap, LiesIn, blocks_of, capacity_of, device_of};
+ghost use Rattle.page_cache.specs.Cache.{gate_of, looks_of};
 
 use crate::cache::PageCache;
 use block_device::BlockDevice;
@@ -22,15 +23,18 @@ impl<D: BlockDevice, A: Allocator + Copy> PageCache<D, A> {
     pub fn settle(&mut self) -> Result<(), Fault>
         ensures shut { OnOk result (gate_of self.new ≡ Shut) }
         ensures lies { IsHonest self.old → OnOk result (LiesIn self.new (blocks_of self.new)) }
-        ensures refused { OnErr result ((gate_of self.new ≡ Unsure) ⊎ ((gate_of self.new ≡ Open) × (gate_of self.old ≡ Open))) }
+        ensures refused { OnErr result ((gate_of self.new ≡ Unsure) ⊎
+            ((gate_of self.new ≡ Open) × (gate_of self.old ≡ Open))) }
         ensures was_shut { gate_of self.old ≡ Shut → IsUnchanged self.old self.new × IsOk result }
-        ensures was_unsure { IsHonest self.old → gate_of self.old ≡ Unsure → SameButGate (blocks_of self.new) (blocks_of self.old) }
+        ensures was_unsure { IsHonest self.old → gate_of self.old ≡ Unsure →
+            SameButGate (blocks_of self.new) (blocks_of self.old) }
         ensures map { KeepsMap self.old self.new }
 
-        // A stop leaves blocks that opening refuses, or those that are read afterwards, the gate aside, in which the map
-        // lies.
+        // A stop leaves blocks that opening refuses, or those that are read afterwards, the gate aside, in which the
+        // map lies.
         ensures stops { IsHonest self.old →
-            LeavesOnly D.moment D.left_since (device_of self.old) (device_of self.new) (λ c. IsRefused c ⊎ (SameButGate c (blocks_of self.new) × LiesIn self.new c)) }
+            LeavesOnly D.moment D.left_since (device_of self.old) (device_of self.new) (λ c. IsRefused c ⊎
+            (SameButGate c (blocks_of self.new) × LiesIn self.new c)) }
 
         ensures looks { looks_of self.new ≡ looks_of self.old }
         ensures capacity { capacity_of self.new ≡ capacity_of self.old }
@@ -52,12 +56,14 @@ impl<D: BlockDevice, A: Allocator + Copy> PageCache<D, A> {
         ensures durable { IfOk result (λ device. IsHonest self → Only (D.shown device) (D.may_leave device)) }
         ensures was_shut { gate_of self ≡ Shut → result ≡ Ok (device_of self) }
 
-        // A stop leaves blocks that opening refuses, or those that are read afterwards, the gate aside, in which the map
-        // lies.
+        // A stop leaves blocks that opening refuses, or those that are read afterwards, the gate aside, in which the
+        // map lies.
         ensures stops { IfOk result (λ device. IsHonest self →
-            LeavesOnly D.moment D.left_since (device_of self) device (λ c. IsRefused c ⊎ (SameButGate c (D.shown device) × LiesIn self c))) }
+            LeavesOnly D.moment D.left_since (device_of self) device (λ c. IsRefused c ⊎
+            (SameButGate c (D.shown device) × LiesIn self c))) }
         ensures refused_stops { IfErr result (λ e. IsHonest self →
-            LeavesOnly D.moment D.left_since (device_of self) e.1 (λ c. IsRefused c ⊎ (SameButGate c (D.shown e.1) × LiesIn self c))) }
+            LeavesOnly D.moment D.left_since (device_of self) e.1 (λ c. IsRefused c ⊎
+            (SameButGate c (D.shown e.1) × LiesIn self c))) }
 
         ensures honest { IfOk result (λ device. IsHonest self ↔ D.honest device) }
         ensures refused_honest { IfErr result (λ e. IsHonest self ↔ D.honest e.1) }

@@ -2,7 +2,8 @@
 ghost use Rattle.std.specs.Prelude.{◌≡◌, ◌⊎◌, ◌↔◌, ◌≤◌, ◌<◌, ℕ, Some, None, length, IfOk, IfErr};
 ghost use Rattle.block_device.specs.Device.{Only, LeavesOnly};
 ghost use Rattle.page_file.specs.Fault.{HasCause, IsOfDevice, IsDamage, faults_after};
-ghost use Rattle.page_file.specs.File.{device_of, blocks_of, gate_of, next_of, pages, IsHonest, IsNewFile, IsPageMap, KeepsGate, KeepsMap, LiesIn};
+ghost use Rattle.page_file.specs.File.{device_of, blocks_of, gate_of, next_of, pages, IsHonest, IsNewFile, IsPageMap};
+ghost use Rattle.page_file.specs.File.{KeepsGate, KeepsMap, LiesIn};
 ghost use Rattle.page_file.specs.Layout.{catalog_block};
 ghost use Rattle.page_file.specs.Opening.{IsRefused, failed_check};
 ghost use Rattle.page_file.specs.Stops.{SameButGate};
@@ -24,16 +25,20 @@ use block_device::BlockDevice;
 pub fn open_pages<D: BlockDevice>(device: D) -> Result<PageFile<D>, (Fault, D)>
     ensures shut { IfOk result (λ file. gate_of file ≡ Shut) }
     ensures lies { IfOk result (λ file. D.honest device → LiesIn file (D.shown device)) }
-    ensures refused { IfErr result (λ e. D.honest device → IsOfDevice e.0 ⊎ (failed_check (D.shown device) ≡ Some e.0)) }
+    ensures refused { IfErr result (λ e. D.honest device →
+        IsOfDevice e.0 ⊎ (failed_check (D.shown device) ≡ Some e.0)) }
 
     // A stop leaves nothing but what one before the call might have left.
     ensures blocks { IfOk result (λ file. D.honest device → blocks_of file ≡ D.shown device) }
-    ensures stops { IfOk result (λ file. D.honest device → LeavesOnly D.moment D.left_since device (device_of file) (D.may_leave device)) }
+    ensures stops { IfOk result (λ file. D.honest device →
+        LeavesOnly D.moment D.left_since device (device_of file) (D.may_leave device)) }
     ensures refused_blocks { IfErr result (λ e. D.honest device → D.shown e.1 ≡ D.shown device) }
-    ensures refused_stops { IfErr result (λ e. D.honest device → LeavesOnly D.moment D.left_since device e.1 (D.may_leave device)) }
+    ensures refused_stops { IfErr result (λ e. D.honest device →
+        LeavesOnly D.moment D.left_since device e.1 (D.may_leave device)) }
 
     // What a check refuses is durable: no stop brings back other blocks.
-    ensures refused_durable { IfErr result (λ e. D.honest device → IsOfDevice e.0 ⊎ Only (D.shown e.1) (D.may_leave e.1)) }
+    ensures refused_durable { IfErr result (λ e. D.honest device →
+        IsOfDevice e.0 ⊎ Only (D.shown e.1) (D.may_leave e.1)) }
 
     ensures honest { IfOk result (λ file. D.honest device ↔ D.honest (device_of file)) }
     ensures refused_honest { IfErr result (λ e. D.honest device ↔ D.honest e.1) }
@@ -88,7 +93,8 @@ pub fn create_pages<D: BlockDevice>(device: D) -> Result<PageFile<D>, (Fault, D)
 
     // A stop leaves blocks that opening refuses, or a new file: what is read afterwards, the gate aside.
     ensures stops { IfOk result (λ file. D.honest device →
-        LeavesOnly D.moment D.left_since device (device_of file) (λ c. IsRefused c ⊎ (SameButGate c (blocks_of file) × IsNewFile c))) }
+        LeavesOnly D.moment D.left_since device (device_of file) (λ c. IsRefused c ⊎
+        (SameButGate c (blocks_of file) × IsNewFile c))) }
     ensures refused_stops { IfErr result (λ e. D.honest device →
         LeavesOnly D.moment D.left_since device e.1 (λ c. IsRefused c ⊎ (SameButGate c (D.shown e.1) × IsNewFile c))) }
 

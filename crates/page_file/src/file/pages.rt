@@ -1,11 +1,14 @@
 //! The pages: given out, written, freed and read.
-ghost use Rattle.std.specs.Prelude.{◌≡◌, ◌⊎◌, ◌≤◌, ◌<◌, ◌+◌, ◌-◌, ◌^◌, ℕ, Some, None, true, Err, IsErrOf, IfOk, IfErr, OnOk, OnErr};
+ghost use Rattle.std.specs.Prelude.{◌≡◌, ◌⊎◌, ◌≤◌, ◌<◌, ◌+◌, ◌-◌, ◌^◌, ℕ, Some, None, true, Err, IsErrOf, IfOk};
+ghost use Rattle.std.specs.Prelude.{IfErr, OnOk, OnErr};
 ghost use Rattle.block_bytes.specs.Numbers.{zeros};
 ghost use Rattle.block_device.specs.Device.{Only, Torn, block_at, written};
 ghost use Rattle.page_file.specs.Fault.{HasCause, IsOfDevice, IsDamage};
-ghost use Rattle.page_file.specs.File.{device_of, blocks_of, free_of, header_of, IsBroken, IsHonest, gate_of, next_of, pages, given, IsLive, IsPageMap, KeepsGate, KeepsMap};
+ghost use Rattle.page_file.specs.File.{device_of, blocks_of, free_of, header_of, IsBroken, IsHonest, gate_of};
+ghost use Rattle.page_file.specs.File.{next_of, pages, given, IsLive, IsPageMap, KeepsGate, KeepsMap};
 ghost use Rattle.page_file.specs.Layout.{free_block};
-ghost use Rattle.page_file.specs.Pages.{HasGiven, MayHaveGiven, SameBut, TakesFirst, free_page_link, may_link, next_given, with_one_free, with_one_given, with_one_taken};
+ghost use Rattle.page_file.specs.Pages.{HasGiven, MayHaveGiven, SameBut, TakesFirst, free_page_link, may_link};
+ghost use Rattle.page_file.specs.Pages.{next_given, with_one_free, with_one_given, with_one_taken};
 ghost use Rattle.page_file.specs.declared.fault.Fault.TheVariants as fault;
 ghost use Rattle.page_file.specs.declared.gate.Gate.TheVariants.{Open};
 
@@ -25,32 +28,38 @@ impl<D: BlockDevice> PageFile<D> {
     /// number. The gate has to be open.
     ///
     /// After a refusal one page that was not live may hold any bytes, and may be live; all others are as
-    /// before. `NoPages` comes only where each number from 2 to 2^31 - 1 is live. `Damaged` comes with the number of the
+    /// before. `NoPages` comes only where each number from 2 to 2^31 - 1 is live. `Damaged` comes with the
+    /// number of the
     /// first free page, where its block is not that of a free page (docs/FORMAT.md, "Pages"); nothing has changed then.
     pub fn allocate(&mut self) -> Result<u32, Fault>
         requires { gate_of self.old ≡ Open }
         ensures gate { KeepsGate self.old self.new }
         ensures fresh { IsPageMap self.old →
-            IfOk result (λ n. (pages self.old n ≡ None) × (pages self.new n ≡ Some zeros) × SameBut n (pages self.old) (pages self.new)) }
+            IfOk result (λ n. (pages self.old n ≡ None) × (pages self.new n ≡ Some zeros) ×
+            SameBut n (pages self.old) (pages self.new)) }
         ensures taken { IsPageMap self.old →
-            IfOk result (λ n. TakesFirst n (free_of self.old) (next_of self.old) (free_of self.new) (next_of self.new)) }
+            IfOk result (λ n. TakesFirst n (free_of self.old) (next_of self.old) (free_of self.new)
+            (next_of self.new)) }
         ensures refused { IsPageMap self.old →
             OnErr result ((n : ℕ) × (pages self.old n ≡ None) × SameBut n (pages self.old) (pages self.new)) }
         ensures sound { IsPageMap self.old → IsPageMap self.new }
         ensures given_others { IsHonest self.old → IfOk result (λ n. SameBut n (given self.old) (given self.new)) }
-        ensures given_refused { IsHonest self.old → OnErr result ((n : ℕ) × SameBut n (given self.old) (given self.new)) }
+        ensures given_refused { IsHonest self.old →
+            OnErr result ((n : ℕ) × SameBut n (given self.old) (given self.new)) }
         ensures which { IfOk result (λ n. n ≡ next_given (header_of self.old)) }
         ensures gives { IsHonest self.old →
             OnOk result (HasGiven (blocks_of self.old) (blocks_of self.new) (header_of self.old) (header_of self.new)) }
         ensures may_give { IsHonest self.old →
-            OnErr result (MayHaveGiven (blocks_of self.old) (blocks_of self.new) (header_of self.old) (header_of self.new)) }
+            OnErr result (MayHaveGiven (blocks_of self.old) (blocks_of self.new) (header_of self.old)
+            (header_of self.new)) }
         ensures number { IfOk result (λ n. (3 ≤ n) × (n < next_of self.new)) }
         ensures next { (next_of self.old ≤ next_of self.new) × (next_of self.new ≤ next_of self.old + 1) }
         ensures no_pages { IsErrOf result fault.NoPages → next_of self.old ≡ 2 ^ 31 }
         ensures none_free { IsErrOf result fault.NoPages → (header_of self.old).count ≡ 0 }
         ensures all_live { IsErrOf result fault.NoPages → (n : ℕ) → 2 ≤ n → n < 2 ^ 31 → IsLive self.old n }
         ensures faults { IsPageMap self.old → IfErr result (λ f. IsOfDevice f ⊎ (f ≡ fault.NoPages)) }
-        ensures damaged { IsHonest self.old → IfErr result (λ f. IsOfDevice f ⊎ ((f ≡ fault.NoPages) ⊎ IsBroken self.old self.new f)) }
+        ensures damaged { IsHonest self.old →
+            IfErr result (λ f. IsOfDevice f ⊎ ((f ≡ fault.NoPages) ⊎ IsBroken self.old self.new f)) }
         ensures other_faults { IfErr result (λ f. IsOfDevice f ⊎ ((f ≡ fault.NoPages) ⊎ IsDamage f)) }
         ensures cause { HasCause (D.faults (device_of self.old)) (D.faults (device_of self.new)) result }
     {
@@ -65,11 +74,14 @@ impl<D: BlockDevice> PageFile<D> {
         ensures gives { IsHonest self.old →
             OnOk result (HasGiven (blocks_of self.old) (blocks_of self.new) (header_of self.old) (header_of self.new)) }
         ensures may_give { IsHonest self.old →
-            OnErr result (MayHaveGiven (blocks_of self.old) (blocks_of self.new) (header_of self.old) (header_of self.new)) }
+            OnErr result (MayHaveGiven (blocks_of self.old) (blocks_of self.new) (header_of self.old)
+            (header_of self.new)) }
         ensures number { IfOk result (λ n. (3 ≤ n) × (n < next_of self.new)) }
         ensures next { (next_of self.old ≤ next_of self.new) × (next_of self.new ≤ next_of self.old + 1) }
-        ensures no_pages { IsErrOf result fault.NoPages → (next_of self.old ≡ 2 ^ 31) × ((header_of self.old).count ≡ 0) }
-        ensures damaged { IsHonest self.old → IfErr result (λ f. IsOfDevice f ⊎ ((f ≡ fault.NoPages) ⊎ IsBroken self.old self.new f)) }
+        ensures no_pages { IsErrOf result fault.NoPages →
+            (next_of self.old ≡ 2 ^ 31) × ((header_of self.old).count ≡ 0) }
+        ensures damaged { IsHonest self.old →
+            IfErr result (λ f. IsOfDevice f ⊎ ((f ≡ fault.NoPages) ⊎ IsBroken self.old self.new f)) }
         ensures other_faults { IfErr result (λ f. IsOfDevice f ⊎ ((f ≡ fault.NoPages) ⊎ IsDamage f)) }
         ensures cause { HasCause (D.faults (device_of self.old)) (D.faults (device_of self.new)) result }
     {
@@ -83,9 +95,11 @@ impl<D: BlockDevice> PageFile<D> {
     fn give_new(&mut self) -> Result<u32, Fault>
         requires { gate_of self.old ≡ Open }
         ensures gate { KeepsGate self.old self.new }
-        ensures header { IfOk result (λ n. (n ≡ next_of self.old) × (header_of self.new ≡ with_one_given (header_of self.old))) }
+        ensures header { IfOk result (λ n. (n ≡ next_of self.old) ×
+            (header_of self.new ≡ with_one_given (header_of self.old))) }
         ensures refused_header { OnErr result (header_of self.new ≡ header_of self.old) }
-        ensures block { IsHonest self.old → OnOk result (blocks_of self.new ≡ written (next_of self.old) zeros (blocks_of self.old)) }
+        ensures block { IsHonest self.old →
+            OnOk result (blocks_of self.new ≡ written (next_of self.old) zeros (blocks_of self.old)) }
         ensures torn { IsHonest self.old → Torn (next_of self.old) (blocks_of self.old) (blocks_of self.new) }
         ensures number { IfOk result (λ n. (3 ≤ n) × (n < next_of self.new)) }
         ensures next { (next_of self.old ≤ next_of self.new) × (next_of self.new ≤ next_of self.old + 1) }
@@ -110,10 +124,13 @@ impl<D: BlockDevice> PageFile<D> {
         requires some { 0 < (header_of self.old).count }
         ensures gate { KeepsGate self.old self.new }
         ensures which { IfOk result (λ n. n ≡ (header_of self.old).first) }
-        ensures header { IsHonest self.old → OnOk result (header_of self.new ≡ with_one_taken (blocks_of self.old) (header_of self.old)) }
+        ensures header { IsHonest self.old →
+            OnOk result (header_of self.new ≡ with_one_taken (blocks_of self.old) (header_of self.old)) }
         ensures refused_header { IsHonest self.old →
-            OnErr result (((header_of self.new ≡ header_of self.old) × (blocks_of self.new ≡ blocks_of self.old)) ⊎ (header_of self.new ≡ with_one_taken (blocks_of self.old) (header_of self.old))) }
-        ensures block { IsHonest self.old → OnOk result (blocks_of self.new ≡ written (header_of self.old).first zeros (blocks_of self.old)) }
+            OnErr result (((header_of self.new ≡ header_of self.old) × (blocks_of self.new ≡ blocks_of self.old)) ⊎
+            (header_of self.new ≡ with_one_taken (blocks_of self.old) (header_of self.old))) }
+        ensures block { IsHonest self.old →
+            OnOk result (blocks_of self.new ≡ written (header_of self.old).first zeros (blocks_of self.old)) }
         ensures torn { IsHonest self.old → Torn (header_of self.old).first (blocks_of self.old) (blocks_of self.new) }
         ensures number { (3 ≤ (header_of self.old).first) × ((header_of self.old).first < next_of self.old) }
         ensures next { next_of self.new ≡ next_of self.old }
@@ -132,7 +149,8 @@ impl<D: BlockDevice> PageFile<D> {
         Ok(n)
     }
 
-    // The page that a free page names as the next, where so many are free from it on. `Damaged` with its number where it
+    // The page that a free page names as the next, where so many are free from it on. `Damaged` with its number
+    // where it
     // is no free page as the format has it.
     fn read_link(&mut self, n: u32, count: u32) -> Result<u32, Fault>
         requires within { (3 ≤ n) × (n < next_of self.old) }
@@ -141,10 +159,13 @@ impl<D: BlockDevice> PageFile<D> {
         ensures header { header_of self.new ≡ header_of self.old }
         ensures blocks { IsHonest self.old → blocks_of self.new ≡ blocks_of self.old }
         ensures link { IsHonest self.old →
-            IfOk result (λ link. free_page_link count (next_of self.old) (block_at n (blocks_of self.old)) ≡ Some link) }
+            IfOk result (λ link. free_page_link count (next_of self.old) (block_at n
+            (blocks_of self.old)) ≡ Some link) }
         ensures there { IfOk result (λ link. may_link count (next_of self.old) link ≡ true) }
         ensures damaged { IsHonest self.old →
-            IfErr result (λ f. IsOfDevice f ⊎ ((f ≡ fault.Damaged n) × (free_page_link count (next_of self.old) (block_at n (blocks_of self.old)) ≡ None))) }
+            IfErr result (λ f. IsOfDevice f ⊎
+            ((f ≡ fault.Damaged n) ×
+            (free_page_link count (next_of self.old) (block_at n (blocks_of self.old)) ≡ None))) }
         ensures other_faults { IfErr result (λ f. IsOfDevice f ⊎ (f ≡ fault.Damaged n)) }
         ensures cause { HasCause (D.faults (device_of self.old)) (D.faults (device_of self.new)) result }
     {
@@ -156,8 +177,10 @@ impl<D: BlockDevice> PageFile<D> {
         }
     }
 
-    /// The free pages, in the order in which they are given out again. `Damaged` where they are no chain of free pages as the
-    /// format has it (docs/FORMAT.md, "Pages"), with the number of the page at which it ends to be one: where a page of it
+    /// The free pages, in the order in which they are given out again. `Damaged` where they are no chain of
+    /// free pages as the
+    /// format has it (docs/FORMAT.md, "Pages"), with the number of the page at which it ends to be one: where a
+    /// page of it
     /// is of another kind, where it closes on itself, and where it is longer or shorter than the count.
     pub fn free_pages<A: Allocator>(&mut self, alloc: A) -> Result<Vec<u32, A>, Fault>
         ensures gate { KeepsGate self.old self.new }
@@ -205,7 +228,8 @@ impl<D: BlockDevice> PageFile<D> {
         ensures given_others { IsHonest self.old → SameBut n (given self.old) (given self.new) }
         ensures sound { IsPageMap self.old → IsLive self.old n → IsPageMap self.new }
         ensures header { header_of self.new ≡ header_of self.old }
-        ensures block { IsHonest self.old → OnOk result (blocks_of self.new ≡ written n bytes.now (blocks_of self.old)) }
+        ensures block { IsHonest self.old →
+            OnOk result (blocks_of self.new ≡ written n bytes.now (blocks_of self.old)) }
         ensures torn { IsHonest self.old → Torn n (blocks_of self.old) (blocks_of self.new) }
         ensures next { next_of self.new ≡ next_of self.old }
         ensures outside { (n < 2) ⊎ (next_of self.old ≤ n) → (result ≡ Err (fault.Damaged n)) × (self.new ≡ self.old) }
@@ -234,16 +258,20 @@ impl<D: BlockDevice> PageFile<D> {
         ensures sound { IsPageMap self.old → IsLive self.old n → IsPageMap self.new }
         ensures header { OnOk result (header_of self.new ≡ with_one_free n (header_of self.old)) }
         ensures refused_header { OnErr result (header_of self.new ≡ header_of self.old) }
-        ensures block { IsHonest self.old → OnOk result (blocks_of self.new ≡ written n (free_block (header_of self.old).first) (blocks_of self.old)) }
+        ensures block { IsHonest self.old →
+            OnOk result (blocks_of self.new ≡ written n (free_block (header_of self.old).first)
+            (blocks_of self.old)) }
         ensures torn { IsHonest self.old → Torn n (blocks_of self.old) (blocks_of self.new) }
         ensures next { next_of self.new ≡ next_of self.old }
         ensures outside { (n < 3) ⊎ (next_of self.old ≤ n) → (result ≡ Err (fault.Damaged n)) × (self.new ≡ self.old) }
         ensures faults { IsPageMap self.old → IsLive self.old n → ¬ (n ≡ 2) → IfErr result IsOfDevice }
-        ensures room_faults { IsHonest self.old → 3 ≤ n → n < next_of self.old → (header_of self.old).count < next_of self.old - 3 → IfErr result IsOfDevice }
+        ensures room_faults { IsHonest self.old → 3 ≤ n → n < next_of self.old →
+            (header_of self.old).count < next_of self.old - 3 → IfErr result IsOfDevice }
         ensures other_faults { IfErr result (λ f. IsOfDevice f ⊎ (f ≡ fault.Damaged n)) }
         ensures cause { HasCause (D.faults (device_of self.old)) (D.faults (device_of self.new)) result }
     {
-        // Where the page is live, not all are free; the last test keeps the count in bounds on a device that is not honest.
+        // Where the page is live, not all are free; the last test keeps the count in bounds on a device that is not
+        // honest.
         if n < 3 || n >= self.header.next || self.header.count >= self.header.next - 3 {
             return Err(Fault::Damaged(n));
         }
@@ -279,7 +307,8 @@ impl<D: BlockDevice> PageFile<D> {
         ensures gate { KeepsGate self.old self.new }
         ensures map { KeepsMap self.old self.new }
         ensures blocks { IsHonest self.old → blocks_of self.new ≡ blocks_of self.old }
-        ensures durable { IsHonest self.old → OnOk result (Only (blocks_of self.new) (D.may_leave (device_of self.new))) }
+        ensures durable { IsHonest self.old →
+            OnOk result (Only (blocks_of self.new) (D.may_leave (device_of self.new))) }
         ensures faults { IfErr result IsOfDevice }
         ensures cause { HasCause (D.faults (device_of self.old)) (D.faults (device_of self.new)) result }
     {

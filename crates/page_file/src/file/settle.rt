@@ -24,15 +24,18 @@ impl<D: BlockDevice> PageFile<D> {
     pub fn settle(&mut self) -> Result<(), Fault>
         ensures shut { OnOk result (gate_of self.new ≡ Shut) }
         ensures lies { IsHonest self.old → OnOk result (LiesIn self.new (blocks_of self.new)) }
-        ensures refused { OnErr result ((gate_of self.new ≡ Unsure) ⊎ ((gate_of self.new ≡ Open) × (gate_of self.old ≡ Open))) }
+        ensures refused { OnErr result ((gate_of self.new ≡ Unsure) ⊎
+            ((gate_of self.new ≡ Open) × (gate_of self.old ≡ Open))) }
         ensures was_shut { gate_of self.old ≡ Shut → (self.new ≡ self.old) × IsOk result }
-        ensures was_unsure { IsHonest self.old → gate_of self.old ≡ Unsure → SameButGate (blocks_of self.new) (blocks_of self.old) }
+        ensures was_unsure { IsHonest self.old → gate_of self.old ≡ Unsure →
+            SameButGate (blocks_of self.new) (blocks_of self.old) }
         ensures map { KeepsMap self.old self.new }
 
-        // A stop leaves blocks that opening refuses, or those that are read afterwards, the gate aside, in which the file
-        // lies.
+        // A stop leaves blocks that opening refuses, or those that are read afterwards, the gate aside, in which
+        // the file lies.
         ensures stops { IsHonest self.old →
-            LeavesOnly D.moment D.left_since (device_of self.old) (device_of self.new) (λ c. IsRefused c ⊎ (SameButGate c (blocks_of self.new) × LiesIn self.new c)) }
+            LeavesOnly D.moment D.left_since (device_of self.old) (device_of self.new) (λ c. IsRefused c ⊎
+            (SameButGate c (blocks_of self.new) × LiesIn self.new c)) }
 
         ensures honest { IsHonest self.old ↔ IsHonest self.new }
         ensures faults { IsHonest self.old → IfErr result IsOfDevice }
@@ -54,12 +57,14 @@ impl<D: BlockDevice> PageFile<D> {
         ensures durable { IfOk result (λ device. IsHonest self → Only (D.shown device) (D.may_leave device)) }
         ensures was_shut { gate_of self ≡ Shut → result ≡ Ok (device_of self) }
 
-        // A stop leaves blocks that opening refuses, or those that are read afterwards, the gate aside, in which the file
-        // lies.
+        // A stop leaves blocks that opening refuses, or those that are read afterwards, the gate aside, in which
+        // the file lies.
         ensures stops { IfOk result (λ device. IsHonest self →
-            LeavesOnly D.moment D.left_since (device_of self) device (λ c. IsRefused c ⊎ (SameButGate c (D.shown device) × LiesIn self c))) }
+            LeavesOnly D.moment D.left_since (device_of self) device (λ c. IsRefused c ⊎
+            (SameButGate c (D.shown device) × LiesIn self c))) }
         ensures refused_stops { IfErr result (λ e. IsHonest self →
-            LeavesOnly D.moment D.left_since (device_of self) e.1 (λ c. IsRefused c ⊎ (SameButGate c (D.shown e.1) × LiesIn self c))) }
+            LeavesOnly D.moment D.left_since (device_of self) e.1 (λ c. IsRefused c ⊎
+            (SameButGate c (D.shown e.1) × LiesIn self c))) }
 
         ensures honest { IfOk result (λ device. IsHonest self ↔ D.honest device) }
         ensures refused_honest { IfErr result (λ e. IsHonest self ↔ D.honest e.1) }
@@ -87,7 +92,8 @@ impl<D: BlockDevice> PageFile<D> {
         ensures unsure { OnOk result (gate_of self.new ≡ Unsure) }
         ensures refused { OnErr result (gate_of self.new ≡ Open) }
         ensures map { KeepsMap self.old self.new }
-        ensures stops { IsHonest self.old → LeavesOnly D.moment D.left_since (device_of self.old) (device_of self.new) IsRefused }
+        ensures stops { IsHonest self.old →
+            LeavesOnly D.moment D.left_since (device_of self.old) (device_of self.new) IsRefused }
         ensures honest { IsHonest self.old ↔ IsHonest self.new }
         ensures faults { IsHonest self.old → IfErr result IsOfDevice }
         ensures other_faults { IfErr result (λ f. IsOfDevice f ⊎ (f ≡ fault.Damaged 1)) }
@@ -112,7 +118,9 @@ impl<D: BlockDevice> PageFile<D> {
         ensures was_shut { gate_of self.old ≡ Shut → (self.new ≡ self.old) × IsOk result }
         ensures same { IsHonest self.old → SameButGate (blocks_of self.new) (blocks_of self.old) }
         ensures map { KeepsMap self.old self.new }
-        ensures stops { IsHonest self.old → LeavesOnly D.moment D.left_since (device_of self.old) (device_of self.new) (λ c. SameButGate c (blocks_of self.old)) }
+        ensures stops { IsHonest self.old →
+            LeavesOnly D.moment D.left_since (device_of self.old) (device_of self.new)
+            (λ c. SameButGate c (blocks_of self.old)) }
         ensures honest { IsHonest self.old ↔ IsHonest self.new }
         ensures faults { IfErr result IsOfDevice }
         ensures cause { HasCause (D.faults (device_of self.old)) (D.faults (device_of self.new)) result }
