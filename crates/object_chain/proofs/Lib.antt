@@ -2,5 +2,6 @@
 mod Examples
 pub mod Frames
 pub mod Linking
+pub mod InTurn
 pub mod Appending
 pub mod PagesRead

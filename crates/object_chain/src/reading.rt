@@ -88,7 +88,7 @@ fn append_page<const D: usize, A: Allocator + Copy>(
 ///
 /// On an honest device any other refusal is `Memory` or `Device`. On any device what is read ascends by identifier.
 /// Nothing is written.
-#[tactic(auto, using(page_file::specs::Laws::no_call_keeps_the_gate, page_file::specs::Laws::the_gate_is_kept_in_turn, page_file::specs::Laws::no_call_keeps_the_map, page_file::specs::Laws::the_map_is_kept_in_turn))]
+#[tactic(auto, using(crate::proofs::InTurn::kept_in_turn))]
 pub fn read_chain<const D: usize, B: BlockDevice, A: Allocator + Copy>(
     alloc: A,
     file: &mut PageFile<B>,

@@ -70,7 +70,7 @@ fn write_bucket<const D: usize, B: BlockDevice>(
 /// After a refusal the pages that were written are live, and lost; all that were live before are as they were.
 /// `NoPages` comes only where all page numbers were given out; with a sound map any other refusal is `Memory` or
 /// `Device`.
-#[tactic(auto, using(page_file::specs::Laws::no_call_keeps_the_gate, page_file::specs::Laws::the_gate_is_kept_in_turn, crate::proofs::Linking::nothing_linked, crate::proofs::Linking::no_pages_yet, crate::proofs::Linking::all_pages))]
+#[tactic(auto, using(crate::proofs::InTurn::linked_in_turn))]
 pub fn write_chain<const D: usize, B: BlockDevice>(
     file: &mut PageFile<B>,
     objects: &[(u64, BBox<D>)],
