@@ -1,6 +1,5 @@
 -- A store that was made or opened, or was refused.
-use Rattle.std.proofs.Common.{◌≡◌, ℕ, List, Option, Result, Ok, Err, refl, sym, subst, take_all, length, take, arith}
-use Rattle.std.specs.Prelude.{IfOk, IfErr}
+use Rattle.std.proofs.Common.{◌≡◌, ℕ, List, Option, Result, Ok, Err, refl, sym, subst, take_all, length, arith}
 use Rattle.block_device.specs.Device.{Blocks, LeavesOnly}
 use Rattle.command_shell.specs.Writing.{AppendsSome, Writes}
 use Rattle.std.specs.Io.KnownBytes.{Appends}
