@@ -2,7 +2,7 @@
 use Rattle.std.proofs.Common.{◌≡◌, ◌∙◌, ℕ, ◌+◌, ◌<◌, ◌≤◌, List, [], ◌++◌, length, take, drop, slice_index, Option, Some, None, IfSome, refl, sym, ap, subst, append_assoc, arith, ⊎_elim}
 use Rattle.std.specs.Io.KnownBytes.{Consumes, Keeps, IsAtEnd}
 use Rattle.std.proofs.lemmas.Bool.{cases_lt}
-use Rattle.std.proofs.lemmas.List.{append-nil, drop_at, get_or_append_left, get_or_past, get_or-take, length-take-le, take-append-le, take_all}
+use Rattle.std.proofs.lemmas.List.{append-nil, drop_at, get_or_append_left, get_or_past, get_or-take, length-take-le, take-append-le}
 use Rattle.std.proofs.lemmas.Slice.{take-put_mid_below}
 use Rattle.std.proofs.Math.Seq.{take-add}
 use borrow.Rule.Slice.PartMut.{put_mid, post_of}

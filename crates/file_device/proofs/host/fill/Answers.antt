@@ -1,5 +1,5 @@
 -- The buffer is full, or the file has ended.
-use Rattle.std.proofs.Common.{subst, arith, take}
+use Rattle.std.proofs.Common.{subst, arith}
 use Rattle.std.proofs.lemmas.List.{take_all}
 use Rattle.std.specs.Io.KnownBytes.{Consumes}
 use Rattle.file_device.proofs.Consumed.{full_is, short_is}
