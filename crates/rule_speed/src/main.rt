@@ -1,5 +1,6 @@
-//! How long the rules of the tree take: `rule_speed RULE` does one of them two hundred thousand times on boxes that look
-//! random, and prints the sum of what it answered. Without a word it does each ten times. `bench/rules.sh` times it.
+//! How long the rules of the tree take: `rule_speed RULE` does one of them two hundred thousand times on boxes that
+//! look random, and prints the sum of what it answered. Without a word it does each ten times. `bench/rules.sh` times
+//! it.
 #![tactic(auto)]
 
 use arrayvec::ArrayVec;
