@@ -8,8 +8,7 @@ use box_math::BBox;
 use choose_subtree::choose;
 use reinsert::farthest;
 use rstar_split::split;
-use std::env;
-use std::io;
+use std::{env, io};
 use tree_node::{Entry, Node};
 
 /// Numbers that look random, one after the other.
@@ -21,7 +20,10 @@ struct Dice {
 impl Dice {
     /// A number from 0 to 2^20 - 1.
     fn roll(&mut self) -> i32 {
-        self.state = self.state.wrapping_mul(6364136223846793005).wrapping_add(1442695040888963407);
+        self.state = self
+            .state
+            .wrapping_mul(6364136223846793005)
+            .wrapping_add(1442695040888963407);
         i32::try_from(self.state >> 44).unwrap_or(0)
     }
 
@@ -29,7 +31,10 @@ impl Dice {
     fn next_box(&mut self) -> BBox<2> {
         let x = self.roll();
         let y = self.roll();
-        let high = [x.saturating_add(self.roll() / 64), y.saturating_add(self.roll() / 64)];
+        let high = [
+            x.saturating_add(self.roll() / 64),
+            y.saturating_add(self.roll() / 64),
+        ];
         BBox::try_new([x, y], high).unwrap_or_default()
     }
 
@@ -80,7 +85,9 @@ fn splits(rounds: u64) -> u64 {
         let entries = dice.entries(101);
         if entries.len() == 101 {
             let (first, second) = split(&entries, 100);
-            sum = sum.wrapping_add(sum_of_references(&first)).wrapping_add(sum_of_references(&second));
+            sum = sum
+                .wrapping_add(sum_of_references(&first))
+                .wrapping_add(sum_of_references(&second));
         }
     }
     sum
@@ -93,7 +100,9 @@ fn far_sets(rounds: u64) -> u64 {
         let entries = dice.entries(101);
         if entries.len() == 101 {
             let (near, far) = farthest(&entries, 30);
-            sum = sum.wrapping_add(sum_of_references(&near)).wrapping_add(sum_of_references(&far));
+            sum = sum
+                .wrapping_add(sum_of_references(&near))
+                .wrapping_add(sum_of_references(&far));
         }
     }
     sum
