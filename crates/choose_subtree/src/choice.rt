@@ -28,8 +28,8 @@ fn least_area<const D: usize>(entries: &[Entry<D>], new: &BBox<D>) -> usize
     best.position
 }
 
-// The first entry of the least key. It begins at the entry whose area grows least, which is the answer where no overlap grows,
-// and leaves off a sum that is past the least so far.
+// The first entry of the least key. It begins at the entry whose area grows least, which is the answer where no overlap
+// grows, and leaves off a sum that is past the least so far.
 fn least_overlap<const D: usize>(entries: &[Entry<D>], new: &BBox<D>) -> usize
     requires dims { IsDims D }
     requires few { length entries.now ≤ 101 }

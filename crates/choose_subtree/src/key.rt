@@ -47,7 +47,12 @@ pub(crate) fn key_of<const D: usize>(
 ) -> Key
     requires dims { IsDims D }
     requires within { k < length entries.now }
-    ensures { result ≡ record { overlap = overlap; growth = growth_of D (box_at (items_of entries.now) k) new.now; area = volume_of D (box_at (items_of entries.now) k); position = k } }
+    ensures { result ≡ record {
+      overlap = overlap;
+      growth = growth_of D (box_at (items_of entries.now) k) new.now;
+      area = volume_of D (box_at (items_of entries.now) k);
+      position = k;
+    } }
 {
     let bounds = box_of(entries, k);
     Key {

@@ -4,7 +4,8 @@ ghost use Rattle.std.specs.Prelude.{◌≡◌, ℕ, ◌+◌, ◌-◌, ◌*◌, �
 ghost use Rattle.box_math.specs.Bounds.{IsDims};
 ghost use Rattle.tree_node.specs.Nodes.{Item};
 ghost use Rattle.tree_node.specs.Keys.{AtMost};
-ghost use Rattle.rstar_split.specs.Cuts.{AreFronts, AreBacks, margins_of, cuts_of, rank_of, order_key, numbers_of, IsLeastCut};
+ghost use Rattle.rstar_split.specs.Cuts.{AreFronts, AreBacks, margins_of, cuts_of, rank_of, order_key, numbers_of};
+ghost use Rattle.rstar_split.specs.Cuts.{IsLeastCut};
 
 use crate::sorting::Bound;
 use box_math::BBox;
@@ -16,7 +17,8 @@ pub(crate) fn margins<const D: usize>(fronts: &[BBox<D>], backs: &[BBox<D>], m: 
     requires some { 0 < m }
     requires enough { 2 * m ≤ length fronts.now }
     requires same { length backs.now ≡ length fronts.now }
-    ensures value { (items : List Item) (order : List ℕ) → AreFronts D items order fronts.now → AreBacks D items order backs.now →
+    ensures value { (items : List Item) (order : List ℕ) → AreFronts D items order fronts.now
+        → AreBacks D items order backs.now →
         result ≡ margins_of D items order m (cuts_of (length fronts.now) m) }
     ensures bound { result < 2 ^ 42 }
 {
@@ -62,7 +64,8 @@ fn cut_at<const D: usize>(fronts: &[BBox<D>], backs: &[BBox<D>], bound: Bound, s
     requires second { size < length fronts.now }
     ensures bound { result.bound ≡ bound }
     ensures size { result.size ≡ size }
-    ensures key { (items : List Item) (order : List ℕ) → AreFronts D items order fronts.now → AreBacks D items order backs.now →
+    ensures key { (items : List Item) (order : List ℕ) → AreFronts D items order fronts.now
+        → AreBacks D items order backs.now →
         numbers_of result ≡ order_key D items order bound size }
 {
     let front = fronts[size - 1];
@@ -88,7 +91,8 @@ pub(crate) fn best_cut<const D: usize>(
     requires enough { 2 * m ≤ length fronts.now }
     requires same { length backs.now ≡ length fronts.now }
     ensures bound { result.bound ≡ bound }
-    ensures least { (items : List Item) (order : List ℕ) → AreFronts D items order fronts.now → AreBacks D items order backs.now →
+    ensures least { (items : List Item) (order : List ℕ) → AreFronts D items order fronts.now
+        → AreBacks D items order backs.now →
         IsLeastCut D items order (length fronts.now) m bound (length fronts.now + 1 - m) result.size (numbers_of result) }
 {
     let mut best = cut_at(fronts, backs, bound, m);

@@ -8,7 +8,9 @@ ghost use Rattle.rstar_split.specs.Cuts.{before, order_of};
 
 /// The order of a sort ascends, and no other list of the same positions does.
 pub fn order_is_the_only_one()
-    ensures ascends { (items : List Item) (axis : ℕ) (bound : Bound) → Ascends (before items axis bound) (order_of items axis bound) }
-    ensures unique { (items : List Item) (axis : ℕ) (bound : Bound) (places : List ℕ) → Ascends (before items axis bound) places
+    ensures ascends { (items : List Item) (axis : ℕ) (bound : Bound)
+        → Ascends (before items axis bound) (order_of items axis bound) }
+    ensures unique { (items : List Item) (axis : ℕ) (bound : Bound) (places : List ℕ)
+        → Ascends (before items axis bound) places
         → ((q : ℕ) → In q places ↔ (q < length items)) → places ≡ order_of items axis bound }
 {}

@@ -1,4 +1,4 @@
-use Rattle.std.proofs.Common.{◌≡◌, [], ◌∷◌}
+use Rattle.std.proofs.Common.{[], ◌∷◌}
 use Rattle.tree_node.specs.Keys.{IsFirstLeast}
 use Rattle.tree_node.specs.Nodes.{items_of}
 use Rattle.rstar_split.specs.Cuts.{axis_margin}

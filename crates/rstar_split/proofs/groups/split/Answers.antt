@@ -96,8 +96,7 @@ returns-clause-full g c =
     let best = c.best_axis-best.result in
     let m : c.max-m.result ≡ least_entries c.args.m_max = search rules in
     let whole = ap length (c.as_slice.ensures.value ∙ c.best_axis-best.ensures.axis.places) ∙ length-order_of (items_of all) best.number best.cut.bound in
-    let axis = c.best_axis-best.ensures.axis in
-    (
+    let axis = c.best_axis-best.ensures.axis in (
       omega (arith, m, c.split_at.ensures.front_len, c.picked.ensures.count, axis.first_full),
       omega (arith, m, whole, c.split_at.ensures.back_len, c.picked-2.ensures.count, axis.second_full),
     )
