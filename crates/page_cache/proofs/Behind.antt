@@ -83,7 +83,7 @@ module _ {D A : Type 0} {m : _} where
   }
 
   -- the map stays behind the same blocks
-  map_from : (old new : PageCache D A m) → below.header_of new.file ≡ below.header_of old.file → (IsHonest old ↔ IsHonest new) → (IsHonest old → blocks_behind new ≡ blocks_behind old) → KeepsMap old new
+  pub map_from : (old new : PageCache D A m) → below.header_of new.file ≡ below.header_of old.file → (IsHonest old ↔ IsHonest new) → (IsHonest old → blocks_behind new ≡ blocks_behind old) → KeepsMap old new
   map_from old new header honest blocks = record {
     next = ap (λ (h : Header). h.next) header;
     pages_stay = λ h k. ap (λ (b : Blocks). page_of b (below.header_of new.file) k) (blocks h) ∙ ap (λ (x : Header). page_of (blocks_behind old) x k) header;

@@ -1,9 +1,11 @@
 -- What a cache of pages stands for, and what calls keep of it: the words that callers use.
-use Rattle.std.specs.Prelude.{◌≡◌, ◌↔◌, ℕ, List, Option, None, IsSome, length}
-use Rattle.block_device.specs.Device.{Blocks}
+use Rattle.std.specs.Prelude.{◌≡◌, ◌<◌, ◌↔◌, ℕ, List, Option, None, IsSome, length}
+use Rattle.block_device.specs.Device.{Blocks, block_at}
 use Rattle.page_file.specs.File as below
 use Rattle.page_file.specs.Opening.{failed_check}
-use Rattle.page_file.specs.Pages.{HasFreeChain, IsSoundMap, free_pages_of, given_pages, next_in, page_of, pages_in}
+use Rattle.page_file.specs.Pages.{HasFreeChain, IsSoundMap, free_page_link, free_pages_of, given_pages, next_in, page_of, pages_in}
+use Rattle.page_file.specs.declared.fault.Fault.{Fault}
+use Rattle.page_file.specs.declared.fault.Fault.TheVariants.{Damaged}
 use Rattle.page_file.specs.declared.gate.Gate.{Gate}
 use Rattle.page_cache.specs.Frames.{changed_pages, frame_at, laid_over}
 use Rattle.page_cache.specs.declared.cache.PageCache.{PageCache}
@@ -100,3 +102,11 @@ pub record IsUnchanged {D A : Type 0} {m : _} (old new : PageCache D A m) : Type
   pub sound : IsPageMap old ↔ IsPageMap new
   pub looks : looks_of new ≡ looks_of old
   pub capacity : capacity_of new ≡ capacity_of old
+
+-- The fault says that the first free page is damaged: there is one, and its bytes are not those of a free page as the
+-- format has it. The map stays.
+pub record IsBroken {D A : Type 0} {m : _} (old new : PageCache D A m) (f : Fault) : Type 0 where
+  pub is : f ≡ Damaged (below.header_of old.file).first
+  pub some : 0 < (below.header_of old.file).count
+  pub no_link : free_page_link (below.header_of old.file).count (next_of old) (block_at (below.header_of old.file).first (blocks_behind old)) ≡ None
+  pub map : KeepsMap old new

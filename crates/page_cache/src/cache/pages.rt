@@ -7,7 +7,8 @@ ghost use Rattle.page_file.specs.Fault.{HasCause, IsOfDevice, IsDamage};
 ghost use Rattle.page_file.specs.Pages.{SameBut, TakesFirst};
 ghost use Rattle.page_file.specs.declared.fault.Fault.TheVariants as fault;
 ghost use Rattle.page_file.specs.declared.gate.Gate.TheVariants.{Open};
-ghost use Rattle.page_cache.specs.Cache.{IsHeld, IsHonest, IsLive, IsPageMap, IsUnchanged, KeepsGate, KeepsMap};
+ghost use Rattle.page_cache.specs.Cache.{IsBroken, IsHeld, IsHonest, IsLive};
+ghost use Rattle.page_cache.specs.Cache.{IsPageMap, IsUnchanged, KeepsGate, KeepsMap};
 ghost use Rattle.page_cache.specs.Cache.{capacity_of, device_of, free_of, gate_of, given, looks_of, next_of, pages};
 ghost use Rattle.page_cache.specs.Calls.{Asks, Changes, IsLookedAt};
 ghost use Rattle.page_cache.specs.Frames.{frame_at};
@@ -78,8 +79,7 @@ impl<D: BlockDevice, A: Allocator + Copy> PageCache<D, A> {
     }
 
     /// Changes a live page in memory, and holds it. The gate has to be open. A number outside 2 to the last one
-    /// given out is
-    /// `Damaged` with that number, without a call of the device.
+    /// given out is `Damaged` with that number, without a call of the device.
     ///
     /// After a refusal the page is still live and may hold any bytes; all others are as before. On an
     /// honest device that is `Memory` or `Device`.
@@ -139,8 +139,7 @@ impl<D: BlockDevice, A: Allocator + Copy> PageCache<D, A> {
     ///
     /// After a refusal one page that was not live may hold any bytes, and may be live; all others are as
     /// before. `NoPages` comes only where each number from 2 to 2^31 - 1 is live. `Damaged` comes with the
-    /// number of the
-    /// first free page, where that is no free page (docs/FORMAT.md, "Pages"); the map stays then.
+    /// number of the first free page, where that is no free page (docs/FORMAT.md, "Pages"); the map stays then.
     #[tactic(auto, using(crate::specs::Calls::counted_by_end))]
     pub fn allocate(&mut self) -> Result<u32, Fault>
         requires { gate_of self.old ≡ Open }
@@ -163,6 +162,8 @@ impl<D: BlockDevice, A: Allocator + Copy> PageCache<D, A> {
         ensures no_pages { IsErrOf result fault.NoPages → next_of self.old ≡ 2 ^ 31 }
         ensures all_live { IsErrOf result fault.NoPages → (n : ℕ) → 2 ≤ n → n < 2 ^ 31 → IsLive self.old n }
         ensures faults { IsPageMap self.old → IfErr result (λ f. IsOfDevice f ⊎ (f ≡ fault.NoPages)) }
+        ensures damaged { IsHonest self.old →
+            IfErr result (λ f. IsOfDevice f ⊎ ((f ≡ fault.NoPages) ⊎ IsBroken self.old self.new f)) }
         ensures other_faults { IfErr result (λ f. IsOfDevice f ⊎ ((f ≡ fault.NoPages) ⊎ IsDamage f)) }
     {
         // The block of the page that is given out next is read and written below, so that page is not held.

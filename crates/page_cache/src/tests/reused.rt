@@ -206,7 +206,7 @@ fn refused_memory_loses_no_page(rt: HostRuntime) -> Result<(), Fail> {
         heap.refuse_once(k);
         let done = turns(&mut cache, &mut map, 200);
         if heap.relent() {
-            refused += 1;
+            refused = k;
             assert_eq!(rt; done, Err(Fault::Memory), "at growth {k}");
         } else {
             assert_eq!(rt; done, Ok(200), "at growth {k}");

@@ -13,9 +13,10 @@ use Rattle.page_cache.specs.Cache.{IsHonest, IsPageMap, blocks_behind, blocks_of
 use Rattle.page_cache.specs.Frames.{changed_pages, frame_at, laid_over, newer_bytes}
 use Rattle.page_cache.specs.Keeps.{KeepsBlocks}
 use Rattle.page_cache.specs.Laid.{length-laid}
+use Rattle.page_cache.specs.Laws.{the_map_is_kept_in_turn}
 use Rattle.page_cache.specs.declared.cache.PageCache.{PageCache}
 use Rattle.page_cache.specs.declared.frame.Frame.{Frame}
-use Rattle.page_cache.proofs.Behind.{map_kept}
+use Rattle.page_cache.proofs.Behind.{map_from, map_kept}
 use Rattle.page_cache.proofs.Changed.{given_grown}
 use Rattle.page_cache.proofs.Kept.{kept_below}
 use Rattle.page_cache.proofs.Results.{either, if_err_map, if_ok_both, on_err_any, on_err_map}
@@ -159,5 +160,24 @@ returns-clause-faults g c = λ map.
     (λ (broken : below.IsBroken mid.file new f).
     let some : 0 < old.file.header.count = subst (λ (x : Header). 0 < x.count) k.header broken.some in
     let link = sound_link (blocks_behind old) old.file.header map.free some in let none = sym (same_link old mid new k c.first_free-first.result first gone h) ∙ broken.no_link in absurd (let bad = sym none ∙ link in cc))
+    rest)
+    is)
+
+pub returns-clause-damaged : goal.returns-clause-damaged
+returns-clause-damaged g c = λ h.
+    let old = c.args.self.now in let mid = c.release.new.self in let new = c.allocate.new.self in let k = c.release.ensures.kept in
+    let first = c.first_free-first.ensures ∙ ap (λ (x : Header). x.first) (sym k.header) in let gone = c.in_ok-release.ensures.gone in
+    if_err_map c.allocate.result (c.allocate.ensures.damaged (k.gate.honest.0 h))
+    (λ f is. ⊎_elim
+    (λ (device : IsOfDevice f). inl device)
+    (λ rest. ⊎_elim
+    (λ (none : f ≡ fault.NoPages). inr (inl none))
+    (λ (broken : below.IsBroken mid.file new f). inr (inr (record {
+      is = broken.is ∙ ap (λ (x : Header). fault.Damaged x.first) k.header;
+      some = subst (λ (x : Header). 0 < x.count) k.header broken.some;
+      no_link = sym (same_link old mid new k c.first_free-first.result first gone h) ∙ broken.no_link;
+      map = the_map_is_kept_in_turn old mid _ k.gate.honest.0 (map_kept old mid k)
+          (map_from mid _ broken.header c.allocate.ensures.gate.honest (λ h2. ap (laid_over (changed_pages mid.frames.entries)) broken.blocks));
+    })))
     rest)
     is)

@@ -5,4 +5,4 @@ use Rattle.page_cache.specs.Cache.{gate_of}
 use Rattle.page_cache.proofs.tests.reused.blocks_of_rounds.Given as goal
 
 abbrev pub invariant-loop : goal.invariant-loop
-invariant-loop g l = gate_of l.cache ≡ Open
+invariant-loop l = gate_of l.cache ≡ Open
