@@ -1,14 +1,22 @@
 #!/usr/bin/env bash
-# Measures the rules of the tree on nodes of a hundred boxes of two axes, through crates/rule_speed and through rules.cpp
-# in the same run. Prints the microseconds of one choice, split or far set of each, the least of five runs, and their
+# Measures the rules of the tree on nodes of a hundred boxes of two axes, through rule_times.rattle, which is proved and
+# built in a copy of the crates below it, and through rules.cpp in the same run. Prints the microseconds of one choice, split or far set of each, the least of five runs, and their
 # ratio. `boxes` is what the making of the boxes takes, which is in the line of a split and of a far set too.
 set -eu
 here=$(cd "$(dirname "$0")" && pwd)
 work=$(mktemp -d)
 trap 'rm -rf "$work"' EXIT
 g++ -O2 -std=c++17 -o "$work/reference" "$here/rules.cpp"
-program="$here/../crates/rule_speed/out/rule_speed"
-[ -x "$program" ] || (cd "$here/../crates/rule_speed" && rt run >/dev/null) # proves and builds the program
+mkdir -p "$work/crates/rule_times/src"
+for crate in box_math tree_node choose_subtree rstar_split reinsert; do
+    cp -a "$here/../crates/$crate" "$work/crates/$crate"
+done
+cp "$here/rule_times.rattle" "$work/crates/rule_times/src/main.rt"
+grep -E '^(box_math|tree_node|choose_subtree|rstar_split|reinsert):' "$here/../crates.txt" >"$work/crates.txt"
+echo 'rule_times: choose_subtree rstar_split reinsert tree_node box_math arrayvec' >>"$work/crates.txt"
+git -C "$work" init -q
+(cd "$work/crates/rule_times" && rt run) >"$work/log" 2>&1 || { cat "$work/log" >&2; exit 1; }
+program="$work/crates/rule_times/out/rule_times"
 
 # The least processor seconds of five runs.
 least() {

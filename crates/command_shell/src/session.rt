@@ -30,8 +30,8 @@ pub enum RunEnd {
     /// Given where the reader fails, or was called 2^62 times. Each command that was read to its last newline was
     /// answered.
     ReadFault,
-    /// Given where a write or a flush fails. What [`run`] promises of it is this: the last reply is written in part, and
-    /// no line after it was answered; or each command that was read to its last newline was answered.
+    /// Given where a write or a flush fails. What [`run`] promises of it is this: the last reply is written in part,
+    /// and no line after it was answered; or each command that was read to its last newline was answered.
     WriteFault,
 }
 

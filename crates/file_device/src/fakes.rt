@@ -17,7 +17,7 @@ pub struct Temper {
 }
 
 impl Temper {
-    pub fn new() -> Temper {
+    pub(crate) fn new() -> Temper {
         Temper {
             most: Cell::new(usize::MAX),
             interrupts: Cell::new(0),

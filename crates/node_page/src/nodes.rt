@@ -63,8 +63,8 @@ pub fn read_node<const D: usize, B: BlockDevice, A: Allocator + Copy>(
 /// has at least one, all of which refer to pages from 3 to 2^31 - 1.
 ///
 /// A number outside 2 to the last one given out is `Damaged` with that number, and changes nothing. After another
-/// refusal, which on an honest device is `Memory` or `Device`, the page is still live and may hold any bytes; all others
-/// are as before.
+/// refusal, which on an honest device is `Memory` or `Device`, the page is still live and may hold any bytes; all
+/// others are as before.
 pub fn write_node<const D: usize, B: BlockDevice, A: Allocator + Copy>(
     cache: &mut PageCache<B, A>,
     page: u32,

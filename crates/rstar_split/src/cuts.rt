@@ -93,7 +93,8 @@ pub(crate) fn best_cut<const D: usize>(
     ensures bound { result.bound ≡ bound }
     ensures least { (items : List Item) (order : List ℕ) → AreFronts D items order fronts.now
         → AreBacks D items order backs.now →
-        IsLeastCut D items order (length fronts.now) m bound (length fronts.now + 1 - m) result.size (numbers_of result) }
+        IsLeastCut D items order (length fronts.now) m bound (length fronts.now + 1 - m) result.size
+        (numbers_of result) }
 {
     let mut best = cut_at(fronts, backs, bound, m);
     for size in m + 1..fronts.len() + 1 - m {

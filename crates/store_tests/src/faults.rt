@@ -1,6 +1,6 @@
 //! One call of the device failed, each in turn: the answer says so, the next try succeeds, and no table is wrong.
 
-use crate::changes::{change_store, change_table, point, scene_table, set_scene, represents_table};
+use crate::changes::{change_store, change_table, point, represents_table, scene_table, set_scene};
 use crate::fixture::{CACHE, PLANE, are_same_blocks, closed, device_of, new_store, opened};
 use block_device::{BlockDevice, FuseDevice, FuseMode, MemoryDevice};
 use layer_store::{Refusal, Store, create_store, open_store};

@@ -4,8 +4,8 @@
 //! both from one.
 
 use crate::changes::{
-    Change, SCENE, change_store, change_table, point, scene_change, scene_table, set_scene,
-    represents_table,
+    Change, SCENE, change_store, change_table, point, represents_table, scene_change, scene_table,
+    set_scene,
 };
 use crate::fixture::{CACHE, PLANE, are_same_blocks, closed, copy_of, device_of, opened};
 use block_device::MemoryDevice;

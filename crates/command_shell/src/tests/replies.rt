@@ -62,7 +62,9 @@ fn writes_rows(rt: HostRuntime) -> Result<(), Fail> {
         (Reply::Boxes(Vec::new(rt.alloc())), b"ok 0\n".as_slice()),
         (
             Reply::Boxes(rows),
-            b"ok 2\n0 -1 2 3 4\n18446744073709551615 -2147483648 -2147483648 -2147483648 2147483647 0 -2147483648\n".as_slice(),
+            b"ok 2\n0 -1 2 3 4\n\
+              18446744073709551615 -2147483648 -2147483648 -2147483648 2147483647 0 -2147483648\n"
+                .as_slice(),
         ),
     ];
     for (reply, text) in replies {
