@@ -83,16 +83,18 @@ fn a_page_lives_and_is_freed(rt: HostRuntime) -> Result<(), Fail> {
     assert_eq!(rt; file.free(3), Ok(()));
     assert_eq!(rt; file.read(1, &mut into), Err(Fault::Damaged(1)));
     assert_eq!(rt; file.read(5, &mut into), Err(Fault::Damaged(5)));
-    // One more is given out, though a page is free.
-    assert_eq!(rt; file.allocate(), Ok(5));
+    // The freed page is given out again, with zeros, before a new number.
+    assert_eq!(rt; file.allocate(), Ok(3));
+    file.read(3, &mut into)?;
+    assert!(rt; into == [0; 4096]);
     let Ok(device) = file.close() else {
         return Err(Fail::from("close"));
     };
     let Ok(file) = open_pages(device) else {
         return Err(Fail::from("open"));
     };
-    assert_eq!(rt; file.next_number(), 6);
-    assert_eq!(rt; file.abandon().blocks(), 6);
+    assert_eq!(rt; file.next_number(), 5);
+    assert_eq!(rt; file.abandon().blocks(), 5);
     assert_eq!(rt; Fault::NoPages.number(), 25);
     Ok(())
 }
