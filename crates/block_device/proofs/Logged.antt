@@ -41,7 +41,7 @@ restored_next k ns olds blocks now same lt so_far =
     ∙ sym (ap (λ (ws : List Write). restored ws now) (drop-writes_in k ns olds same lt))
     ∙ so_far
 
--- behind the last write there is none
+-- after the last write there is none
 pub drop-writes_in_all : (k : ℕ) (ns : List ℕ) (olds : Blocks) → length ns ≤ k → drop k (writes_in ns olds) ≡ []
 drop-writes_in_all zero [] olds le = refl
 drop-writes_in_all (suc k) [] olds le = refl

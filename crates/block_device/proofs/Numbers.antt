@@ -26,7 +26,7 @@ is_in_from k ns one = at_place k ns one.0 one.1 one.2
 pub not_in : (k : ℕ) (ns : List ℕ) → is_in k ns ≡ false → ¬ Contains ns k
 not_in k ns none one = both_ways (is_in k ns) none (is_in_from k ns one)
 
--- a block behind those of the last sync was written since
+-- a block after those of the last sync was written since
 pub appended : (bs : Blocks) (es : List Event) (k : ℕ) → IsHistory bs es → length (at_sync bs es) ≤ k → k < length bs → is_in k (unsynced es) ≡ true
 appended bs [] k h le lt = absurd (omega (arith, le, lt))
 appended bs (Synced ∷ es) k h le lt = absurd (omega (arith, le, lt))

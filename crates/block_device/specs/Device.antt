@@ -17,7 +17,7 @@ Blocks = List (List ℕ)
 abbrev pub block_at : ℕ → Blocks → List ℕ
 block_at i blocks = slice_index_or blocks i []
 
--- the blocks with these bytes in block i, or in one more behind the last where there is no block i
+-- the blocks with these bytes in block i, or in one more after the last where there is no block i
 abbrev pub written : ℕ → List ℕ → Blocks → Blocks
 written i bytes [] = bytes ∷ []
 written zero bytes (b ∷ blocks) = bytes ∷ blocks

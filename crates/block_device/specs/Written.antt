@@ -10,7 +10,7 @@ set_written i b [] lt = absurd (omega arith)
 set_written zero b (x ∷ bs) lt = refl
 set_written (suc i) b (x ∷ bs) lt = ap (λ (l : Blocks). x ∷ l) (set_written i b bs (omega arith))
 
--- one behind the last
+-- one after the last
 pub push_written : (i : ℕ) (b : List ℕ) (bs : Blocks) → length bs ≤ i → bs ++ b ∷ [] ≡ written i b bs
 push_written i b [] le = refl
 push_written zero b (x ∷ bs) le = absurd (omega arith)
@@ -66,7 +66,7 @@ torn_within i b c lt sized = inr (
   sym (sym (set_written i (block_at i c) (set c i b) (omega (arith, length-set c i b))) ∙ set-set c i b (block_at i c) ∙ set-get_or c i []),
 )
 
--- any blocks are those but the last, torn behind them
+-- any blocks are those but the last, torn after them
 pub torn_behind : (i : ℕ) (c : Blocks) → length c ≡ i + 1 → IsBlock (block_at i c) → Torn i (take i c) c
 torn_behind i c size sized =
     let last : written i (block_at i c) (take i c) ≡ c =

@@ -4,7 +4,7 @@ use Rattle.std.proofs.Common.{◌≡◌, ℕ, zero, suc, ◌+◌, ◌*◌, ◌�
 use Rattle.block_bytes.specs.Numbers.{number_at, signed_at}
 use Rattle.box_bytes.specs.Corners.{corner_at, box_at, IsClearOfCorner, IsClearOfBox, AreApart, IsOfCorner}
 
--- six coordinates behind two bytes
+-- six coordinates after two bytes
 abbrev block : List ℕ
 block = 7 ∷ 7 ∷ (255 ∷ 255 ∷ 255 ∷ 255 ∷ []) ++ (0 ∷ 0 ∷ 0 ∷ 2 ∷ []) ++ (128 ∷ 0 ∷ 0 ∷ 0 ∷ []) ++ (0 ∷ 0 ∷ 0 ∷ 3 ∷ []) ++ (0 ∷ 0 ∷ 0 ∷ 4 ∷ []) ++ (127 ∷ 255 ∷ 255 ∷ 255 ∷ []) ++ []
 

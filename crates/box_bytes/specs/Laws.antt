@@ -13,7 +13,7 @@ use Rattle.box_bytes.specs.Corners.{corner_at, box_at, IsOfCorner, Keeps}
 
 -- ---- places
 
--- no coordinate stands behind the last
+-- no coordinate stands after the last
 pub coordinate-le-last : (dims at stride axis : ℕ) → axis < dims → at + stride * axis ≤ at + stride * (dims - 1)
 coordinate-le-last dims at stride axis lt = let le : stride * axis ≤ stride * (dims - 1) = mul-le-mul_left stride (omega arith) in omega arith
 

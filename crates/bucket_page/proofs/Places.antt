@@ -1,4 +1,4 @@
--- Where entries lie: one behind the other, all of them within the page.
+-- Where entries lie: one after the other, all of them within the page.
 use Rattle.std.proofs.Common.{◌≡◌, ℕ, ◌+◌, ◌*◌, ◌^◌, ◌<◌, ◌≤◌, ◌↔◌, ℤ, List, length, refl, sym, ◌∙◌, ap, arith, inl, inr, ⊎_elim}
 use Rattle.std.proofs.Math.Nat.{mul-le-mul_left}
 use Rattle.block_bytes.specs.Numbers.{number_at, IsApart, put_number}

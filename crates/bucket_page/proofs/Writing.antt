@@ -10,7 +10,7 @@ use Rattle.bucket_page.proofs.Places.{entry_place-more, entry_place-above, objec
 le_or_lt : (a b : ℕ) → (a ≤ b) ⊎ (b < a)
 le_or_lt a b = grind arith
 
--- a byte that is not named is behind the head, and outside each entry
+-- a byte that is not named is after the head, and outside each entry
 unnamed_behind : (dims count k : ℕ) → (IsNamed dims count k → ⊥) → 8 ≤ k
 unnamed_behind dims count k unnamed = ⊎_elim (λ (le : 8 ≤ k). le) (λ (lt : k < 8). absurd (unnamed (inl lt))) (le_or_lt 8 k)
 

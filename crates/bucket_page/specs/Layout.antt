@@ -1,5 +1,5 @@
 -- How a page spells a bucket of the identifier table (our format, docs/FORMAT.md): byte 0 is 4, byte 1 the
--- dimension, at 2 the count, at 4 the next page, and from 16 on the entries, one behind the other.
+-- dimension, at 2 the count, at 4 the next page, and from 16 on the entries, one after the other.
 use Rattle.std.specs.Prelude.{◌≡◌, ℕ, ◌+◌, ◌*◌, ◌<◌, ◌≤◌, ◌&&◌, ◌==◌, ◌⊎◌, Bool, nat_le, List, length, All, Option, Some, None, if◌then◌else◌}
 use Rattle.block_bytes.specs.Kinds.{HasHead, bucket_kind}
 use Rattle.block_bytes.specs.Numbers.{number_at, IsApart}
@@ -78,7 +78,7 @@ bucket_test dims page =
 unfoldable pub bucket_at : ℕ → List ℕ → Option BucketContent
 bucket_at dims page = if bucket_test dims page then Some (record { next = number_at 4 4 page; entries = objects_at dims page (number_at 2 2 page) }) else None
 
--- a byte of the head or of one of the first entries: those of the places 8 to 15, and those behind the entries, are not
+-- a byte of the head or of one of the first entries: those of the places 8 to 15, and those after the entries, are not
 abbrev pub IsNamed : ℕ → ℕ → ℕ → Type 0
 IsNamed dims count k = (k < 8) ⊎ ((16 ≤ k) × (k < entry_place dims count))
 

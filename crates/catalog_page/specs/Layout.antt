@@ -1,5 +1,5 @@
 -- How a page spells the catalog, the list of a file's layers (our format, docs/FORMAT.md): byte 0 is 1, byte 1 the
--- count of layers, and from 256 on a record of 64 bytes for each, one behind the other.
+-- count of layers, and from 256 on a record of 64 bytes for each, one after the other.
 use Rattle.std.specs.Prelude.{◌≡◌, ℕ, ◌+◌, ◌*◌, ◌^◌, ◌<◌, ◌≤◌, ◌&&◌, ◌==◌, ◌⊎◌, Bool, nat_le, List, length, All, map, Option, Some, None, if◌then◌else◌}
 use Rattle.std.specs.List.{list_all}
 use Rattle.arrayvec.specs.ArrayVec.{ArrayVec}
@@ -117,7 +117,7 @@ records_at page = if catalog_test page then Some (first_records page (number_at 
 
 -- ---- which bytes are named
 
--- a byte of the record that begins at a byte and whose name has this length: those behind the name, and those from
+-- a byte of the record that begins at a byte and whose name has this length: those after the name, and those from
 -- 44 on, are not
 abbrev pub IsOfRecord : ℕ → ℕ → ℕ → Type 0
 IsOfRecord length at k = ((at ≤ k) × (k < at + 1 + length)) ⊎ ((at + 25 ≤ k) × (k < at + 44))

@@ -17,7 +17,7 @@ ReadsNamedBytes = ReadsNamed records_at IsNamed
 abbrev pub SpellsCatalogs : Type 0
 SpellsCatalogs = (page : List ℕ) (layers : List Record) → AreBytes page → Spells page layers → IsCatalog layers
 
--- zeros behind the kind of a catalog spell no layers
+-- zeros after the kind of a catalog spell no layers
 abbrev pub BeginsEmpty : Type 0
 BeginsEmpty = records_at (put_number 1 0 catalog_kind zeros) ≡ Some []
 

@@ -25,7 +25,7 @@ pub fn what_is_spelled_is_a_catalog()
     ensures { SpellsCatalogs }
 {}
 
-/// Zeros behind a first byte of 1, the catalog of a new file, spell no layers.
+/// Zeros after a first byte of 1, the catalog of a new file, spell no layers.
 pub fn a_new_catalog_has_no_layers()
     ensures { BeginsEmpty }
 {}

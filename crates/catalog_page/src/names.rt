@@ -24,7 +24,7 @@ pub(crate) fn read_name(page: &[u8; 4096], at: usize) -> Option<ArrayVec<u8, 24>
     Some(name)
 }
 
-/// Writes the name, its length at the byte `at` and its bytes behind it. All other bytes stay.
+/// Writes the name, its length at the byte `at` and its bytes after it. All other bytes stay.
 pub(crate) fn write_name(page: &mut [u8; 4096], at: usize, name: &ArrayVec<u8, 24>)
     requires { at + 25 ≤ 4096 }
     ensures short { length name.now.items ≤ 24 }

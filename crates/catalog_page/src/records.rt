@@ -50,7 +50,7 @@ pub(crate) fn write_record(page: &mut [u8; 4096], place: usize, layer: &LayerRec
     write_numbers(page, at, layer);
 }
 
-// Writes the record's numbers, behind the field of its name.
+// Writes the record's numbers, after the field of its name.
 fn write_numbers(page: &mut [u8; 4096], at: usize, layer: &LayerRecord)
     requires { at + 44 ≤ 4096 }
     ensures written { HasNumbers at (record_of layer.now) page.new }

@@ -53,7 +53,7 @@ the_second_bucket_is_full h = absurd (omega (arith, h.full 0 (bucket 0 []) (omeg
 identifiers_ascend_from_bucket_to_bucket : IsFilled (bucket 4 (some 1 3) ∷ bucket 0 (some 3 100) ∷ []) → ⊥
 identifiers_ascend_from_bucket_to_bucket h = let no = h.ascending in absurd (cc)
 
--- ---- a bucket behind objects that were read
+-- ---- a bucket after objects that were read
 
 the_first_bucket_goes_on : GoesOn [] (bucket 0 (some 1 3))
 the_first_bucket_goes_on = record { full = inl refl; ascending = refl }

@@ -14,7 +14,7 @@ use Rattle.object_chain.specs.Laws.{kept_bucket, kept_leads}
 abbrev pub AllFull : List BucketContent → Type 0
 AllFull bs = All (λ b. length b.entries ≡ 100) bs
 
--- from page n on a chain holds the objects behind the first so many, and is full where some are left
+-- from page n on a chain holds the objects after the first so many, and is full where some are left
 pub record IsLinked (pages : PageMap) (dims n left : ℕ) (objects : List (ℕ × Bounds)) : Type 0 where
   pub buckets : List BucketContent
   pub leads : Leads pages dims n buckets 0

@@ -75,7 +75,7 @@ full_last (x ∷ xs) b full =
     let size : length (get_or (xs ++ b ∷ []) (length xs) b).entries ≡ 100 = full (length xs) b (omega (arith, length-append xs (b ∷ []))) in
     inr (sym (ap (λ (c : BucketContent). length c.entries) (get_or_push xs b b (length xs) refl)) ∙ size)
 
--- a bucket goes on behind what was read exactly where the chain with it is filled
+-- a bucket goes on after what was read exactly where the chain with it is filled
 pub filled_on : (pages : PageMap) (dims first next : ℕ) (rows : List (ℕ × Bounds)) (b : BucketContent) (read : HasRead pages dims first next rows) → GoesOn rows b → IsFilled (read.before ++ b ∷ [])
 filled_on pages dims first next rows b read on = record {
   full = full_on read.before b read.filled.full (⊎_elim (λ (none : rows ≡ []). inl (no_rows pages dims first next read.before read.leads (sym read.rows_are ∙ none))) (λ (size : length b.entries ≡ 100). inr size) on.full);

@@ -85,7 +85,7 @@ filled_front xs ys filled = record {
   ascending = ascending_front (objects_of xs) (objects_of ys) (subst IsAscending (flat_map-append (λ (b : BucketContent). b.entries) xs ys) filled.ascending);
 }
 
--- two fronts of a chain end at one page, or one of them goes on behind the other
+-- two fronts of a chain end at one page, or one of them goes on after the other
 one_end : (pages : PageMap) (dims n p q : ℕ) (xs ys : List BucketContent) → 0 < p → 0 < q → Leads pages dims n xs p → Leads pages dims n ys q → (p ≡ q) ⊎ (HasNext pages dims ys xs p ⊎ HasNext pages dims xs ys q)
 one_end pages dims n p q [] [] page other a b = inl (sym a ∙ b)
 one_end pages dims n p q [] (y ∷ ys) page other a b = inr (inl (record { bucket = y; behind = ys; there = ap (bucket_in pages dims) (sym a) ∙ b.1; whole = refl }))

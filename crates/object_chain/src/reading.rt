@@ -56,7 +56,7 @@ pub(crate) fn append<const D: usize, A: Allocator + Copy>(
     Ok(all)
 }
 
-// Appends the objects of page n to the rows, where its bucket goes on behind them. Else the page is damaged.
+// Appends the objects of page n to the rows, where its bucket goes on after them. Else the page is damaged.
 fn append_page<const D: usize, A: Allocator + Copy>(
     rows: Vec<(u64, BBox<D>), A>,
     page: &[u8; 4096],

@@ -173,7 +173,7 @@ fn a_page_that_is_not_what_it_must_be_is_damaged(rt: HostRuntime) -> Result<(), 
 
 #[test]
 fn a_next_page_that_is_none_of_the_chain_is_damaged(rt: HostRuntime) -> Result<(), Fail> {
-    // back into the chain, the catalog, the header, and behind the last page
+    // back into the chain, the catalog, the header, and after the last page
     for next in [5, 4, 3, 2, 1, 6] {
         let damaged = damaged_by(rt.alloc(), 3, 7, next)?;
         assert_eq!(rt; damaged, Some(Fault::Damaged(u32::from(next))));

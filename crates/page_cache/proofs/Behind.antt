@@ -82,7 +82,7 @@ module _ {D A : Type 0} {m : _} where
     capacity = capacity;
   }
 
-  -- the map stays behind the same blocks
+  -- the map stays where the blocks are the same
   pub map_from : (old new : PageCache D A m) → below.header_of new.file ≡ below.header_of old.file → (IsHonest old ↔ IsHonest new) → (IsHonest old → blocks_behind new ≡ blocks_behind old) → KeepsMap old new
   map_from old new header honest blocks = record {
     next = ap (λ (h : Header). h.next) header;
@@ -115,7 +115,7 @@ module _ {D A : Type 0} {m : _} where
         capacity = capacity;
       }
 
-  -- behind a gate that is not open no page is changed
+  -- where the gate is not open no page is changed
   pub none_changed : (cache : PageCache D A m) → ¬ (gate_of cache ≡ Open) → (k : ℕ) → changed_pages cache.frames.entries k ≡ None
   none_changed cache closed k = newer_open (frame_at cache.frames.entries k) (λ f is changed. closed (cache.behind_the_gate k f is changed))
 

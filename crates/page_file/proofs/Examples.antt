@@ -51,7 +51,7 @@ gate = codes "RSTARGAT" ++ 1 ∷ []
 abbrev pub open_gate : List ℕ
 open_gate = codes "RSTARGAT" ++ 0 ∷ []
 
--- the two bytes behind the version are not named
+-- the two bytes after the version are not named
 abbrev pub header : ℕ → ℕ → ℕ → ℕ → List ℕ
 header version next first count = codes "RSTARHDR" ++ 0 ∷ version ∷ 255 ∷ 255 ∷ 0 ∷ 0 ∷ 0 ∷ next ∷ 0 ∷ 0 ∷ 0 ∷ first ∷ 0 ∷ 0 ∷ 0 ∷ count ∷ []
 

@@ -100,7 +100,7 @@ chain_from blocks next (suc count) first whole k member =
     (from.0, omega (arith, from.1), from.2))
     (cases_eq k first)
 
--- each free page is one given out behind the catalog
+-- each free page is one given out after the catalog
 pub chain_within : (blocks : Blocks) (next count first : ℕ) → IsChain blocks next count first → (k : ℕ)
     → is_member eqb (chain blocks count first) k ≡ true → (3 ≤ k) × (k < next)
 chain_within blocks next count first whole k member =
@@ -130,7 +130,7 @@ none_distinct : IsDistinct eqb []
 unfolding IsDistinct
 none_distinct = tt
 
--- behind the first page it does not come again: it would begin both the whole chain and one of fewer pages
+-- after the first page it does not come again: it would begin both the whole chain and one of fewer pages
 pub comes_once : (blocks : Blocks) (next count first : ℕ) → IsChain blocks next (suc count) first
     → is_member eqb (chain blocks count (link_of (block_at first blocks))) first ≡ true → ⊥
 comes_once blocks next count first whole member =

@@ -1,4 +1,4 @@
--- What a call on a file keeps: the gate, where a block is written behind an open one, the map, where the
+-- What a call on a file keeps: the gate, where a block is written while it is open, the map, where the
 -- blocks of pages stay, and what lies in the blocks of a shut file.
 use Rattle.std.proofs.Common.{◌≡◌, ◌∙◌, ℕ, zero, suc, ◌<◌, ◌≤◌, [], ◌∷◌, get_or, refl, sym, ap, arith, subst}
 use Rattle.std.specs.Prelude.{◌↔◌}
@@ -16,7 +16,7 @@ use Rattle.page_file.specs.Gated.{fails, open_is_not_shut, open_stop, still_open
 use Rattle.page_file.specs.Live.{free_same, pages_same}
 use Rattle.page_file.specs.Settled.{header_is, passes_to, settled_passes, sound_says}
 
--- behind the gate the blocks are the same
+-- after the gate the blocks are the same
 aside_next : (c d : Blocks) (k : ℕ) → SameButGate c d → block_at (suc k) c ≡ block_at (suc k) d
 aside_next [] [] k e = refl
 aside_next [] (y ∷ d) k e = ap (λ (l : Blocks). get_or l k []) e
@@ -27,7 +27,7 @@ pub aside_at : (c d : Blocks) (k : ℕ) → SameButGate c d → 0 < k → block_
 aside_at c d zero e gt = absurd (omega (arith, gt))
 aside_at c d (suc k) e gt = aside_next c d k e
 
--- a block written behind an open gate leaves it open, now and since
+-- a block written while the gate is open leaves it open, now and since
 pub stop_behind : (gate : Gate) (was now : Blocks) (old new : Blocks → Type 0) (n : ℕ) → gate ≡ Open → 0 < n → ((c : Blocks) → old c → StopNow gate was c) → Follows (Torn n) old new
     → (c : Blocks) → new c → StopNow gate now c
 stop_behind gate was now old new n opened gt before torn c left =

@@ -18,7 +18,7 @@ pub some_blocks : (d : Blocks) → block_at 0 d ≡ gate_block 0 → 0 < length 
 some_blocks [] e = absurd (omega (arith, ap length e, length-gate 0))
 some_blocks (b ∷ bs) e = omega arith
 
--- a check that fails, behind whatever checks
+-- a check that fails, after whatever checks
 some_failed : (a : Check) (cs : List Check) → a.0 ≡ true → IsSome (first_fault (a ∷ cs))
 some_failed a cs e = subst (λ (t : Bool). IsSome (cond t (Some a.1) (first_fault cs))) (sym e) refl
 
@@ -40,7 +40,7 @@ fails c e =
     let rest : List Check = header_checks (length c) (block_at 1 c) in
     behind (nat_lt (length c) 3, NotAStore) (text ∷ (shut ∷ rest)) (behind text (shut ∷ rest) (some_failed shut rest not_one))
 
--- a block torn behind an open gate leaves it open
+-- a block torn while the gate is open leaves it open
 pub still_open : (i : ℕ) (d c : Blocks) → 0 < i → block_at 0 d ≡ gate_block 0 → Torn i d c → block_at 0 c ≡ gate_block 0
 still_open i d c gt e torn = first_torn i d c torn gt (some_blocks d e) ∙ e
 

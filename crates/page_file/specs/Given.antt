@@ -44,7 +44,7 @@ given_same old new next same n = case (nat_le 2 n) (nat_lt n next) refl
 pub given_torn : (n : ℕ) (old new : Blocks) (next : ℕ) → Torn n old new → n ≤ length old → SameBut n (given_pages old next) (given_pages new next)
 given_torn n old new next torn le k ne = ap (λ (b : List ℕ). cond (nat_le 2 k && nat_lt k next) (Some b) None) (torn_other n k old new torn le ne)
 
--- where the block behind those given out is torn, and its page may be given out, the others are the same
+-- where the block after those given out is torn, and its page may be given out, the others are the same
 below_more : (k n : ℕ) → ¬ (k ≡ n) → nat_lt k (n + 1) ≡ nat_lt k n
 below_more k n ne = grind (arith, nat_tests)
 

@@ -103,7 +103,7 @@ some_is o x e = subst (λ (p : Option _). IsSome p) (sym e) refl
 pub lives_some : (blocks : Blocks) (h : Header) (n : ℕ) → Lives blocks h n → IsSome (page_of blocks h n)
 lives_some blocks h n l = some_is (page_of blocks h n) (block_at n blocks) (page_live blocks h n l)
 
--- the page behind those given out is torn, and may be given out
+-- the page after those given out is torn, and may be given out
 module _ (old new : Blocks) (h : Header) (start : 3 ≤ h.next) (room : h.next ≤ length old) (free : HasFreeChain old h) (torn : Torn h.next old new) where
   abbrev pub one_page_more : Header
   one_page_more = record { next = h.next + 1; first = h.first; count = h.count }
@@ -174,7 +174,7 @@ module _ (n : ℕ) (old new : Blocks) (h : Header) (torn : Torn n old new) (le :
       let all : IsChain new h.next (suc h.count) n = (low, below, kind, subst (λ (m : ℕ). IsChain new h.next h.count m) (sym linked) rest) in
       subst (λ (c : ℕ). IsChain new h.next c n) (let e : suc h.count ≡ h.count + 1 = omega arith in e) all
 
--- there is room for one more free page, as long as a page behind the catalog is live
+-- there is room for one more free page, as long as a page after the catalog is live
 pub room_for_one : (blocks : Blocks) (h : Header) (n : ℕ) → HasFreeChain blocks h → 3 ≤ n → Lives blocks h n → h.count < h.next - 3
 room_for_one blocks h n f low l =
     let ns = free_pages_of blocks h in

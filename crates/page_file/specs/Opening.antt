@@ -8,7 +8,7 @@ use Rattle.page_file.specs.declared.fault.Fault.{Fault}
 use Rattle.page_file.specs.declared.fault.Fault.TheVariants.{Damaged, NotClosed, NotAStore, WrongVersion}
 
 -- the numbers of a header agree: at least the catalog was given out, the first free page is none or one
--- given out behind the catalog, there is none exactly where the count is 0, and not more than there are
+-- given out after the catalog, there is none exactly where the count is 0, and not more than there are
 abbrev pub is_sound : Header → Bool
 is_sound h =
     nat_le 3 h.next && ((h.first == 0 || (nat_le 3 h.first && nat_lt h.first h.next))

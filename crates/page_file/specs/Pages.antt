@@ -28,7 +28,7 @@ given_pages blocks next n = if nat_le 2 n && nat_lt n next then Some (block_at n
 abbrev pub page_of : Blocks → Header → ℕ → Option (List ℕ)
 page_of blocks h n = if is_live blocks h n then Some (block_at n blocks) else None
 
--- so many free pages in a row: each is one given out behind the catalog and of kind 5, and the last one
+-- so many free pages in a row: each is one given out after the catalog and of kind 5, and the last one
 -- names 0
 abbrev pub IsChain : Blocks → ℕ → ℕ → ℕ → Type 0
 IsChain blocks next zero n = n ≡ 0

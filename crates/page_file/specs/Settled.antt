@@ -9,7 +9,7 @@ use Rattle.page_file.specs.Layout.{gate_text, header_text, version, IsShutGate, 
 use Rattle.page_file.specs.Opening.{Check, failed_check, first_fault, gate_checks, header_checks, header_of_block, is_sound}
 use Rattle.page_file.specs.Pages.{header_in, may_link}
 
--- a check that was passed, and those behind it
+-- a check that was passed, and those after it
 passed : (a : Check) (cs : List Check) → first_fault (a ∷ cs) ≡ None → (a.0 ≡ false) × (first_fault cs ≡ None)
 passed a cs e = case a.0 e
   where

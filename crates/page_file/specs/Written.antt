@@ -24,7 +24,7 @@ within_written (suc i) b [] le = absurd (omega arith)
 within_written zero b (x ∷ bs) le = omega arith
 within_written (suc i) b (x ∷ bs) le = omega (arith, within_written i b bs (omega arith))
 
--- a write behind the first block leaves it, where there is one
+-- a write after the first block leaves it, where there is one
 first_written : (i : ℕ) (b : List ℕ) (bs : Blocks) → 0 < i → 0 < length bs → block_at 0 (written i b bs) ≡ block_at 0 bs
 first_written i b [] gt some = absurd (omega arith)
 first_written zero b (x ∷ bs) gt some = absurd (omega arith)

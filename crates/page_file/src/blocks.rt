@@ -34,7 +34,7 @@ pub fn write_gate<D: BlockDevice>(device: &mut D, shut: u8) -> Result<(), Fault>
     Ok(())
 }
 
-/// Writes the header behind an open gate, and syncs it with all that was written before.
+/// Writes the header while the gate is open, and syncs it with all that was written before.
 pub fn write_header<D: BlockDevice>(device: &mut D, header: &Header) -> Result<(), Fault>
     requires room { 1 ≤ length (D.shown device.old) }
     ensures size { D.honest device.old → 1 < length (D.shown device.old) →

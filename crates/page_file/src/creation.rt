@@ -1,4 +1,4 @@
-//! The blocks of a new file: the open gate, header and catalog behind it, and at last the shut gate.
+//! The blocks of a new file: the open gate, header and catalog after it, and at last the shut gate.
 ghost use Rattle.std.specs.Prelude.{◌≡◌, ◌≤◌, ◌<◌, ◌^◌, ◌↔◌, ◌⊎◌, length, ℕ, OnOk, IfErr};
 ghost use Rattle.block_device.specs.Device.{Blocks, Only, LeavesOnly, Torn, written, block_at};
 ghost use Rattle.page_file.specs.Fault.{HasCause, IsOfDevice, IsDamage};
@@ -20,7 +20,7 @@ pub const NEW_HEADER: Header = Header {
     count: 0,
 };
 
-// Writes a block behind an open gate.
+// Writes a block while the gate is open.
 fn write_behind<D: BlockDevice>(device: &mut D, n: u32, bytes: &[u8; 4096]) -> Result<(), Fault>
     requires behind { 0 < n }
     requires small { n < 2 ^ 31 }

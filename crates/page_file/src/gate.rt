@@ -7,6 +7,6 @@ pub enum Gate {
     Shut,
     /// It is open, and was synced before any other block was written.
     Open,
-    /// A write or sync of it failed, or it is to be written behind blocks that are synced.
+    /// A write or sync of it failed, or it is to be written after blocks that are synced.
     Unsure,
 }

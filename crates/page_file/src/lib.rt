@@ -1,4 +1,4 @@
-//! Live pages of 4096 bytes on a device, behind a gate that tells a stopped file from a closed one.
+//! Live pages of 4096 bytes on a device, with a gate that tells a stopped file from a closed one.
 #![tactic(auto)]
 
 mod blocks;

@@ -1,5 +1,5 @@
 //! Tests of what no clause says: that calls succeed, the bytes of the format, each check of opening, and
-//! a stop behind each call of the device.
+//! a stop after each call of the device.
 ghost use Rattle.std.specs.Prelude.{◌≡◌, length};
 
 use crate::{Fault, PageFile, create_pages, open_pages};

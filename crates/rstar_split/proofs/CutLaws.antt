@@ -42,7 +42,7 @@ front_box-more dims items order i some within below =
     ∙ ap (least_box dims) (pick-append items (take i order) (p ∷ []) ∙ ap (λ ys. pick items (take i order) ++ ys) one)
     ∙ least_box-more dims (pick items (take i order)) (get_or items p no_item) (some_picked items (take i order) (All-take (λ p. p < length items) i order below) (omega arith))
 
--- the last entry is alone behind the others
+-- the last entry is alone after the others
 pub back_box-last : (dims : ℕ) (items : List Item) (order : List ℕ) (i : ℕ) → i + 1 ≡ length order → Below items order → back_box dims items order i ≡ box_at items (get_or order i 0)
 unfolding back_box
 back_box-last dims items order i last below =

@@ -42,7 +42,7 @@ abbrev pub rank_of : Bound → ℕ
 rank_of Lower = 0
 rank_of Upper = 1
 
--- ---- candidates: an order is cut behind the first group
+-- ---- candidates: an order is cut after the first group
 
 -- the boxes of the two groups
 unfoldable pub front_box : ℕ → List Item → List ℕ → ℕ → Bounds

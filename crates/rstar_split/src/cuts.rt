@@ -56,7 +56,7 @@ pub(crate) fn at_most(a: &Cut, b: &Cut) -> bool
     (a.overlap, a.volumes, rank(a.bound), a.size) <= (b.overlap, b.volumes, rank(b.bound), b.size)
 }
 
-// The cut behind so many entries.
+// The cut after so many entries.
 fn cut_at<const D: usize>(fronts: &[BBox<D>], backs: &[BBox<D>], bound: Bound, size: usize) -> Cut
     requires dims { IsDims D }
     requires same { length backs.now ≡ length fronts.now }

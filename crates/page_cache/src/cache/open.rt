@@ -1,4 +1,4 @@
-//! The beginning of a cache: put over a file, or checked again behind a closing.
+//! The beginning of a cache: put over a file, or checked again after a closing.
 ghost use Rattle.std.specs.Prelude.{◌≡◌, ◌↔◌, ◌≤◌, ℕ, IfOk, IfErr};
 ghost use Rattle.block_device.specs.Device.{Blocks};
 ghost use Rattle.page_file.specs.Fault.{HasCause, IsOfDevice};

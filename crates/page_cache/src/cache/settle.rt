@@ -1,4 +1,4 @@
-//! The gate shut behind a change, and a cache closed.
+//! The gate shut after a change, and a cache closed.
 ghost use Rattle.std.specs.Prelude.{◌≡◌, ◌⊎◌, ◌↔◌, Ok, IsOk, IfOk, IfErr, OnOk, OnErr};
 ghost use Rattle.block_device.specs.Device.{LeavesOnly, Only};
 ghost use Rattle.page_file.specs.Fault.{HasCause, IsDamage, IsOfDevice, faults_after};
@@ -14,7 +14,7 @@ use page_file::Fault;
 use std::alloc::Allocator;
 
 impl<D: BlockDevice, A: Allocator + Copy> PageCache<D, A> {
-    /// Shuts the gate behind all that was put. With the gate open the pages and the header are written and
+    /// Shuts the gate after all that was put. With the gate open the pages and the header are written and
     /// synced, and then the gate is written shut and synced; with it unsure the gate alone; with it shut nothing
     /// is written. The cache stays usable.
     ///

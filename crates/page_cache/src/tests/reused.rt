@@ -10,7 +10,7 @@ use refusing::Refusing;
 use std::alloc::{Allocator, Global};
 use std::test::Fail;
 
-// A cache of so many pages over a new file, behind an open gate.
+// A cache of so many pages over a new file, its gate open.
 fn new_cache<A: Allocator + Copy>(
     alloc: A,
     heap: Global,

@@ -1,4 +1,4 @@
-//! The beginning of a file of pages: opened, made anew, or checked again behind a closing.
+//! The beginning of a file of pages: opened, made anew, or checked again after a closing.
 ghost use Rattle.std.specs.Prelude.{◌≡◌, ◌⊎◌, ◌↔◌, ◌≤◌, ◌<◌, ℕ, Some, None, length, IfOk, IfErr};
 ghost use Rattle.block_device.specs.Device.{Only, LeavesOnly};
 ghost use Rattle.page_file.specs.Fault.{HasCause, IsOfDevice, IsDamage, faults_after};

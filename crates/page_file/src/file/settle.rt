@@ -1,4 +1,4 @@
-//! The gate shut behind a change, and a file closed.
+//! The gate shut after a change, and a file closed.
 ghost use Rattle.std.specs.Prelude.{◌≡◌, ◌⊎◌, ◌↔◌, ◌≤◌, Ok, IsOk, IfOk, IfErr, OnOk, OnErr};
 ghost use Rattle.block_device.specs.Device.{LeavesOnly, Only};
 ghost use Rattle.page_file.specs.Fault.{HasCause, IsOfDevice, faults_after};
@@ -15,7 +15,7 @@ use crate::gate::Gate;
 use block_device::BlockDevice;
 
 impl<D: BlockDevice> PageFile<D> {
-    /// Shuts the gate behind all that was written. With the gate open the header is written and synced
+    /// Shuts the gate after all that was written. With the gate open the header is written and synced
     /// with all blocks before it, and then the gate is written shut and synced; with it unsure the gate
     /// alone; with it shut nothing is written. The file stays usable.
     ///

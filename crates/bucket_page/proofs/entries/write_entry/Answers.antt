@@ -1,4 +1,4 @@
--- The identifier stays where the box is written behind it, and nothing outside the entry changes.
+-- The identifier stays where the box is written after it, and nothing outside the entry changes.
 use Rattle.std.proofs.Common.{arith}
 use Rattle.bucket_page.proofs.Places.{object_written, entry_keeps}
 use Rattle.bucket_page.proofs.entries.write_entry.Goals as goal

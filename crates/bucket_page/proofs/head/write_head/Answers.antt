@@ -1,4 +1,4 @@
--- The next page is written behind the head.
+-- The next page is written after the head.
 use Rattle.std.proofs.Common.{arith}
 use Rattle.bucket_page.proofs.HeadWritten.{head_written, head_rest}
 use Rattle.bucket_page.proofs.head.write_head.Goals as goal

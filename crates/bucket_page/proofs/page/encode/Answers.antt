@@ -1,4 +1,4 @@
--- Each object is written behind those before it.
+-- Each object is written after those before it.
 use Rattle.std.proofs.Common.{◌≡◌, ◌<◌, ℕ, List, length, get_or, sym, ◌∙◌, ap, arith}
 use Rattle.std.proofs.lemmas.List.{get_or_default}
 use Rattle.box_math.specs.Bounds.{Bounds}

@@ -1,4 +1,4 @@
--- Each byte is read behind those before it.
+-- Each byte is read after those before it.
 use Rattle.std.proofs.Common.{◌≡◌, ◌+◌, ◌++◌, ◌∷◌, ℕ, List, [], length, sym, ◌∙◌, ap}
 use Rattle.catalog_page.specs.Layout.{bytes_at}
 use Rattle.block_bytes.specs.Numbers.{number_at}

@@ -1,4 +1,4 @@
--- Each record is written behind those before it.
+-- Each record is written after those before it.
 use Rattle.std.proofs.Common.{◌≡◌, ◌<◌, List, length, map, get_or, sym, ◌∙◌, ap, arith}
 use Rattle.std.proofs.lemmas.List.{get_or-map, length-map}
 use Rattle.catalog_page.specs.declared.layer_record.LayerRecord.{LayerRecord}

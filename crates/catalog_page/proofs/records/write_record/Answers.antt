@@ -1,4 +1,4 @@
--- The name stays where the numbers are written behind it, and nothing outside the record changes.
+-- The name stays where the numbers are written after it, and nothing outside the record changes.
 use Rattle.std.proofs.Common.{ℕ, sym, ◌∙◌, ap}
 use Rattle.catalog_page.specs.Layout.{record_of, record_from}
 use Rattle.catalog_page.proofs.Places.{record_written}

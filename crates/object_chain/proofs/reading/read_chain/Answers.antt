@@ -1,4 +1,4 @@
--- Each page goes on behind those before it, or the chain breaks there.
+-- Each page goes on after those before it, or the chain breaks there.
 use Rattle.std.proofs.Common.{◌≡◌, ℕ, ◌⊎◌, Some, None, Err, sym, ◌∙◌, arith, inl, inr, ⊎_elim}
 use Rattle.page_file.specs.Fault.{IsOfDevice}
 use Rattle.page_file.specs.File.{IsHonest, blocks_of, given, next_of}

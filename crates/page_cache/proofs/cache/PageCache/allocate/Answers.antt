@@ -31,7 +31,7 @@ none_next frames next within = case (frames next) refl
     case None e = refl
     case (Some f) e = absurd (let w = within next (ap is_some e) in omega (arith, w.1))
 
--- the cache before, the one of which the first free page was let go, and the file behind which a page was given out
+-- the cache before, the one of which the first free page was let go, and the file in which a page was given out
 module _ {D A : Type 0} {m : _} (old mid : PageCache D A m) (file : PageFile D m) (keeps : KeepsBlocks old mid) (first : ℕ) (is : first ≡ mid.file.header.first) (gone : frame_at mid.frames.entries first ≡ None) where
   at_first : frame_at mid.frames.entries mid.file.header.first ≡ None
   at_first = subst (λ (n : ℕ). frame_at mid.frames.entries n ≡ None) is gone
