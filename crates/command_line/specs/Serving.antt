@@ -1,6 +1,7 @@
 -- What a run of the program over a device leaves.
 use Rattle.std.specs.Prelude.{ℕ, ◌≡◌, ◌==◌, List, Option}
 use Rattle.block_device.specs.Device.{Blocks, LeavesOnly, Only}
+use Rattle.layer_store.specs.Representation.{closed_since}
 use Rattle.store_law.specs.Sessions.{SessionState}
 use Rattle.store_law.specs.States.StoreState.{Alive}
 use Rattle.plain_table.specs.Table.{Table}
@@ -20,10 +21,16 @@ abbrev pub IsRefusedOpening : {D R W : Type 0} → (D → Blocks) → (D → ℕ
 IsRefusedOpening shown moment left_since may_leave device r r' w w' left = IsRefusedStart moment left_since (may_leave device) device r r' w w' left × (shown left.device ≡ shown device)
 
 -- Commands were answered by a lawful session that begins with this table. With status 0 all that the reader had was read,
--- each reply was written, and the blocks are an image of the table at the session's end, also after a stop.
-pub record HasServed {D : Type 0} (shown : D → Blocks) (may_leave : D → Blocks → Type 0) (t : Table) (unread unread' written written' : Option (List ℕ)) (left : Served D) : Type 0 where
+-- each reply was written, and the blocks are an image of the table at the session's end, also after a stop. With any
+-- status a stop until the store stood left what one before the run might have left, and one since then blocks that opening
+-- refuses, or an image of this table or of one that was closed, or was to be closed, since.
+pub record HasServed {D : Type 0} (shown : D → Blocks) (moment : D → ℕ) (left_since : D → ℕ → Blocks → Type 0) (may_leave : D → Blocks → Type 0) (t : Table) (device : D)
+    (unread unread' written written' : Option (List ℕ)) (left : Served D) : Type 0 where
+  pub opened : D
+  pub opening : LeavesOnly moment left_since device opened (may_leave device)
   pub old : SessionState
   pub new : SessionState
   pub begins : old.state ≡ Alive t
-  pub runs : RunsToClose (left.status == 0) (shown left.device) (run_state old unread written) (run_state new unread' written')
+  pub stops : old.stops ≡ closed_since (moment opened) t
+  pub runs : RunsToClose (left.status == 0) (shown left.device) (left_since left.device (moment opened)) (run_state old unread written) (run_state new unread' written')
   pub durable : left.status ≡ 0 → Only (shown left.device) (may_leave left.device)

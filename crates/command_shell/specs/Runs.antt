@@ -1,9 +1,10 @@
 -- What each end of a run says.
-use Rattle.std.specs.Prelude.{ℕ, ◌≡◌, ◌⊎◌, Bool, true, false, List, [], Option, Some, None}
+use Rattle.std.specs.Prelude.{ℕ, ◌≡◌, ◌⊎◌, Bool, true, false, List, [], ◌∷◌, Option, Some, None}
 use Rattle.std.specs.Io.KnownBytes.{Keeps}
 use Rattle.block_device.specs.Device.{Blocks}
-use Rattle.layer_store.specs.Image.{IsImage}
-use Rattle.store_law.specs.States.StoreState.{Alive}
+use Rattle.layer_store.specs.Image.{IsImage, IsRefusedOrImageOf}
+use Rattle.store_law.specs.States.{StoreState}
+use Rattle.store_law.specs.States.StoreState.{Alive, Dead}
 use Rattle.plain_table.specs.Table.{Table}
 use Rattle.plain_table.specs.declared.refusal.Refusal.{Refusal}
 use Rattle.command_shell.specs.TextCommands.{IsUnfinished}
@@ -33,12 +34,19 @@ RunsFrom WriteFault before after pending = BreaksOffAnswer before after pending 
 abbrev pub Runs : RunEnd → RunState → RunState → Type 0
 Runs end before after = RunsFrom end before after []
 
+-- the tables so far, and with them that of a store which goes on
+abbrev pub with_last : StoreState → List Table → List Table
+with_last (Alive t) so_far = t ∷ so_far
+with_last Dead so_far = so_far
+
 -- A run of the program, from its first read to the closing of its store. Where it went well, all that there was is
--- answered, and the blocks are an image of the table at the session's end.
-pub record RunsToClose (went_well : Bool) (blocks : Blocks) (before after : RunState) : Type 0 where
+-- answered, and the blocks are an image of the table at the session's end. However it ended, stops since the session's
+-- beginning, of which `left` tells, left blocks that opening refuses, or an image of one of the tables so far or the last.
+pub record RunsToClose (went_well : Bool) (blocks : Blocks) (left : Blocks → Type 0) (before after : RunState) : Type 0 where
   pub end : RunEnd
   pub runs : Runs end before after
   pub well : went_well ≡ true → (end ≡ Finished) × (t : Table) × (after.session.state ≡ Alive t) × IsImage blocks t
+  pub stops : (c : Blocks) → left c → IsRefusedOrImageOf (with_last after.session.state after.session.stops.so_far) c
 
 -- What the program says of the end of a run: nothing where it went well, else a line that says why, or a front of it.
 abbrev pub TellsEnd : Bool → Option (List ℕ) → Option (List ℕ) → Type 0

@@ -40,7 +40,7 @@ pub fn run_and_close<D: BlockDevice, A: Allocator + Copy, R: Read, W: Write, E: 
     errors: &mut E,
 ) -> Ended<D>
     ensures run { (s : SessionState) → Represents store s → (s' : SessionState) ×
-        RunsToClose result.went_well (D.shown result.device)
+        RunsToClose result.went_well (D.shown result.device) (D.left_since result.device s.stops.since)
         (run_state s (R.remaining input.old) (W.contents output.old))
         (run_state s' (R.remaining input.new) (W.contents output.new)) }
     ensures told { TellsEnd result.went_well (E.contents errors.old) (E.contents errors.new) }

@@ -232,6 +232,15 @@ module _ {D A : Type 0} {m : _} where
   unfolding Represents
   left_so_far store s represents c stop = represents.2.so_far c stop
 
+  -- and what one so far left once its table was closed, or the closing was refused
+  pub left_by_closing : (store : Store D A m) (s : SessionState) (t : Table) (device : D) → Represents store s → LeavesOnly m.moment m.left_since (device_in store) device (IsRefusedOrImageOf (t ∷ tables_left s.stops.now))
+      → (c : Blocks) → m.left_since device s.stops.since c → IsRefusedOrImageOf (t ∷ s.stops.so_far) c
+  unfolding Represents
+  left_by_closing store s t device represents only c left =
+      ⊎_elim (λ before. or_this s.stops.so_far t c (represents.2.so_far c before))
+      (λ here. left_among (t ∷ tables_left s.stops.now) (t ∷ s.stops.so_far) c (either_among t (tables_left s.stops.now) s.stops.so_far represents.2.among) here)
+      (only.before s.stops.since c represents.2.begun left)
+
   -- the same store, seen from now on
   pub represents_from_now : (store : Store D A m) (s : SessionState) → ((c : Blocks) → m.honest (device_in store) → m.left_since (device_in store) (m.moment (device_in store)) c → m.may_leave (device_in store) c) → Represents store s
       → Represents store (record { state = s.state; stops = record { now = s.stops.now; since = m.moment (device_in store); so_far = tables_left s.stops.now }; faults = s.faults; next = s.next })

@@ -1,11 +1,12 @@
 //! What follows from the definitions of pages and images: each law is the contract of a function that does nothing.
-ghost use Rattle.std.specs.Prelude.{◌≡◌, ◌≤◌, ℕ};
-ghost use Rattle.block_device.specs.Device.{Blocks};
+ghost use Rattle.std.specs.Prelude.{◌≡◌, ◌≤◌, ◌∷◌, ℕ};
+ghost use Rattle.block_device.specs.Device.{Blocks, LeavesOnly};
 ghost use Rattle.object_chain.specs.Chain.{KeepsPages, PageMap};
 ghost use Rattle.page_file.specs.declared.fault.Fault.{Fault};
 ghost use Rattle.plain_table.specs.Table.{Table};
 ghost use Rattle.store_law.specs.Sessions.{SessionState};
 ghost use Rattle.store_law.specs.States.{StoreState};
+ghost use Rattle.store_law.specs.Stops.{tables_left};
 ghost use Rattle.layer_store.specs.Image.{Holds, IsImage, MayRemain, IsRefusedOrImageOf, OpeningRefuses};
 ghost use Rattle.layer_store.specs.Representation.{IsInState, IsOfStore, Represents};
 ghost use Rattle.layer_store.specs.Representation.{blocks_in, device_in, from_now, resting_on};
@@ -43,6 +44,15 @@ pub fn stops_leave_what_the_session_state_says<D: BlockDevice, A: Allocator>()
         (c : Blocks) → D.may_leave (device_in store) c → MayRemain s.stops.now c }
     ensures so_far { (store : Store D A ⟦<D as BlockDevice>⟧) (s : SessionState) → Represents store s →
         (c : Blocks) → D.left_since (device_in store) s.stops.since c → IsRefusedOrImageOf s.stops.so_far c }
+{}
+
+/// Once a closing has ended, refused or not, a stop at any moment since the beginning left blocks that opening refuses, or
+/// an image of one of the tables so far or of the table that was closed.
+pub fn a_closing_adds_its_table<D: BlockDevice, A: Allocator>()
+    ensures { (store : Store D A ⟦<D as BlockDevice>⟧) (s : SessionState) (t : Table) (device : D) →
+        Represents store s → LeavesOnly D.moment D.left_since (device_in store) device
+        (IsRefusedOrImageOf (t ∷ tables_left s.stops.now)) →
+        (c : Blocks) → D.left_since device s.stops.since c → IsRefusedOrImageOf (t ∷ s.stops.so_far) c }
 {}
 
 /// The state of a session is that of its store, with the faults of its device and the page numbers given out of its

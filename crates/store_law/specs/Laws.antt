@@ -1,5 +1,5 @@
 -- What follows from the law of a store.
-use Rattle.std.proofs.Common.{◌≡◌, ◌∙◌, ◌≤◌, ◌++◌, List, [], ◌∷◌, Bool, true, false, not, ◌&&◌, cond, Some, inl, inr, refl, sym, ap, subst, arith}
+use Rattle.std.proofs.Common.{◌≡◌, ◌∙◌, ℕ, ◌≤◌, ◌++◌, List, [], ◌∷◌, Bool, true, false, not, ◌&&◌, cond, Some, inl, inr, refl, sym, ap, subst, arith}
 use Rattle.std.specs.List.{list_all}
 use Rattle.plain_table.specs.Commands.{Command}
 use Rattle.plain_table.specs.Commands.Command.{Create, Insert, Window, Reopen}
@@ -14,6 +14,7 @@ use Rattle.store_law.specs.Sessions.{LawfulStep, Session, SessionState}
 use Rattle.store_law.specs.States.{Request, StoreState}
 use Rattle.store_law.specs.States.Request.{Asks, BadCommand}
 use Rattle.store_law.specs.States.StoreState.{Alive, Dead}
+use Rattle.store_law.specs.Stops.{Stops, after_request}
 
 -- ---- steps
 
@@ -84,3 +85,19 @@ a_dead_store_stays_dead old new [] [] e p = ap (λ (s : SessionState). s.state) 
 a_dead_store_stays_dead old new (r ∷ rs) (a ∷ as') e p = a_dead_store_stays_dead p.0 new rs as' (dead_after _ _ old.state p.0.state r a e p.1.answer) p.2
 a_dead_store_stays_dead old new [] (a ∷ as') e p = elim p [ ]
 a_dead_store_stays_dead old new (r ∷ rs) [] e p = elim p [ ]
+
+-- stops are told from the same moment on
+same_beginning : (state : StoreState) (old : Stops) (r : Request) (a : Answer) → (after_request state old r a).since ≡ old.since
+same_beginning state old BadCommand a = refl
+same_beginning (Alive t) old (Asks (Create name dims fanout)) a = refl
+same_beginning (Alive t) old (Asks (Insert name id box)) a = refl
+same_beginning (Alive t) old (Asks (Window name box)) a = refl
+same_beginning (Alive t) old (Asks Reopen) a = refl
+same_beginning Dead old (Asks c) a = refl
+
+pub a_session_keeps_its_beginning : (old new : SessionState) (rs : List Request) (as' : List Answer) → Session old rs as' new → new.stops.since ≡ old.stops.since
+a_session_keeps_its_beginning old new [] [] p = ap (λ (s : SessionState). s.stops.since) p
+a_session_keeps_its_beginning old new (r ∷ rs) (a ∷ as') p =
+    a_session_keeps_its_beginning p.0 new rs as' p.2 ∙ ap (λ (stops : Stops). stops.since) p.1.stops ∙ same_beginning old.state old.stops r a
+a_session_keeps_its_beginning old new [] (a ∷ as') p = elim p [ ]
+a_session_keeps_its_beginning old new (r ∷ rs) [] p = elim p [ ]

@@ -44,3 +44,10 @@ pub fn a_dead_store_stays_dead()
     ensures { (old new : SessionState) (rs : List Request) (xs : List Answer) → old.state ≡ Dead →
         Session old rs xs new → new.state ≡ Dead }
 {}
+
+/// What stops leave is told from the same moment on through a session.
+#[tactic(auto, using(crate::specs::Laws::a_session_keeps_its_beginning))]
+pub fn a_session_keeps_its_beginning()
+    ensures { (old new : SessionState) (rs : List Request) (xs : List Answer) → Session old rs xs new →
+        new.stops.since ≡ old.stops.since }
+{}

@@ -1,14 +1,21 @@
 -- A closing that is finished leaves an image of the session's table.
-use Rattle.std.proofs.Common.{◌≡◌, ℕ, Bool, true, false, List, Option, Result, Ok, Err, inl, inr, refl, sym, subst}
+use Rattle.std.proofs.Common.{◌≡◌, ◌∙◌, ap, ℕ, Bool, true, false, List, ◌∷◌, Option, Result, Ok, Err, inl, inr, refl, sym, subst}
 use Rattle.std.proofs.KnownBytes.{Keeps-refl}
 use Rattle.store_law.specs.Sessions.{SessionState}
 use Rattle.store_law.specs.States.{StoreState}
 use Rattle.store_law.specs.States.StoreState.{Alive, Dead}
 use Rattle.plain_table.specs.Table.{Table}
-use Rattle.layer_store.specs.Representation.{HasFailed, Represents, RepresentsTable}
+use Rattle.block_device.specs.Device.{Blocks, LeavesOnly}
+use Rattle.layer_store.specs.Representation.{HasFailed, Represents, RepresentsTable, device_in}
+use Rattle.store_law.specs.Stops.{tables_left}
 use Rattle.layer_store.specs.declared.store.Store.{Store}
-use Rattle.command_shell.specs.Runs.{TellsEnd}
-use Rattle.command_shell.specs.Serving.{run_state}
+use Rattle.layer_store.proofs.StopLemmas.{left_by_closing, left_so_far}
+use Rattle.layer_store.specs.Image.{IsRefusedOrImageOf}
+use Rattle.store_law.specs.Laws.{a_session_keeps_its_beginning}
+use Rattle.command_shell.specs.Runs.{Runs, TellsEnd, with_last}
+use Rattle.command_shell.specs.declared.session.RunEnd.{RunEnd}
+use Rattle.command_shell.specs.declared.session.RunEnd.TheVariants.{Finished, ReadFault, WriteFault}
+use Rattle.command_shell.specs.Serving.{RunState, run_state}
 use Rattle.command_shell.specs.Texts.{told_fault}
 use Rattle.command_shell.specs.Writing.{Writes}
 use Rattle.command_shell.proofs.SessionLemmas.{runs_kept}
@@ -35,6 +42,32 @@ false_is_not_true e = absurd (cc)
 ok_is_no_refusal : {T E : Type 0} {v : T} {e : E} → Ok v ≡ Err e → ⊥
 ok_is_no_refusal h = absurd (cc)
 
+abbrev device_in_refusal : {T R D : Type 0} → D → Result T (R × D) → D
+device_in_refusal none (Ok v) = none
+device_in_refusal none (Err e) = e.1
+
+refused_device : {T R D : Type 0} (a b : Result T (R × D)) (r q : R) (d e : D) → a ≡ Err (r, d) → b ≡ Err (q, e) → a ≡ b → d ≡ e
+refused_device a b r q d e is so same = ap (device_in_refusal d) (sym is ∙ (same ∙ so))
+
+-- what a closing that was refused left, of a store in either state
+left_when_refused : {D A : Type 0} {m : _} (store : Store D A m) (s : SessionState) (device : D) → Represents store s
+    → ((t : Table) → s.state ≡ Alive t → LeavesOnly m.moment m.left_since (device_in store) device (IsRefusedOrImageOf (t ∷ tables_left s.stops.now)))
+    → (HasFailed store → device ≡ device_in store) → (state : StoreState) → s.state ≡ state
+    → (c : Blocks) → m.left_since device s.stops.since c → IsRefusedOrImageOf (with_last s.state s.stops.so_far) c
+left_when_refused {m = m} store s device represents refused failed (Alive t) is c left =
+    subst (λ (state : StoreState). IsRefusedOrImageOf (with_last state s.stops.so_far) c) (sym is) (left_by_closing store s t device represents (refused t is) c left)
+left_when_refused {m = m} store s device represents refused failed Dead is c left =
+    let same = failed (record { next = s; represents = represents; so = is }) in
+    subst (λ (state : StoreState). IsRefusedOrImageOf (with_last state s.stops.so_far) c) (sym is)
+    (left_so_far store s represents c (subst (λ d. m.left_since d s.stops.since c) same left))
+
+-- stops are told from the same moment on through a run
+same_beginning : (end : RunEnd) (before after : RunState) → Runs end before after → after.session.stops.since ≡ before.session.stops.since
+same_beginning Finished before after h = a_session_keeps_its_beginning before.session after.session h.requests h.answers h.lawful
+same_beginning ReadFault before after h = let serves = h.2 in a_session_keeps_its_beginning before.session after.session serves.requests serves.answers serves.lawful
+same_beginning WriteFault before after (inl h) = let serves = h.2 in a_session_keeps_its_beginning before.session after.session serves.requests serves.answers serves.lawful
+same_beginning WriteFault before after (inr h) = let serves = h.2 in a_session_keeps_its_beginning before.session after.session serves.requests serves.answers serves.lawful
+
 pub returns-after-not-went_well-clause-run : goal.returns-after-not-went_well-clause-run
 returns-after-not-went_well-clause-run g c = λ s represents.
     let left = c.run-end.ensures s represents in
@@ -45,6 +78,12 @@ returns-after-not-went_well-clause-run g c = λ s represents.
         end = c.run-end.result;
         runs = runs_kept c.run-end.result (run_state s (g.R.Read.remaining c.args.input.now) (g.W.Write.contents c.args.output.now)) (run_state left.next (g.R.Read.remaining c.run-end.new.input) (g.W.Write.contents c.run-end.new.output)) (g.W.Write.contents c.flush-flushed.new.self) left.so c.flush-flushed.ensures.bytes;
         well = λ well. (c.is_whole-went_well.ensures well, of_table.table, of_table.alive, closed.closed of_table.table of_table.represents);
+        stops = λ b stop.
+            let since = same_beginning c.run-end.result _ _ left.so in
+            let tables = left.next.stops.so_far in
+            subst (λ (state : StoreState). IsRefusedOrImageOf (with_last state tables) b) (sym of_table.alive)
+            (left_by_closing c.run-end.new.store left.next of_table.table c.in-Ok.device left.represents (closed.stops left.next of_table.table left.represents of_table.alive) b
+            (subst (λ k. g.D.BlockDevice.left_since c.in-Ok.device k b) (sym since) stop));
       },
     )
 
@@ -63,6 +102,12 @@ returns-in-Err-clause-run g c = λ s represents.
         end = c.run-end.result;
         runs = runs_kept c.run-end.result (run_state s (g.R.Read.remaining c.args.input.now) (g.W.Write.contents c.args.output.now)) (run_state left.next (g.R.Read.remaining c.run-end.new.input) (g.W.Write.contents c.run-end.new.output)) (g.W.Write.contents c.flush-flushed.new.self) left.so c.flush-flushed.ensures.bytes;
         well = λ well. absurd (false_is_not_true well);
+        stops = λ b stop.
+            let since = same_beginning c.run-end.result _ _ left.so in
+            let told = subst (λ k. g.D.BlockDevice.left_since c.in-Err.device k b) (sym since) stop in
+            left_when_refused c.run-end.new.store left.next c.in-Err.device left.represents
+            (λ t alive. c.in-Err.ensures.refused_stops left.next t left.represents alive)
+            (λ failed. refused_device _ _ _ _ _ _ refl refl (c.in-Err.ensures.failed failed)) left.next.state refl b told;
       },
     )
 
