@@ -1,5 +1,6 @@
 -- A walk along the free pages: what is known after some of them.
 use Rattle.std.proofs.Common.{◌≡◌, ◌∙◌, ℕ, zero, suc, ◌<◌, ◌≤◌, ◌-◌, Bool, true, false, ◌==◌, ◌&&◌, nat_le, nat_lt, List, [], ◌∷◌, ◌++◌, length, None, Some, refl, sym, ap, arith, subst}
+use Rattle.block_bytes.specs.Kinds.{free_kind}
 use Rattle.std.proofs.lemmas.Bool.Decides.{nat_tests}
 use Rattle.std.proofs.lemmas.List.{append_assoc, append-nil}
 use Rattle.block_device.specs.Device.{Blocks, block_at}
@@ -82,7 +83,7 @@ module _ {D : Type 0} {m : _} where
           (subst (λ (n : ℕ). IsChain (blocks_of old) (next_of old) n next) (sym (one_less left some)) (walked.rest h c)).3;
     }
       where
-        link_here : IsHonest old → (kind_of (block_at next (blocks_of old)) ≡ 5) × (link_of (block_at next (blocks_of old)) ≡ link)
+        link_here : IsHonest old → (kind_of (block_at next (blocks_of old)) ≡ free_kind) × (link_of (block_at next (blocks_of old)) ≡ link)
         link_here h =
             let is = subst (λ (b : Blocks). free_page_link left (next_of now) (block_at next b) ≡ Some link) (walked.blocks h) (linked (walked.gate.honest.0 h)) in
             let all = link_is left (next_of now) link (block_at next (blocks_of old)) is in (all.0, all.1)

@@ -7,6 +7,7 @@ use Rattle.block_device.specs.Device.{Blocks, Torn, block_at}
 use Rattle.block_device.specs.Written.{torn_other}
 use Rattle.page_file.specs.Layout.{kind_of}
 use Rattle.std.specs.Prelude.{is_some}
+use Rattle.block_bytes.specs.Kinds.{free_kind}
 use Rattle.page_file.specs.Chains.{chain_from}
 use Rattle.page_file.specs.Live.{page_live, lives}
 use Rattle.page_file.specs.Pages.{free_pages_of, given_pages, page_of, HasFreeChain, SameBut}
@@ -60,7 +61,7 @@ live_is_given blocks h n page e =
     is_given blocks h.next n l.low l.below ∙ sym (page_live blocks h n l) ∙ e
 
 -- a page given out that is not of their kind is live
-pub given_is_live : (blocks : Blocks) (h : Header) (n : ℕ) (page : List ℕ) → HasFreeChain blocks h → given_pages blocks h.next n ≡ Some page → ¬ (kind_of page ≡ 5) → page_of blocks h n ≡ Some page
+pub given_is_live : (blocks : Blocks) (h : Header) (n : ℕ) (page : List ℕ) → HasFreeChain blocks h → given_pages blocks h.next n ≡ Some page → ¬ (kind_of page ≡ free_kind) → page_of blocks h n ≡ Some page
 given_is_live blocks h n page free e other =
     let g = given_is blocks h.next n page e in
     let apart = false_from_ne_true (is_member eqb (free_pages_of blocks h) n)

@@ -2,6 +2,7 @@
 use Rattle.std.specs.Prelude.{◌≡◌, ◌⊎◌, ◌↔◌, ◌≤◌, ◌<◌, ◌^◌, ℕ, List, [], length, Some, None, refl}
 use Rattle.std.specs.List.{All}
 use Rattle.std.proofs.Common.{drop, ap, inl, inr, ⊎_elim, sym, ◌∙◌, subst, arith}
+use Rattle.block_bytes.specs.Kinds.{free_kind}
 use Rattle.block_device.specs.Device.{Blocks, IsBlock, LeavesOnly}
 use Rattle.page_file.specs.declared.file.PageFile.{PageFile}
 use Rattle.page_file.specs.declared.gate.Gate.{Gate}
@@ -164,7 +165,7 @@ pub a_live_page_is_a_block : {D : Type 0} {m : _} (file : PageFile D m) (n : ℕ
 a_live_page_is_a_block file n page h whole e = a_given_page_is_a_block file n page h whole (a_live_page_is_given file n page e)
 
 -- one given out that is not of the free pages' kind is live
-pub a_page_in_use_is_live : {D : Type 0} {m : _} (file : PageFile D m) (n : ℕ) (page : List ℕ) → IsPageMap file → given file n ≡ Some page → ¬ (kind_of page ≡ 5) → pages file n ≡ Some page
+pub a_page_in_use_is_live : {D : Type 0} {m : _} (file : PageFile D m) (n : ℕ) (page : List ℕ) → IsPageMap file → given file n ≡ Some page → ¬ (kind_of page ≡ free_kind) → pages file n ≡ Some page
 a_page_in_use_is_live {m = m} file n page map e other = given_is_live (m.shown file.device) file.header n page map.free e other
 
 -- what the laws of a file are proved by

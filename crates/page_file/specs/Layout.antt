@@ -2,6 +2,7 @@
 -- (our format, docs/FORMAT.md).
 use Rattle.std.specs.Prelude.{◌≡◌, ℕ, List}
 use Rattle.block_bytes.specs.Numbers.{zeros, number_at, put_number}
+use Rattle.block_bytes.specs.Kinds.{free_kind}
 use Rattle.page_file.specs.declared.header.Header.{Header}
 
 -- the ASCII text RSTARGAT
@@ -35,7 +36,7 @@ new_header = record { next = 3; first = 0; count = 0 }
 
 -- a free page that names the next one, 0 if none
 unfoldable pub free_block : ℕ → List ℕ
-free_block next = put_number 4 4 next (put_number 1 0 5 zeros)
+free_block next = put_number 4 4 next (put_number 1 0 free_kind zeros)
 
 -- a block that reads as a shut gate
 pub record IsShutGate (block : List ℕ) : Type 0 where

@@ -1,6 +1,7 @@
 -- The map of live pages, where a block was written, a page given out or freed.
 use Rattle.std.proofs.Common.{◌≡◌, ◌∙◌, ℕ, zero, suc, ◌<◌, ◌≤◌, ◌+◌, ◌-◌, Bool, true, false, ◌&&◌, ◌||◌, not, nat_le, nat_lt, eqb, List, [], ◌∷◌, length, Option, Some, None, refl, sym, ap, arith, ⊎_elim, subst, cond}
 use Rattle.std.specs.Prelude.{IsSome}
+use Rattle.block_bytes.specs.Kinds.{free_kind}
 use Rattle.std.specs.List.{IsDistinct, list_any}
 use Rattle.std.specs.Set.{is_member}
 use Rattle.std.proofs.lemmas.Bool.Decides.{nat_tests}
@@ -168,7 +169,7 @@ module _ (n : ℕ) (old new : Blocks) (h : Header) (torn : Torn n old new) (le :
       ∙ ap (λ (t : Bool). cond (nat_le 2 k && (nat_lt k h.next && not (t || is_member eqb (chain old h.count h.first) k))) (Some (block_at k new)) None) (eq_other k n ne)
       ∙ ap (λ (b : List ℕ). cond (is_live old h k) (Some b) None) (torn_other n k old new torn le ne)
 
-  pub freed_free : n < h.next → kind_of (block_at n new) ≡ 5 → HasFreeChain old h → HasFreeChain new one_more_free
+  pub freed_free : n < h.next → kind_of (block_at n new) ≡ free_kind → HasFreeChain old h → HasFreeChain new one_more_free
   freed_free below kind f =
       let rest : IsChain new h.next h.count h.first = free_torn n old new h torn le apart f in
       let all : IsChain new h.next (suc h.count) n = (low, below, kind, subst (λ (m : ℕ). IsChain new h.next h.count m) (sym linked) rest) in

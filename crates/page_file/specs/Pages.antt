@@ -3,6 +3,7 @@ use Rattle.std.specs.Prelude.{◌≡◌, ◌⊎◌, ◌≤◌, ◌<◌, ◌+◌,
 use Rattle.std.specs.Set.{is_member}
 use Rattle.block_device.specs.Device.{Blocks, Torn, block_at, written}
 use Rattle.block_bytes.specs.Numbers.{zeros}
+use Rattle.block_bytes.specs.Kinds.{free_kind}
 use Rattle.page_file.specs.Layout.{kind_of, link_of}
 use Rattle.page_file.specs.Opening.{header_of_block}
 use Rattle.page_file.specs.declared.header.Header.{Header}
@@ -28,12 +29,11 @@ given_pages blocks next n = if nat_le 2 n && nat_lt n next then Some (block_at n
 abbrev pub page_of : Blocks → Header → ℕ → Option (List ℕ)
 page_of blocks h n = if is_live blocks h n then Some (block_at n blocks) else None
 
--- so many free pages in a row: each is one given out after the catalog and of kind 5, and the last one
--- names 0
+-- so many free pages in a row: each is one given out after the catalog and a page of that kind, and the last one names 0
 abbrev pub IsChain : Blocks → ℕ → ℕ → ℕ → Type 0
 IsChain blocks next zero n = n ≡ 0
 IsChain blocks next (suc count) n =
-    (3 ≤ n) × (n < next) × (kind_of (block_at n blocks) ≡ 5) × IsChain blocks next count (link_of (block_at n blocks))
+    (3 ≤ n) × (n < next) × (kind_of (block_at n blocks) ≡ free_kind) × IsChain blocks next count (link_of (block_at n blocks))
 
 -- the free pages are such a chain; no page is in it twice, since each names one next page
 abbrev pub HasFreeChain : Blocks → Header → Type 0
@@ -107,7 +107,7 @@ may_link count next link = if count == 1 then link == 0 else (nat_le 3 link && n
 
 -- the block of a free page as the format has it, and the page that it names
 abbrev pub is_free_page : ℕ → ℕ → List ℕ → Bool
-is_free_page count next block = kind_of block == 5 && may_link count next (link_of block)
+is_free_page count next block = kind_of block == free_kind && may_link count next (link_of block)
 
 abbrev pub free_page_link : ℕ → ℕ → List ℕ → Option ℕ
 free_page_link count next block = if is_free_page count next block then Some (link_of block) else None

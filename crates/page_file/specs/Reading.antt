@@ -2,6 +2,7 @@
 use Rattle.std.proofs.Common.{◌≡◌, ◌∙◌, ℕ, ◌+◌, ◌^◌, ◌<◌, ◌≤◌, List, length, arith, inl, lit<}
 use Rattle.block_bytes.specs.Numbers.{zeros, number_at, put_number, IsApart}
 use Rattle.block_bytes.specs.Laws.{length-zeros, length-put, number_at-put, number_at-put_other}
+use Rattle.block_bytes.specs.Kinds.{free_kind}
 use Rattle.page_file.specs.declared.header.Header.{Header}
 use Rattle.page_file.specs.Layout.{gate_text, header_text, version, gate_block, header_block, free_block, IsShutGate, IsHeader, kind_of, link_of}
 
@@ -63,6 +64,6 @@ pub free_link : (next : ℕ) → next < 2 ^ 32 → link_of (free_block next) ≡
 unfolding free_block
 free_link next n = there 4 4 next _ (omega arith) kind_size n
 
-pub free_kind : (next : ℕ) → kind_of (free_block next) ≡ 5
+pub kind_of_free : (next : ℕ) → kind_of (free_block next) ≡ free_kind
 unfolding free_block
-free_kind next = past 1 0 4 4 next 5 _ (omega arith) kind_size (inl (omega arith)) (there 1 0 5 zeros (omega arith) length-zeros (lit< tt))
+kind_of_free next = past 1 0 4 4 next 5 _ (omega arith) kind_size (inl (omega arith)) (there 1 0 5 zeros (omega arith) length-zeros (lit< tt))

@@ -5,6 +5,7 @@ use Rattle.std.specs.Set.{is_member}
 use Rattle.std.proofs.lemmas.Bool.Decides.{nat_tests}
 use Rattle.std.proofs.lemmas.Bool.{false_from_ne_true}
 use Rattle.block_bytes.specs.Numbers.{zeros}
+use Rattle.block_bytes.specs.Kinds.{free_kind}
 use Rattle.block_device.specs.Device.{Blocks, Torn, block_at, written}
 use Rattle.block_device.specs.Written.{block_at-written}
 use Rattle.page_file.specs.Chains.{chain_opened, chain_same, comes_once, eq_other, eq_self}
@@ -180,7 +181,7 @@ all_live blocks h none n low below = lives_some blocks h n (record { low = low; 
 pub chain_link : (blocks : Blocks) (next c n : ℕ) → IsChain blocks next (suc c) n → free_page_link (suc c) next (block_at n blocks) ≡ Some (link_of (block_at n blocks))
 chain_link blocks next c n whole =
     let block = block_at n blocks in
-    let kind : (kind_of block == 5) ≡ true = let k = whole.2 in grind (arith, nat_tests) in
+    let kind : (kind_of block == free_kind) ≡ true = let k = whole.2 in grind (arith, nat_tests) in
     ap (λ (t : Bool). cond (t && may_link (suc c) next (link_of block)) (Some (link_of block)) None) kind
     ∙ ap (λ (t : Bool). cond t (Some (link_of block)) None) (linked c (link_of block) whole.3)
   where
@@ -197,10 +198,10 @@ sound_link blocks h free some = case h.count some free
     case (suc c) some free = chain_link blocks h.next c h.first free
 
 -- what a free page names
-pub link_is : (count next link : ℕ) (block : List ℕ) → free_page_link count next block ≡ Some link → (kind_of block ≡ 5) × (link_of block ≡ link) × (may_link count next link ≡ true)
-link_is count next link block e = case (kind_of block == 5) (may_link count next (link_of block)) refl refl e
+pub link_is : (count next link : ℕ) (block : List ℕ) → free_page_link count next block ≡ Some link → (kind_of block ≡ free_kind) × (link_of block ≡ link) × (may_link count next link ≡ true)
+link_is count next link block e = case (kind_of block == free_kind) (may_link count next (link_of block)) refl refl e
   where
-    case : (a b : Bool) → (kind_of block == 5) ≡ a → may_link count next (link_of block) ≡ b → cond (a && b) (Some (link_of block)) None ≡ Some link → (kind_of block ≡ 5) × (link_of block ≡ link) × (may_link count next link ≡ true)
+    case : (a b : Bool) → (kind_of block == free_kind) ≡ a → may_link count next (link_of block) ≡ b → cond (a && b) (Some (link_of block)) None ≡ Some link → (kind_of block ≡ free_kind) × (link_of block ≡ link) × (may_link count next link ≡ true)
     case true true k l e = let same : link_of block ≡ link = cc in (grind (arith, nat_tests), same, ap (may_link count next) (sym same) ∙ l)
     case true false k l e = absurd (cc)
     case false b k l e = absurd (cc)

@@ -1,5 +1,6 @@
 //! What follows from the promises of the calls, each law the contract of a function that does nothing.
 ghost use Rattle.std.specs.Prelude.{◌≡◌, ◌⊎◌, ◌↔◌, ◌≤◌, ◌<◌, ◌^◌, ℕ, List, Some, length};
+ghost use Rattle.block_bytes.specs.Kinds.{free_kind};
 ghost use Rattle.block_device.specs.Device.{Blocks, IsBlock};
 ghost use Rattle.page_file.specs.declared.file.PageFile.{PageFile};
 ghost use Rattle.page_file.specs.declared.gate.Gate.TheVariants.{Shut, Open};
@@ -62,7 +63,7 @@ pub fn a_live_page_is_given<D: BlockDevice>()
     ensures given { (file : PageFile D ⟦<D as BlockDevice>⟧) (n : ℕ) (page : List ℕ) → pages file n ≡ Some page →
         given file n ≡ Some page }
     ensures live { (file : PageFile D ⟦<D as BlockDevice>⟧) (n : ℕ) (page : List ℕ) → IsPageMap file →
-        given file n ≡ Some page → ¬ (kind_of page ≡ 5) → pages file n ≡ Some page }
+        given file n ≡ Some page → ¬ (kind_of page ≡ free_kind) → pages file n ≡ Some page }
 {}
 
 /// A page of an honest file is 4096 bytes.

@@ -5,7 +5,7 @@ ghost use Rattle.page_file.specs.Opening.{header_of_block};
 ghost use Rattle.page_file.specs.Pages.{free_page_link, may_link};
 
 use crate::header::Header;
-use block_bytes::{read_u8, read_u32, write_u8, write_u16, write_u32, write_u64, zero_block};
+use block_bytes::{FREE_KIND, read_u8, read_u32, write_u8, write_u16, write_u32, write_u64, zero_block};
 
 /// The ASCII text RSTARGAT.
 pub const GATE_TEXT: u64 = 0x5253_5441_5247_4154;
@@ -69,7 +69,7 @@ pub fn free_page(next: u32) -> [u8; 4096]
     ensures { result ≡ free_block next }
 {
     let mut page = zero_block();
-    write_u8(&mut page, 0, 5);
+    write_u8(&mut page, 0, FREE_KIND);
     write_u32(&mut page, 4, next);
     page
 }
@@ -86,7 +86,7 @@ pub fn free_link(page: &[u8; 4096], count: u32, next: u32) -> Option<u32>
     } else {
         3 <= link && link < next
     };
-    if read_u8(page, 0) == 5 && fits {
+    if read_u8(page, 0) == FREE_KIND && fits {
         Some(link)
     } else {
         None

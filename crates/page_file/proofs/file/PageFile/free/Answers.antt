@@ -7,7 +7,7 @@ use Rattle.page_file.specs.Gated.{open_is_not_shut}
 use Rattle.page_file.specs.Frames.{adds_behind, stop_behind}
 use Rattle.page_file.specs.Given.{given_torn}
 use Rattle.page_file.specs.Live.{lives, others_same, free_torn, freed_free, freed_others, room_for_one}
-use Rattle.page_file.specs.Reading.{free_kind, free_link}
+use Rattle.page_file.specs.Reading.{free_link, kind_of_free}
 use Rattle.page_file.specs.Settled.{more_free, sound_says}
 use Rattle.page_file.specs.Written.{torn_longer}
 use Rattle.page_file.proofs.file.PageFile.free.Goals as goal
@@ -103,7 +103,7 @@ returns-clause-sound g c = λ map live. let file = c.args.self.now in let d = g.
     record {
       honest = c.write_block.ensures.honest.0 h;
       free = freed_free c.args.n _ _ file.header (c.write_block.ensures.torn h) le l.not_free (omega (arith, c.if-n-lt3.false)) (ap link_of is ∙ free_link file.header.first small)
-          l.below (ap kind_of is ∙ free_kind file.header.first) map.free;
+          l.below (ap kind_of is ∙ kind_of_free file.header.first) map.free;
     }
 
 pub returns-in_err-write_block-clause-given_others : goal.returns-in_err-write_block-clause-given_others
