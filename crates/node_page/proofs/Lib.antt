@@ -14,3 +14,4 @@ pub mod ChangeLemmas
 pub mod StandingExamples
 pub mod NodeLemmas
 pub mod LeafLemmas
+pub mod MaskLemmas

@@ -8,3 +8,5 @@ pub mod Parts
 pub mod Changes
 pub mod Lists
 pub mod Broken
+pub mod Loan
+pub mod Views

@@ -2,10 +2,13 @@
 #![tactic(auto)]
 
 mod broken;
+mod columns;
 mod entries;
 mod head;
 pub mod laws;
 mod leaves;
+mod lending;
+mod masks;
 mod nodes;
 mod page;
 #[cfg(test)]
@@ -16,6 +19,7 @@ mod view;
 
 pub use broken::Broken;
 pub use leaves::leaf_lists;
+pub use lending::view_node;
 pub use nodes::{read_node, write_node};
 pub use page::{decode, encode};
 pub use tree_node::{Entry, Node, Root};
