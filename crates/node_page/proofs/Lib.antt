@@ -15,3 +15,5 @@ pub mod StandingExamples
 pub mod NodeLemmas
 pub mod LeafLemmas
 pub mod MaskLemmas
+pub mod RowEnds
+pub mod GivenLemmas

@@ -35,6 +35,8 @@ pub fn view_node<'a, const D: usize, B: BlockDevice, A: Allocator + Copy>(
     ensures outside { (page < 2) ⊎ (next_of cache.old ≤ page) → IsErrOf result (fault.Damaged page) }
     ensures there { IsHonest cache.old → (c : NodeContent) → node_in D (pages cache.old page) ≡ Some c
         → c.level ≡ level → IfErr result IsOfDevice }
+    ensures given_there { IsHonest cache.old → (c : NodeContent) → node_in D (given cache.old page) ≡ Some c
+        → c.level ≡ level → IfErr result IsOfDevice }
     ensures faults { IsHonest cache.old → IfErr result (λ f. IsOfDevice f ⊎ (f ≡ fault.Damaged page)) }
     ensures other_faults { IfErr result (λ f. IsOfDevice f ⊎ IsDamage f) }
 {
