@@ -19,14 +19,14 @@ use Rattle.node_page.proofs.RowEnds.{items_add, leaves_add, nodes_add, row_add, 
 use Rattle.node_page.specs.Lists.{AddsLeavesAt}
 use Rattle.node_page.proofs.StandingLemmas.{node_stays, row_stays, same_content}
 
-dropped_stands : (dims : ℕ) (m : PageMap) (level n : ℕ) (row : Row) → RowStands dims m level row → RowStands dims m level (row_drop n row)
+pub dropped_stands : (dims : ℕ) (m : PageMap) (level n : ℕ) (row : Row) → RowStands dims m level row → RowStands dims m level (row_drop n row)
 dropped_stands dims m level zero row h = h
 dropped_stands dims m level (suc n) end h = h
 dropped_stands dims m level (suc n) (more (object bounds id) rest) h = dropped_stands dims m level n rest h.1
 dropped_stands dims m level (suc n) (more (child bounds page below) rest) h = dropped_stands dims m level n rest h.3
 
 -- the tree below the first entry
-below_first : (dims : ℕ) (m : PageMap) (level : ℕ) (row : Row) (x : Item) (xs : List Item) → row_items row ≡ x ∷ xs → 0 < level → RowStands dims m level row → (below : Row) × StandsAt dims m x.reference (level - 1) below
+pub below_first : (dims : ℕ) (m : PageMap) (level : ℕ) (row : Row) (x : Item) (xs : List Item) → row_items row ≡ x ∷ xs → 0 < level → RowStands dims m level row → (below : Row) × StandsAt dims m x.reference (level - 1) below
 below_first dims m level end x xs same above stands = absurd (cc)
 below_first dims m level (more (object bounds id) rest) x xs same above stands = absurd (omega (arith, above, stands.0))
 below_first dims m level (more (child bounds page below) rest) x xs same above stands =
@@ -59,15 +59,15 @@ references_read entries all n ids is past same = is ∙ ap (map (λ entry. entry
 
 -- ---- a leaf alone
 
-abbrev leaf_row : List Item → Row
+abbrev pub leaf_row : List Item → Row
 leaf_row [] = end
 leaf_row (item ∷ items) = more (object item.bounds item.reference) (leaf_row items)
 
-items-leaf_row : (items : List Item) → row_items (leaf_row items) ≡ items
+pub items-leaf_row : (items : List Item) → row_items (leaf_row items) ≡ items
 items-leaf_row [] = refl
 items-leaf_row (item ∷ items) = ap (λ (xs : List Item). item ∷ xs) (items-leaf_row items)
 
-stands-leaf_row : (dims : ℕ) (m : PageMap) (items : List Item) → RowStands dims m 0 (leaf_row items)
+pub stands-leaf_row : (dims : ℕ) (m : PageMap) (items : List Item) → RowStands dims m 0 (leaf_row items)
 stands-leaf_row dims m [] = tt
 stands-leaf_row dims m (item ∷ items) = (refl, stands-leaf_row dims m items)
 
@@ -75,7 +75,7 @@ nodes-leaf_row : (items : List Item) → passing (λ b. true) (leaf_row items) �
 nodes-leaf_row [] = refl
 nodes-leaf_row (item ∷ items) = nodes-leaf_row items
 
-same_node : (c : NodeContent) (level : ℕ) (items : List Item) → c.level ≡ level → c.entries ≡ items → ◌≡◌ {A = NodeContent} c (record { level = level; entries = items })
+pub same_node : (c : NodeContent) (level : ℕ) (items : List Item) → c.level ≡ level → c.entries ≡ items → ◌≡◌ {A = NodeContent} c (record { level = level; entries = items })
 same_node c level items e f = ap₂ (λ (l : ℕ) (xs : List Item). record { level = l; entries = xs }) e f
 
 -- a node on level 0 stands by itself

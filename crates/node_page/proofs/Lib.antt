@@ -17,3 +17,6 @@ pub mod LeafLemmas
 pub mod MaskLemmas
 pub mod RowEnds
 pub mod GivenLemmas
+pub mod VisitLemmas
+pub mod BoxTests
+pub mod CheckLemmas

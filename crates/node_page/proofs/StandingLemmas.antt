@@ -32,7 +32,7 @@ row_stays dims old new level (more (child bounds page below) rest) same h = (
 
 -- ---- one tree stands
 
-one_row : (dims : ℕ) (pages : PageMap) (level : ℕ) (a b : Row) → ◌≡◌ {A = List Item} (row_items a) (row_items b) → RowStands dims pages level a → RowStands dims pages level b → a ≡ b
+pub one_row : (dims : ℕ) (pages : PageMap) (level : ℕ) (a b : Row) → ◌≡◌ {A = List Item} (row_items a) (row_items b) → RowStands dims pages level a → RowStands dims pages level b → a ≡ b
 one_row dims pages level end end same h k = refl
 one_row dims pages level end (more (object bounds' id') rest') same h k = absurd (cc)
 one_row dims pages level end (more (child bounds' page' below') rest') same h k = absurd (cc)

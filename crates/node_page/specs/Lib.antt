@@ -10,3 +10,5 @@ pub mod Lists
 pub mod Broken
 pub mod Loan
 pub mod Views
+pub mod Visits
+pub mod Checked

@@ -2,6 +2,7 @@
 #![tactic(auto)]
 
 mod broken;
+mod check;
 mod columns;
 mod entries;
 mod head;
@@ -16,8 +17,10 @@ mod tests;
 #[cfg(test)]
 mod tree_tests;
 mod view;
+mod visits;
 
 pub use broken::Broken;
+pub use check::{TreeFacts, check_tree};
 pub use leaves::leaf_lists;
 pub use lending::view_node;
 pub use nodes::{read_node, write_node};
