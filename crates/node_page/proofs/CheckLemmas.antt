@@ -4,7 +4,7 @@ use Rattle.std.proofs.lemmas.List.{append_assoc, append-nil, take_all}
 use Rattle.std.proofs.lemmas.List.Elements.{All-head, All-tail}
 use Rattle.std.proofs.Math.Seq.{take-suc}
 use Rattle.box_math.specs.Bounds.{Bounds, IsBox}
-use Rattle.page_cache.specs.Cache.{IsHonest, given, looks_of}
+use Rattle.page_cache.specs.Cache.{IsHonest, IsPageMap, given, looks_of, pages}
 use Rattle.page_cache.specs.Calls.{Asks, AsksUntil, ends_so}
 use Rattle.page_cache.specs.declared.cache.PageCache.{PageCache}
 use Rattle.page_file.specs.Fault.{IsDamage, IsOfDevice, faults_after}
@@ -13,16 +13,17 @@ use Rattle.page_file.specs.declared.fault.Fault.TheVariants as fault
 use Rattle.tree_node.specs.declared.node.Entry.{Entry}
 use Rattle.tree_node.specs.Boxes.{RowHasBoxes, least_box}
 use Rattle.tree_node.specs.Nodes.{Item, NodeContent, item_of}
-use Rattle.tree_node.specs.Shape.{IsLeastBox, RowHasShape, RowWithin, least_entries}
-use Rattle.tree_node.specs.Trees.{Row, end, more, object, child, objects_in, occurs, row_items, row_length}
+use Rattle.tree_node.specs.Shape.{HasShape, IsLeastBox, RowHasShape, RowWithin, least_entries}
+use Rattle.tree_node.specs.Trees.{Row, Tree, end, more, object, child, objects_in, occurs, occurs_in, row_items, row_length}
 use Rattle.tree_node.proofs.BoxLemmas.{join_is_least_box, one_least_box}
 use Rattle.tree_node.proofs.RowLemmas.{items_from, occurs_here, row_drop}
-use Rattle.node_page.specs.Checked.{AddsTree, pairs_of}
+use Rattle.node_page.specs.Checked.{AddsTree, IsCheckedTree, pairs_of}
 use Rattle.node_page.specs.Standing.{HasNode, PageMap, RowStands, StandsAt, node_in}
 use Rattle.node_page.specs.Visits.{times_in}
-use Rattle.node_page.proofs.LeafLemmas.{dropped_stands, items-leaf_row, leaf_row, same_node, stands-leaf_row}
+use Rattle.node_page.proofs.GivenLemmas.{given_tree_is_live}
+use Rattle.node_page.proofs.LeafLemmas.{dropped_stands, entries_there, items-leaf_row, leaf_row, same_node, stands-leaf_row}
 use Rattle.node_page.proofs.RowEnds.{dropped_shape, items_add, items_taken, length_items, objects_add, occurs_add, occurs_split, row_add, row_take, shape_add, stands_add, taken_stands}
-use Rattle.node_page.proofs.StandingLemmas.{one_row, row_stays}
+use Rattle.node_page.proofs.StandingLemmas.{one_row, row_on_level, row_stays}
 use Rattle.node_page.proofs.VisitLemmas.{times_more}
 
 -- ---- least boxes, by the entries of a node alone
@@ -208,6 +209,50 @@ adds_on dims most old new c pairs pairs_now list list_now same a = record {
   pages_are = a.pages_are;
 }
 
+-- ---- the whole tree
+
+only_root : (n page : ℕ) (list : List ℕ) → list ≡ page ∷ [] → times_in n list ≡ cond (eqb page n) 1 0
+only_root n page list is = ap (times_in n) is ∙ (let e : cond (eqb page n) 1 0 + 0 ≡ cond (eqb page n) 1 0 = omega arith in e)
+
+pub tree_checked : (dims most : ℕ) (m : PageMap) (page level : ℕ) (c : NodeContent) (pairs pairs_now : List (ℕ × Bounds)) (list list_now : List ℕ) → node_in dims (m page) ≡ Some c → c.level ≡ level
+    → (length c.entries ≤ most) × (0 < level → 2 ≤ length c.entries) → pairs ≡ [] → list ≡ page ∷ [] → ((n : ℕ) → times_in n list_now ≤ 1) → AddsTree dims most m c pairs pairs_now list list_now
+    → IsCheckedTree dims most m page level pairs_now list_now
+tree_checked dims most m page level c pairs pairs_now list list_now there at_level count none root once a =
+    let many : length c.entries ≡ row_length a.row = ap length (sym a.items_are) ∙ length_items a.row in
+    let stands : RowStands dims m level a.row = subst (λ (l : ℕ). RowStands dims m l a.row) at_level a.stands in
+    let pages : (n : ℕ) → times_in n list_now ≡ cond (eqb page n) 1 0 + occurs n a.row = λ n. omega (arith, a.pages_are n, only_root n page list root) in
+    record {
+      tree = record { page = page; level = level; row = a.row };
+      page_is = refl;
+      level_is = refl;
+      stands = record {
+        root = there ∙ ap (λ (y : NodeContent). Some y) (same_node c level (row_items a.row) at_level (sym a.items_are));
+        below = stands;
+        distinct = λ n. omega (arith, pages n, once n);
+      };
+      shape = record {
+        levels = row_on_level dims m level a.row stands;
+        few = omega (arith, many, count.0);
+        some = λ above. omega (arith, many, count.1 above);
+        below = a.shape;
+      };
+      pairs_are = a.pairs_are ∙ ap (λ (ps : List (ℕ × Bounds)). ps ++ objects_in a.row) none;
+      pages_are = pages;
+    }
+
+-- one that stands has the count that a root may have, and none of its pages below is that of its root
+pub root_count : (dims most : ℕ) (m : PageMap) (t : Tree) (page level : ℕ) (c : NodeContent) → t.level ≡ level → StandsAt dims m page level t.row → HasShape dims most t → node_in dims (m page) ≡ Some c
+    → (length c.entries ≤ most) × (0 < level → 2 ≤ length c.entries)
+root_count dims most m t page level c at_level stands shape there =
+    let same = entries_there dims m page level t.row c stands there in
+    let many : length c.entries ≡ row_length t.row = ap length (sym same) ∙ length_items t.row in
+    (omega (arith, many, shape.few), λ above. omega (arith, many, shape.some (omega (arith, at_level, above))))
+
+pub root_visited : (t : Tree) (page : ℕ) (list : List ℕ) → t.page ≡ page → list ≡ page ∷ [] → ((n : ℕ) → occurs_in n t ≤ 1) → (n : ℕ) → times_in n list + occurs n t.row ≤ 1
+root_visited t page list at_page root once n =
+    let moved : ◌≡◌ {A = ℕ} (cond (eqb t.page n) 1 0) (cond (eqb page n) 1 0) = ap (λ (p : ℕ). cond (eqb p n) 1 0) at_page in
+    omega (arith, once n, only_root n page list root, moved)
+
 -- ---- what a loop over the entries of a node has checked
 
 module _ {B A : Type 0} {m : _} where
@@ -216,6 +261,21 @@ module _ {B A : Type 0} {m : _} where
     pub checked : IsHonest old → Checked dims most (given old) level (map item_of entries) i pairs pairs_now list list_now
     pub numbers : marks_now ≡ marks
     pub looks : looks_of now + length list ≤ looks_of old + length list_now
+
+  -- in a sound map what was checked in the pages given out stands in the live pages
+  pub checked_live : (dims most : ℕ) (cache : PageCache B A m) (page level : ℕ) (pairs : List (ℕ × Bounds)) (list : List ℕ) → IsPageMap cache → IsCheckedTree dims most (given cache) page level pairs list → IsCheckedTree dims most (pages cache) page level pairs list
+  checked_live dims most cache page level pairs list sound is =
+      let t = is.tree in
+      let live = given_tree_is_live dims cache t.page t.level t.row sound (record { node = is.stands.root; below = is.stands.below }) in
+      record {
+        tree = t;
+        page_is = is.page_is;
+        level_is = is.level_is;
+        stands = record { root = live.node; below = live.below; distinct = is.stands.distinct };
+        shape = is.shape;
+        pairs_are = is.pairs_are;
+        pages_are = is.pages_are;
+      }
 
   -- a refusal that no device had a part in
   pub refuses_quietly : {T : Type 0} (old now : PageCache B A m) (f : Fault) (result : Result T Fault) → IsErrAnd result (λ e. e ≡ f) → AsksUntil old now None → ((n : ℕ) → faults_after f n ≡ n) → Asks old now result

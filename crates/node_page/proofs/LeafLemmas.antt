@@ -94,6 +94,7 @@ leaf_found dims m page level c lists lists_now looks looks_now leaf same there a
       lists_are = added ∙ ap (λ (xs : List (List ℕ)). lists ++ xs) (leaf_there dims m page level row c leaf at there);
       looks_are = omega (arith, looked, nodes-leaf_row c.entries);
     }
+
 -- ---- what a loop over the entries of a node has read
 
 -- a tree stands where its pages are the same

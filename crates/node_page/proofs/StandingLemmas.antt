@@ -96,7 +96,7 @@ pages_are_there dims pages t n stands some = ⊎_elim
     below_there dims pages t.level t.row n stands.below (omega (arith, seen)))
     (cases_eq t.page n)
 
-row_on_level : (dims : ℕ) (pages : PageMap) (level : ℕ) (row : Row) → RowStands dims pages level row → RowOnLevel level row
+pub row_on_level : (dims : ℕ) (pages : PageMap) (level : ℕ) (row : Row) → RowStands dims pages level row → RowOnLevel level row
 row_on_level dims pages level end h = tt
 row_on_level dims pages level (more (object bounds id) rest) h = (h.0, row_on_level dims pages level rest h.1)
 row_on_level dims pages level (more (child bounds page below) rest) h = (h.0, row_on_level dims pages (level - 1) below h.2, row_on_level dims pages level rest h.3)

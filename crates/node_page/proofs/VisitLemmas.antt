@@ -33,10 +33,10 @@ replicated (suc n) = omega (arith, replicated n)
 
 pub none_visited : (n : ℕ) (list : List ℕ) (marks : List Bool) → list ≡ [] → marks ≡ replicate n false → AreMarked list marks
 none_visited n list marks none marked = subst (λ (xs : List ℕ). AreMarked xs marks) (sym none) (subst (λ (ms : List Bool). AreMarked [] ms) (sym marked) (record {
-      once = λ k. omega arith;
-      marked = λ k. (λ (is : get_or (replicate n false) k false ≡ true). let never : false ≡ true = sym (no_marks n k) ∙ is in cc, λ some. absurd (omega (arith, some)));
-      many = omega (arith, all_unmarked n, replicated n);
-    }))
+  once = λ k. omega arith;
+  marked = λ k. (λ (is : get_or (replicate n false) k false ≡ true). let never : false ≡ true = sym (no_marks n k) ∙ is in cc, λ some. absurd (omega (arith, some)));
+  many = omega (arith, all_unmarked n, replicated n);
+}))
 
 one_less : (marks : List Bool) (k : ℕ) → k < length marks → get_or marks k false ≡ false → unmarked (set marks k true) + 1 ≡ unmarked marks
 one_less [] k lt is = absurd (omega (arith, lt))

@@ -126,7 +126,10 @@ fn add_below<const D: usize, B: BlockDevice, A: Allocator + Copy, H: Allocator +
 }
 
 // Appends the objects of a leaf.
-fn add_pairs<const D: usize, H: Allocator + Copy>(leaf: &Node<D>, pairs: &mut Vec<(u64, BBox<D>), H>) -> Result<(), Fault>
+fn add_pairs<const D: usize, H: Allocator + Copy>(
+    leaf: &Node<D>,
+    pairs: &mut Vec<(u64, BBox<D>), H>,
+) -> Result<(), Fault>
     requires dims { IsDims D }
     ensures pairs { OnOk result (pairs.new.items ≡ pairs.old.items ++ pairs_of (content_of leaf.now).entries) }
     ensures memory { IfErr result (λ f. f ≡ fault.Memory) }

@@ -57,7 +57,11 @@ fn are_ordered(page: &[u8; 4096], first: usize, count: usize) -> bool
 }
 
 /// The columns of the axes, the first of which begins at the byte `first`, with zeros after their first numbers.
-pub(crate) fn read_columns<const D: usize>(page: &[u8; 4096], first: usize, count: usize) -> [[i32; 100]; D]
+pub(crate) fn read_columns<const D: usize>(
+    page: &[u8; 4096],
+    first: usize,
+    count: usize,
+) -> [[i32; 100]; D]
     requires dims { IsDims D }
     requires within { first ≤ 416 }
     requires count { count ≤ 100 }

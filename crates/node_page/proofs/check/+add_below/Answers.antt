@@ -77,7 +77,7 @@ returns-in_err-visit-clause-stands g t c = λ h row is stands shape once.
     let within : c.loop-entry.entry-index < length items = omega (arith, length-map c.as_slice-entry-items.result.now item_of, c.loop-entry-test.true) in
     let here = entry_item c.as_slice-entry-items.result.now c.loop-entry.entry-index entry (omega (arith, c.loop-entry-test.true)) c.entry-item.is in
     let next = next_here g.row.D c.args.m_max (given c.args.cache.now) c.args.node.now.level items c.args.pairs.now.items c.loop-entry.pairs.items c.args.visits.now.pages.items c.loop-entry.visits.pages.items c.loop-entry.entry-index x row
-        (omega (arith, c.if-node-eq0.false)) within here (inv.checked h) (is ∙ same) stands shape once in
+    (omega (arith, c.if-node-eq0.false)) within here (inv.checked h) (is ∙ same) stands shape once in
     let out = node_was_given_out g.row.D c.args.cache.now entry.reference _ next.node in
     let free : times_in entry.reference c.loop-entry.visits.pages.items ≡ 0 = next_unvisited g.row.D c.args.m_max (given c.args.cache.now) (c.args.node.now.level - 1) x c.loop-entry.visits.pages.items next in
     at_error c.from_residual.result c.in_err-visit.field-0.0 IsOfDevice c.from_residual.ensures.1
@@ -93,7 +93,7 @@ returns-in_err-below-clause-stands g t c = λ h row is stands shape once.
     let within : c.loop-entry.entry-index < length items = omega (arith, length-map c.as_slice-entry-items.result.now item_of, c.loop-entry-test.true) in
     let here = entry_item c.as_slice-entry-items.result.now c.loop-entry.entry-index entry (omega (arith, c.loop-entry-test.true)) c.entry-item.is in
     let next = next_here g.row.D c.args.m_max (given c.args.cache.now) c.args.node.now.level items c.args.pairs.now.items c.loop-entry.pairs.items c.args.visits.now.pages.items c.loop-entry.visits.pages.items c.loop-entry.entry-index x row
-        (omega (arith, c.if-node-eq0.false)) within here (inv.checked h) (is ∙ same) stands shape once in
+    (omega (arith, c.if-node-eq0.false)) within here (inv.checked h) (is ∙ same) stands shape once in
     at_error c.from_residual-in_err-below.result c.in_err-below.field-0.0 IsOfDevice c.from_residual-in_err-below.ensures.1
     (c.in_err-below.ensures.given_there (inv.asks.gate.honest.0 h) _ (ap (node_in g.row.D) (inv.asks.map.given_stay h entry.reference) ∙ next.node) refl)
 
@@ -107,7 +107,7 @@ returns-then-not-fits_below-clause-stands g t c = λ h row is stands shape once.
     let within : c.loop-entry.entry-index < length items = omega (arith, length-map c.as_slice-entry-items.result.now item_of, c.loop-entry-test.true) in
     let here = entry_item c.as_slice-entry-items.result.now c.loop-entry.entry-index entry (omega (arith, c.loop-entry-test.true)) c.entry-item.is in
     let next = next_here g.row.D c.args.m_max (given c.args.cache.now) c.args.node.now.level items c.args.pairs.now.items c.loop-entry.pairs.items c.args.visits.now.pages.items c.loop-entry.visits.pages.items c.loop-entry.entry-index x row
-        (omega (arith, c.if-node-eq0.false)) within here (inv.checked h) (is ∙ same) stands shape once in
+    (omega (arith, c.if-node-eq0.false)) within here (inv.checked h) (is ∙ same) stands shape once in
     let there = ap (node_in g.row.D) (sym (inv.asks.map.given_stay h entry.reference)) ∙ c.in_ok-below.ensures.given_node (inv.asks.gate.honest.0 h) in
     let fits = c.fits_below.ensures.1 (next_fits g.row.D c.args.m_max (given c.args.cache.now) (c.args.node.now.level - 1) x c.loop-entry.visits.pages.items (content_of c.in_ok-below.below) next there c.in_ok-below.ensures.boxes) in
     absurd (cc)
@@ -122,7 +122,7 @@ returns-in_err-add_below-clause-stands g t c = λ h row is stands shape once.
     let within : c.loop-entry.entry-index < length items = omega (arith, length-map c.as_slice-entry-items.result.now item_of, c.loop-entry-test.true) in
     let here = entry_item c.as_slice-entry-items.result.now c.loop-entry.entry-index entry (omega (arith, c.loop-entry-test.true)) c.entry-item.is in
     let next = next_here g.row.D c.args.m_max (given c.args.cache.now) c.args.node.now.level items c.args.pairs.now.items c.loop-entry.pairs.items c.args.visits.now.pages.items c.loop-entry.visits.pages.items c.loop-entry.entry-index x row
-        (omega (arith, c.if-node-eq0.false)) within here (inv.checked h) (is ∙ same) stands shape once in
+    (omega (arith, c.if-node-eq0.false)) within here (inv.checked h) (is ∙ same) stands shape once in
     let there = ap (node_in g.row.D) (sym (inv.asks.map.given_stay h entry.reference)) ∙ c.in_ok-below.ensures.given_node (inv.asks.gate.honest.0 h) in
     let node = next_node g.row.D c.args.m_max (given c.args.cache.now) (c.args.node.now.level - 1) x c.loop-entry.visits.pages.items (content_of c.in_ok-below.below) next there in
     let a = asks_in_turn c.args.cache.now c.loop-entry.cache c.read_node.new.cache None inv.asks c.in_ok-below.ensures.asks in

@@ -12,7 +12,7 @@ new-requires g c =
     let page = c.args.page.now in
     let place = c.args.place in
     let there : IsBox g.row.D (box_at g.row.D page (16 + 4 * place) (416 + 4 * place) 800) =
-        box_at-is_box g.row.D page (16 + 4 * place) (416 + 4 * place) 800 c.fits-page (ordered_corners g.row.D place page c.requires.ordered) in
+    box_at-is_box g.row.D page (16 + 4 * place) (416 + 4 * place) 800 c.fits-page (ordered_corners g.row.D place page c.requires.ordered) in
     let same : ◌≡◌ {A = Bounds} (box_at g.row.D page (16 + 4 * place) (416 + 4 * place) 800) (record { low = c.read_corner-low.result; high = c.read_corner-high.result }) = cc in
     (search rules, (search rules, subst (IsBox g.row.D) same there))
 

@@ -55,4 +55,4 @@ returns g c =
     let power : 2 ^ c.args.count ≤ 2 ^ 104 = pow_mono {i = c.args.count} {j = 104} (omega arith) in
     let cut : 1 * 2 ^ c.args.count % 340282366920938463463374607431768211456 - 1 ≡ 2 ^ c.args.count - 1 = omega (arith, power) in
     λ k. ap (λ n. has_bit (bit_and c.loop-at.mask n) k) cut
-        ∙ first_bits c.loop-at.mask top c.args.count k t (omega arith) (λ j. ap (λ m. has_bit m j) whole ∙ bit_of_mask t top j)
+    ∙ first_bits c.loop-at.mask top c.args.count k t (omega arith) (λ j. ap (λ m. has_bit m j) whole ∙ bit_of_mask t top j)
