@@ -1,14 +1,14 @@
 -- The columns that are read from a page are those of its entries.
-use Rattle.std.proofs.Common.{◌≡◌, ℕ, zero, suc, ◌+◌, ◌*◌, ◌<◌, ◌≤◌, ℤ, pos, List, [], length, get_or, map, replicate, refl, sym, ◌∙◌, ap, arith}
+use Rattle.std.proofs.Common.{◌≡◌, ℕ, zero, suc, ◌+◌, ◌*◌, ◌<◌, ◌≤◌, ℤ, ◌≤ℤ◌, pos, List, [], length, get_or, map, replicate, refl, sym, ◌∙◌, ap, subst, arith}
 use Rattle.std.proofs.lemmas.List.{get_or-map, length-map}
-use Rattle.block_bytes.specs.Numbers.{signed_at}
+use Rattle.block_bytes.specs.Numbers.{number_at, signed_at}
 use Rattle.block_bytes.specs.PlaceLaws.{get_or-first_places, length-first_places}
-use Rattle.box_math.specs.Bounds.{on_axis}
+use Rattle.box_math.specs.Bounds.{IsOrdered, on_axis}
 use Rattle.box_bytes.specs.Corners.{corner_at}
 use Rattle.box_bytes.specs.Laws.{on_axis-corner_at}
 use Rattle.node_page.specs.Columns.{cell, AreColumns}
 use Rattle.tree_node.specs.Nodes.{Item}
-use Rattle.node_page.specs.Layout.{item_at, items_at}
+use Rattle.node_page.specs.Layout.{IsEntry, IsReference, item_at, items_at}
 use Rattle.node_page.proofs.Writing.{nothing}
 
 -- zeros to begin with
@@ -52,3 +52,38 @@ low_columns dims count page columns read zeros = are_columns dims count 16 page 
 pub high_columns : (dims count : ℕ) (page : List ℕ) (columns : List (List ℤ)) → ((axis place : ℕ) → axis < dims → place < count → cell columns axis place ≡ signed_at (416 + 800 * axis + 4 * place) page)
     → ((axis place : ℕ) → axis < dims → count ≤ place → cell columns axis place ≡ pos 0) → AreColumns dims (map (λ (item : Item). item.bounds.high) (items_at dims page count)) columns
 high_columns dims count page columns read zeros = are_columns dims count 416 page columns (λ item. item.bounds.high) (high_is dims page) read zeros
+
+-- ---- entries in columns
+
+module _ (dims place : ℕ) (page : List ℕ) where
+  pub low_read : (axis : ℕ) → axis < dims → on_axis (item_at dims page place).bounds.low axis ≡ signed_at (16 + 800 * axis + 4 * place) page
+  low_read axis lt =
+      let there : 16 + 4 * place + 800 * axis ≡ 16 + 800 * axis + 4 * place = omega arith in
+      ap (λ (p : List ℤ). on_axis p axis) (low_is dims page place) ∙ on_axis-corner_at dims page (16 + 4 * place) 800 axis lt ∙ ap (λ (at : ℕ). signed_at at page) there
+
+  pub high_read : (axis : ℕ) → axis < dims → on_axis (item_at dims page place).bounds.high axis ≡ signed_at (16 + 800 * axis + 400 + 4 * place) page
+  high_read axis lt =
+      let there : 416 + 4 * place + 800 * axis ≡ 16 + 800 * axis + 400 + 4 * place = omega arith in
+      ap (λ (p : List ℤ). on_axis p axis) (high_is dims page place) ∙ on_axis-corner_at dims page (416 + 4 * place) 800 axis lt ∙ ap (λ (at : ℕ). signed_at at page) there
+
+  pub reference_read : (item_at dims page place).reference ≡ number_at 8 (16 + 800 * dims + 8 * place) page
+  unfolding item_at
+  reference_read = refl
+
+  -- a place holds an entry of the level where its lows are at most its highs and its reference is one of the level
+  pub entry_in_columns : (level : ℕ) → ((axis : ℕ) → axis < dims → signed_at (16 + 800 * axis + 4 * place) page ≤ℤ signed_at (16 + 800 * axis + 400 + 4 * place) page)
+      → IsReference level (number_at 8 (16 + 800 * dims + 8 * place) page) → IsEntry dims level (item_at dims page place)
+  entry_in_columns level ordered refers = record {
+    ordered = λ axis lt. rw (low_read axis lt, high_read axis lt) (ordered axis lt);
+    refers = subst (IsReference level) (sym reference_read) refers;
+  }
+
+  pub ordered_in_columns : (level : ℕ) → IsEntry dims level (item_at dims page place) → (axis : ℕ) → axis < dims → signed_at (16 + 800 * axis + 4 * place) page ≤ℤ signed_at (16 + 800 * axis + 400 + 4 * place) page
+  ordered_in_columns level is axis lt = rw (← low_read axis lt, ← high_read axis lt) (is.ordered axis lt)
+
+  pub refers_in_columns : (level : ℕ) → IsEntry dims level (item_at dims page place) → IsReference level (number_at 8 (16 + 800 * dims + 8 * place) page)
+  refers_in_columns level is = subst (IsReference level) reference_read is.refers
+
+  pub ordered_corners : IsOrdered dims (item_at dims page place).bounds.low (item_at dims page place).bounds.high → IsOrdered dims (corner_at dims page (16 + 4 * place) 800) (corner_at dims page (416 + 4 * place) 800)
+  unfolding item_at
+  ordered_corners h = h

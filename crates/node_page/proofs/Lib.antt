@@ -14,3 +14,9 @@ pub mod ChangeLemmas
 pub mod StandingExamples
 pub mod NodeLemmas
 pub mod LeafLemmas
+pub mod MaskLemmas
+pub mod RowEnds
+pub mod GivenLemmas
+pub mod VisitLemmas
+pub mod BoxTests
+pub mod CheckLemmas

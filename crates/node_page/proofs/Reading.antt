@@ -96,6 +96,10 @@ no_head dims level page none c is = λ same. none (subst (λ (l : ℕ). HasNodeH
 pub no_place : (dims level place : ℕ) (page : List ℕ) → place < number_at 2 2 page → (IsEntry dims level (item_at dims page place) → ⊥) → (c : NodeContent) → node_at dims page ≡ Some c → c.level ≢ level
 no_place dims level place page lt none c is = λ same. none (subst (λ (l : ℕ). IsEntry dims l (item_at dims page place)) same ((spells dims page c is).each place lt))
 
+-- nor where not each place holds one
+pub no_places : (dims level : ℕ) (page : List ℕ) → (((place : ℕ) → place < number_at 2 2 page → IsEntry dims level (item_at dims page place)) → ⊥) → (c : NodeContent) → node_at dims page ≡ Some c → c.level ≢ level
+no_places dims level page none c is = λ same. none (λ place lt. subst (λ (l : ℕ). IsEntry dims l (item_at dims page place)) same ((spells dims page c is).each place lt))
+
 -- with its head and an entry in each place it spells a node
 pub all_places : (dims level count : ℕ) (page : List ℕ) (items : List Item) → HasNodeHead dims level page → count ≡ number_at 2 2 page → items ≡ items_at dims page count
     → ((place : ℕ) → place < count → IsEntry dims level (item_at dims page place)) → node_at dims page ≡ Some (record { level = level; entries = items })

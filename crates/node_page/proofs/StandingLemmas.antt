@@ -4,7 +4,7 @@ use Rattle.std.proofs.lemmas.Bool.{cases_eq}
 use Rattle.std.proofs.lemmas.Bool.Decides.{nat_tests}
 use Rattle.tree_node.specs.Nodes.{NodeContent, Item}
 use Rattle.tree_node.specs.Trees.{Tree, Row, end, more, object, child, RowOnLevel, row_items, occurs, occurs_in, with_node, tree_with_node}
-use Rattle.node_page.specs.Standing.{PageMap, HasNode, RowStands, Stands, node_in}
+use Rattle.node_page.specs.Standing.{PageMap, HasNode, RowStands, Stands, StandsAt, node_in}
 use Rattle.tree_node.proofs.RowLemmas.{items_with_node, occurs_here, same_child, same_first, same_object, same_tree}
 use Rattle.node_page.specs.StandingLaws.{OneTreeStands, EqualPagesStand, LevelsAreKept, PagesAreThere, ReplacedNodeStands}
 
@@ -32,7 +32,7 @@ row_stays dims old new level (more (child bounds page below) rest) same h = (
 
 -- ---- one tree stands
 
-one_row : (dims : ℕ) (pages : PageMap) (level : ℕ) (a b : Row) → ◌≡◌ {A = List Item} (row_items a) (row_items b) → RowStands dims pages level a → RowStands dims pages level b → a ≡ b
+pub one_row : (dims : ℕ) (pages : PageMap) (level : ℕ) (a b : Row) → ◌≡◌ {A = List Item} (row_items a) (row_items b) → RowStands dims pages level a → RowStands dims pages level b → a ≡ b
 one_row dims pages level end end same h k = refl
 one_row dims pages level end (more (object bounds' id') rest') same h k = absurd (cc)
 one_row dims pages level end (more (child bounds' page' below') rest') same h k = absurd (cc)
@@ -49,6 +49,12 @@ one_row dims pages level (more (child bounds page below) rest) (more (child boun
     let content = same_content dims pages page' (record { level = level - 1; entries = row_items below }) (record { level = level - 1; entries = row_items below' }) node k.1 in
     let belows = one_row dims pages (level - 1) below below' (ap (λ (x : NodeContent). x.entries) content) h.2 k.2 in
     same_child bounds bounds' page page' below below' rest rest' parts.0 parts.1 belows (one_row dims pages level rest rest' parts.2 h.3 k.3)
+
+-- two trees that stand at a page and level are the same
+pub one_row_stands : (dims : ℕ) (pages : PageMap) (page level : ℕ) (a b : Row) → StandsAt dims pages page level a → StandsAt dims pages page level b → a ≡ b
+one_row_stands dims pages page level a b first second =
+    let content = same_content dims pages page (record { level = level; entries = row_items a }) (record { level = level; entries = row_items b }) first.node second.node in
+    one_row dims pages level a b (ap (λ (x : NodeContent). x.entries) content) first.below second.below
 
 pub one_tree_stands : OneTreeStands
 one_tree_stands dims pages s t at_page first second =
@@ -90,7 +96,7 @@ pages_are_there dims pages t n stands some = ⊎_elim
     below_there dims pages t.level t.row n stands.below (omega (arith, seen)))
     (cases_eq t.page n)
 
-row_on_level : (dims : ℕ) (pages : PageMap) (level : ℕ) (row : Row) → RowStands dims pages level row → RowOnLevel level row
+pub row_on_level : (dims : ℕ) (pages : PageMap) (level : ℕ) (row : Row) → RowStands dims pages level row → RowOnLevel level row
 row_on_level dims pages level end h = tt
 row_on_level dims pages level (more (object bounds id) rest) h = (h.0, row_on_level dims pages level rest h.1)
 row_on_level dims pages level (more (child bounds page below) rest) h = (h.0, row_on_level dims pages (level - 1) below h.2, row_on_level dims pages level rest h.3)

@@ -7,3 +7,8 @@ pub mod StandingLaws
 pub mod Parts
 pub mod Changes
 pub mod Lists
+pub mod Broken
+pub mod Loan
+pub mod Views
+pub mod Visits
+pub mod Checked

@@ -1,13 +1,14 @@
 //! One entry in its place of a node page: a low and a high in the columns of each axis, and a reference behind them.
 
 ghost use Rattle.std.specs.Prelude.{◌≡◌, ◌<◌, ◌↔◌, IsSome, IfSome, IsTrue};
-ghost use Rattle.box_math.specs.Bounds.{IsDims, IsBox};
+ghost use Rattle.box_math.specs.Bounds.{IsDims, IsBox, IsOrdered};
 ghost use Rattle.box_bytes.specs.Corners.{Keeps};
 ghost use Rattle.tree_node.specs.Nodes.{item_of};
 ghost use Rattle.node_page.specs.Layout.{item_at, IsReference, IsEntry, IsClearOfEntry};
 
 use block_bytes::{read_u64, write_u64};
-use box_bytes::{read_box, write_box};
+use box_bytes::{read_box, read_corner, write_box};
+use box_math::BBox;
 use tree_node::Entry;
 
 // Whether a node of the level may refer so: above the leaves to pages from 3 on and below 2^31.
@@ -38,6 +39,23 @@ pub(crate) fn read_entry<const D: usize>(
     match read_box(page, 16 + 4 * place, 416 + 4 * place, 800) {
         Some(bounds) => Some(Entry { bounds, reference }),
         None => None,
+    }
+}
+
+/// The entry in the place, which holds one of some level: its box is not looked at again.
+#[inline]
+pub(crate) fn entry_at<const D: usize>(page: &[u8; 4096], place: usize) -> Entry<D>
+    requires dims { IsDims D }
+    requires within { place < 100 }
+    requires ordered { IsOrdered D (item_at D page.now place).bounds.low (item_at D page.now place).bounds.high }
+    ensures { item_of result ≡ item_at D page.now place }
+{
+    let low = read_corner(page, 16 + 4 * place, 800);
+    let high = read_corner(page, 416 + 4 * place, 800);
+    let reference = read_u64(page, 16 + 800 * D + 8 * place);
+    Entry {
+        bounds: BBox::new(low, high),
+        reference,
     }
 }
 

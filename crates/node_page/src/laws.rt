@@ -1,23 +1,29 @@
 //! What pages spell, and which trees stand in pages: each law is the contract of a function that does nothing, but
-//! for `a_node_comes_back`, which encodes and decodes.
+//! for `a_node_comes_back`, which encodes and decodes, and `a_node_is_viewed_and_comes_back`, which looks at a page.
 
-ghost use Rattle.std.specs.Prelude.{◌≡◌, ◌<◌, ◌≤◌, ◌^◌, ℕ, Some, option_map};
+ghost use Rattle.std.specs.Prelude.{◌≡◌, ◌⊎◌, ◌<◌, ◌≤◌, ◌^◌, ℕ, Some, IfErr, IfOk, IsErrOf, OnErr, OnOk, length, option_map};
+ghost use Rattle.block_device.specs.Device.{one_more};
 ghost use Rattle.box_math.specs.Bounds.{IsDims};
-ghost use Rattle.tree_node.specs.Nodes.{content_of};
+ghost use Rattle.tree_node.specs.Nodes.{NodeContent, content_of};
 ghost use Rattle.node_page.specs.Layout.{IsSpellable};
 ghost use Rattle.node_page.specs.PageLaws.{ReadsWhatIsSpelled, ReadsNamedBytes, SpellsNodes, NodesHaveOnePage};
 ghost use Rattle.node_page.specs.Changes.{TreesBelowStand, TreesBesideStand, WaitersBesideStand};
 ghost use Rattle.node_page.specs.Parts.{AllPagesMove, MovesBeside, MovesInTurn};
 ghost use Rattle.node_page.specs.Parts.{OnePageMoves, StayingMoves, TheRestStays};
-ghost use Rattle.node_page.specs.Standing.{Stands};
+ghost use Rattle.node_page.specs.Standing.{Stands, node_in};
+ghost use Rattle.page_file.specs.Fault.{IsDamage, IsOfDevice};
+ghost use Rattle.page_file.specs.declared.fault.Fault.TheVariants as fault;
 ghost use Rattle.node_page.specs.StandingLaws.{BoxesAreBoxes, ChildPagesAreReferences, EqualPagesStand, LevelsAreKept};
 ghost use Rattle.node_page.specs.StandingLaws.{OneTreeStands, PagesAreThere, ReplacedNodeStands};
-ghost use Rattle.page_cache.specs.Cache.{IsLive, next_of, pages};
+ghost use Rattle.page_cache.specs.Cache.{IsHonest, IsLive, device_of, looks_of, next_of, pages};
+ghost use Rattle.page_cache.specs.Calls.{Asks};
 ghost use Rattle.tree_node.specs.Trees.{Tree, occurs_in};
 
+use crate::lending::view_node;
 use crate::page::{decode, encode};
 use block_device::BlockDevice;
 use page_cache::PageCache;
+use page_file::Fault;
 use std::alloc::Allocator;
 use tree_node::Node;
 
@@ -123,3 +129,27 @@ pub fn changes_keep_what_stands_beside()
     ensures waiting { WaitersBesideStand }
     ensures below { TreesBelowStand }
 {}
+
+/// How many entries the node of that level at a page has: a view of it leaves the map, the gate and its moment, and
+/// counts one look.
+pub fn a_node_is_viewed_and_comes_back<const D: usize, B: BlockDevice, A: Allocator + Copy>(
+    cache: &mut PageCache<B, A>,
+    page: u32,
+    level: u8,
+) -> Result<usize, Fault>
+    requires { IsDims D }
+    ensures count { IsHonest cache.old → IsLive cache.old page → IfOk result (λ count. option_map (λ c. length c.entries)
+        (node_in D (pages cache.old page)) ≡ Some count) }
+    ensures asks { Asks cache.old cache.new result }
+    ensures looks { OnOk result (looks_of cache.new ≡ one_more (looks_of cache.old)) }
+    ensures refused_looks { OnErr result
+        ((looks_of cache.new ≡ looks_of cache.old) ⊎ (looks_of cache.new ≡ one_more (looks_of cache.old))) }
+    ensures outside { (page < 2) ⊎ (next_of cache.old ≤ page)
+        → IsErrOf result (fault.Damaged page) × (device_of cache.new ≡ device_of cache.old) }
+    ensures there { IsHonest cache.old → (c : NodeContent) → node_in D (pages cache.old page) ≡ Some c
+        → c.level ≡ level → IfErr result IsOfDevice }
+    ensures other_faults { IfErr result (λ f. IsOfDevice f ⊎ IsDamage f) }
+{
+    let view = view_node::<D, B, A>(cache, page, level)?;
+    Ok(view.len())
+}

@@ -4,10 +4,10 @@ ghost use Rattle.std.specs.Prelude.{◌≡◌, ◌⊎◌, ◌++◌, ◌∷◌, [
 ghost use Rattle.box_math.specs.Bounds.{IsDims};
 ghost use Rattle.page_file.specs.Fault.{IsDamage, IsOfDevice};
 ghost use Rattle.page_file.specs.declared.fault.Fault.TheVariants as fault;
-ghost use Rattle.page_cache.specs.Cache.{IsHonest, pages};
+ghost use Rattle.page_cache.specs.Cache.{IsHonest, IsPageMap, given, looks_of, pages};
 ghost use Rattle.page_cache.specs.Calls.{Asks};
 ghost use Rattle.tree_node.specs.Nodes.{content_of, references_of};
-ghost use Rattle.node_page.specs.Lists.{lists_of};
+ghost use Rattle.node_page.specs.Lists.{AddsLeavesAt, AreLeavesAt, lists_of};
 ghost use Rattle.tree_node.specs.Trees.{Row, Tree, leaf_ids};
 ghost use Rattle.node_page.specs.Standing.{StandsAt, Stands};
 
@@ -21,8 +21,9 @@ use tree_node::{Node, Root};
 /// The identifiers of each leaf of a tree, by position, and the leaves from left to right. It has one list for a root
 /// that is a leaf, be it empty.
 ///
-/// On an honest device, where the pages stand for a tree at that page and level, a refusal is `Memory` or `Device`. Map
-/// and gate stay, also after a refusal.
+/// On an honest device it answers so only where the nodes of a tree, be it with a page twice, stand at that page and
+/// level, each of which it looks at once. Where they do, a refusal is `Memory` or `Device`. Map and gate stay, also
+/// after a refusal.
 pub fn leaf_lists<const D: usize, B: BlockDevice, A: Allocator + Copy, H: Allocator + Copy>(
     alloc: H,
     cache: &mut PageCache<B, A>,
@@ -33,6 +34,10 @@ pub fn leaf_lists<const D: usize, B: BlockDevice, A: Allocator + Copy, H: Alloca
     ensures lists { IsHonest cache.old → (t : Tree) → t.page ≡ root.page → t.level ≡ root.level
         → Stands D (pages cache.old) t →
         IfOk result (λ lists. lists_of lists ≡ leaf_ids t.level t.row) }
+    ensures found { IsPageMap cache.old → IfOk result (λ lists. AreLeavesAt D (pages cache.old) root.page root.level
+        (lists_of lists) (looks_of cache.old) (looks_of cache.new)) }
+    ensures given_found { IsHonest cache.old → IfOk result (λ lists. AreLeavesAt D (given cache.old) root.page root.level
+        (lists_of lists) (looks_of cache.old) (looks_of cache.new)) }
     ensures stands { IsHonest cache.old → (t : Tree) → t.page ≡ root.page → t.level ≡ root.level
         → Stands D (pages cache.old) t →
         IfErr result IsOfDevice }
@@ -52,9 +57,9 @@ fn add_leaves<const D: usize, B: BlockDevice, A: Allocator + Copy, H: Allocator 
 ) -> Result<(), Fault>
     requires { IsDims D }
     ensures asks { Asks cache.old cache.new result }
-    ensures lists { IsHonest cache.old → (row : Row) → StandsAt D (pages cache.old) root.page root.level row →
-        OnOk result (lists_of lists.new ≡ lists_of lists.old ++ leaf_ids root.level row) }
-    ensures stands { IsHonest cache.old → (row : Row) → StandsAt D (pages cache.old) root.page root.level row
+    ensures found { IsHonest cache.old → OnOk result (AddsLeavesAt D (given cache.old) root.page root.level
+        (lists_of lists.old) (lists_of lists.new) (looks_of cache.old) (looks_of cache.new)) }
+    ensures stands { IsHonest cache.old → (row : Row) → StandsAt D (given cache.old) root.page root.level row
         → IfErr result IsOfDevice }
     ensures other_faults { IfErr result (λ f. IsOfDevice f ⊎ IsDamage f) }
 {

@@ -1,10 +1,15 @@
 //! Node pages: nodes of a tree as the bytes of a page (docs/FORMAT.md).
 #![tactic(auto)]
 
+mod broken;
+mod check;
+mod columns;
 mod entries;
 mod head;
 pub mod laws;
 mod leaves;
+mod lending;
+mod masks;
 mod nodes;
 mod page;
 #[cfg(test)]
@@ -12,8 +17,12 @@ mod tests;
 #[cfg(test)]
 mod tree_tests;
 mod view;
+mod visits;
 
+pub use broken::Broken;
+pub use check::{TreeFacts, check_tree};
 pub use leaves::leaf_lists;
+pub use lending::view_node;
 pub use nodes::{read_node, write_node};
 pub use page::{decode, encode};
 pub use tree_node::{Entry, Node, Root};

@@ -50,6 +50,8 @@ pub fn read_node<const D: usize, B: BlockDevice, A: Allocator + Copy>(
     ensures quiet { (page < 2) ⊎ (next_of cache.old ≤ page) → device_of cache.new ≡ device_of cache.old }
     ensures there { IsHonest cache.old → (c : NodeContent) → node_in D (pages cache.old page) ≡ Some c
         → c.level ≡ level → IfErr result IsOfDevice }
+    ensures given_there { IsHonest cache.old → (c : NodeContent) → node_in D (given cache.old page) ≡ Some c
+        → c.level ≡ level → IfErr result IsOfDevice }
     ensures faults { IsHonest cache.old → IfErr result (λ f. IsOfDevice f ⊎ (f ≡ fault.Damaged page)) }
     ensures other_faults { IfErr result (λ f. IsOfDevice f ⊎ IsDamage f) }
 {

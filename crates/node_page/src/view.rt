@@ -1,71 +1,61 @@
 //! A node read in the page that spells it, without decoding the page.
 
-ghost use Rattle.std.specs.Prelude.{◌≡◌, ◌≢◌, ℕ, ◌+◌, ◌*◌, ◌<◌, ◌≤◌, pos, Some, IfSome, IfNone};
-ghost use Rattle.std.specs.Prelude.{All, length, map, slice_index_or};
-ghost use Rattle.block_bytes.specs.Numbers.{signed_at};
-ghost use Rattle.box_math.specs.Bounds.{IsDims, IsBox, on_axis};
-ghost use Rattle.node_page.specs.Columns.{cell, AreColumns};
-ghost use Rattle.tree_node.specs.Nodes.{NodeContent, item_of};
-ghost use Rattle.node_page.specs.Layout.{node_at, IsSpellable};
+ghost use Rattle.std.specs.Prelude.{◌≡◌, ◌≢◌, ℕ, ◌<◌, ◌≤◌, Some, IfSome, IfNone, true, false};
+ghost use Rattle.std.specs.Prelude.{All, length, map, slice_get, slice_index_or};
+ghost use Rattle.box_math.specs.Bounds.{IsDims, IsBox, meets_test};
+ghost use Rattle.box_math.specs.Masks.{has_bit};
+ghost use Rattle.node_page.specs.Columns.{AreColumns};
+ghost use Rattle.tree_node.specs.Nodes.{Item, NodeContent, item_of};
+ghost use Rattle.node_page.specs.Layout.{node_at, IsLaidOut, IsSpellable};
 
-use crate::entries::read_entry;
+use crate::columns::{has_entries, read_columns};
+use crate::entries::entry_at;
 use crate::head::{count_at, has_node_head};
-use block_bytes::read_i32;
-use std::marker::Model;
+use crate::masks::mask_in;
+use box_math::BBox;
 use tree_node::Entry;
 
-/// A node that lies in a page. Contracts see the level and the entries.
+/// A node that lies in a page: its level and its entries.
 #[derive(Drop)]
 pub struct NodeView<'a, const D: usize> {
     page: &'a [u8; 4096],
     level: u8,
     count: usize,
+    ghost laid_out: { IsLaidOut D level count page.now },
 }
 
-impl<'a, const D: usize> Model for NodeView<'a, D> {
-    ghost use Rattle.tree_node.specs.Nodes.{NodeContent};
-    ghost use Rattle.node_page.specs.Layout.{items_at, IsLaidOut};
-
-    ghost Value = { NodeContent };
-
-    ghost view = { λ v. record { level = v.level; entries = items_at D v.page.now v.count } };
-
-    ghost invariant = { λ v. IsLaidOut D v.level v.count v.page.now };
-}
-
-#[tactic(auto, using(block_bytes::specs::PlaceLaws::places))]
 impl<'a, const D: usize> NodeView<'a, D> {
+    ghost use Rattle.node_page.specs.Views.{content_in};
+
     /// The node that the page spells, or `None` where it spells none of that dimension and level, as `decode` tells.
     pub fn of(page: &'a [u8; 4096], level: u8) -> Option<NodeView<'a, D>>
         requires { IsDims D }
-        ensures spelled { IfSome result (λ view. node_at D page.now ≡ Some view) }
-        ensures level { IfSome result (λ view. view.level ≡ level) }
-        ensures spellable { IfSome result (λ view. IsSpellable view) }
-        ensures boxes { IfSome result (λ view. All (λ item. IsBox D item.bounds) view.entries) }
+        ensures spelled { IfSome result (λ view. node_at D page.now ≡ Some (content_in view)) }
+        ensures level { IfSome result (λ view. (content_in view).level ≡ level) }
+        ensures spellable { IfSome result (λ view. IsSpellable (content_in view)) }
+        ensures boxes { IfSome result (λ view. All (λ item. IsBox D item.bounds) (content_in view).entries) }
         ensures none { IfNone result ((c : NodeContent) → node_at D page.now ≡ Some c → c.level ≢ level) }
     {
         if !has_node_head::<D>(page, level) {
             return None;
         }
         let count = count_at(page);
-        for place in 0..count {
-            if read_entry::<D>(page, place, level).is_none() {
-                return None;
-            }
+        if !has_entries::<D>(page, level, count) {
+            return None;
         }
         Some(NodeView { page, level, count })
     }
 
     /// The level of the node, 0 for a leaf.
     pub fn level(&self) -> u8
-        ensures { result ≡ self.now.level }
+        ensures { result ≡ (content_in self.now).level }
     {
         self.level
     }
 
     /// How many entries the node has, at most 100.
     pub fn len(&self) -> usize
-        ensures count { result ≡ length self.now.entries }
+        ensures count { result ≡ length (content_in self.now).entries }
         ensures few { result ≤ 100 }
     {
         self.count
@@ -73,49 +63,29 @@ impl<'a, const D: usize> NodeView<'a, D> {
 
     /// The entry in the place.
     pub fn entry(&self, place: usize) -> Entry<D>
-        requires { place < length self.now.entries }
-        ensures { item_of result ≡ slice_index_or self.now.entries place (item_of result) }
+        requires { place < length (content_in self.now).entries }
+        ensures { item_of result ≡ slice_index_or (content_in self.now).entries place (item_of result) }
     {
-        read_entry(self.page, place, self.level).unwrap()
+        entry_at(self.page, place)
     }
 
-    /// The lows and the highs of the entries, a column for each axis, with zeros behind them.
+    /// Which of the entries meet the window, as where they only touch: bit k of the mask is set exactly where the box
+    /// of the entry in place k meets it.
+    pub fn mask(&self, window: &BBox<D>) -> u128
+        ensures met { (place : ℕ) (item : Item) → slice_get (content_in self.now).entries place ≡ Some item
+            → has_bit result place ≡ meets_test D item.bounds window.now }
+        ensures none { (place : ℕ) → length (content_in self.now).entries ≤ place → has_bit result place ≡ false }
+    {
+        mask_in(self.page, self.count, window)
+    }
+
+    /// The lows and the highs of the entries, a column for each axis, with zeros after them.
     pub fn columns(&self) -> ([[i32; 100]; D], [[i32; 100]; D])
-        ensures lows { AreColumns D (map (λ item. item.bounds.low) self.now.entries) result.0 }
-        ensures highs { AreColumns D (map (λ item. item.bounds.high) self.now.entries) result.1 }
+        ensures lows { AreColumns D (map (λ item. item.bounds.low) (content_in self.now).entries) result.0 }
+        ensures highs { AreColumns D (map (λ item. item.bounds.high) (content_in self.now).entries) result.1 }
     {
         let lows = read_columns(self.page, 16, self.count);
         let highs = read_columns(self.page, 416, self.count);
         (lows, highs)
     }
-}
-
-// The columns of the axes, the first of which begins at the byte `first`.
-fn read_columns<const D: usize>(page: &[u8; 4096], first: usize, count: usize) -> [[i32; 100]; D]
-    requires dims { IsDims D }
-    requires within { first ≤ 416 }
-    requires count { count ≤ 100 }
-    ensures read { (axis place : ℕ) → axis < D → place < count
-        → cell result axis place ≡ signed_at (first + 800 * axis + 4 * place) page.now }
-    ensures zeros { (axis place : ℕ) → axis < D → count ≤ place → cell result axis place ≡ pos 0 }
-{
-    let mut columns = [[0i32; 100]; D];
-    for axis in 0..D {
-        columns[axis] = read_column(page, first + 800 * axis, count);
-    }
-    columns
-}
-
-// The first numbers of the column that begins at the byte `first`, and zeros behind them.
-fn read_column(page: &[u8; 4096], first: usize, count: usize) -> [i32; 100]
-    requires within { first ≤ 2016 }
-    requires count { count ≤ 100 }
-    ensures read { (place : ℕ) → place < count → on_axis result place ≡ signed_at (first + 4 * place) page.now }
-    ensures zeros { (place : ℕ) → count ≤ place → on_axis result place ≡ pos 0 }
-{
-    let mut column = [0i32; 100];
-    for place in 0..count {
-        column[place] = read_i32(page, first + 4 * place);
-    }
-    column
 }

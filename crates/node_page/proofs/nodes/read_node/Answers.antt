@@ -2,10 +2,11 @@
 use Rattle.std.proofs.Common.{◌≡◌, ◌⊎◌, refl, sym, ◌∙◌}
 use Rattle.page_file.specs.Fault.{IsOfDevice}
 use Rattle.page_file.specs.declared.fault.Fault.TheVariants as fault
-use Rattle.page_cache.specs.Cache.{next_of, pages}
+use Rattle.page_cache.specs.Cache.{given, next_of, pages}
 use Rattle.page_cache.specs.Laws.{a_live_page_was_given_out}
 use Rattle.node_page.proofs.StandingLemmas.{page_of_node}
 use Rattle.node_page.proofs.NodeLemmas.{at_error, is_refusal, node_of_page, page_refused}
+use Rattle.node_page.proofs.GivenLemmas.{node_was_given_out}
 use Rattle.node_page.proofs.nodes.read_node.Goals as goal
 
 pub returns-in_err-page-clause-there : goal.returns-in_err-page-clause-there
@@ -35,3 +36,13 @@ returns-in_err-page-clause-outside g c = λ outside.
 
 pub returns-in-Some-clause-outside : goal.returns-in-Some-clause-outside
 returns-in-Some-clause-outside g c = λ outside. let is = c.in_ok-page.ensures.outside outside in absurd (cc)
+
+pub returns-in_err-page-clause-given_there : goal.returns-in_err-page-clause-given_there
+returns-in_err-page-clause-given_there g c = λ h content there level.
+    let given = node_was_given_out g.row.D c.args.cache.now c.args.page content there in
+    at_error c.from_residual.result c.in_err-page.field-0.0 IsOfDevice c.from_residual.ensures.1 (c.in_err-page.ensures.faults h given.0 given.1)
+
+pub returns-in-None-clause-given_there : goal.returns-in-None-clause-given_there
+returns-in-None-clause-given_there g c = λ h content there level.
+    let spelled = sym (node_of_page g.row.D (given c.args.cache.now c.args.page) _ _ (c.in_ok-page.ensures.given_bytes h) refl) ∙ there in
+    absurd (c.in-None.ensures.none content spelled level)

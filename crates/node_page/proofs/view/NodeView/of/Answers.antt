@@ -1,23 +1,22 @@
 -- Without its head, or with a place that holds no entry of the level, the page spells no node of it, and else that of its places.
-use Rattle.std.proofs.Common.{◌≡◌, ◌<◌, ℕ, true, refl, arith, rules, slice_index}
-use Rattle.std.proofs.lemmas.Grind.{common_steps}
+use Rattle.std.proofs.Common.{◌≡◌, ◌<◌, ℕ, true, refl, arith, slice_index}
 use Rattle.tree_node.specs.Nodes.{NodeContent}
 use Rattle.node_page.specs.Layout.{IsEntry, item_at, items_at}
 use Rattle.node_page.proofs.Named.{spells_nodes}
-use Rattle.node_page.proofs.Reading.{spells, spellable, no_head, no_place, all_places}
+use Rattle.node_page.proofs.Reading.{spells, spellable, no_head, no_places, all_places}
 use Rattle.node_page.proofs.view.NodeView.of.Goals as goal
 
 pub returns-then-not-has_node_head-clause-none : goal.returns-then-not-has_node_head-clause-none
 returns-then-not-has_node_head-clause-none g c = no_head g.row.D c.args.level c.args.page.now (λ head. let found : c.has_node_head.result ≡ true = c.has_node_head.ensures.1 head in cc)
 
-pub returns-then-is_none-clause-none : goal.returns-then-is_none-clause-none
-returns-then-is_none-clause-none g c = no_place g.row.D c.args.level c.loop-place.place c.args.page.now (omega arith)
-    (λ (is : IsEntry g.row.D c.args.level (item_at g.row.D c.args.page.now c.loop-place.place)). let found = c.read_entry.ensures.some.1 is in grind (arith, common_steps))
+pub returns-then-not-has_entries-clause-none : goal.returns-then-not-has_entries-clause-none
+returns-then-not-has_entries-clause-none g c = no_places g.row.D c.args.level c.args.page.now
+    (λ each. let found = c.has_entries.ensures.1 (λ place lt. each place (omega arith)) in cc)
 
 pub returns-clause-spelled : goal.returns-clause-spelled
 returns-clause-spelled g c =
     all_places g.row.D c.args.level c.count_at-count.result c.args.page.now (items_at g.row.D c.args.page.now c.count_at-count.result) (c.has_node_head.ensures.0 c.if-not-has_node_head.false) (omega arith)
-    refl (λ k lt. c.loop-place.invariant k (omega arith))
+    refl (c.has_entries.ensures.0 c.if-not-has_entries.false)
 
 pub returns-clause-spellable : goal.returns-clause-spellable
 returns-clause-spellable g c =
@@ -26,6 +25,5 @@ returns-clause-spellable g c =
 
 pub returns-clause-boxes : goal.returns-clause-boxes
 returns-clause-boxes g c =
-    let bytes : (k : ℕ) → slice_index c.args.page.now k < 256 = search rules in
     let content : NodeContent = record { level = c.args.level; entries = items_at g.row.D c.args.page.now c.count_at-count.result } in
-    (spells_nodes g.row.D c.args.page.now content bytes (spells g.row.D c.args.page.now content (returns-clause-spelled g c))).boxes
+    (spells_nodes g.row.D c.args.page.now content c.fits-page (spells g.row.D c.args.page.now content (returns-clause-spelled g c))).boxes

@@ -2,7 +2,7 @@
 use Rattle.std.proofs.Common.{◌≡◌, ℕ, ◌+◌, ◌*◌, ◌<◌, ◌≤◌, length, pos}
 use Rattle.block_bytes.specs.Numbers.{signed_at}
 use Rattle.node_page.specs.Columns.{cell}
-use Rattle.node_page.proofs.view.read_columns.Given as goal
+use Rattle.node_page.proofs.columns.read_columns.Given as goal
 
 abbrev pub invariant-loop-axis : goal.invariant-loop-axis
 invariant-loop-axis g l = record {

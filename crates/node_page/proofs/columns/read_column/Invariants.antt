@@ -2,7 +2,7 @@
 use Rattle.std.proofs.Common.{◌≡◌, ℕ, ◌+◌, ◌*◌, ◌<◌, ◌≤◌, length, pos}
 use Rattle.block_bytes.specs.Numbers.{signed_at}
 use Rattle.box_math.specs.Bounds.{on_axis}
-use Rattle.node_page.proofs.view.read_column.Given as goal
+use Rattle.node_page.proofs.columns.read_column.Given as goal
 
 abbrev pub invariant-loop-place : goal.invariant-loop-place
 invariant-loop-place l = record {

@@ -1,0 +1,36 @@
+-- What a check of a tree finds (our rule, docs/FORMAT.md, "Trees of pages").
+use Rattle.std.specs.Prelude.{◌≡◌, ℕ, ◌+◌, List, ◌++◌, map}
+use Rattle.box_math.specs.Bounds.{Bounds}
+use Rattle.node_page.specs.Visits.{times_in}
+use Rattle.tree_node.specs.Nodes.{Item, NodeContent}
+use Rattle.tree_node.specs.Shape.{HasShape, RowHasShape}
+use Rattle.tree_node.specs.Trees.{Row, Tree, objects_in, occurs, occurs_in, row_items}
+use Rattle.node_page.specs.Parts.{Part}
+use Rattle.node_page.specs.Standing.{PageMap, RowStands, Stands}
+
+-- how often a list has each page
+abbrev pub named_pages : List ℕ → Part
+named_pages list n = times_in n list
+
+-- a tree of the shape stands at the page, with these objects from left to right, and with these pages
+pub record IsCheckedTree (dims most : ℕ) (pages : PageMap) (page level : ℕ) (pairs : List (ℕ × Bounds)) (list : List ℕ) : Type 0 where
+  pub tree : Tree
+  pub page_is : tree.page ≡ page
+  pub level_is : tree.level ≡ level
+  pub stands : Stands dims pages tree
+  pub shape : HasShape dims most tree
+  pub pairs_are : pairs ≡ objects_in tree.row
+  pub pages_are : (n : ℕ) → named_pages list n ≡ occurs_in n tree
+
+-- the objects of a leaf with these entries
+abbrev pub pairs_of : List Item → List (ℕ × Bounds)
+pairs_of items = map (λ item. (item.reference, item.bounds)) items
+
+-- the trees below a node stand, and their nodes have the shape: their objects and pages were appended to those before
+pub record AddsTree (dims most : ℕ) (pages : PageMap) (c : NodeContent) (pairs_before pairs : List (ℕ × Bounds)) (list_before list : List ℕ) : Type 0 where
+  pub row : Row
+  pub items_are : row_items row ≡ c.entries
+  pub stands : RowStands dims pages c.level row
+  pub shape : RowHasShape dims most row
+  pub pairs_are : pairs ≡ pairs_before ++ objects_in row
+  pub pages_are : (n : ℕ) → times_in n list ≡ times_in n list_before + occurs n row
