@@ -1,0 +1,6 @@
+-- The files of lemmas.
+pub mod TableLemmas
+pub mod DirectoryLemmas
+pub mod BucketLemmas
+pub mod WalkLemmas
+pub mod GetLemmas

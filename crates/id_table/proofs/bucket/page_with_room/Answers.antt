@@ -1,0 +1,13 @@
+-- The goal of `page_with_room` that is proved by hand: a page that begins as no bucket spells none.
+use Rattle.std.proofs.Common.{◌≡◌}
+use Rattle.page_cache.specs.Cache.{pages}
+use Rattle.bucket_page.proofs.Reading.{no_head}
+use Rattle.id_table.proofs.BucketLemmas.{bucket_bytes, page_of_bucket}
+use Rattle.id_table.proofs.bucket.page_with_room.Goals as goal
+
+pub returns-then-not-has_bucket_head-clause-there : goal.returns-then-not-has_bucket_head-clause-there
+returns-then-not-has_bucket_head-clause-there g c = λ h content there.
+    let page = pages c.args.cache.now c.args.number in
+    let is = bucket_bytes g.row.D page _ content (c.in_ok-page.ensures.bytes h (page_of_bucket g.row.D page content there)) there in
+    let none = no_head g.row.D _ (λ head. let yes = c.has_bucket_head.ensures.1 head in absurd (cc)) in
+    absurd (cc (is, none))
