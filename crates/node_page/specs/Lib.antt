@@ -7,3 +7,4 @@ pub mod StandingLaws
 pub mod Parts
 pub mod Changes
 pub mod Lists
+pub mod Broken

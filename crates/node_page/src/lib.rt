@@ -1,6 +1,7 @@
 //! Node pages: nodes of a tree as the bytes of a page (docs/FORMAT.md).
 #![tactic(auto)]
 
+mod broken;
 mod entries;
 mod head;
 pub mod laws;
@@ -13,6 +14,7 @@ mod tests;
 mod tree_tests;
 mod view;
 
+pub use broken::Broken;
 pub use leaves::leaf_lists;
 pub use nodes::{read_node, write_node};
 pub use page::{decode, encode};
