@@ -4,7 +4,7 @@ use Rattle.std.proofs.lemmas.Bool.{cases_eq}
 use Rattle.std.proofs.lemmas.Bool.Decides.{nat_tests}
 use Rattle.std.proofs.lemmas.Cmp.{nat_cmp_total}
 use Rattle.std.proofs.lemmas.List.Elements.{All-head, All-tail}
-use Rattle.std.proofs.lemmas.List.Sums.{sum_by-set}
+use Rattle.std.proofs.lemmas.List.Sums.{sum_by-cons, sum_by-set}
 use Rattle.std.proofs.lemmas.Map.Steps.{length-le_from_distinct_below}
 use Rattle.std.specs.FinMap.{get, get-from_entries}
 use Rattle.std.specs.FinMap.Entries.{find}
@@ -12,7 +12,7 @@ use Rattle.std.specs.List.{IsDistinct, AllByRecursion, flat_map, list_any}
 use Rattle.std.specs.Ordering.{eq_by_cmp, nat_cmp}
 use Rattle.box_math.specs.Bounds.{Bounds}
 use Rattle.node_page.specs.Standing.{PageMap}
-use Rattle.id_table.specs.Table.{Bucket, ChainStands, IdTable, IdsStand, IsFilled, Object, box_in, bucket_in, chain_at, class_of, entries_in, entries_of, objects_of, occurs_in_chain, occurs_in_ids}
+use Rattle.id_table.specs.Table.{Bucket, ChainStands, IdTable, IdsStand, IsFilled, Object, box_in, bucket_in, chain_at, class_of, entries_in, entries_of, link_at, objects_of, occurs_in_chain, occurs_in_ids}
 
 -- ---- what is found
 
@@ -101,6 +101,29 @@ chain_there dims pages first (b ∷ bs) n stands here = ⊎_elim
     spelled : (page : Option (List ℕ)) (c : _) → bucket_in dims page ≡ Some c → IsSome page
     spelled None c e = absurd (cc)
     spelled (Some bytes) c e = refl
+
+-- a page of some chain is one of a chain of the list
+pub in_some_chain : (n : ℕ) (cs : List (List Bucket)) → 0 < sum_by (occurs_in_chain n) cs → (i : ℕ) × (i < length cs) × (0 < occurs_in_chain n (get_or cs i []))
+in_some_chain n [] here = absurd (omega (arith, here))
+in_some_chain n (c ∷ cs) here = ⊎_elim
+    (λ (none : occurs_in_chain n c ≡ 0). let later = in_some_chain n cs (omega (arith, sum_by-cons (occurs_in_chain n) c cs, here, none)) in (suc later.0, omega (arith, later.1), later.2))
+    (λ (some : ¬ (occurs_in_chain n c ≡ 0)). (0, omega arith, omega (arith, some)))
+    (cases_eq (occurs_in_chain n c) 0)
+
+-- each page of a table that stands is there
+pub table_there : (dims : ℕ) (pages : PageMap) (t : IdTable) (n : ℕ) → IdsStand dims pages t → 0 < occurs_in_ids n t → IsSome (pages n)
+table_there dims pages t n stands here = ⊎_elim
+    (λ (is : t.page ≡ n). subst (λ k. IsSome (pages k)) is (is_some_page (pages t.page) stands.directory stands.there))
+    (λ (other : ¬ (t.page ≡ n)).
+    let none = not_there t.page n other in
+    let chain = in_some_chain n t.chains (omega (arith, here, none)) in
+    let small : chain.0 < 1000 = omega (arith, chain.1, stands.whole) in
+    chain_there dims pages (link_at chain.0 stands.directory) (chain_at t chain.0) n (stands.chains chain.0 small) chain.2)
+    (cases_eq t.page n)
+  where
+    is_some_page : (page : Option (List ℕ)) (bytes : List ℕ) → page ≡ Some bytes → IsSome page
+    is_some_page None bytes e = absurd (cc)
+    is_some_page (Some x) bytes e = refl
 
 apart_from : (p : ℕ) (bs : List Bucket) → occurs_in_chain p bs ≡ 0 → AllByRecursion (λ y. eqb p y ≡ false) (map (λ (b : Bucket). b.page) bs)
 apart_from p [] none = tt

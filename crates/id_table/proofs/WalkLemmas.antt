@@ -69,3 +69,29 @@ module _ (dims : ℕ) (pages : PageMap) (id : ℕ) (chain : List Bucket) where
 
   pub found_here : (walked number : ℕ) (b : Bounds) (here : Here walked number) → box_in id here.content.entries ≡ Some b → box_in id (entries_in chain) ≡ Some b
   found_here walked number b here is = here.same ∙ in_front id here.bucket.entries (entries_in here.behind) b (ap (box_in id) (sym here.entries) ∙ is)
+
+-- ---- the first bucket
+
+-- a chain that begins at a page has its first bucket there
+pub record Begins (dims : ℕ) (pages : PageMap) (first : ℕ) (chain : List Bucket) : Type 0 where
+  pub bucket : Bucket
+  pub behind : List Bucket
+  pub content : BucketContent
+  pub is : chain ≡ bucket ∷ behind
+  pub page : bucket.page ≡ first
+  pub entries : content.entries ≡ bucket.entries
+  pub there : bucket_in dims (pages first) ≡ Some content
+  pub rest : ChainStands dims pages content.next behind
+
+pub begins_at : (dims : ℕ) (pages : PageMap) (first : ℕ) (chain : List Bucket) → ChainStands dims pages first chain → ¬ (first ≡ 0) → Begins dims pages first chain
+begins_at dims pages first [] stands some = absurd (some stands)
+begins_at dims pages first (b ∷ bs) stands some = record {
+  bucket = b;
+  behind = bs;
+  content = record { next = stands.2; entries = b.entries };
+  is = refl;
+  page = sym stands.0;
+  entries = refl;
+  there = ap (λ n. bucket_in dims (pages n)) stands.0 ∙ stands.3;
+  rest = stands.4;
+}

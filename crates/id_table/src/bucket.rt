@@ -1,6 +1,6 @@
 //! Buckets at the pages of a cache.
 
-ghost use Rattle.std.specs.Prelude.{◌≡◌, ◌<◌, ◌⊎◌, ℕ, Some, length, IfOk, IfErr, IfSome, IfNone, OnOk};
+ghost use Rattle.std.specs.Prelude.{◌≡◌, ◌<◌, ◌⊎◌, ℕ, List, Some, length, IfOk, IfErr, IfSome, IfNone, OnOk};
 ghost use Rattle.block_bytes.specs.Numbers.{number_at};
 ghost use Rattle.box_math.specs.Bounds.{IsDims};
 ghost use Rattle.bucket_page.specs.Layout.{BucketContent, bucket_at, content_of};
@@ -9,7 +9,8 @@ ghost use Rattle.page_file.specs.Pages.{SameBut};
 ghost use Rattle.page_file.specs.declared.gate.Gate.TheVariants.{Open};
 ghost use Rattle.page_cache.specs.Cache.{IsHonest, IsLive, IsPageMap, gate_of, next_of, pages};
 ghost use Rattle.page_cache.specs.Calls.{Asks, Changes};
-ghost use Rattle.id_table.specs.Table.{box_in, bucket_in};
+ghost use Rattle.id_table.specs.Pages.{BeginsFull};
+ghost use Rattle.id_table.specs.Table.{Bucket as Linked, ChainStands, box_in, bucket_in};
 
 use block_bytes::zero_block;
 use block_device::BlockDevice;
@@ -62,26 +63,31 @@ pub(crate) fn look<const D: usize, B: BlockDevice, A: Allocator + Copy>(
     }
 }
 
-// The bytes of a bucket page that has room for an object more, and `None` for one that is full.
+// The bytes of the first page of a chain, where it has room for an object more. `None` where there is no page, or the
+// first one is full.
 #[tactic(auto, using(page_cache::specs::Calls::ends_so))]
-pub(crate) fn page_with_room<const D: usize, B: BlockDevice, A: Allocator + Copy>(
+pub(crate) fn room_in<const D: usize, B: BlockDevice, A: Allocator + Copy>(
     cache: &mut PageCache<B, A>,
-    number: u32,
+    first: u32,
 ) -> Result<Option<[u8; 4096]>, Fault>
     requires dims { IsDims D }
     ensures asks { Asks cache.old cache.new result }
+    ensures some { IfOk result (λ found. IfSome found (λ page. ¬ (first ≡ 0))) }
     ensures room { IfOk result (λ found. IfSome found (λ page. number_at 2 2 page < 100)) }
-    ensures bytes { IsHonest cache.old → (c : BucketContent) → bucket_in D (pages cache.old number) ≡ Some c
+    ensures bytes { IsHonest cache.old → (c : BucketContent) → bucket_in D (pages cache.old first) ≡ Some c
         → IfOk result (λ found. IfSome found (λ page. bucket_at D page ≡ Some c)) }
-    ensures full { IsHonest cache.old → (c : BucketContent) → bucket_in D (pages cache.old number) ≡ Some c
-        → IfOk result (λ found. IfNone found (length c.entries ≡ 100)) }
-    ensures there { IsHonest cache.old → (c : BucketContent) → bucket_in D (pages cache.old number) ≡ Some c
+    ensures full { IsHonest cache.old → (chain : List Linked) → ChainStands D (pages cache.old) first chain
+        → IfOk result (λ found. IfNone found (BeginsFull chain)) }
+    ensures there { IsHonest cache.old → (chain : List Linked) → ChainStands D (pages cache.old) first chain
         → IfErr result IsOfDevice }
     ensures other_faults { IfErr result (λ f. IsOfDevice f ⊎ IsDamage f) }
 {
-    let page = cache.page(number)?;
+    if first == 0 {
+        return Ok(None);
+    }
+    let page = cache.page(first)?;
     if !has_bucket_head::<D>(page) {
-        return Err(Fault::Damaged(number));
+        return Err(Fault::Damaged(first));
     }
     if count_at(page) == 100 {
         return Ok(None);

@@ -2,8 +2,13 @@
 //! (docs/FORMAT.md).
 #![tactic(auto)]
 
+mod adding;
+mod broken;
 mod bucket;
 mod directory;
+mod making;
 mod search;
 
+pub use adding::add;
+pub use making::make;
 pub use search::get;

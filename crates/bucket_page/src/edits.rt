@@ -1,0 +1,22 @@
+//! A bucket page changed in place.
+
+ghost use Rattle.std.specs.Prelude.{◌≡◌, ◌<◌, Some};
+ghost use Rattle.block_bytes.specs.Numbers.{number_at};
+ghost use Rattle.box_math.specs.Bounds.{IsDims};
+ghost use Rattle.bucket_page.specs.Layout.{BucketContent, bucket_at, pushed};
+
+use crate::entries::write_entry;
+use crate::head::count_at;
+use block_bytes::write_u16;
+use box_math::BBox;
+
+/// Adds an object to a bucket page whose count is below 100: it is written in the place after the last one, and counted.
+pub fn push_entry<const D: usize>(page: &mut [u8; 4096], entry: &(u64, BBox<D>))
+    requires dims { IsDims D }
+    requires room { number_at 2 2 page.old < 100 }
+    ensures { (c : BucketContent) → bucket_at D page.old ≡ Some c → bucket_at D page.new ≡ Some (pushed c entry.now) }
+{
+    let count = count_at(page);
+    write_entry(page, count, entry);
+    write_u16(page, 2, count as u16 + 1);
+}
