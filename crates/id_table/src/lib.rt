@@ -8,6 +8,8 @@ mod bucket;
 mod directory;
 mod making;
 mod search;
+#[cfg(test)]
+mod tests;
 
 pub use adding::add;
 pub use making::make;
