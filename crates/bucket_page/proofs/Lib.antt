@@ -6,4 +6,4 @@ pub mod Writing
 pub mod Named
 pub mod Examples
 pub mod OnePage
-pub mod Pushing
+pub mod Editing

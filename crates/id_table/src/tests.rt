@@ -111,6 +111,6 @@ fn pages_of_no_table_are_damaged(rt: HostRuntime) -> Result<(), Fail> {
         get::<2, _, _>(&mut cache, table, 1005).err(),
         Some(Fault::Damaged(4))
     );
-    assert_eq!(rt; cache.looks(), before + 6);
+    assert_eq!(rt; cache.looks(), before.saturating_add(6));
     Ok(())
 }

@@ -1,6 +1,6 @@
 -- The page is that with the object after the others.
 use Rattle.std.proofs.Common.{arith}
-use Rattle.bucket_page.proofs.Pushing.{entry_pushed}
+use Rattle.bucket_page.proofs.Editing.{entry_pushed}
 use Rattle.bucket_page.proofs.edits.push_entry.Goals as goal
 
 pub returns : goal.returns
