@@ -203,7 +203,7 @@ replaced_before dims old new t class first es stands small link put full placed 
       spelled = record { kind = put.link.kind ∙ stands.spelled.kind; dims_is = put.link.dims_is ∙ stands.spelled.dims_is };
       first = (
         put.link.link,
-        omega (arith, put.some, put.link.link),
+        omega (arith, put.low, put.link.link),
         first,
         put.bucket,
         chain_stays dims old new first chain (λ n here. put.others n (apart n here) (off_directory n here))
@@ -243,7 +243,7 @@ pub puts_from : (dims : ℕ) (old mid new : PageMap) (directory class first : �
     → PutsBefore dims mid new directory class first es page → PutsBefore dims old new directory class first es page
 puts_from dims old mid new directory class first es page same put = record {
   number = put.number;
-  some = put.some;
+  low = put.low;
   fresh = sym (same put.number) ∙ put.fresh;
   bucket = put.bucket;
   after = put.after;

@@ -43,14 +43,15 @@ at_most_one page n = grind (arith, nat_tests)
 empty_filled : (class : ℕ) → IsFilled class []
 empty_filled class = record { full = search rules; placed = search rules; single = λ id. omega arith }
 
-pub made : (dims : ℕ) (old mid new : PageMap) (directory : ℕ) (bytes : List ℕ) → old directory ≡ None → SameBut directory old mid → SameBut directory mid new → new directory ≡ Some bytes → NewDirectory dims bytes
+pub made : (dims : ℕ) (old mid new : PageMap) (directory : ℕ) (bytes : List ℕ) → 2 < directory → old directory ≡ None → SameBut directory old mid → SameBut directory mid new → new directory ≡ Some bytes → NewDirectory dims bytes
     → Makes dims old new directory
-made dims old mid new directory bytes fresh first second there is = record {
+made dims old mid new directory bytes low fresh first second there is = record {
   table = record { page = directory; chains = empties 1000 };
   page = refl;
   stands = record {
     directory = bytes;
     there = there;
+    low = low;
     spelled = is.spelled;
     whole = many 1000;
     chains = λ class within. subst (λ c. ChainStands dims new (link_at class bytes) c) (sym (each_empty 1000 class)) (is.empty class);

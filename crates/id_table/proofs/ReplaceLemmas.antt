@@ -83,6 +83,7 @@ module _ (dims : ℕ) (old new : PageMap) (t : IdTable) (class : ℕ) (chain : L
   stands_with = record {
     directory = r.directory;
     there = r.there;
+    low = stands.low;
     spelled = r.spelled;
     whole = length-set t.chains class chain ∙ stands.whole;
     chains = λ other small. ⊎_elim

@@ -73,11 +73,11 @@ part_of t n = occurs_in_ids n t
 abbrev pub bucket_in : ℕ → Option (List ℕ) → Option BucketContent
 bucket_in dims page = option_and_then (bucket_at dims) page
 
--- a chain stands from this page on, 0 for none: each bucket names the next
+-- a chain stands from this page on, 0 for none: each bucket names the next, and none is in the pages before 3
 abbrev pub ChainStands : ℕ → PageMap → ℕ → List Bucket → Type 0
 ChainStands dims pages first [] = first ≡ 0
 ChainStands dims pages first (b ∷ bs) =
-    (first ≡ b.page) × (0 < first) × (next : ℕ) × (bucket_in dims (pages b.page) ≡ Some (record { next = next; entries = b.entries })) × ChainStands dims pages next bs
+    (first ≡ b.page) × (2 < first) × (next : ℕ) × (bucket_in dims (pages b.page) ≡ Some (record { next = next; entries = b.entries })) × ChainStands dims pages next bs
 
 -- every bucket of a chain but the first is full, the identifiers of all have the remainder, and none is there twice
 pub record IsFilled (class : ℕ) (chain : List Bucket) : Type 0 where
@@ -101,6 +101,7 @@ pub record IsDirectory (dims : ℕ) (page : List ℕ) : Type 0 where
 pub record IdsStand (dims : ℕ) (pages : PageMap) (t : IdTable) : Type 0 where
   pub directory : List ℕ
   pub there : pages t.page ≡ Some directory
+  pub low : 2 < t.page
   pub spelled : IsDirectory dims directory
   pub whole : length t.chains ≡ 1000
   pub chains : (class : ℕ) → class < 1000 → ChainStands dims pages (link_at class directory) (chain_at t class)

@@ -7,7 +7,7 @@ ghost use Rattle.page_cache.specs.Cache.{gate_of};
 
 use crate::{add, get, make};
 use block_bytes::{read_u16, read_u32};
-use block_device::{BlockDevice, MemoryDevice};
+use block_device::MemoryDevice;
 use box_math::BBox;
 use page_cache::PageCache;
 use page_file::{Fault, create_pages};
@@ -16,20 +16,14 @@ use std::test::Fail;
 
 type Cache = PageCache<MemoryDevice, Global>;
 
-// A cache over a new file on the device, its gate open.
-fn scene_on<B: BlockDevice + Drop>(alloc: Global, device: B) -> Result<PageCache<B, Global>, Fault>
-    ensures { IfOk result (λ cache. gate_of cache ≡ Open) }
-{
-    let file = create_pages(device).map_err(|(fault, _)| fault)?;
-    let mut cache = PageCache::over(alloc, file, 8).map_err(|(fault, _)| fault)?;
-    cache.begin_change()?;
-    Ok(cache)
-}
-
+// A cache over a new file, its gate open.
 fn scene(alloc: Global) -> Result<Cache, Fault>
     ensures { IfOk result (λ cache. gate_of cache ≡ Open) }
 {
-    scene_on(alloc, MemoryDevice::new(alloc))
+    let file = create_pages(MemoryDevice::new(alloc)).map_err(|(fault, _)| fault)?;
+    let mut cache = PageCache::over(alloc, file, 8).map_err(|(fault, _)| fault)?;
+    cache.begin_change()?;
+    Ok(cache)
 }
 
 fn point<const D: usize>(at: i32) -> Result<BBox<D>, Fault> {
@@ -69,16 +63,16 @@ fn a_full_bucket_gets_one_before_it(rt: HostRuntime) -> Result<(), Fail> {
     let Ok(table) = make::<3, _, _>(&mut cache) else {
         return Err(Fail::from("make"));
     };
-    for k in 0..250 {
-        let bounds = point::<3>(k)?;
-        let added = add(&mut cache, table, 1000 * k as u64 + 7, &bounds);
+    for k in 0..250u16 {
+        let bounds = point::<3>(i32::from(k))?;
+        let added = add(&mut cache, table, 1000 * u64::from(k) + 7, &bounds);
         assert!(rt; added.is_ok());
     }
     assert_eq!(rt; head(&mut cache, 6)?, (50, 5));
     assert_eq!(rt; head(&mut cache, 5)?, (100, 4));
     assert_eq!(rt; head(&mut cache, 4)?, (100, 0));
-    for k in 0..250 {
-        assert!(rt; get::<3, _, _>(&mut cache, table, 1000 * k as u64 + 7)? == Some(point(k)?));
+    for k in 0..250u16 {
+        assert!(rt; get::<3, _, _>(&mut cache, table, 1000 * u64::from(k) + 7)? == Some(point(i32::from(k))?));
     }
     assert!(rt; get::<3, _, _>(&mut cache, table, 250_007)?.is_none());
     assert!(rt; get::<3, _, _>(&mut cache, table, 8)?.is_none());

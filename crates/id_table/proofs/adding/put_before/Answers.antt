@@ -42,7 +42,7 @@ returns-clause-put g c = λ map page there.
     on_ok c.write_link.result
     (λ w. record {
       number = n;
-      some = omega (arith, c.in_ok-number.ensures.number);
+      low = omega (arith, c.in_ok-number.ensures.number);
       fresh = fresh.0;
       bucket = ap (bucket_in g.row.D) (stays_d n (λ e. differ (sym e))) ∙ c.in_ok-write_bucket.ensures.written map1.honest live_n;
       after = w.0;
