@@ -25,7 +25,8 @@ pub fn push_entry<const D: usize>(page: &mut [u8; 4096], entry: &(u64, BBox<D>))
 pub fn set_entry<const D: usize>(page: &mut [u8; 4096], place: usize, entry: &(u64, BBox<D>))
     requires dims { IsDims D }
     requires within { place < 100 }
-    ensures { (c : BucketContent) → bucket_at D page.old ≡ Some c → place < length c.entries
+    ensures count { number_at 2 2 page.new ≡ number_at 2 2 page.old }
+    ensures replaced { (c : BucketContent) → bucket_at D page.old ≡ Some c → place < length c.entries
         → bucket_at D page.new ≡ Some (replaced c place entry.now) }
 {
     write_entry(page, place, entry);

@@ -1,5 +1,5 @@
 -- An object more in a chain, and in the table.
-use Rattle.std.proofs.Common.{◌≡◌, ◌∙◌, ℕ, suc, ◌+◌, ◌<◌, ◌≤◌, All, drop, is_some, rules, Bool, true, false, cond, eqb, Option, Some, None, List, [], ◌∷◌, ◌++◌, length, sum_by, refl, sym, ap, subst, ⊎_elim, arith}
+use Rattle.std.proofs.Common.{◌≡◌, ◌∙◌, ℕ, suc, ◌+◌, ◌<◌, ◌≤◌, All, drop, is_some, rules, Bool, true, false, cond, eqb, Option, Some, None, IsSome, List, [], ◌∷◌, ◌++◌, length, sum_by, refl, sym, ap, subst, ⊎_elim, arith}
 use Rattle.std.proofs.lemmas.Bool.{cases_eq}
 use Rattle.std.proofs.lemmas.Bool.Decides.{nat_tests}
 use Rattle.std.proofs.lemmas.Cmp.{nat_cmp_total}
@@ -14,7 +14,7 @@ use Rattle.page_file.specs.Pages.{SameBut}
 use Rattle.node_page.specs.Standing.{PageMap}
 use Rattle.id_table.specs.Changes.{Adds}
 use Rattle.id_table.specs.Table.{Bucket, ChainStands, IdTable, IdsStand, IsFilled, Object, box_in, bucket_in, chain_at, class_of, entries_in, link_at, objects_of, occurs_in_chain, occurs_in_ids, times_in}
-use Rattle.id_table.specs.Pages.{BeginsFull, PutsBefore}
+use Rattle.id_table.specs.Pages.{BeginsFull, HasObject, PutsBefore}
 use Rattle.node_page.proofs.PartLemmas.{there_not_missing}
 use Rattle.id_table.proofs.ReplaceLemmas.{Replaces, chain_stays, moves_with, other_chain, stands_with, this_chain, with_chain}
 use Rattle.id_table.proofs.TableLemmas.{chain_in_table, found_by_class, not_there, occurs_here, table_there}
@@ -91,7 +91,11 @@ not_in_chain dims pages t id stands absent = sym (found_by_class t id stands.who
     is_none None e = refl
     is_none (Some x) e = absurd (cc)
 
-all_more : (P : Object → Type 0) (x : Object) (xs ys : List Object) → All P (xs ++ ys) → P x → All P (xs ++ x ∷ ys)
+-- and one that it has is
+pub in_chain : (dims : ℕ) (pages : PageMap) (t : IdTable) (id : ℕ) → IdsStand dims pages t → map.contains_key (objects_of t) id ≡ true → HasObject id (chain_at t (class_of id))
+in_chain dims pages t id stands there = subst IsSome (found_by_class t id stands.whole stands.filled) there
+
+pub all_more : (P : Object → Type 0) (x : Object) (xs ys : List Object) → All P (xs ++ ys) → P x → All P (xs ++ x ∷ ys)
 all_more P x [] ys all here = All-cons P x ys here all
 all_more P x (y ∷ xs) ys all here = All-cons P y (xs ++ x ∷ ys) (All-head P y (xs ++ ys) all) (all_more P x xs ys (All-tail P y (xs ++ ys) all) here)
 
@@ -179,7 +183,7 @@ all_full : (chain : List Bucket) → BeginsFull chain → All (λ b. length b.en
 all_full [] first rest = search rules
 all_full (b ∷ bs) first rest = All-cons (λ (b : Bucket). length b.entries ≡ 100) b bs first rest
 
-all_both : (P : Object → Type 0) (xs ys : List Object) → All P xs → All P ys → All P (xs ++ ys)
+pub all_both : (P : Object → Type 0) (xs ys : List Object) → All P xs → All P ys → All P (xs ++ ys)
 all_both P [] ys here there = there
 all_both P (x ∷ xs) ys here there = All-cons P x (xs ++ ys) (All-head P x xs here) (all_both P xs ys (All-tail P x xs here) there)
 

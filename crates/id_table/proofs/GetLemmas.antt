@@ -10,10 +10,20 @@ use Rattle.page_cache.specs.Laws.{a_live_page_was_given_out}
 use Rattle.page_cache.specs.declared.cache.PageCache.{PageCache}
 use Rattle.node_page.specs.Standing.{PageMap}
 use Rattle.id_table.specs.Table.{Bucket, ChainStands, IdTable, IdsStand, IsDirectory, box_in, bucket_in, chain_at, class_of, entries_in, link_at, objects_of, occurs_in_chain}
-use Rattle.id_table.proofs.TableLemmas.{chain_in_table, chain_short, chain_there, found_by_class, not_there}
+use Rattle.id_table.proofs.TableLemmas.{chain_in_table, chain_short, found_by_class, table_there}
 use Rattle.id_table.proofs.WalkLemmas.{Rest, Here, all_left, found_here, is_here, nothing_left, walk_on}
 
 module _ {B A : Type 0} {m : _} where
+  -- directory and chain are on pages of their own
+  pub chain_is_short : (dims : ℕ) (cache : PageCache B A m) (t : IdTable) (class : ℕ) → class < 1000 → IdsStand dims (pages cache) t → length (chain_at t class) < next_of cache
+  chain_is_short dims cache t class small stands =
+      let chain = chain_at t class in
+      let all : List Bucket = record { page = t.page; entries = [] } ∷ chain in
+      let few : length all ≤ next_of cache = chain_short all (next_of cache)
+      (λ n. let part = chain_in_table n class t (omega (arith, small, stands.whole)) in omega (arith, part, stands.once n))
+      (λ n here. let part = chain_in_table n class t (omega (arith, small, stands.whole)) in (a_live_page_was_given_out cache n (table_there dims (pages cache) t n stands (omega (arith, part, here)))).1) in
+      omega (arith, few)
+
   -- the buckets so far have no such identifier, and what is left of the chain stands
   pub record Walking (dims id directory : ℕ) (old now : PageCache B A m) (walked number : ℕ) : Type 0 where
     pub asks : AsksUntil old now None
@@ -66,24 +76,8 @@ module _ {B A : Type 0} {m : _} where
         is_none None e = refl
         is_none (Some x) e = absurd (cc)
 
-    -- directory and chain are on pages of their own, so the walk ends before it has made as many steps as there are pages
+    -- so the walk ends before it has made as many steps as there are pages
     pub never_as_long : next_of old ≤ walked → IsHonest old → (t : IdTable) → t.page ≡ directory → IdsStand dims (pages old) t → ⊥
     never_as_long many h t at stands =
-        let within : class_of id < 1000 = omega arith in
-        let chain = chain_at t (class_of id) in
-        let all : List Bucket = record { page = t.page; entries = [] } ∷ chain in
-        let few : length all ≤ next_of old = chain_short all (next_of old)
-        (λ n. let part = chain_in_table n (class_of id) t (omega (arith, within, stands.whole)) in omega (arith, part, stands.once n))
-        (λ n here. (a_live_page_was_given_out old n (all_there stands n here)).1) in
-        omega (arith, few, many, (so_far.left h t at stands).long)
-      where
-        is_there : (page : Option (List ℕ)) (bytes : List ℕ) → page ≡ Some bytes → IsSome page
-        is_there None bytes e = absurd (cc)
-        is_there (Some x) bytes e = refl
-
-        all_there : {t : IdTable} → (stands : IdsStand dims (pages old) t) → (n : ℕ) → 0 < occurs_in_chain n (record { page = t.page; entries = [] } ∷ chain_at t (class_of id)) → IsLive old n
-        all_there {t} stands n here = ⊎_elim
-            (λ (is : t.page ≡ n). subst (λ k. IsSome (pages old k)) is (is_there (pages old t.page) stands.directory stands.there))
-            (λ (other : ¬ (t.page ≡ n)). let within : class_of id < 1000 = omega arith in
-            chain_there dims (pages old) (link_at (class_of id) stands.directory) (chain_at t (class_of id)) n (stands.chains (class_of id) within) (let none = not_there t.page n other in omega (arith, here, none)))
-            (cases_eq t.page n)
+        let small : class_of id < 1000 = omega arith in
+        omega (arith, chain_is_short dims old t (class_of id) small stands, many, (so_far.left h t at stands).long)

@@ -8,3 +8,6 @@ pub mod GetLemmas
 pub mod MakingLemmas
 pub mod ReplaceLemmas
 pub mod AddLemmas
+pub mod RemoveLemmas
+pub mod ShrinkLemmas
+pub mod PlaceLemmas

@@ -1,10 +1,10 @@
 -- What writes into the pages of a table leave.
-use Rattle.std.specs.Prelude.{◌≡◌, ◌⊎◌, ℕ, ◌<◌, ◌≤◌, List, [], ◌∷◌, ◌++◌, Option, Some, None, length, slice_index_or, ⊤}
+use Rattle.std.specs.Prelude.{◌≡◌, ◌⊎◌, ℕ, ◌<◌, ◌≤◌, List, [], ◌∷◌, ◌++◌, Option, Some, None, length, slice_index_or, IsSome, ⊤}
 use Rattle.block_bytes.specs.Numbers.{number_at}
 use Rattle.bucket_page.specs.Layout.{BucketContent, popped}
 use Rattle.page_file.specs.Pages.{SameBut}
 use Rattle.node_page.specs.Standing.{PageMap}
-use Rattle.id_table.specs.Table.{Bucket, IsDirectory, Object, box_in, bucket_in, link_at}
+use Rattle.id_table.specs.Table.{Bucket, IsDirectory, Object, box_in, bucket_in, entries_in, link_at}
 
 -- a directory of empty chains
 pub record NewDirectory (dims : ℕ) (page : List ℕ) : Type 0 where
@@ -52,6 +52,10 @@ pub record IsInChain (id : ℕ) (chain : List Bucket) (page place : ℕ) : Type 
   pub is : chain ≡ before ++ bucket ∷ after
   pub page_is : bucket.page ≡ page
   pub has : HasAt id bucket.entries place
+
+-- some bucket of the chain has it
+abbrev pub HasObject : ℕ → List Bucket → Type 0
+HasObject id chain = IsSome (box_in id (entries_in chain))
 
 -- The first bucket of a chain lost its last object, and there are more.
 pub record Shortens (dims : ℕ) (old new : PageMap) (first : ℕ) (c : BucketContent) : Type 0 where

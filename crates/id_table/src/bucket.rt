@@ -1,6 +1,6 @@
 //! Buckets at the pages of a cache.
 
-ghost use Rattle.std.specs.Prelude.{◌≡◌, ◌<◌, ◌⊎◌, ℕ, List, Some, length, IfOk, IfErr, IfSome, IfNone, OnOk};
+ghost use Rattle.std.specs.Prelude.{◌≡◌, ◌<◌, ◌⊎◌, ℕ, List, Some, length, IfOk, IfErr, IfSome, IfNone, IsSomeAnd, OnOk};
 ghost use Rattle.block_bytes.specs.Numbers.{number_at};
 ghost use Rattle.box_math.specs.Bounds.{IsDims};
 ghost use Rattle.bucket_page.specs.Layout.{BucketContent, bucket_at, content_of};
@@ -9,7 +9,7 @@ ghost use Rattle.page_file.specs.Pages.{SameBut};
 ghost use Rattle.page_file.specs.declared.gate.Gate.TheVariants.{Open};
 ghost use Rattle.page_cache.specs.Cache.{IsHonest, IsLive, IsPageMap, gate_of, next_of, pages};
 ghost use Rattle.page_cache.specs.Calls.{Asks, Changes};
-ghost use Rattle.id_table.specs.Pages.{BeginsFull};
+ghost use Rattle.id_table.specs.Pages.{BeginsFull, IsFoundAt};
 ghost use Rattle.id_table.specs.Table.{Bucket as Linked, ChainStands, box_in, bucket_in};
 
 use block_bytes::zero_block;
@@ -59,6 +59,50 @@ pub(crate) fn look<const D: usize, B: BlockDevice, A: Allocator + Copy>(
     let page = cache.page(number)?;
     match box_on::<D>(page, id) {
         Some(bounds) => Ok((bounds, next_at(page))),
+        None => Err(Fault::Damaged(number)),
+    }
+}
+
+// The place of an identifier on a bucket page, if an object there has it: identifiers are compared in their places.
+// `None` where the page begins as no bucket of this dimension.
+pub(crate) fn place_on<const D: usize>(page: &[u8; 4096], id: u64) -> Option<Option<usize>>
+    requires dims { IsDims D }
+    ensures of_bucket { (c : BucketContent) → bucket_at D page.now ≡ Some c
+        → IsSomeAnd result (IsFoundAt id c.entries) }
+    ensures within { IfSome result (λ found. IfSome found (λ place. place < 100)) }
+{
+    if !has_bucket_head::<D>(page) {
+        return None;
+    }
+    for place in 0..count_at(page) {
+        if id_at::<D>(page, place) == id {
+            return Some(Some(place));
+        }
+    }
+    Some(None)
+}
+
+// Looks for the place of an identifier in the bucket at a page, in one look: the place, if it is there, and the page of
+// the next bucket.
+#[tactic(auto, using(page_cache::specs::Calls::ends_so))]
+pub(crate) fn place_at<const D: usize, B: BlockDevice, A: Allocator + Copy>(
+    cache: &mut PageCache<B, A>,
+    number: u32,
+    id: u64,
+) -> Result<(Option<usize>, u32), Fault>
+    requires dims { IsDims D }
+    ensures asks { Asks cache.old cache.new result }
+    ensures found { IsHonest cache.old → (c : BucketContent) → bucket_in D (pages cache.old number) ≡ Some c
+        → IfOk result (λ r. IsFoundAt id c.entries r.0 × (r.1 ≡ c.next)) }
+    ensures within { IfOk result (λ r. IfSome r.0 (λ place. place < 100)) }
+    ensures some { OnOk result (¬ (number ≡ 0)) }
+    ensures there { IsHonest cache.old → (c : BucketContent) → bucket_in D (pages cache.old number) ≡ Some c
+        → IfErr result IsOfDevice }
+    ensures other_faults { IfErr result (λ f. IsOfDevice f ⊎ IsDamage f) }
+{
+    let page = cache.page(number)?;
+    match place_on::<D>(page, id) {
+        Some(found) => Ok((found, next_at(page))),
         None => Err(Fault::Damaged(number)),
     }
 }

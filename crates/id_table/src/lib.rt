@@ -7,10 +7,12 @@ mod broken;
 mod bucket;
 mod directory;
 mod making;
+mod removing;
 mod search;
 #[cfg(test)]
 mod tests;
 
 pub use adding::add;
 pub use making::make;
+pub use removing::remove;
 pub use search::get;

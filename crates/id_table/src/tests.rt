@@ -41,6 +41,20 @@ fn head(cache: &mut Cache, number: u32) -> Result<(u16, u32), Fault>
     Ok((read_u16(page, 2), read_u32(page, 4)))
 }
 
+// Adds 250 objects of one chain.
+fn add_sevens(cache: &mut Cache, table: u32) -> Result<(), Fault>
+    requires { gate_of cache.old ≡ Open }
+    ensures { gate_of cache.new ≡ Open }
+{
+    for k in 0..250u16 {
+        let bounds = point::<3>(i32::from(k))?;
+        if let Err(broken) = add(cache, table, 1000 * u64::from(k) + 7, &bounds) {
+            return Err(broken.cause);
+        }
+    }
+    Ok(())
+}
+
 #[test]
 fn seven_and_a_thousand_and_seven_share_a_bucket(rt: HostRuntime) -> Result<(), Fail> {
     let mut cache = scene(rt.alloc())?;
@@ -63,11 +77,7 @@ fn a_full_bucket_gets_one_before_it(rt: HostRuntime) -> Result<(), Fail> {
     let Ok(table) = make::<3, _, _>(&mut cache) else {
         return Err(Fail::from("make"));
     };
-    for k in 0..250u16 {
-        let bounds = point::<3>(i32::from(k))?;
-        let added = add(&mut cache, table, 1000 * u64::from(k) + 7, &bounds);
-        assert!(rt; added.is_ok());
-    }
+    add_sevens(&mut cache, table)?;
     assert_eq!(rt; head(&mut cache, 6)?, (50, 5));
     assert_eq!(rt; head(&mut cache, 5)?, (100, 4));
     assert_eq!(rt; head(&mut cache, 4)?, (100, 0));
