@@ -1,5 +1,6 @@
 -- A search for the place of an identifier in a chain.
-use Rattle.std.proofs.Common.{◌≡◌, ◌∙◌, ℕ, suc, ◌+◌, ◌<◌, ◌≤◌, is_some, IsSome, Some, None, Option, List, [], ◌∷◌, ◌++◌, length, refl, sym, ap, subst, arith}
+use Rattle.std.proofs.Common.{◌≡◌, ◌∙◌, ℕ, suc, ◌+◌, ◌<◌, ◌≤◌, is_some, IsSome, Some, None, Option, List, [], ◌∷◌, ◌++◌, cond, eqb, length, length-append, refl, sym, ap, subst, arith}
+use Rattle.std.proofs.lemmas.Bool.Decides.{nat_tests}
 use Rattle.std.proofs.lemmas.List.{append_assoc}
 use Rattle.bucket_page.specs.Layout.{BucketContent}
 use Rattle.page_cache.specs.Cache.{IsHonest, pages}
@@ -7,8 +8,8 @@ use Rattle.page_cache.specs.Calls.{AsksUntil, asks_in_turn}
 use Rattle.page_cache.specs.declared.cache.PageCache.{PageCache}
 use Rattle.node_page.specs.Standing.{PageMap}
 use Rattle.id_table.specs.Pages.{HasAt, HasObject, IsFoundAt, IsInChain}
-use Rattle.id_table.specs.Table.{Bucket, ChainStands, Object, box_in, bucket_in, entries_in}
-use Rattle.id_table.proofs.TableLemmas.{not_here}
+use Rattle.id_table.specs.Table.{Bucket, ChainStands, IdTable, IdsStand, Object, box_in, bucket_in, chain_at, entries_in, occurs_in_chain}
+use Rattle.id_table.proofs.TableLemmas.{chain_in_table, not_here}
 use Rattle.id_table.proofs.WalkLemmas.{Begins, begins_at}
 use Rattle.node_page.proofs.PartLemmas.{there_not_missing}
 
@@ -87,3 +88,44 @@ module _ {B A : Type 0} {m : _} where
             long = let e = ap length b.is in omega (arith, p.long, e);
           };
     }
+
+-- ---- the page of an identifier
+
+pub occurs-append : (n : ℕ) (xs ys : List Bucket) → occurs_in_chain n (xs ++ ys) ≡ occurs_in_chain n xs + occurs_in_chain n ys
+occurs-append n [] ys = omega arith
+occurs-append n (x ∷ xs) ys = let rest = occurs-append n xs ys in omega (arith, rest)
+
+pub here_at : (page n : ℕ) → page ≡ n → ◌≡◌ {A = ℕ} (cond (eqb page n) 1 0) 1
+here_at page n is = grind (arith, nat_tests)
+
+-- a chain in which an identifier is begins with a bucket
+pub first_there : (dims : ℕ) (pages : PageMap) (id : ℕ) (chain : List Bucket) (first holder place : ℕ) → ChainStands dims pages first chain → IsInChain id chain holder place → Begins dims pages first chain
+first_there dims pages id [] first holder place stands p = let e = ap length p.is in absurd (omega (arith, e, length-append p.before (p.bucket ∷ p.after)))
+first_there dims pages id (b ∷ bs) first holder place stands p = begins_at dims pages first (b ∷ bs) stands (λ none. omega (arith, none, stands.1))
+
+-- a bucket with an object in a place
+pub record HoldsAt (dims : ℕ) (pages : PageMap) (page place : ℕ) : Type 0 where
+  pub content : BucketContent
+  pub there : bucket_in dims (pages page) ≡ Some content
+  pub within : place < length content.entries
+
+pub holder_there : (dims : ℕ) (pages : PageMap) (id : ℕ) (chain : List Bucket) (first holder place : ℕ) → ChainStands dims pages first chain → IsInChain id chain holder place → HoldsAt dims pages holder place
+holder_there dims pages id chain first holder place stands p = at p.before first (subst (ChainStands dims pages first) p.is stands)
+  where
+    at : (before : List Bucket) (first : ℕ) → ChainStands dims pages first (before ++ p.bucket ∷ p.after) → HoldsAt dims pages holder place
+    at [] first h = record { content = record { next = h.2; entries = p.bucket.entries }; there = ap (λ n. bucket_in dims (pages n)) (sym p.page_is) ∙ h.3; within = p.has.within }
+    at (b ∷ bs) first h = at bs h.2 h.4
+
+-- a page of a chain is not the directory
+pub chain_apart : (dims : ℕ) (pages : PageMap) (t : IdTable) (class n : ℕ) → IdsStand dims pages t → class < 1000 → 0 < occurs_in_chain n (chain_at t class) → ¬ (t.page ≡ n)
+chain_apart dims pages t class n stands small here is =
+    let part = chain_in_table n class t (omega (arith, small, stands.whole)) in let one = here_at t.page n is in omega (arith, part, one, here, stands.once n)
+
+pub first_apart : (dims : ℕ) (pages : PageMap) (t : IdTable) (class first : ℕ) → Begins dims pages first (chain_at t class) → IdsStand dims pages t → class < 1000 → ¬ (t.page ≡ first)
+first_apart dims pages t class first b stands small =
+    let one = here_at b.bucket.page first b.page in let counted = ap (occurs_in_chain first) b.is in chain_apart dims pages t class first stands small (omega (arith, one, counted))
+
+pub holder_apart : (dims : ℕ) (pages : PageMap) (t : IdTable) (class id holder place : ℕ) → IsInChain id (chain_at t class) holder place → IdsStand dims pages t → class < 1000 → ¬ (t.page ≡ holder)
+holder_apart dims pages t class id holder place p stands small =
+    let one = here_at p.bucket.page holder p.page_is in let counted = ap (occurs_in_chain holder) p.is in
+    chain_apart dims pages t class holder stands small (omega (arith, one, counted, occurs-append holder p.before (p.bucket ∷ p.after)))

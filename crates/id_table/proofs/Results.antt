@@ -2,7 +2,7 @@
 use Rattle.std.proofs.Common.{◌≡◌, Option, Some, None, true, false, sym, ap, subst}
 use Rattle.std.specs.Prelude.{Result, Ok, Err, IfErr, IfSome, IfNone, IsErrAnd, OnOk}
 use Rattle.page_file.specs.declared.fault.Fault.{Fault}
-use Rattle.page_cache.specs.Calls.{AsksUntil, Changes}
+use Rattle.page_cache.specs.Calls.{AsksUntil, Changes, ChangesUntil, changes_in_turn, fault_in}
 use Rattle.page_cache.specs.declared.cache.PageCache.{PageCache}
 use Rattle.node_page.specs.Broken.{Alters, asks_and_alters, before}
 use Rattle.node_page.specs.declared.broken.Broken.{Broken}
@@ -39,3 +39,16 @@ module _ {T : Type 0} where
     -- and so are they after calls that only asked
     pub alters_after : (old mid new : PageCache D A m) (r : Result T Fault) (b : Result T Broken) → b ≡ broken_of r → AsksUntil old mid None → Changes mid new r → Alters old new b
     alters_after old mid new r b is asks changes = subst (Alters old new) (sym is) (asks_and_alters old mid new (broken_of r) asks (changed_alters mid new r changes))
+
+    -- or after calls that changed pages
+    pub alters_further : (old mid new : PageCache D A m) (r : Result T Fault) (b : Result T Broken) → b ≡ broken_of r → ChangesUntil old mid None → Changes mid new r → Alters old new b
+    alters_further old mid new r b is before changes = subst (Alters old new) (sym is) (changed_alters old new r (changes_in_turn old mid new (fault_in r) before changes))
+
+    -- why a change broke off, handed on after calls that only asked
+    pub alters_handed : (old mid new : PageCache D A m) (b : Broken) (r : Result T Broken) → IsErrAnd r (λ e. e ≡ b) → AsksUntil old mid None → Alters {T = T} mid new (Err b) → Alters old new r
+    alters_handed old mid new b (Ok x) is asks alters = elim is [ ]
+    alters_handed old mid new b (Err e) is asks alters = subst (λ (k : Broken). Alters {T = T} old new (Err k)) (sym is) (asks_and_alters old mid new (Err b) asks alters)
+
+pub refused_so : {T : Type 0} (r : Result T Broken) (b : Broken) (P : Fault → Type 0) → IsErrAnd r (λ e. e ≡ b) → P b.cause → IfErr r (λ e. P e.cause)
+refused_so (Ok x) b P is p = tt
+refused_so (Err e) b P is p = subst P (sym (ap (λ (k : Broken). k.cause) is)) p

@@ -17,6 +17,7 @@ use Rattle.id_table.specs.Changes.{Removes}
 use Rattle.id_table.specs.Pages.{HasAt, IsInChain, Shrinks, Shortens, Unlinks}
 use Rattle.id_table.specs.Table.{Bucket, ChainStands, IdTable, IdsStand, IsFilled, Object, box_in, bucket_in, chain_at, class_of, entries_in, link_at, objects_of, occurs_in_chain, occurs_in_ids, times_in}
 use Rattle.id_table.proofs.BucketLemmas.{some_object}
+use Rattle.id_table.proofs.PlaceLemmas.{here_at, occurs-append}
 use Rattle.id_table.proofs.RemoveLemmas.{Moved, Takes, split_last, split_set, taken_box, taken_placed, taken_single}
 use Rattle.id_table.proofs.ReplaceLemmas.{Replaces, chain_stays, moves_with, other_chain, stands_with, this_chain, with_chain}
 use Rattle.id_table.proofs.TableLemmas.{chain_in_table, found_by_class, not_there, occurs_here}
@@ -169,13 +170,6 @@ removes_by dims old mid new t id first c x front stands link s shrinks last take
     shrinks
 
 -- ---- where the object is
-
-pub occurs-append : (n : ℕ) (xs ys : List Bucket) → occurs_in_chain n (xs ++ ys) ≡ occurs_in_chain n xs + occurs_in_chain n ys
-occurs-append n [] ys = omega arith
-occurs-append n (x ∷ xs) ys = let rest = occurs-append n xs ys in omega (arith, rest)
-
-here_at : (page n : ℕ) → page ≡ n → ◌≡◌ {A = ℕ} (cond (eqb page n) 1 0) 1
-here_at page n is = grind (arith, nat_tests)
 
 take_set : (m : ℕ) (es : List Object) (place : ℕ) (x : Object) → take m (set es place x) ≡ set (take m es) place x
 take_set zero [] place x = refl

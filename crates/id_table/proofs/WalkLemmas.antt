@@ -79,6 +79,7 @@ pub record Begins (dims : ℕ) (pages : PageMap) (first : ℕ) (chain : List Buc
   pub content : BucketContent
   pub is : chain ≡ bucket ∷ behind
   pub page : bucket.page ≡ first
+  pub low : 2 < first
   pub entries : content.entries ≡ bucket.entries
   pub there : bucket_in dims (pages first) ≡ Some content
   pub rest : ChainStands dims pages content.next behind
@@ -91,6 +92,7 @@ begins_at dims pages first (b ∷ bs) stands some = record {
   content = record { next = stands.2; entries = b.entries };
   is = refl;
   page = sym stands.0;
+  low = stands.1;
   entries = refl;
   there = ap (λ n. bucket_in dims (pages n)) stands.0 ∙ stands.3;
   rest = stands.4;
