@@ -5,10 +5,11 @@ ghost use Rattle.std.specs.Prelude.{◌≡◌, IfOk};
 ghost use Rattle.page_file.specs.declared.gate.Gate.TheVariants.{Open};
 ghost use Rattle.page_cache.specs.Cache.{gate_of};
 
-use crate::{add, get, make};
+use crate::{add, get, make, remove};
 use block_bytes::{read_u16, read_u32};
 use block_device::MemoryDevice;
 use box_math::BBox;
+use node_page::Broken;
 use page_cache::PageCache;
 use page_file::{Fault, create_pages};
 use std::alloc::Global;
@@ -68,6 +69,9 @@ fn seven_and_a_thousand_and_seven_share_a_bucket(rt: HostRuntime) -> Result<(), 
     assert!(rt; get::<2, _, _>(&mut cache, table, 7)? == Some(point(1)?));
     assert!(rt; get::<2, _, _>(&mut cache, table, 1007)? == Some(point(2)?));
     assert!(rt; get::<2, _, _>(&mut cache, table, 2007)?.is_none());
+    assert!(rt; remove::<2, _, _>(&mut cache, table, 7).is_ok());
+    assert!(rt; get::<2, _, _>(&mut cache, table, 7)?.is_none());
+    assert!(rt; get::<2, _, _>(&mut cache, table, 1007)? == Some(point(2)?));
     Ok(())
 }
 
@@ -86,6 +90,44 @@ fn a_full_bucket_gets_one_before_it(rt: HostRuntime) -> Result<(), Fail> {
     }
     assert!(rt; get::<3, _, _>(&mut cache, table, 250_007)?.is_none());
     assert!(rt; get::<3, _, _>(&mut cache, table, 8)?.is_none());
+    Ok(())
+}
+
+// Removes the 250 objects, the first added first, and looks for each before and after.
+fn remove_sevens(cache: &mut Cache, table: u32) -> Result<bool, Fault>
+    requires { gate_of cache.old ≡ Open }
+{
+    for k in 0..250u16 {
+        let id = 1000 * u64::from(k) + 7;
+        if get::<3, _, _>(cache, table, id)? != Some(point(i32::from(k))?) {
+            return Ok(false);
+        }
+        if let Err(broken) = remove::<3, _, _>(cache, table, id) {
+            return Err(broken.cause);
+        }
+        if get::<3, _, _>(cache, table, id)?.is_some() {
+            return Ok(false);
+        }
+    }
+    Ok(true)
+}
+
+#[test]
+fn a_first_page_that_becomes_empty_is_freed(rt: HostRuntime) -> Result<(), Fail> {
+    let mut cache = scene(rt.alloc())?;
+    let Ok(table) = make::<3, _, _>(&mut cache) else {
+        return Err(Fail::from("make"));
+    };
+    add_sevens(&mut cache, table)?;
+    assert!(rt; remove::<3, _, _>(&mut cache, table, 7).is_ok());
+    assert_eq!(rt; head(&mut cache, 6)?, (49, 5));
+    assert_eq!(rt; head(&mut cache, 4)?, (100, 0));
+    assert!(rt; add(&mut cache, table, 7, &point::<3>(0)?).is_ok());
+    assert!(rt; remove_sevens(&mut cache, table)?);
+    for number in 4..7 {
+        let page = cache.page(number)?;
+        assert_eq!(rt; page[0], 5);
+    }
     Ok(())
 }
 
@@ -116,5 +158,13 @@ fn pages_of_no_table_are_damaged(rt: HostRuntime) -> Result<(), Fail> {
         Some(Fault::Damaged(4))
     );
     assert_eq!(rt; cache.looks(), before.saturating_add(6));
+    let missing = remove::<2, _, _>(&mut cache, table, 1005);
+    assert_eq!(rt;
+        missing,
+        Err(Broken {
+            cause: Fault::Damaged(4),
+            touched: false
+        })
+    );
     Ok(())
 }
