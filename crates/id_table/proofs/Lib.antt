@@ -11,3 +11,4 @@ pub mod AddLemmas
 pub mod RemoveLemmas
 pub mod ShrinkLemmas
 pub mod PlaceLemmas
+pub mod FreeLemmas

@@ -3,6 +3,7 @@ use Rattle.std.specs.Prelude.{◌≡◌, ◌⊎◌, ℕ, ◌<◌, ◌≤◌, Lis
 use Rattle.block_bytes.specs.Numbers.{number_at}
 use Rattle.bucket_page.specs.Layout.{BucketContent, popped}
 use Rattle.page_file.specs.Pages.{SameBut}
+use Rattle.node_page.specs.Parts.{Part}
 use Rattle.node_page.specs.Standing.{PageMap}
 use Rattle.id_table.specs.Table.{Bucket, IsDirectory, Object, box_in, bucket_in, entries_in, link_at}
 
@@ -75,3 +76,8 @@ pub record Unlinks (old new : PageMap) (directory class first : ℕ) (c : Bucket
 -- one or the other
 abbrev pub Shrinks : ℕ → PageMap → PageMap → ℕ → ℕ → ℕ → BucketContent → List ℕ → Type 0
 Shrinks dims old new directory class first c page = Shortens dims old new first c ⊎ Unlinks old new directory class first c page
+
+-- the pages of a part are no longer live, and all others stay
+pub record Frees (old new : PageMap) (part : Part) : Type 0 where
+  pub gone : (n : ℕ) → 0 < part n → new n ≡ None
+  pub others : (n : ℕ) → part n ≡ 0 → new n ≡ old n

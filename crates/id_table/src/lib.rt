@@ -6,6 +6,7 @@ mod adding;
 mod broken;
 mod bucket;
 mod directory;
+mod freeing;
 mod making;
 mod removing;
 mod search;
@@ -13,6 +14,7 @@ mod search;
 mod tests;
 
 pub use adding::add;
+pub use freeing::free_all;
 pub use making::make;
 pub use removing::remove;
 pub use search::get;
