@@ -5,7 +5,7 @@ ghost use Rattle.std.specs.Prelude.{◌≡◌, IfOk};
 ghost use Rattle.page_file.specs.declared.gate.Gate.TheVariants.{Open};
 ghost use Rattle.page_cache.specs.Cache.{gate_of};
 
-use crate::{add, get, make, remove};
+use crate::{add, free_all, get, make, remove};
 use block_bytes::{read_u16, read_u32};
 use block_device::MemoryDevice;
 use box_math::BBox;
@@ -96,6 +96,7 @@ fn a_full_bucket_gets_one_before_it(rt: HostRuntime) -> Result<(), Fail> {
 // Removes the 250 objects, the first added first, and looks for each before and after.
 fn remove_sevens(cache: &mut Cache, table: u32) -> Result<bool, Fault>
     requires { gate_of cache.old ≡ Open }
+    ensures { gate_of cache.new ≡ Open }
 {
     for k in 0..250u16 {
         let id = 1000 * u64::from(k) + 7;
@@ -124,7 +125,8 @@ fn a_first_page_that_becomes_empty_is_freed(rt: HostRuntime) -> Result<(), Fail>
     assert_eq!(rt; head(&mut cache, 4)?, (100, 0));
     assert!(rt; add(&mut cache, table, 7, &point::<3>(0)?).is_ok());
     assert!(rt; remove_sevens(&mut cache, table)?);
-    for number in 4..7 {
+    assert!(rt; free_all::<3, _, _>(&mut cache, table).is_ok());
+    for number in 3..7 {
         let page = cache.page(number)?;
         assert_eq!(rt; page[0], 5);
     }
