@@ -6,3 +6,4 @@ pub mod Writing
 pub mod Named
 pub mod Examples
 pub mod OnePage
+pub mod Editing

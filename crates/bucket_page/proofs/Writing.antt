@@ -26,11 +26,11 @@ named_more : (dims place k : ℕ) → IsNamed dims place k → IsNamed dims (pla
 named_more dims place k (inl h) = inl h
 named_more dims place k (inr h) = let le = h.0 in let lt = h.1 in inr (le, omega (arith, entry_place-more dims place))
 
-head_clear : (dims place n at : ℕ) → at + n ≤ 8 → IsClearOfEntry dims place n at
+pub head_clear : (dims place n at : ℕ) → at + n ≤ 8 → IsClearOfEntry dims place n at
 head_clear dims place n at h = inl (omega (arith, entry_place-above dims place))
 
 -- any object
-nothing : ℕ × Bounds
+pub nothing : ℕ × Bounds
 nothing = (0, record { low = []; high = [] })
 
 -- a page in which the head and the first objects are written, and nothing else

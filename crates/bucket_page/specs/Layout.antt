@@ -1,6 +1,6 @@
 -- How a page spells a bucket of the identifier table (our format, docs/FORMAT.md): byte 0 is 4, byte 1 the
 -- dimension, at 2 the count, at 4 the next page, and from 16 on the entries, one after the other.
-use Rattle.std.specs.Prelude.{◌≡◌, ℕ, ◌+◌, ◌*◌, ◌<◌, ◌≤◌, ◌&&◌, ◌==◌, ◌⊎◌, Bool, nat_le, List, length, All, Option, Some, None, if◌then◌else◌}
+use Rattle.std.specs.Prelude.{◌≡◌, ℕ, ◌+◌, ◌*◌, ◌<◌, ◌≤◌, ◌&&◌, ◌==◌, ◌⊎◌, Bool, nat_le, List, [], ◌∷◌, ◌++◌, ◌-◌, length, slice_set, take, All, Option, Some, None, if◌then◌else◌}
 use Rattle.block_bytes.specs.Kinds.{HasHead, bucket_kind}
 use Rattle.block_bytes.specs.Numbers.{number_at, IsApart}
 use Rattle.block_bytes.specs.Places.{first_places}
@@ -15,6 +15,17 @@ pub record BucketContent : Type 0 where
 
 abbrev pub content_of : {D : ℕ} → Bucket D → BucketContent
 content_of bucket = record { next = bucket.next; entries = bucket.entries.items }
+
+-- a bucket with an object more, in the place after the last one
+abbrev pub pushed : BucketContent → ℕ × Bounds → BucketContent
+pushed c object = record { next = c.next; entries = c.entries ++ object ∷ [] }
+
+-- with another object in a place, and without its last one
+abbrev pub replaced : BucketContent → ℕ → ℕ × Bounds → BucketContent
+replaced c place object = record { next = c.next; entries = slice_set c.entries place object }
+
+abbrev pub popped : BucketContent → BucketContent
+popped c = record { next = c.next; entries = take (length c.entries - 1) c.entries }
 
 -- a bucket that a page can spell: 1 to 100 objects, each with a box
 pub record IsBucket (dims : ℕ) (c : BucketContent) : Type 0 where

@@ -1,0 +1,257 @@
+-- An object more in a chain, and in the table.
+use Rattle.std.proofs.Common.{◌≡◌, ◌∙◌, ℕ, suc, ◌+◌, ◌<◌, ◌≤◌, All, drop, is_some, rules, Bool, true, false, cond, eqb, Option, Some, None, IsSome, List, [], ◌∷◌, ◌++◌, length, sum_by, refl, sym, ap, subst, ⊎_elim, arith}
+use Rattle.std.proofs.lemmas.Bool.{cases_eq}
+use Rattle.std.proofs.lemmas.Bool.Decides.{nat_tests}
+use Rattle.std.proofs.lemmas.Cmp.{nat_cmp_total}
+use Rattle.std.proofs.lemmas.List.{append_assoc}
+use Rattle.std.proofs.lemmas.List.Elements.{All-cons, All-head, All-tail}
+use Rattle.std.specs.FinMap as map
+use Rattle.std.specs.FinMap.{get-insert, nat_cmp-IsAntisymmetric, same_map}
+use Rattle.std.specs.Ordering.{eq_by_cmp, nat_cmp}
+use Rattle.box_math.specs.Bounds.{Bounds}
+use Rattle.bucket_page.specs.Layout.{BucketContent, pushed}
+use Rattle.page_file.specs.Pages.{SameBut}
+use Rattle.node_page.specs.Standing.{PageMap}
+use Rattle.id_table.specs.Changes.{Adds}
+use Rattle.id_table.specs.Table.{Bucket, ChainStands, IdTable, IdsStand, IsFilled, Object, box_in, bucket_in, chain_at, class_of, entries_in, link_at, objects_of, occurs_in_chain, occurs_in_ids, times_in}
+use Rattle.id_table.specs.Pages.{BeginsFull, HasObject, PutsBefore}
+use Rattle.node_page.proofs.PartLemmas.{there_not_missing}
+use Rattle.id_table.proofs.ReplaceLemmas.{Replaces, chain_stays, moves_with, other_chain, stands_with, this_chain, with_chain}
+use Rattle.id_table.proofs.TableLemmas.{chain_in_table, found_by_class, not_there, occurs_here, table_there}
+
+-- objects with one more, wherever it is put
+pub one_more : (q : ℕ) (x : Object) (xs ys : List Object) → box_in x.0 (xs ++ ys) ≡ None → box_in q (xs ++ x ∷ ys) ≡ cond (eqb x.0 q) (Some x.1) (box_in q (xs ++ ys))
+one_more q x [] ys none = refl
+one_more q x (y ∷ xs) ys none = step (eqb y.0 x.0) (eqb y.0 q) (eqb x.0 q) (box_in x.0 (xs ++ ys)) (box_in q (xs ++ ys)) (box_in q (xs ++ x ∷ ys)) (differ y.0 x.0 q) (one_more q x xs ys) none
+  where
+    differ : (a b q : ℕ) → eqb a b ≡ false → eqb a q ≡ true → eqb b q ≡ false
+    differ a b q h k = grind (arith, nat_tests)
+
+    step : (yx yq xq : Bool) (there rest all : Option Bounds) → (yx ≡ false → yq ≡ true → xq ≡ false) → (there ≡ None → all ≡ cond xq (Some x.1) rest) → cond yx (Some y.1) there ≡ None
+        → cond yq (Some y.1) all ≡ cond xq (Some x.1) (cond yq (Some y.1) rest)
+    step true yq xq there rest all apart later e = absurd (cc)
+    step false true xq there rest all apart later e = let no = apart refl refl in rw no refl
+    step false false xq there rest all apart later e = later e
+
+pub times_more : (q : ℕ) (x : Object) (xs ys : List Object) → times_in q (xs ++ x ∷ ys) ≡ (cond (eqb x.0 q) 1 0) + times_in q (xs ++ ys)
+times_more q x [] ys = refl
+times_more q x (y ∷ xs) ys = omega (arith, times_more q x xs ys)
+
+pub none_times : (q : ℕ) (xs : List Object) → box_in q xs ≡ None → times_in q xs ≡ 0
+none_times q [] none = refl
+none_times q (x ∷ xs) none = step (eqb x.0 q) (box_in q xs) (times_in q xs) (none_times q xs) none
+  where
+    step : (b : Bool) (there : Option Bounds) (n : ℕ) → (there ≡ None → n ≡ 0) → cond b (Some x.1) there ≡ None → (cond b 1 0) + n ≡ 0
+    step true there n later e = absurd (cc)
+    step false there n later e = omega (arith, later e)
+
+same_key : (q k : ℕ) → eq_by_cmp nat_cmp q k ≡ eqb k q
+same_key q k = grind (arith, nat_tests)
+
+-- the table with a chain that has the object more
+pub adds : (dims : ℕ) (old new : PageMap) (t : IdTable) (id : ℕ) (bounds : Bounds) (chain : List Bucket) → (stands : IdsStand dims old t) → Replaces dims old new t stands.directory (class_of id) chain
+    → ((q : ℕ) → box_in q (entries_in chain) ≡ cond (eqb id q) (Some bounds) (box_in q (entries_in (chain_at t (class_of id))))) → Adds dims old new t id bounds
+adds dims old new t id bounds chain stands r more =
+    let small : class_of id < 1000 = omega arith in
+    let within : class_of id < length t.chains = omega (arith, small, stands.whole) in
+    let after = stands_with dims old new t (class_of id) chain small stands r in
+    record {
+      table = with_chain t (class_of id) chain;
+      page = refl;
+      stands = after;
+      objects = same_map nat_cmp_total nat_cmp-IsAntisymmetric (objects_of (with_chain t (class_of id) chain)) (map.insert (objects_of t) id bounds) (λ q.
+          let now = found_by_class (with_chain t (class_of id) chain) q after.whole after.filled in
+          let was = found_by_class t q stands.whole stands.filled in
+          now ∙ each within q ∙ ap (λ o. cond (eqb id q) (Some bounds) o) (sym was)
+          ∙ ap (λ b. cond b (Some bounds) (map.get (objects_of t) q)) (sym (same_key q id)) ∙ sym (get-insert nat_cmp_total (objects_of t) id bounds q));
+      moves = moves_with dims old new t (class_of id) chain small stands r;
+    }
+  where
+    other_key : (id q : ℕ) → ¬ (class_of q ≡ class_of id) → eqb id q ≡ false
+    other_key id q differ = ⊎_elim (λ (is : id ≡ q). absurd (differ (ap class_of (sym is)))) (λ (no : ¬ (id ≡ q)). is_no id q no) (cases_eq id q)
+      where
+        is_no : (a b : ℕ) → ¬ (a ≡ b) → eqb a b ≡ false
+        is_no a b h = grind (arith, nat_tests)
+
+    each : class_of id < length t.chains → (q : ℕ) → box_in q (entries_in (chain_at (with_chain t (class_of id) chain) (class_of q))) ≡ cond (eqb id q) (Some bounds) (box_in q (entries_in (chain_at t (class_of q))))
+    each within q = ⊎_elim
+        (λ (is : class_of q ≡ class_of id).
+        ap (λ k. box_in q (entries_in (chain_at (with_chain t (class_of id) chain) k))) is ∙ ap (λ c. box_in q (entries_in c)) (this_chain t (class_of id) chain within)
+        ∙ more q ∙ ap (λ k. cond (eqb id q) (Some bounds) (box_in q (entries_in (chain_at t k)))) (sym is))
+        (λ (differ : ¬ (class_of q ≡ class_of id)).
+        ap (λ c. box_in q (entries_in c)) (other_chain t (class_of id) chain within (class_of q) differ)
+        ∙ ap (λ b. cond b (Some bounds) (box_in q (entries_in (chain_at t (class_of q))))) (sym (other_key id q differ)))
+        (cases_eq (class_of q) (class_of id))
+
+-- an object that the table does not have is not in its chain
+pub not_in_chain : (dims : ℕ) (pages : PageMap) (t : IdTable) (id : ℕ) → IdsStand dims pages t → map.contains_key (objects_of t) id ≡ false → box_in id (entries_in (chain_at t (class_of id))) ≡ None
+not_in_chain dims pages t id stands absent = sym (found_by_class t id stands.whole stands.filled) ∙ is_none (map.get (objects_of t) id) absent
+  where
+    is_none : (b : Option Bounds) → is_some b ≡ false → b ≡ None
+    is_none None e = refl
+    is_none (Some x) e = absurd (cc)
+
+-- and one that it has is
+pub in_chain : (dims : ℕ) (pages : PageMap) (t : IdTable) (id : ℕ) → IdsStand dims pages t → map.contains_key (objects_of t) id ≡ true → HasObject id (chain_at t (class_of id))
+in_chain dims pages t id stands there = subst IsSome (found_by_class t id stands.whole stands.filled) there
+
+pub all_more : (P : Object → Type 0) (x : Object) (xs ys : List Object) → All P (xs ++ ys) → P x → All P (xs ++ x ∷ ys)
+all_more P x [] ys all here = All-cons P x ys here all
+all_more P x (y ∷ xs) ys all here = All-cons P y (xs ++ x ∷ ys) (All-head P y (xs ++ ys) all) (all_more P x xs ys (All-tail P y (xs ++ ys) all) here)
+
+single_more : (id : ℕ) (x : Object) (xs ys : List Object) → times_in id (xs ++ ys) ≤ 1 → box_in x.0 (xs ++ ys) ≡ None → times_in id (xs ++ x ∷ ys) ≤ 1
+single_more id x xs ys single none = ⊎_elim
+    (λ (is : x.0 ≡ id). let zero_times = none_times id (xs ++ ys) (subst (λ k. box_in k (xs ++ ys) ≡ None) is none) in let few = at_most (eqb x.0 id) in omega (arith, zero_times, few, times_more id x xs ys))
+    (λ (other : ¬ (x.0 ≡ id)). let no = not_there x.0 id other in omega (arith, no, single, times_more id x xs ys))
+    (cases_eq x.0 id)
+  where
+    at_most : (b : Bool) → cond b 1 0 ≤ 1
+    at_most true = omega arith
+    at_most false = omega arith
+
+-- a chain with an object more in its first bucket
+filled_more : (class : ℕ) (page : ℕ) (xs : List Object) (bs : List Bucket) (x : Object) → IsFilled class (record { page = page; entries = xs } ∷ bs) → class_of x.0 ≡ class → box_in x.0 (xs ++ entries_in bs) ≡ None
+    → IsFilled class (record { page = page; entries = xs ++ x ∷ [] } ∷ bs)
+filled_more class page xs bs x filled is none =
+    let same = append_assoc xs (x ∷ []) (entries_in bs) in
+    record {
+      full = filled.full;
+      placed = subst (All (λ (object : Object). class_of object.0 ≡ class)) (sym same) (all_more (λ (object : Object). class_of object.0 ≡ class) x xs (entries_in bs) filled.placed is);
+      single = λ id. subst (λ (es : List Object). times_in id es ≤ 1) (sym same) (single_more id x xs (entries_in bs) (filled.single id) none);
+    }
+
+pub added_in_place : (dims : ℕ) (old new : PageMap) (t : IdTable) (id : ℕ) (bounds : Bounds) (first : ℕ) (c : BucketContent) (b : Bucket) (bs : List Bucket) → (stands : IdsStand dims old t) → first ≡ link_at (class_of id) stands.directory
+    → bucket_in dims (old first) ≡ Some c → bucket_in dims (new first) ≡ Some (pushed c (id, bounds)) → SameBut first old new
+    → chain_at t (class_of id) ≡ b ∷ bs → ChainStands dims old first (b ∷ bs) → IsFilled (class_of id) (b ∷ bs) → box_in id (entries_in (b ∷ bs)) ≡ None → Adds dims old new t id bounds
+added_in_place dims old new t id bounds first c b bs stands link read written same is chain filled none =
+    let small : class_of id < 1000 = omega arith in
+    let within : class_of id < length t.chains = omega (arith, small, stands.whole) in
+    let x : Object = (id, bounds) in
+    let longer : Bucket = record { page = b.page; entries = b.entries ++ x ∷ [] } in
+    let counts : (n : ℕ) → occurs_in_chain n (chain_at t (class_of id)) ≡ occurs_in_chain n (b ∷ bs) = λ n. ap (occurs_in_chain n) is in
+    let part : (n : ℕ) → occurs_in_chain n (b ∷ bs) ≤ 1 = λ n. let whole = chain_in_table n (class_of id) t within in omega (arith, whole, counts n, stands.once n) in
+    let same_content : c ≡ record { next = chain.2; entries = b.entries } = let was = chain.3 in let at = chain.0 in cc in
+    adds dims old new t id bounds (longer ∷ bs) stands
+    (record {
+      directory = stands.directory;
+      there = same t.page (λ e.
+          let at : t.page ≡ b.page = e ∙ chain.0 in
+          let on_directory : ◌≡◌ {A = ℕ} (cond (eqb t.page b.page) 1 0) 1 = ap (λ k. cond (eqb t.page k) 1 0) (sym at) ∙ occurs_here t.page in
+          let whole = chain_in_table b.page (class_of id) t within in
+          omega (arith, on_directory, stands.once b.page, whole, counts b.page, occurs_here b.page)) ∙ stands.there;
+      spelled = stands.spelled;
+      first = subst (λ n. ChainStands dims new n (longer ∷ bs)) link (
+        chain.0,
+        chain.1,
+        chain.2,
+        ap (λ n. bucket_in dims (new n)) (sym chain.0) ∙ written ∙ ap (λ (k : BucketContent). Some (record { next = k.next; entries = k.entries ++ x ∷ [] })) same_content,
+        chain_stays dims old new chain.2 bs (λ n p. same n (λ e. let at : n ≡ b.page = e ∙ chain.0 in let here : ◌≡◌ {A = ℕ} (cond (eqb b.page n) 1 0) 1 = ap (λ k. cond (eqb b.page k) 1 0) at ∙ occurs_here b.page in omega (arith, here, p, part n))) chain.4,
+      );
+      links = λ other differ. refl;
+      filled = filled_more (class_of id) b.page b.entries bs x filled refl none;
+      others = λ n apart gone none'. same n (λ e. let at : n ≡ b.page = e ∙ chain.0 in let here : ◌≡◌ {A = ℕ} (cond (eqb b.page n) 1 0) 1 = ap (λ k. cond (eqb b.page k) 1 0) at ∙ occurs_here b.page in omega (arith, here, none'));
+      came = λ n gone some. absurd (omega (arith, gone, some, counts n));
+      went = λ n some gone. absurd (omega (arith, gone, some, counts n));
+      once = part;
+    })
+    (λ q. ap (box_in q) (append_assoc b.entries (x ∷ []) (entries_in bs)) ∙ one_more q x b.entries (entries_in bs) none ∙ ap (λ (k : List Bucket). cond (eqb id q) (Some bounds) (box_in q (entries_in k))) (sym is))
+
+pub adds_in_place : (dims : ℕ) (old new : PageMap) (t : IdTable) (id : ℕ) (bounds : Bounds) (first : ℕ) (c : BucketContent) → (stands : IdsStand dims old t) → first ≡ link_at (class_of id) stands.directory → ¬ (first ≡ 0)
+    → bucket_in dims (old first) ≡ Some c → bucket_in dims (new first) ≡ Some (pushed c (id, bounds)) → SameBut first old new
+    → map.contains_key (objects_of t) id ≡ false → Adds dims old new t id bounds
+adds_in_place dims old new t id bounds first c stands link some read written same absent =
+    let small : class_of id < 1000 = omega arith in
+    go dims old new t id bounds first c stands link some read written same (chain_at t (class_of id)) refl
+    (subst (λ n. ChainStands dims old n (chain_at t (class_of id))) (sym link) (stands.chains (class_of id) small)) (stands.filled (class_of id) small) (not_in_chain dims old t id stands absent)
+  where
+    go : (dims : ℕ) (old new : PageMap) (t : IdTable) (id : ℕ) (bounds : Bounds) (first : ℕ) (c : BucketContent) → (stands : IdsStand dims old t) → first ≡ link_at (class_of id) stands.directory → ¬ (first ≡ 0)
+        → bucket_in dims (old first) ≡ Some c → bucket_in dims (new first) ≡ Some (pushed c (id, bounds)) → SameBut first old new
+        → (chain : List Bucket) → chain_at t (class_of id) ≡ chain → ChainStands dims old first chain → IsFilled (class_of id) chain → box_in id (entries_in chain) ≡ None → Adds dims old new t id bounds
+    go dims old new t id bounds first c stands link some read written same [] is chain filled none = absurd (some chain)
+    go dims old new t id bounds first c stands link some read written same (b ∷ bs) is chain filled none = added_in_place dims old new t id bounds first c b bs stands link read written same is chain filled none
+
+-- ---- a bucket put before a chain
+
+-- a page that was not there is in no table that stands
+pub fresh_page : (dims : ℕ) (pages : PageMap) (t : IdTable) (n : ℕ) → IdsStand dims pages t → pages n ≡ None → occurs_in_ids n t ≡ 0
+fresh_page dims pages t n stands none = ⊎_elim
+    (λ (e : occurs_in_ids n t ≡ 0). e)
+    (λ (some : ¬ (occurs_in_ids n t ≡ 0)). absurd (there_not_missing (pages n) (table_there dims pages t n stands (omega (arith, some))) none))
+    (cases_eq (occurs_in_ids n t) 0)
+
+all_full : (chain : List Bucket) → BeginsFull chain → All (λ b. length b.entries ≡ 100) (drop 1 chain) → All (λ b. length b.entries ≡ 100) chain
+all_full [] first rest = search rules
+all_full (b ∷ bs) first rest = All-cons (λ (b : Bucket). length b.entries ≡ 100) b bs first rest
+
+pub all_both : (P : Object → Type 0) (xs ys : List Object) → All P xs → All P ys → All P (xs ++ ys)
+all_both P [] ys here there = there
+all_both P (x ∷ xs) ys here there = All-cons P x (xs ++ ys) (All-head P x xs here) (all_both P xs ys (All-tail P x xs here) there)
+
+pub replaced_before : (dims : ℕ) (old new : PageMap) (t : IdTable) (class first : ℕ) (es : List Object) → (stands : IdsStand dims old t) → class < 1000 → first ≡ link_at class stands.directory
+    → (put : PutsBefore dims old new t.page class first es stands.directory) → BeginsFull (chain_at t class) → All (λ object. class_of object.0 ≡ class) es
+    → ((id : ℕ) → times_in id (es ++ entries_in (chain_at t class)) ≤ 1) → Replaces dims old new t stands.directory class (record { page = put.number; entries = es } ∷ chain_at t class)
+replaced_before dims old new t class first es stands small link put full placed single =
+    let chain = chain_at t class in
+    let within : class < length t.chains = omega (arith, small, stands.whole) in
+    let unused : occurs_in_ids put.number t ≡ 0 = fresh_page dims old t put.number stands put.fresh in
+    let part : (n : ℕ) → occurs_in_chain n chain ≤ sum_by (occurs_in_chain n) t.chains = λ n. chain_in_table n class t within in
+    let apart : (n : ℕ) → 0 < occurs_in_chain n chain → ¬ (n ≡ put.number) = λ n here is. let p = part put.number in let e : occurs_in_chain n chain ≡ occurs_in_chain put.number chain = ap (λ k. occurs_in_chain k chain) is in omega (arith, e, here, p, unused) in
+    let off_directory : (n : ℕ) → 0 < occurs_in_chain n chain → ¬ (n ≡ t.page) = λ n here is.
+        let on_directory : ◌≡◌ {A = ℕ} (cond (eqb t.page n) 1 0) 1 = ap (λ k. cond (eqb t.page k) 1 0) is ∙ occurs_here t.page in
+        let p = part n in omega (arith, on_directory, here, p, stands.once n) in
+    let number_of : (n : ℕ) → occurs_in_chain n chain ≡ 0 → 0 < occurs_in_chain n (record { page = put.number; entries = es } ∷ chain) → n ≡ put.number
+    = λ n none some. ⊎_elim (λ (is : put.number ≡ n). sym is) (λ (other : ¬ (put.number ≡ n)). let no = not_there put.number n other in absurd (omega (arith, none, some, no))) (cases_eq put.number n) in
+    record {
+      directory = put.after;
+      there = put.there;
+      spelled = record { kind = put.link.kind ∙ stands.spelled.kind; dims_is = put.link.dims_is ∙ stands.spelled.dims_is };
+      first = (
+        put.link.link,
+        omega (arith, put.low, put.link.link),
+        first,
+        put.bucket,
+        chain_stays dims old new first chain (λ n here. put.others n (apart n here) (off_directory n here))
+        (subst (λ n. ChainStands dims old n chain) (sym link) (stands.chains class small)),
+      );
+      links = put.link.others;
+      filled = record {
+        full = all_full chain full (stands.filled class small).full;
+        placed = all_both (λ (object : Object). class_of object.0 ≡ class) es (entries_in chain) placed (stands.filled class small).placed;
+        single = single;
+      };
+      others = λ n off gone none. put.others n (λ is. let here : ◌≡◌ {A = ℕ} (cond (eqb put.number n) 1 0) 1 = ap (λ k. cond (eqb put.number k) 1 0) is ∙ occurs_here put.number in omega (arith, here, none)) off;
+      came = λ n gone some. let is = number_of n gone some in (ap old is ∙ put.fresh, ap (λ k. occurs_in_ids k t) is ∙ unused);
+      went = λ n some none. absurd (omega (arith, some, none));
+      once = λ n. ⊎_elim
+          (λ (is : put.number ≡ n). let p = part n in let zero_here : occurs_in_ids n t ≡ 0 = ap (λ k. occurs_in_ids k t) (sym is) ∙ unused in
+          let one : ◌≡◌ {A = ℕ} (cond (eqb put.number n) 1 0) 1 = ap (λ k. cond (eqb put.number k) 1 0) (sym is) ∙ occurs_here put.number in omega (arith, p, zero_here, one))
+          (λ (other : ¬ (put.number ≡ n)). let no = not_there put.number n other in let p = part n in omega (arith, no, p, stands.once n))
+          (cases_eq put.number n);
+    }
+
+-- the table with an object more, in a page of its own
+pub adds_before : (dims : ℕ) (old new : PageMap) (t : IdTable) (id : ℕ) (bounds : Bounds) (first : ℕ) → (stands : IdsStand dims old t) → first ≡ link_at (class_of id) stands.directory
+    → PutsBefore dims old new t.page (class_of id) first ((id, bounds) ∷ []) stands.directory → BeginsFull (chain_at t (class_of id)) → map.contains_key (objects_of t) id ≡ false → Adds dims old new t id bounds
+adds_before dims old new t id bounds first stands link put full absent =
+    let small : class_of id < 1000 = omega arith in
+    let chain = chain_at t (class_of id) in
+    let none = not_in_chain dims old t id stands absent in
+    adds dims old new t id bounds (record { page = put.number; entries = (id, bounds) ∷ [] } ∷ chain) stands
+    (replaced_before dims old new t (class_of id) first ((id, bounds) ∷ []) stands small link put full
+    (All-cons (λ (object : Object). class_of object.0 ≡ class_of id) (id, bounds) [] refl (search rules))
+    (λ q. single_more q (id, bounds) [] (entries_in chain) ((stands.filled (class_of id) small).single q) none))
+    (λ q. refl)
+
+-- the same, from pages that are equal
+pub puts_from : (dims : ℕ) (old mid new : PageMap) (directory class first : ℕ) (es : List Object) (page : List ℕ) → ((n : ℕ) → mid n ≡ old n)
+    → PutsBefore dims mid new directory class first es page → PutsBefore dims old new directory class first es page
+puts_from dims old mid new directory class first es page same put = record {
+  number = put.number;
+  low = put.low;
+  fresh = sym (same put.number) ∙ put.fresh;
+  bucket = put.bucket;
+  after = put.after;
+  there = put.there;
+  link = put.link;
+  others = λ k a b. put.others k a b ∙ same k;
+}

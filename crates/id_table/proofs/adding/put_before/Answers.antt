@@ -1,0 +1,83 @@
+-- The goals of `put_before` that are proved by hand.
+use Rattle.std.proofs.Common.{◌≡◌, ◌∙◌, ℕ, List, None, IsSome, inl, inr, ⊎_elim, sym, ap, subst, arith}
+use Rattle.page_file.specs.Fault.{IsOfDevice}
+use Rattle.page_cache.specs.Cache.{next_of, pages}
+use Rattle.page_cache.specs.Calls.{changes_and_refuses, changes_in_turn, fault_in}
+use Rattle.node_page.proofs.NodeLemmas.{at_error, on_ok}
+use Rattle.id_table.specs.Faults.{IsOfPages}
+use Rattle.id_table.specs.Table.{bucket_in}
+use Rattle.id_table.proofs.BucketLemmas.{apart_pages, if_err, is_there}
+use Rattle.id_table.proofs.adding.put_before.Goals as goal
+
+pub returns-clause-sound : goal.returns-clause-sound
+returns-clause-sound g c = λ map live.
+    let m = pages c.args.cache.now in
+    let n = c.in_ok-number.number in
+    let d = c.args.directory in
+    let fresh = c.in_ok-number.ensures.fresh map in
+    let map1 = c.allocate.ensures.sound map in
+    let live_n = is_there (pages c.allocate.new.self n) _ fresh.1 in
+    let differ = apart_pages m d n live fresh.0 in
+    let live_d1 = subst IsSome (sym (fresh.2 d differ)) live in
+    let map2 = c.write_bucket.ensures.sound map1 live_n in
+    let same_d = c.write_bucket.ensures.others map1.honest live_n d differ in
+    let live_d2 = subst IsSome (sym same_d) live_d1 in
+    c.write_link.ensures.sound map2 live_d2
+
+pub returns-clause-put : goal.returns-clause-put
+returns-clause-put g c = λ map page there.
+    let live = is_there (pages c.args.cache.now c.args.directory) page there in
+    let m = pages c.args.cache.now in
+    let n = c.in_ok-number.number in
+    let d = c.args.directory in
+    let fresh = c.in_ok-number.ensures.fresh map in
+    let map1 = c.allocate.ensures.sound map in
+    let live_n = is_there (pages c.allocate.new.self n) _ fresh.1 in
+    let differ = apart_pages m d n live fresh.0 in
+    let live_d1 = subst IsSome (sym (fresh.2 d differ)) live in
+    let map2 = c.write_bucket.ensures.sound map1 live_n in
+    let same_d = c.write_bucket.ensures.others map1.honest live_n d differ in
+    let live_d2 = subst IsSome (sym same_d) live_d1 in
+    let stays_d = c.write_link.ensures.others map2.honest live_d2 in
+    on_ok c.write_link.result
+    (λ w. record {
+      number = n;
+      low = omega (arith, c.in_ok-number.ensures.number);
+      fresh = fresh.0;
+      bucket = ap (bucket_in g.row.D) (stays_d n (λ e. differ (sym e))) ∙ c.in_ok-write_bucket.ensures.written map1.honest live_n;
+      after = w.0;
+      there = w.1;
+      link = w.2;
+      others = λ k off_n off_d. stays_d k off_d ∙ c.write_bucket.ensures.others map1.honest live_n k off_n ∙ fresh.2 k off_n;
+    })
+    (c.write_link.ensures.written map2.honest page (same_d ∙ fresh.2 d differ ∙ there))
+
+pub returns-clause-faults : goal.returns-clause-faults
+returns-clause-faults g c = λ map live.
+    let m = pages c.args.cache.now in
+    let n = c.in_ok-number.number in
+    let d = c.args.directory in
+    let fresh = c.in_ok-number.ensures.fresh map in
+    let map1 = c.allocate.ensures.sound map in
+    let live_n = is_there (pages c.allocate.new.self n) _ fresh.1 in
+    let differ = apart_pages m d n live fresh.0 in
+    let live_d1 = subst IsSome (sym (fresh.2 d differ)) live in
+    let map2 = c.write_bucket.ensures.sound map1 live_n in
+    let same_d = c.write_bucket.ensures.others map1.honest live_n d differ in
+    let live_d2 = subst IsSome (sym same_d) live_d1 in
+    if_err c.write_link.result IsOfDevice (λ f. IsOfPages (next_of c.args.cache.now) f) (λ f is. inl is) (c.write_link.ensures.faults map2.honest live_d2)
+
+pub returns-in_err-number-clause-faults : goal.returns-in_err-number-clause-faults
+returns-in_err-number-clause-faults g c = λ map live.
+    at_error c.from_residual.result c.in_err-number.field-0.0 (λ f. IsOfPages (next_of c.args.cache.now) f) c.from_residual.ensures.1
+    (⊎_elim (λ device. inl device) (λ none. inr (none, c.in_err-number.ensures.no_pages (cc none))) (c.in_err-number.ensures.faults map))
+
+pub returns-in_err-write_bucket-clause-changes : goal.returns-in_err-write_bucket-clause-changes
+returns-in_err-write_bucket-clause-changes g c =
+    changes_and_refuses c.args.cache.now c.allocate.new.self c.write_bucket.new.cache c.in_err-write_bucket.field-0.0 c.from_residual-in_err-write_bucket.result
+    c.from_residual-in_err-write_bucket.ensures.1 c.in_ok-number.ensures.changes c.in_err-write_bucket.ensures.changes
+
+pub returns-clause-changes : goal.returns-clause-changes
+returns-clause-changes g c =
+    changes_in_turn c.args.cache.now c.write_bucket.new.cache c.write_link.new.cache (fault_in c.write_link.result)
+    (changes_in_turn c.args.cache.now c.allocate.new.self c.write_bucket.new.cache None c.in_ok-number.ensures.changes c.in_ok-write_bucket.ensures.changes) c.write_link.ensures.changes

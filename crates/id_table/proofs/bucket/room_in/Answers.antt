@@ -1,0 +1,34 @@
+-- The goals of `room_in` that are proved by hand: a chain that stands begins with a bucket.
+use Rattle.std.proofs.Common.{◌≡◌, ◌∙◌, ap, length, subst, sym}
+use Rattle.page_file.specs.Fault.{IsOfDevice}
+use Rattle.page_cache.specs.Cache.{pages}
+use Rattle.page_cache.specs.Laws.{a_live_page_was_given_out}
+use Rattle.bucket_page.proofs.Reading.{no_head}
+use Rattle.node_page.proofs.NodeLemmas.{at_error}
+use Rattle.id_table.specs.Pages.{BeginsFull}
+use Rattle.id_table.proofs.BucketLemmas.{bucket_bytes, page_of_bucket}
+use Rattle.id_table.proofs.WalkLemmas.{begins_at}
+use Rattle.id_table.proofs.bucket.room_in.Goals as goal
+
+pub returns-in_err-page-clause-there : goal.returns-in_err-page-clause-there
+returns-in_err-page-clause-there g c = λ h chain stands.
+    let page = pages c.args.cache.now c.args.first in
+    let b = begins_at g.row.D (pages c.args.cache.now) c.args.first chain stands c.if-first-eq0.false in
+    let given = a_live_page_was_given_out c.args.cache.now c.args.first (page_of_bucket g.row.D page b.content b.there) in
+    at_error c.from_residual.result c.in_err-page.field-0.0 IsOfDevice c.from_residual.ensures.1 (c.in_err-page.ensures.faults h given.0 given.1)
+
+pub returns-then-not-has_bucket_head-clause-there : goal.returns-then-not-has_bucket_head-clause-there
+returns-then-not-has_bucket_head-clause-there g c = λ h chain stands.
+    let page = pages c.args.cache.now c.args.first in
+    let b = begins_at g.row.D (pages c.args.cache.now) c.args.first chain stands c.if-first-eq0.false in
+    let is = bucket_bytes g.row.D page _ b.content (c.in_ok-page.ensures.bytes h (page_of_bucket g.row.D page b.content b.there)) b.there in
+    let none = no_head g.row.D _ (λ head. let yes = c.has_bucket_head.ensures.1 head in absurd (cc)) in
+    absurd (cc (is, none))
+
+pub returns-then-count_at-eq100-clause-full : goal.returns-then-count_at-eq100-clause-full
+returns-then-count_at-eq100-clause-full g c = λ h chain stands.
+    let page = pages c.args.cache.now c.args.first in
+    let b = begins_at g.row.D (pages c.args.cache.now) c.args.first chain stands c.if-first-eq0.false in
+    let is = bucket_bytes g.row.D page _ b.content (c.in_ok-page.ensures.bytes h (page_of_bucket g.row.D page b.content b.there)) b.there in
+    let full : length b.bucket.entries ≡ 100 = ap length (sym b.entries) ∙ sym (c.count_at.ensures.of_bucket g.row.D b.content is) ∙ c.if-count_at-eq100.true in
+    subst BeginsFull (sym b.is) full

@@ -1,0 +1,34 @@
+-- The goals of `get` that are proved by hand.
+use Rattle.std.proofs.Common.{None, ◌≤◌, ◌∙◌, sym, arith}
+use Rattle.page_file.specs.Fault.{IsOfDevice}
+use Rattle.page_cache.specs.Cache.{next_of}
+use Rattle.page_cache.specs.Calls.{asks_in_turn}
+use Rattle.node_page.proofs.NodeLemmas.{at_error}
+use Rattle.id_table.proofs.GetLemmas.{ends_with, ends_without, goes_on, here_is, never_as_long, there_now}
+use Rattle.id_table.proofs.search.get.Goals as goal
+
+pub returns-then-number-eq0-clause-found : goal.returns-then-number-eq0-clause-found
+returns-then-number-eq0-clause-found g c = λ h t at stands. ends_without c.loop-walked.invariant c.if-number-eq0.true h t at stands
+
+pub returns-in_err-bounds-clause-stands : goal.returns-in_err-bounds-clause-stands
+returns-in_err-bounds-clause-stands g c = λ h t at stands.
+    let so_far = c.loop-walked.invariant in
+    at_error c.from_residual-in_err-bounds.result c.in_err-bounds.field-0.0 IsOfDevice c.from_residual-in_err-bounds.ensures.1
+    (c.in_err-bounds.ensures.there (so_far.asks.gate.honest.0 h) (here_is so_far c.if-number-eq0.false h t at stands).content (there_now so_far c.if-number-eq0.false h t at stands))
+
+pub returns-then-is_some-clause-asks : goal.returns-then-is_some-clause-asks
+returns-then-is_some-clause-asks g c = asks_in_turn c.args.cache.now c.loop-walked.cache c.look.new.cache None c.loop-walked.invariant.asks c.in_ok-bounds.ensures.asks
+
+pub returns-then-is_some-clause-found : goal.returns-then-is_some-clause-found
+returns-then-is_some-clause-found g c = λ h t at stands.
+    ends_with c.loop-walked.invariant c.in_ok-bounds.bounds c.if-number-eq0.false (sym c.is_some.ensures ∙ c.if-is_some.true) (λ honest content is. (c.in_ok-bounds.ensures.found honest content is).0) h t at stands
+
+pub loop-walked-preserved : goal.loop-walked-preserved
+loop-walked-preserved g c =
+    goes_on c.loop-walked.invariant c.in_ok-bounds.bounds c.in_ok-bounds.next c.look.new.cache c.if-number-eq0.false (sym c.is_some.ensures ∙ c.if-is_some.false)
+    c.in_ok-bounds.ensures.asks c.in_ok-bounds.ensures.found
+
+pub returns-clause-stands : goal.returns-clause-stands
+returns-clause-stands g c = λ h t at stands.
+    let many : next_of c.args.cache.now ≤ c.loop-walked.walked = omega (arith, c.loop-walked-test.false, c.next_number-walked-end.ensures, c.read_link.ensures.asks.map.next) in
+    absurd (never_as_long c.loop-walked.invariant many h t at stands)

@@ -1,0 +1,31 @@
+-- What the calls on an identifier table make of it and of its pages (our rule, docs/FORMAT.md).
+use Rattle.std.specs.Prelude.{◌≡◌, ℕ}
+use Rattle.std.specs.FinMap as map
+use Rattle.box_math.specs.Bounds.{Bounds}
+use Rattle.node_page.specs.Parts.{Moves, no_page}
+use Rattle.node_page.specs.Standing.{PageMap}
+use Rattle.id_table.specs.Table.{IdTable, IdsStand, objects_of, part_of}
+
+-- a new table of no objects, in pages of its own
+pub record Makes (dims : ℕ) (old new : PageMap) (directory : ℕ) : Type 0 where
+  pub table : IdTable
+  pub page : table.page ≡ directory
+  pub stands : IdsStand dims new table
+  pub objects : objects_of table ≡ map.empty
+  pub moves : Moves old new no_page (part_of table)
+
+-- the table with an object more
+pub record Adds (dims : ℕ) (old new : PageMap) (t : IdTable) (id : ℕ) (bounds : Bounds) : Type 0 where
+  pub table : IdTable
+  pub page : table.page ≡ t.page
+  pub stands : IdsStand dims new table
+  pub objects : objects_of table ≡ map.insert (objects_of t) id bounds
+  pub moves : Moves old new (part_of t) (part_of table)
+
+-- the table without an object
+pub record Removes (dims : ℕ) (old new : PageMap) (t : IdTable) (id : ℕ) : Type 0 where
+  pub table : IdTable
+  pub page : table.page ≡ t.page
+  pub stands : IdsStand dims new table
+  pub objects : objects_of table ≡ map.remove (objects_of t) id
+  pub moves : Moves old new (part_of t) (part_of table)

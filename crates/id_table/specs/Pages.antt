@@ -1,0 +1,83 @@
+-- What writes into the pages of a table leave.
+use Rattle.std.specs.Prelude.{◌≡◌, ◌⊎◌, ℕ, ◌<◌, ◌≤◌, List, [], ◌∷◌, ◌++◌, Option, Some, None, length, slice_index_or, IsSome, ⊤}
+use Rattle.block_bytes.specs.Numbers.{number_at}
+use Rattle.bucket_page.specs.Layout.{BucketContent, popped}
+use Rattle.page_file.specs.Pages.{SameBut}
+use Rattle.node_page.specs.Parts.{Part}
+use Rattle.node_page.specs.Standing.{PageMap}
+use Rattle.id_table.specs.Table.{Bucket, IsDirectory, Object, box_in, bucket_in, entries_in, link_at}
+
+-- a directory of empty chains
+pub record NewDirectory (dims : ℕ) (page : List ℕ) : Type 0 where
+  pub spelled : IsDirectory dims page
+  pub empty : (class : ℕ) → link_at class page ≡ 0
+
+-- one chain of the directory has another first page
+pub record SetsLink (class first : ℕ) (old new : List ℕ) : Type 0 where
+  pub link : link_at class new ≡ first
+  pub others : (other : ℕ) → ¬ (other ≡ class) → link_at other new ≡ link_at other old
+  pub kind : number_at 1 0 new ≡ number_at 1 0 old
+  pub dims_is : number_at 1 1 new ≡ number_at 1 1 old
+
+-- there is no bucket with room at the beginning of a chain
+abbrev pub BeginsFull : List Bucket → Type 0
+BeginsFull [] = ⊤
+BeginsFull (b ∷ bs) = length b.entries ≡ 100
+
+-- a page that was not live has a bucket of these objects, and the directory names it as the first of its chain
+pub record PutsBefore (dims : ℕ) (old new : PageMap) (directory class first : ℕ) (objects : List Object) (page : List ℕ) : Type 0 where
+  pub number : ℕ
+  pub low : 2 < number
+  pub fresh : old number ≡ None
+  pub bucket : bucket_in dims (new number) ≡ Some (record { next = first; entries = objects })
+  pub after : List ℕ
+  pub there : new directory ≡ Some after
+  pub link : SetsLink class number page after
+  pub others : (k : ℕ) → ¬ (k ≡ number) → ¬ (k ≡ directory) → new k ≡ old k
+
+-- the objects of a bucket have one with this identifier in a place
+pub record HasAt (id : ℕ) (objects : List Object) (place : ℕ) : Type 0 where
+  pub within : place < length objects
+  pub id_is : (other : Object) → (slice_index_or objects place other).0 ≡ id
+
+-- where they have one, if they do
+abbrev pub IsFoundAt : ℕ → List Object → Option ℕ → Type 0
+IsFoundAt id objects None = box_in id objects ≡ None
+IsFoundAt id objects (Some place) = HasAt id objects place
+
+-- a bucket of the chain, at this page, has the identifier in this place
+pub record IsInChain (id : ℕ) (chain : List Bucket) (page place : ℕ) : Type 0 where
+  pub before : List Bucket
+  pub bucket : Bucket
+  pub after : List Bucket
+  pub is : chain ≡ before ++ bucket ∷ after
+  pub page_is : bucket.page ≡ page
+  pub has : HasAt id bucket.entries place
+
+-- some bucket of the chain has it
+abbrev pub HasObject : ℕ → List Bucket → Type 0
+HasObject id chain = IsSome (box_in id (entries_in chain))
+
+-- The first bucket of a chain lost its last object, and there are more.
+pub record Shortens (dims : ℕ) (old new : PageMap) (first : ℕ) (c : BucketContent) : Type 0 where
+  pub more : 1 < length c.entries
+  pub bucket : bucket_in dims (new first) ≡ Some (popped c)
+  pub others : SameBut first old new
+
+-- It lost its only one: its page is no longer live, and the directory names the next one as the first of the chain.
+pub record Unlinks (old new : PageMap) (directory class first : ℕ) (c : BucketContent) (page : List ℕ) : Type 0 where
+  pub only : length c.entries ≡ 1
+  pub gone : new first ≡ None
+  pub after : List ℕ
+  pub there : new directory ≡ Some after
+  pub link : SetsLink class c.next page after
+  pub others : (k : ℕ) → ¬ (k ≡ first) → ¬ (k ≡ directory) → new k ≡ old k
+
+-- one or the other
+abbrev pub Shrinks : ℕ → PageMap → PageMap → ℕ → ℕ → ℕ → BucketContent → List ℕ → Type 0
+Shrinks dims old new directory class first c page = Shortens dims old new first c ⊎ Unlinks old new directory class first c page
+
+-- the pages of a part are no longer live, and all others stay
+pub record Frees (old new : PageMap) (part : Part) : Type 0 where
+  pub gone : (n : ℕ) → 0 < part n → new n ≡ None
+  pub others : (n : ℕ) → part n ≡ 0 → new n ≡ old n

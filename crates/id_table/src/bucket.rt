@@ -1,0 +1,165 @@
+//! Buckets at the pages of a cache.
+
+ghost use Rattle.std.specs.Prelude.{◌≡◌, ◌<◌, ◌⊎◌, ℕ, List, Some, length, IfOk, IfErr, IfSome, IfNone, IsSomeAnd, OnOk};
+ghost use Rattle.block_bytes.specs.Numbers.{number_at};
+ghost use Rattle.box_math.specs.Bounds.{IsDims};
+ghost use Rattle.bucket_page.specs.Layout.{BucketContent, bucket_at, content_of};
+ghost use Rattle.page_file.specs.Fault.{IsDamage, IsOfDevice};
+ghost use Rattle.page_file.specs.Pages.{SameBut};
+ghost use Rattle.page_file.specs.declared.gate.Gate.TheVariants.{Open};
+ghost use Rattle.page_cache.specs.Cache.{IsHonest, IsLive, IsPageMap, gate_of, next_of, pages};
+ghost use Rattle.page_cache.specs.Calls.{Asks, Changes};
+ghost use Rattle.id_table.specs.Pages.{BeginsFull, IsFoundAt};
+ghost use Rattle.id_table.specs.Table.{Bucket as Linked, ChainStands, box_in, bucket_in};
+
+use block_bytes::zero_block;
+use block_device::BlockDevice;
+use box_math::BBox;
+use bucket_page::{Bucket, count_at, encode, entry_at, has_bucket_head, id_at, next_at};
+use page_cache::PageCache;
+use page_file::Fault;
+use std::alloc::Allocator;
+
+// The box of an identifier on a bucket page, if an object there has it: identifiers are compared in their places, and
+// only that object is decoded. `None` where the page begins as no bucket of this dimension, or that object has no box.
+pub(crate) fn box_on<const D: usize>(page: &[u8; 4096], id: u64) -> Option<Option<BBox<D>>>
+    requires dims { IsDims D }
+    ensures of_bucket { (c : BucketContent) → bucket_at D page.now ≡ Some c → result ≡ Some (box_in id c.entries) }
+{
+    if !has_bucket_head::<D>(page) {
+        return None;
+    }
+    for place in 0..count_at(page) {
+        if id_at::<D>(page, place) == id {
+            return match entry_at::<D>(page, place) {
+                Some(object) => Some(Some(object.1)),
+                None => None,
+            };
+        }
+    }
+    Some(None)
+}
+
+// Looks for an identifier in the bucket at a page, in one look: its box, if it is there, and the page of the next
+// bucket.
+#[tactic(auto, using(page_cache::specs::Calls::ends_so))]
+pub(crate) fn look<const D: usize, B: BlockDevice, A: Allocator + Copy>(
+    cache: &mut PageCache<B, A>,
+    number: u32,
+    id: u64,
+) -> Result<(Option<BBox<D>>, u32), Fault>
+    requires dims { IsDims D }
+    ensures asks { Asks cache.old cache.new result }
+    ensures found { IsHonest cache.old → (c : BucketContent) → bucket_in D (pages cache.old number) ≡ Some c
+        → IfOk result (λ r. (r.0 ≡ box_in id c.entries) × (r.1 ≡ c.next)) }
+    ensures there { IsHonest cache.old → (c : BucketContent) → bucket_in D (pages cache.old number) ≡ Some c
+        → IfErr result IsOfDevice }
+    ensures other_faults { IfErr result (λ f. IsOfDevice f ⊎ IsDamage f) }
+{
+    let page = cache.page(number)?;
+    match box_on::<D>(page, id) {
+        Some(bounds) => Ok((bounds, next_at(page))),
+        None => Err(Fault::Damaged(number)),
+    }
+}
+
+// The place of an identifier on a bucket page, if an object there has it: identifiers are compared in their places.
+// `None` where the page begins as no bucket of this dimension.
+pub(crate) fn place_on<const D: usize>(page: &[u8; 4096], id: u64) -> Option<Option<usize>>
+    requires dims { IsDims D }
+    ensures of_bucket { (c : BucketContent) → bucket_at D page.now ≡ Some c
+        → IsSomeAnd result (IsFoundAt id c.entries) }
+    ensures within { IfSome result (λ found. IfSome found (λ place. place < 100)) }
+{
+    if !has_bucket_head::<D>(page) {
+        return None;
+    }
+    for place in 0..count_at(page) {
+        if id_at::<D>(page, place) == id {
+            return Some(Some(place));
+        }
+    }
+    Some(None)
+}
+
+// Looks for the place of an identifier in the bucket at a page, in one look: the place, if it is there, and the page of
+// the next bucket.
+#[tactic(auto, using(page_cache::specs::Calls::ends_so))]
+pub(crate) fn place_at<const D: usize, B: BlockDevice, A: Allocator + Copy>(
+    cache: &mut PageCache<B, A>,
+    number: u32,
+    id: u64,
+) -> Result<(Option<usize>, u32), Fault>
+    requires dims { IsDims D }
+    ensures asks { Asks cache.old cache.new result }
+    ensures found { IsHonest cache.old → (c : BucketContent) → bucket_in D (pages cache.old number) ≡ Some c
+        → IfOk result (λ r. IsFoundAt id c.entries r.0 × (r.1 ≡ c.next)) }
+    ensures within { IfOk result (λ r. IfSome r.0 (λ place. place < 100)) }
+    ensures some { OnOk result (¬ (number ≡ 0)) }
+    ensures there { IsHonest cache.old → (c : BucketContent) → bucket_in D (pages cache.old number) ≡ Some c
+        → IfErr result IsOfDevice }
+    ensures other_faults { IfErr result (λ f. IsOfDevice f ⊎ IsDamage f) }
+{
+    let page = cache.page(number)?;
+    match place_on::<D>(page, id) {
+        Some(found) => Ok((found, next_at(page))),
+        None => Err(Fault::Damaged(number)),
+    }
+}
+
+// The bytes of the first page of a chain, where it has room for an object more. `None` where there is no page, or the
+// first one is full.
+#[tactic(auto, using(page_cache::specs::Calls::ends_so))]
+pub(crate) fn room_in<const D: usize, B: BlockDevice, A: Allocator + Copy>(
+    cache: &mut PageCache<B, A>,
+    first: u32,
+) -> Result<Option<[u8; 4096]>, Fault>
+    requires dims { IsDims D }
+    ensures asks { Asks cache.old cache.new result }
+    ensures some { IfOk result (λ found. IfSome found (λ page. ¬ (first ≡ 0))) }
+    ensures room { IfOk result (λ found. IfSome found (λ page. number_at 2 2 page < 100)) }
+    ensures bytes { IsHonest cache.old → (c : BucketContent) → bucket_in D (pages cache.old first) ≡ Some c
+        → IfOk result (λ found. IfSome found (λ page. bucket_at D page ≡ Some c)) }
+    ensures full { IsHonest cache.old → (chain : List Linked) → ChainStands D (pages cache.old) first chain
+        → IfOk result (λ found. IfNone found (BeginsFull chain)) }
+    ensures there { IsHonest cache.old → (chain : List Linked) → ChainStands D (pages cache.old) first chain
+        → IfErr result IsOfDevice }
+    ensures other_faults { IfErr result (λ f. IsOfDevice f ⊎ IsDamage f) }
+{
+    if first == 0 {
+        return Ok(None);
+    }
+    let page = cache.page(first)?;
+    if !has_bucket_head::<D>(page) {
+        return Err(Fault::Damaged(first));
+    }
+    if count_at(page) == 100 {
+        return Ok(None);
+    }
+    Ok(Some(*page))
+}
+
+// Writes a bucket into a live page. After a refusal that page may hold any bytes.
+pub(crate) fn write_bucket<const D: usize, B: BlockDevice, A: Allocator + Copy>(
+    cache: &mut PageCache<B, A>,
+    number: u32,
+    bucket: &Bucket<D>,
+) -> Result<(), Fault>
+    requires dims { IsDims D }
+    requires open { gate_of cache.old ≡ Open }
+    requires some { 0 < length bucket.now.entries.items }
+    ensures changes { Changes cache.old cache.new result }
+    ensures next { next_of cache.new ≡ next_of cache.old }
+    ensures written { IsHonest cache.old → IsLive cache.old number
+        → OnOk result (bucket_in D (pages cache.new number) ≡ Some (content_of bucket.now)) }
+    ensures live { IsHonest cache.old → IsLive cache.old number → IsLive cache.new number }
+    ensures others { IsHonest cache.old → IsLive cache.old number
+        → SameBut number (pages cache.old) (pages cache.new) }
+    ensures sound { IsPageMap cache.old → IsLive cache.old number → IsPageMap cache.new }
+    ensures faults { IsHonest cache.old → IsLive cache.old number → IfErr result IsOfDevice }
+    ensures other_faults { IfErr result (λ f. IsOfDevice f ⊎ IsDamage f) }
+{
+    let mut bytes = zero_block();
+    encode(bucket, &mut bytes);
+    cache.put(number, &bytes)
+}

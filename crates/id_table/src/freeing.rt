@@ -1,0 +1,143 @@
+//! Tables given up.
+
+ghost use Rattle.std.specs.Prelude.{◌≡◌, ◌<◌, ◌≤◌, List, ℕ, Some, None, length, IfErr, IfOk, OnOk};
+ghost use Rattle.box_math.specs.Bounds.{IsDims};
+ghost use Rattle.bucket_page.specs.Layout.{BucketContent};
+ghost use Rattle.page_file.specs.Fault.{IsOfDevice};
+ghost use Rattle.page_file.specs.Pages.{SameBut};
+ghost use Rattle.page_file.specs.declared.gate.Gate.TheVariants.{Open};
+ghost use Rattle.page_cache.specs.Cache.{IsHonest, IsLive, IsPageMap, gate_of, next_of, pages};
+ghost use Rattle.page_cache.specs.Calls.{Asks, Changes};
+ghost use Rattle.node_page.specs.Broken.{Alters};
+ghost use Rattle.node_page.specs.Parts.{Moves, no_page};
+ghost use Rattle.id_table.specs.Pages.{Frees};
+ghost use Rattle.id_table.specs.Table.{Bucket, ChainStands, IdTable, IdsStand, bucket_in, occurs_in_chain, part_of};
+
+use crate::broken::midway;
+use crate::directory::{copy_page, is_directory, link_of};
+use block_device::BlockDevice;
+use bucket_page::{has_bucket_head, next_at};
+use node_page::Broken;
+use page_cache::PageCache;
+use page_file::Fault;
+use std::alloc::Allocator;
+
+/// Frees all pages of the table. The gate has to be open.
+///
+/// With a sound map, where the pages stand for a table at that directory, a refusal is `Memory` or `Device`.
+pub fn free_all<const D: usize, B: BlockDevice, A: Allocator + Copy>(
+    cache: &mut PageCache<B, A>,
+    directory: u32,
+) -> Result<(), Broken>
+    requires dims { IsDims D }
+    requires open { gate_of cache.old ≡ Open }
+    ensures alters { Alters cache.old cache.new result }
+    ensures sound { IsPageMap cache.old → (t : IdTable) → t.page ≡ directory → IdsStand D (pages cache.old) t
+        → IsPageMap cache.new }
+    ensures freed { IsPageMap cache.old → (t : IdTable) → t.page ≡ directory → IdsStand D (pages cache.old) t
+        → OnOk result (Moves (pages cache.old) (pages cache.new) (part_of t) no_page) }
+    ensures next { next_of cache.new ≡ next_of cache.old }
+    ensures faults { IsPageMap cache.old → (t : IdTable) → t.page ≡ directory → IdsStand D (pages cache.old) t
+        → IfErr result (λ b. IsOfDevice b.cause) }
+{
+    let bytes = copy_page(cache, directory)?;
+    if !is_directory::<D>(&bytes) {
+        return Err(Broken::from(Fault::Damaged(directory)));
+    }
+    midway(free_pages::<D, B, A>(cache, directory, &bytes))
+}
+
+// Frees a directory and the chains that it names.
+fn free_pages<const D: usize, B: BlockDevice, A: Allocator + Copy>(
+    cache: &mut PageCache<B, A>,
+    directory: u32,
+    bytes: &[u8; 4096],
+) -> Result<(), Fault>
+    requires dims { IsDims D }
+    requires open { gate_of cache.old ≡ Open }
+    ensures changes { Changes cache.old cache.new result }
+    ensures sound { IsPageMap cache.old → (t : IdTable) → t.page ≡ directory → IdsStand D (pages cache.old) t
+        → pages cache.old directory ≡ Some bytes.now → IsPageMap cache.new }
+    ensures freed { IsPageMap cache.old → (t : IdTable) → t.page ≡ directory → IdsStand D (pages cache.old) t
+        → pages cache.old directory ≡ Some bytes.now
+        → OnOk result (Frees (pages cache.old) (pages cache.new) (part_of t)) }
+    ensures next { next_of cache.new ≡ next_of cache.old }
+    ensures faults { IsPageMap cache.old → (t : IdTable) → t.page ≡ directory → IdsStand D (pages cache.old) t
+        → pages cache.old directory ≡ Some bytes.now → IfErr result IsOfDevice }
+{
+    cache.free(directory)?;
+    for class in 0..1000 {
+        free_chain::<D, B, A>(cache, link_of(bytes, class))?;
+    }
+    Ok(())
+}
+
+// Frees the pages of a chain.
+fn free_chain<const D: usize, B: BlockDevice, A: Allocator + Copy>(
+    cache: &mut PageCache<B, A>,
+    first: u32,
+) -> Result<(), Fault>
+    requires dims { IsDims D }
+    requires open { gate_of cache.old ≡ Open }
+    ensures changes { Changes cache.old cache.new result }
+    ensures sound { IsPageMap cache.old → (chain : List Bucket) → ChainStands D (pages cache.old) first chain
+        → ((n : ℕ) → occurs_in_chain n chain ≤ 1) → IsPageMap cache.new }
+    ensures freed { IsPageMap cache.old → (chain : List Bucket) → ChainStands D (pages cache.old) first chain
+        → ((n : ℕ) → occurs_in_chain n chain ≤ 1)
+        → OnOk result (Frees (pages cache.old) (pages cache.new) (λ n. occurs_in_chain n chain)) }
+    ensures next { next_of cache.new ≡ next_of cache.old }
+    ensures faults { IsPageMap cache.old → (chain : List Bucket) → ChainStands D (pages cache.old) first chain
+        → ((n : ℕ) → occurs_in_chain n chain ≤ 1) → length chain < next_of cache.old → IfErr result IsOfDevice }
+{
+    let mut number = first;
+    for freed in 0..cache.next_number() {
+        if number == 0 {
+            return Ok(());
+        }
+        number = free_bucket::<D, B, A>(cache, number)?;
+    }
+    Err(Fault::Damaged(number))
+}
+
+// Frees the page of a bucket, and answers that of the next one.
+fn free_bucket<const D: usize, B: BlockDevice, A: Allocator + Copy>(
+    cache: &mut PageCache<B, A>,
+    number: u32,
+) -> Result<u32, Fault>
+    requires dims { IsDims D }
+    requires open { gate_of cache.old ≡ Open }
+    ensures changes { Changes cache.old cache.new result }
+    ensures following { IsPageMap cache.old → (c : BucketContent) → bucket_in D (pages cache.old number) ≡ Some c
+        → IfOk result (λ next. next ≡ c.next) }
+    ensures gone { IsPageMap cache.old → IsLive cache.old number → OnOk result (pages cache.new number ≡ None) }
+    ensures others { IsPageMap cache.old → IsLive cache.old number
+        → SameBut number (pages cache.old) (pages cache.new) }
+    ensures sound { IsPageMap cache.old → IsLive cache.old number → IsPageMap cache.new }
+    ensures next { next_of cache.new ≡ next_of cache.old }
+    ensures faults { IsPageMap cache.old → (c : BucketContent) → bucket_in D (pages cache.old number) ≡ Some c
+        → 2 < number → IfErr result IsOfDevice }
+{
+    let next = next_after::<D, B, A>(cache, number)?;
+    cache.free(number)?;
+    Ok(next)
+}
+
+// The page of the next bucket, read in the lent page.
+#[tactic(auto, using(page_cache::specs::Calls::ends_so))]
+fn next_after<const D: usize, B: BlockDevice, A: Allocator + Copy>(
+    cache: &mut PageCache<B, A>,
+    number: u32,
+) -> Result<u32, Fault>
+    requires dims { IsDims D }
+    ensures asks { Asks cache.old cache.new result }
+    ensures following { IsHonest cache.old → (c : BucketContent) → bucket_in D (pages cache.old number) ≡ Some c
+        → IfOk result (λ next. next ≡ c.next) }
+    ensures there { IsHonest cache.old → (c : BucketContent) → bucket_in D (pages cache.old number) ≡ Some c
+        → IfErr result IsOfDevice }
+{
+    let page = cache.page(number)?;
+    if !has_bucket_head::<D>(page) {
+        return Err(Fault::Damaged(number));
+    }
+    Ok(next_at(page))
+}

@@ -1,0 +1,20 @@
+//! The identifier table of a layer in pages: the box of each identifier, by a directory of chains of buckets
+//! (docs/FORMAT.md).
+#![tactic(auto)]
+
+mod adding;
+mod broken;
+mod bucket;
+mod directory;
+mod freeing;
+mod making;
+mod removing;
+mod search;
+#[cfg(test)]
+mod tests;
+
+pub use adding::add;
+pub use freeing::free_all;
+pub use making::make;
+pub use removing::remove;
+pub use search::get;

@@ -1,0 +1,59 @@
+//! Tables made.
+
+ghost use Rattle.std.specs.Prelude.{◌≡◌, ◌≤◌, ◌<◌, IfOk, IfErr};
+ghost use Rattle.box_math.specs.Bounds.{IsDims};
+ghost use Rattle.page_file.specs.declared.gate.Gate.TheVariants.{Open};
+ghost use Rattle.page_cache.specs.Cache.{IsPageMap, gate_of, next_of, pages};
+ghost use Rattle.page_cache.specs.Calls.{Changes};
+ghost use Rattle.node_page.specs.Broken.{Alters};
+ghost use Rattle.id_table.specs.Changes.{Makes};
+ghost use Rattle.id_table.specs.Faults.{IsOfPages};
+
+use crate::directory::write_directory;
+use block_bytes::zero_block;
+use block_device::BlockDevice;
+use node_page::Broken;
+use page_cache::PageCache;
+use page_file::Fault;
+use std::alloc::Allocator;
+
+/// Makes a table of no objects, and answers the page of its directory. The gate has to be open.
+///
+/// With a sound map a refusal is `Memory` or `Device`, or `NoPages` where all page numbers were given out.
+pub fn make<const D: usize, B: BlockDevice, A: Allocator + Copy>(
+    cache: &mut PageCache<B, A>,
+) -> Result<u32, Broken>
+    requires dims { IsDims D }
+    requires open { gate_of cache.old ≡ Open }
+    ensures alters { Alters cache.old cache.new result }
+    ensures sound { IsPageMap cache.old → IsPageMap cache.new }
+    ensures made { IsPageMap cache.old
+        → IfOk result (λ directory. Makes D (pages cache.old) (pages cache.new) directory) }
+    ensures number { IfOk result (λ directory. (3 ≤ directory) × (directory < next_of cache.new)) }
+    ensures faults { IsPageMap cache.old → IfErr result (λ b. IsOfPages (next_of cache.old) b.cause) }
+{
+    match make_page::<D, B, A>(cache) {
+        Ok(directory) => Ok(directory),
+        Err(fault) => Err(Broken::midway(fault)),
+    }
+}
+
+// Gives out a page and writes a directory of empty chains into it.
+fn make_page<const D: usize, B: BlockDevice, A: Allocator + Copy>(
+    cache: &mut PageCache<B, A>,
+) -> Result<u32, Fault>
+    requires dims { IsDims D }
+    requires open { gate_of cache.old ≡ Open }
+    ensures changes { Changes cache.old cache.new result }
+    ensures sound { IsPageMap cache.old → IsPageMap cache.new }
+    ensures made { IsPageMap cache.old
+        → IfOk result (λ directory. Makes D (pages cache.old) (pages cache.new) directory) }
+    ensures number { IfOk result (λ directory. (3 ≤ directory) × (directory < next_of cache.new)) }
+    ensures faults { IsPageMap cache.old → IfErr result (λ f. IsOfPages (next_of cache.old) f) }
+{
+    let directory = cache.allocate()?;
+    let mut bytes = zero_block();
+    write_directory::<D>(&mut bytes);
+    cache.put(directory, &bytes)?;
+    Ok(directory)
+}
