@@ -1,0 +1,6 @@
+-- The files of lemmas.
+pub mod PairLemmas
+pub mod OpeningLemmas
+pub mod DescentLemmas
+pub mod RootLemmas
+pub mod Examples

@@ -1,0 +1,20 @@
+-- The goals of `open` that are proved by hand.
+use Rattle.std.proofs.Common.{◌∙◌, ap}
+use Rattle.std.proofs.lemmas.Result.{IfOk-weaker}
+use Rattle.page_cache.specs.Cache.{pages}
+use Rattle.tree_node.specs.Nodes.{content_of}
+use Rattle.tree_node.specs.Trees.{row_items}
+use Rattle.node_page.specs.Standing.{PageMap}
+use Rattle.node_page.proofs.LeafLemmas.{entries_there}
+use Rattle.node_page.proofs.StandingLemmas.{page_of_node}
+use Rattle.spatial_join.proofs.OpeningLemmas.{has_pages, opened_here}
+use Rattle.spatial_join.proofs.opening.open.Goals as goal
+
+pub returns-then-other-node-clause-entries : goal.returns-then-other-node-clause-entries
+returns-then-other-node-clause-entries g c = λ h row at.
+    let m : PageMap = pages c.args.cache.now in
+    IfOk-weaker c.read_node.result _ _ (λ node there. ap row_items (opened_here c.args.node.level c.args.other c.args.bounds.now c.args.node.page row c.if-other-node.true) ∙ entries_there g.row.D m c.args.node.page c.args.node.level row (content_of node) at there)
+    (c.read_node.ensures.node h (page_of_node g.row.D (m c.args.node.page) _ at.node))
+
+pub returns-then-other-node-clause-references : goal.returns-then-other-node-clause-references
+returns-then-other-node-clause-references g c = IfOk-weaker c.read_node.result _ _ (λ node spellable. has_pages (content_of node) spellable) c.read_node.ensures.spellable

@@ -1,0 +1,3 @@
+-- The files of definitions.
+pub mod Pairs
+pub mod Opening

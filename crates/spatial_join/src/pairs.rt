@@ -1,0 +1,67 @@
+//! The descent into the pairs of nodes whose boxes meet.
+
+ghost use Rattle.std.specs.Prelude.{◌≡◌, ◌⊎◌, ◌↔◌, ◌+◌, ◌*◌, ◌≤◌, ℕ, IfErr, OnOk};
+ghost use Rattle.box_math.specs.Bounds.{IsDims};
+ghost use Rattle.page_file.specs.Fault.{IsDamage, IsOfDevice};
+ghost use Rattle.page_cache.specs.Cache.{IsHonest, looks_of, pages};
+ghost use Rattle.page_cache.specs.Calls.{Asks};
+ghost use Rattle.tree_node.specs.Joins.{boxes_below, meeting_pairs};
+ghost use Rattle.tree_node.specs.Nodes.{content_of};
+ghost use Rattle.tree_node.specs.Trees.{Row};
+ghost use Rattle.spatial_join.specs.Opening.{Encloses, HasPages, HasRow};
+ghost use Rattle.spatial_join.specs.Pairs.{Adds};
+
+use crate::opening::open;
+use block_device::BlockDevice;
+use node_page::{Node, Root};
+use page_cache::PageCache;
+use page_file::Fault;
+use std::alloc::Allocator;
+
+/// Appends the pairs of objects below two nodes whose boxes meet.
+pub(crate) fn add_pairs<const D: usize, B: BlockDevice, A: Allocator + Copy, H: Allocator>(
+    cache: &mut PageCache<B, A>,
+    left: &Node<D>,
+    right: &Node<D>,
+    pairs: &mut Vec<(u64, u64), H>,
+) -> Result<(), Fault>
+    requires dims { IsDims D }
+    requires leaves { left.now.level ≡ 0 ↔ right.now.level ≡ 0 }
+    requires left_pages { HasPages (content_of left.now) }
+    requires right_pages { HasPages (content_of right.now) }
+    ensures asks { Asks cache.old cache.new result }
+    ensures pairs { IsHonest cache.old → (s t : Row) → HasRow D (pages cache.old) (content_of left.now) s
+        → HasRow D (pages cache.old) (content_of right.now) t → Encloses D s → Encloses D t
+        → OnOk result (Adds D s t pairs.old.items pairs.new.items) }
+    ensures looks { IsHonest cache.old → (s t : Row) → HasRow D (pages cache.old) (content_of left.now) s
+        → HasRow D (pages cache.old) (content_of right.now) t
+        → OnOk result (looks_of cache.new
+        ≤ looks_of cache.old + 2 * meeting_pairs D (boxes_below s) (boxes_below t)) }
+    ensures stands { IsHonest cache.old → (s t : Row) → HasRow D (pages cache.old) (content_of left.now) s
+        → HasRow D (pages cache.old) (content_of right.now) t → IfErr result IsOfDevice }
+    ensures other_faults { IfErr result (λ f. IsOfDevice f ⊎ IsDamage f) }
+{
+    for entry in left.entries.as_slice() {
+        for other in right.entries.as_slice() {
+            if !entry.bounds.meets(&other.bounds) {
+                continue;
+            }
+            if left.level == 0 {
+                pairs.push((entry.reference, other.reference))?;
+                continue;
+            }
+            let below = Root {
+                page: entry.reference as u32,
+                level: left.level - 1,
+            };
+            let beside = Root {
+                page: other.reference as u32,
+                level: right.level - 1,
+            };
+            let first = open::<D, B, A>(cache, below, &entry.bounds, beside.level)?;
+            let second = open::<D, B, A>(cache, beside, &other.bounds, below.level)?;
+            add_pairs::<D, B, A, H>(cache, &first, &second, pairs)?;
+        }
+    }
+    Ok(())
+}
