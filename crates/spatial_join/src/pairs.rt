@@ -44,6 +44,7 @@ pub(crate) fn add_pairs<const D: usize, B: BlockDevice, A: Allocator + Copy, H: 
         → HasRow D (pages cache.old) (content_of right.now) t → IfErr result IsOfDevice }
     ensures other_faults { IfErr result (λ f. IsOfDevice f ⊎ IsDamage f) }
 {
+    // The boxes are in columns, so that an entry is compared with eight of them at once.
     let (lows, highs) = columns_of(right);
     for entry in left.entries.as_slice() {
         let mask = meet_mask(&lows, &highs, right.entries.len(), &entry.bounds);

@@ -69,10 +69,7 @@ fn scene(alloc: Global) -> Result<MemoryDevice, Fault> {
             ],
         ),
     )?;
-    cache.put(
-        6,
-        &page_of(1, &[(4, [0, 0], [1, 0]), (5, [2, 0], [10, 0])]),
-    )?;
+    cache.put(6, &page_of(1, &[(4, [0, 0], [1, 0]), (5, [2, 0], [10, 0])]))?;
     cache.put(7, &page_of(0, &[]))?;
     cache.put(8, &page_of(1, &[(8, [0, 0], [1, 1])]))?;
     cache.close().map_err(|(fault, _)| fault)
@@ -97,7 +94,10 @@ fn joined(alloc: Global, a: Root, b: Root) -> Result<(Vec<(u64, u64)>, u64), Fau
 #[test]
 fn touching_boxes_are_joined(rt: HostRuntime) -> Result<(), Fail> {
     let (pairs, looks) = joined(rt.alloc(), TOUCHING, TOUCHING)?;
-    assert_eq!(rt; pairs.as_slice(), [(1, 1), (1, 2), (2, 1), (2, 2)].as_slice());
+    assert_eq!(rt;
+        pairs.as_slice(),
+        [(1, 1), (1, 2), (2, 1), (2, 2)].as_slice()
+    );
     assert_eq!(rt; looks, 2);
     Ok(())
 }
@@ -158,7 +158,10 @@ fn each_growth_is_refused_in_turn(rt: HostRuntime) -> Result<(), Fail> {
         }
         assert!(rt; answer.err() == Some(Fault::Memory), "{k}");
         // nothing is kept of the refusal
-        assert_eq!(rt; join::<2, _, _, _>(&heap, &mut cache, TALL, TOUCHING)?.len(), 2);
+        assert_eq!(rt;
+            join::<2, _, _, _>(&heap, &mut cache, TALL, TOUCHING)?.len(),
+            2
+        );
     }
     Err(Fail::from("each time some growth was refused"))
 }
@@ -171,8 +174,14 @@ fn each_call_of_the_device_fails_in_turn(rt: HostRuntime) -> Result<(), Fail> {
         let mut cache = cache_over(rt.alloc(), fuse)?;
         let answer = join::<2, _, _, _>(rt.alloc(), &mut cache, TALL, TOUCHING);
         // Both roots and two leaves are read.
-        assert!(rt; answer.err() == (if k < 4 { Some(Fault::Device) } else { None }), "{k}");
-        assert_eq!(rt; join::<2, _, _, _>(rt.alloc(), &mut cache, TALL, TOUCHING)?.len(), 2);
+        assert!(rt;
+            answer.err() == (if k < 4 { Some(Fault::Device) } else { None }),
+            "{k}"
+        );
+        assert_eq!(rt;
+            join::<2, _, _, _>(rt.alloc(), &mut cache, TALL, TOUCHING)?.len(),
+            2
+        );
     }
     Ok(())
 }

@@ -1,5 +1,5 @@
 -- The bits from the place on, found by the zeros below them.
-use Rattle.std.proofs.Common.{◌≡◌, arith}
+use Rattle.std.proofs.Common.{arith}
 use Rattle.std.specs.Int.{w128}
 use Rattle.spatial_join.proofs.MaskLemmas.{clear_after, clear_before, first_set, first_within}
 use Rattle.spatial_join.proofs.columns.next_place.Goals as goal

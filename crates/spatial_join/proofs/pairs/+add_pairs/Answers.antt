@@ -37,12 +37,13 @@ other-preserved-then-left-eq0 g t c =
     let within = place_within c.deref.result.now c.args.right.now.entries.items c.in-Some.place c.meet_mask-mask.result (item_of c.entry-item.result).bounds told set c.deref.ensures.0 in
     let reached = next_reached c.loop-entry.entry-index c.other.from c.in-Some.place c.meet_mask-mask.result c.other.invariant.0 (item_of c.entry-item.result) _
     (λ s same. entry_here s c.as_slice-entry-items.result.now c.args.left.now.entries.items c.loop-entry.entry-index c.entry-item.result same c.as_slice-entry-items.ensures.value (omega (arith, c.loop-entry-test.true)) c.entry-item.is)
-    told c.in-Some.ensures.set.0 (omega (arith, told.within c.in-Some.place set)) c.in-Some.ensures.first in
-    (pair_added c.loop-entry.entry-index c.in-Some.place reached (item_of c.entry-item.result) (item_of c.index-deref-place.result) _ _
-    (λ s same. entry_here s c.as_slice-entry-items.result.now c.args.left.now.entries.items c.loop-entry.entry-index c.entry-item.result same c.as_slice-entry-items.ensures.value (omega (arith, c.loop-entry-test.true)) c.entry-item.is)
-    (λ r same. entry_here r c.deref.result.now c.args.right.now.entries.items c.in-Some.place c.index-deref-place.result same c.deref.ensures.0 within c.index-deref-place.is)
-    (meets_here c.deref.result.now c.args.right.now.entries.items c.in-Some.place c.meet_mask-mask.result (item_of c.entry-item.result).bounds c.index-deref-place.result told set c.deref.ensures.0 c.index-deref-place.is) c.if-left-eq0.true (c.requires.leaves.0 c.if-left-eq0.true) c.push.new.self.items c.in_ok-push.ensures.items,
-    omega (arith, within, ap length c.deref.ensures.0))
+    told c.in-Some.ensures.set.0 (omega (arith, told.within c.in-Some.place set)) c.in-Some.ensures.first in (
+      pair_added c.loop-entry.entry-index c.in-Some.place reached (item_of c.entry-item.result) (item_of c.index-deref-place.result) _ _
+          (λ s same. entry_here s c.as_slice-entry-items.result.now c.args.left.now.entries.items c.loop-entry.entry-index c.entry-item.result same c.as_slice-entry-items.ensures.value (omega (arith, c.loop-entry-test.true)) c.entry-item.is)
+          (λ r same. entry_here r c.deref.result.now c.args.right.now.entries.items c.in-Some.place c.index-deref-place.result same c.deref.ensures.0 within c.index-deref-place.is)
+          (meets_here c.deref.result.now c.args.right.now.entries.items c.in-Some.place c.meet_mask-mask.result (item_of c.entry-item.result).bounds c.index-deref-place.result told set c.deref.ensures.0 c.index-deref-place.is) c.if-left-eq0.true (c.requires.leaves.0 c.if-left-eq0.true) c.push.new.self.items c.in_ok-push.ensures.items,
+      omega (arith, within, ap length c.deref.ensures.0),
+    )
 
 pub overflow_cast-below : goal.overflow_cast-below
 overflow_cast-below g t c = omega (arith, page_fits c.args.left.now.entries.items c.as_slice-entry-items.result.now c.loop-entry.entry-index c.entry-item.result (c.requires.left_pages (omega (arith, c.if-left-eq0.false))) c.as_slice-entry-items.ensures.value (omega (arith, c.loop-entry-test.true)) c.entry-item.is)
@@ -145,19 +146,20 @@ other-preserved g t c =
     let within = place_within c.deref.result.now c.args.right.now.entries.items c.in-Some.place c.meet_mask-mask.result (item_of c.entry-item.result).bounds told set c.deref.ensures.0 in
     let reached = next_reached c.loop-entry.entry-index c.other.from c.in-Some.place c.meet_mask-mask.result c.other.invariant.0 (item_of c.entry-item.result) _
     (λ s same. entry_here s c.as_slice-entry-items.result.now c.args.left.now.entries.items c.loop-entry.entry-index c.entry-item.result same c.as_slice-entry-items.ensures.value (omega (arith, c.loop-entry-test.true)) c.entry-item.is)
-    told c.in-Some.ensures.set.0 (omega (arith, told.within c.in-Some.place set)) c.in-Some.ensures.first in
-    (went_below c.loop-entry.entry-index c.in-Some.place reached (item_of c.entry-item.result) (item_of c.index-deref-place.result) _ _
-    (λ s same. entry_here s c.as_slice-entry-items.result.now c.args.left.now.entries.items c.loop-entry.entry-index c.entry-item.result same c.as_slice-entry-items.ensures.value (omega (arith, c.loop-entry-test.true)) c.entry-item.is)
-    (λ r same. entry_here r c.deref.result.now c.args.right.now.entries.items c.in-Some.place c.index-deref-place.result same c.deref.ensures.0 within c.index-deref-place.is)
-    (omega (arith, c.if-left-eq0.false)) (both_above c.args.left.now.level c.args.right.now.level c.requires.leaves (omega (arith, c.if-left-eq0.false)))
-    c.open.new.cache c.open-in-Some.new.cache c.in_ok-first.ensures.asks c.in_ok-second.ensures.asks
-    (content_of c.in_ok-first.first) (content_of c.in_ok-second.second) c.in_ok-first.ensures.level c.in_ok-second.ensures.level
-    (λ h row at. c.in_ok-first.ensures.entries h row at) (λ h row at. c.in_ok-second.ensures.entries h row at)
-    (meets_here c.deref.result.now c.args.right.now.entries.items c.in-Some.place c.meet_mask-mask.result (item_of c.entry-item.result).bounds c.index-deref-place.result told set c.deref.ensures.0 c.index-deref-place.is) c.add_pairs.new.cache c.add_pairs.new.pairs.items c.in_ok-add_pairs.ensures.asks
-    c.in_ok-first.ensures.looks c.in_ok-second.ensures.looks
-    (λ h s r first second e e'. c.in_ok-add_pairs.ensures.pairs h s r first second e e')
-    (λ h s r first second. c.in_ok-add_pairs.ensures.looks h s r first second),
-    omega (arith, within, ap length c.deref.ensures.0))
+    told c.in-Some.ensures.set.0 (omega (arith, told.within c.in-Some.place set)) c.in-Some.ensures.first in (
+      went_below c.loop-entry.entry-index c.in-Some.place reached (item_of c.entry-item.result) (item_of c.index-deref-place.result) _ _
+          (λ s same. entry_here s c.as_slice-entry-items.result.now c.args.left.now.entries.items c.loop-entry.entry-index c.entry-item.result same c.as_slice-entry-items.ensures.value (omega (arith, c.loop-entry-test.true)) c.entry-item.is)
+          (λ r same. entry_here r c.deref.result.now c.args.right.now.entries.items c.in-Some.place c.index-deref-place.result same c.deref.ensures.0 within c.index-deref-place.is)
+          (omega (arith, c.if-left-eq0.false)) (both_above c.args.left.now.level c.args.right.now.level c.requires.leaves (omega (arith, c.if-left-eq0.false)))
+          c.open.new.cache c.open-in-Some.new.cache c.in_ok-first.ensures.asks c.in_ok-second.ensures.asks
+          (content_of c.in_ok-first.first) (content_of c.in_ok-second.second) c.in_ok-first.ensures.level c.in_ok-second.ensures.level
+          (λ h row at. c.in_ok-first.ensures.entries h row at) (λ h row at. c.in_ok-second.ensures.entries h row at)
+          (meets_here c.deref.result.now c.args.right.now.entries.items c.in-Some.place c.meet_mask-mask.result (item_of c.entry-item.result).bounds c.index-deref-place.result told set c.deref.ensures.0 c.index-deref-place.is) c.add_pairs.new.cache c.add_pairs.new.pairs.items c.in_ok-add_pairs.ensures.asks
+          c.in_ok-first.ensures.looks c.in_ok-second.ensures.looks
+          (λ h s r first second e e'. c.in_ok-add_pairs.ensures.pairs h s r first second e e')
+          (λ h s r first second. c.in_ok-add_pairs.ensures.looks h s r first second),
+      omega (arith, within, ap length c.deref.ensures.0),
+    )
 
 pub loop-entry-preserved : goal.loop-entry-preserved
 loop-entry-preserved g t c =
