@@ -1,9 +1,10 @@
 -- What a descent into pairs of nodes has added and looked at, entry by entry.
 use Rattle.std.proofs.Common.{◌≡◌, ◌∙◌, ℕ, zero, suc, ◌+◌, ◌-◌, ◌*◌, ◌^◌, ◌<◌, ◌≤◌, Bool, true, false, cond, None, Some, Result, IsErrAnd, List, [], ◌∷◌, ◌++◌, length, drop, get_or, map, All, refl, sym, ap, subst, arith, add-one}
 use Rattle.std.specs.Prelude.{◌↔◌}
-use Rattle.std.proofs.lemmas.List.{length-map}
+use Rattle.std.proofs.lemmas.List.{get_or_default, length-map}
 use Rattle.std.proofs.lemmas.List.Elements.{All-get_or}
 use Rattle.box_math.specs.Bounds.{Bounds, meets_test}
+use Rattle.box_math.specs.Masks.{has_bit}
 use Rattle.page_file.specs.Fault.{faults_after}
 use Rattle.page_file.specs.declared.fault.Fault.{Fault}
 use Rattle.page_file.specs.declared.fault.Fault.TheVariants as fault
@@ -11,6 +12,7 @@ use Rattle.page_cache.specs.Cache.{IsHonest, device_of, looks_of, pages}
 use Rattle.page_cache.specs.Calls.{Asks, AsksUntil, asks_and_refuses, asks_in_turn, no_call_asks}
 use Rattle.page_cache.specs.declared.cache.PageCache.{PageCache}
 use Rattle.tree_node.specs.declared.node.Entry.{Entry}
+use Rattle.tree_node.specs.Boxes.{box_at, no_item}
 use Rattle.tree_node.specs.Nodes.{Item, NodeContent, item_of}
 use Rattle.tree_node.specs.Positions.{total}
 use Rattle.tree_node.specs.Trees.{Row, end, more, object, child, objects_in, row_items}
@@ -20,6 +22,7 @@ use Rattle.node_page.specs.Standing.{PageMap, RowStands, StandsAt}
 use Rattle.node_page.proofs.StandingLemmas.{node_stays, row_stays}
 use Rattle.spatial_join.specs.Pairs.{Adds, meeting}
 use Rattle.spatial_join.specs.Opening.{Encloses, HasRow, opened, opened_level}
+use Rattle.spatial_join.proofs.MaskLemmas.{Tells}
 use Rattle.spatial_join.proofs.OpeningLemmas.{fewer_pairs, objects_opened, only, opened_encloses, opened_stands}
 use Rattle.spatial_join.proofs.PairLemmas.{heads_apart, meeting_sum, meeting_sum-left, meeting_sum-none, meeting_sum-right, pairs_below, pairs_below-left, pairs_below-right, row_head}
 
@@ -329,3 +332,33 @@ module _ {B A : Type 0} {m : _} where
                 let fewer = opened_pairs dims (left.level - 1) (right.level - 1) (row_drop i s) (row_drop j t) x y b.below c.below b.head_is c.head_is meets in
                 omega (arith, so_far.looked h s t first second, nodes_next dims i j s t, found, fewer, looks, looks');
           }
+
+    -- so are all entries from one place on to another
+    pub passed_to : (i j k n : ℕ) → j + n ≡ k → Progress dims old now left right (left_beside dims i j) (nodes_beside dims i j) pairs pairs_now
+        → (x : Item) (xs : List Item) → ((s : Row) → row_items s ≡ left.entries → row_items (row_drop i s) ≡ x ∷ xs) → k ≤ length right.entries
+        → ((p : ℕ) → j ≤ p → p < k → meets_test dims x.bounds (box_at right.entries p) ≡ false) → Progress dims old now left right (left_beside dims i k) (nodes_beside dims i k) pairs pairs_now
+    passed_to i j k zero reach so_far x xs here within apart =
+        let same : j ≡ k = omega (arith, reach) in
+        subst (λ (p : ℕ). Progress dims old now left right (left_beside dims i p) (nodes_beside dims i p) pairs pairs_now) same so_far
+    passed_to i j k (suc n) reach so_far x xs here within apart =
+        let last : j + n < k = omega (arith, reach) in
+        let before = passed_to i j (j + n) n refl so_far x xs here (omega (arith, within, last)) (λ p low high. apart p low (omega (arith, high, last))) in
+        let y : Item = get_or right.entries (j + n) no_item in
+        let there : (t : Row) → row_items t ≡ right.entries → row_items (row_drop (j + n) t) ≡ y ∷ drop (j + n + 1) right.entries =
+        λ t same. items_from t right.entries (j + n) y same (omega (arith, within, last)) (get_or_default right.entries (j + n) no_item y (omega (arith, within, last))) in
+        let step = passed_over i (j + n) before x y xs (drop (j + n + 1) right.entries) here there (apart (j + n) (omega arith) last) in
+        let next : j + n + 1 ≡ k = omega (arith, reach) in
+        subst (λ (p : ℕ). Progress dims old now left right (left_beside dims i p) (nodes_beside dims i p) pairs pairs_now) next step
+
+    -- the next entry that a mask names, after which the loop goes on, and the end of them
+    pub next_reached : (i j k mask : ℕ) → Progress dims old now left right (left_beside dims i j) (nodes_beside dims i j) pairs pairs_now
+        → (x : Item) (xs : List Item) → ((s : Row) → row_items s ≡ left.entries → row_items (row_drop i s) ≡ x ∷ xs) → Tells dims mask right.entries x.bounds
+        → j ≤ k → k ≤ length right.entries → ((p : ℕ) → j ≤ p → p < k → has_bit mask p ≡ false) → Progress dims old now left right (left_beside dims i k) (nodes_beside dims i k) pairs pairs_now
+    next_reached i j k mask so_far x xs here tells order within clear =
+        passed_to i j k (k - j) (omega (arith, order)) so_far x xs here within (λ p low high. sym (tells.met p (omega (arith, within, high))) ∙ clear p low high)
+
+    pub end_reached : (i j mask : ℕ) → Progress dims old now left right (left_beside dims i j) (nodes_beside dims i j) pairs pairs_now
+        → (x : Item) (xs : List Item) → ((s : Row) → row_items s ≡ left.entries → row_items (row_drop i s) ≡ x ∷ xs) → Tells dims mask right.entries x.bounds
+        → j ≤ length right.entries → ((p : ℕ) → j ≤ p → has_bit mask p ≡ false) → Progress dims old now left right (left_from dims (i + 1)) (nodes_from dims (i + 1)) pairs pairs_now
+    end_reached i j mask so_far x xs here tells within clear =
+        beside_ends i (length right.entries) (next_reached i j (length right.entries) mask so_far x xs here tells within (omega arith) (λ p low high. clear p low)) (omega arith)

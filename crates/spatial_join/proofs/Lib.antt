@@ -1,6 +1,7 @@
 -- The files of lemmas.
 pub mod PairLemmas
 pub mod OpeningLemmas
+pub mod MaskLemmas
 pub mod DescentLemmas
 pub mod RootLemmas
 pub mod Examples

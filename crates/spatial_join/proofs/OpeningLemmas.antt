@@ -1,12 +1,12 @@
 -- What is opened of two nodes has the objects that they have, and no more pairs of nodes that meet.
-use Rattle.std.proofs.Common.{◌≡◌, ◌∙◌, ℕ, zero, suc, ◌+◌, ◌-◌, ◌<◌, ◌≤◌, nat_le, Bool, true, false, cond, Option, Some, None, List, [], ◌∷◌, ◌++◌, map, refl, sym, ap, subst, arith}
+use Rattle.std.proofs.Common.{◌≡◌, ◌∙◌, ℕ, ◌+◌, ◌-◌, ◌<◌, ◌≤◌, nat_le, Bool, true, false, cond, Option, Some, None, List, [], ◌∷◌, ◌++◌, refl, sym, ap, subst, arith}
 use Rattle.std.specs.Prelude.{◌↔◌}
 use Rattle.std.proofs.lemmas.Bool.Decides.{nat_tests}
 use Rattle.std.proofs.lemmas.List.{append-nil}
 use Rattle.box_math.specs.Bounds.{Bounds, meets_test}
 use Rattle.tree_node.specs.Joins.{boxes_below, count_passing, meeting_pairs}
 use Rattle.tree_node.specs.Nodes.{Item, NodeContent}
-use Rattle.tree_node.specs.Trees.{Row, end, more, object, child, objects_in, row_items}
+use Rattle.tree_node.specs.Trees.{Row, end, more, child, objects_in, row_items}
 use Rattle.node_page.specs.Layout.{IsSpellable}
 use Rattle.node_page.specs.Standing.{PageMap, HasNode, RowStands, StandsAt}
 use Rattle.spatial_join.specs.Opening.{Encloses, HasPages, alone, lone, node_box, opened, opened_level, opened_root}

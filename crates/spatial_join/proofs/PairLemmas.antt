@@ -8,7 +8,7 @@ use Rattle.std.proofs.lemmas.List.Elements.{filter-append}
 use Rattle.box_math.specs.Bounds.{Bounds, Within, meets_test}
 use Rattle.box_math.proofs.BoxLaws.{Meets-grows, Meets-sym, Within-refl, Within-trans}
 use Rattle.box_math.proofs.TestLaws.{meets_test_true}
-use Rattle.tree_node.specs.Joins.{boxes_below, count_passing, meeting_pairs}
+use Rattle.tree_node.specs.Joins.{boxes_below, meeting_pairs}
 use Rattle.tree_node.specs.Nodes.{Item}
 use Rattle.tree_node.specs.Positions.{total}
 use Rattle.tree_node.specs.Shape.{RowHasShape, RowWithin}

@@ -1,6 +1,7 @@
--- How the nodes of a pair are opened: the higher one, or both of one level (our rule, docs/FORMAT.md, "Trees of pages"). A
--- node that is not opened stands for itself, as the only entry of a node above it.
-use Rattle.std.specs.Prelude.{◌≡◌, ℕ, ◌+◌, ◌^◌, ◌<◌, nat_le, List, [], ◌∷◌, All, ⊤, Option, Some, None, if◌then◌else◌}
+-- How the nodes of a pair are opened: the higher one, or both of one level (our rule, docs/FORMAT.md, "Trees of pages").
+-- A node that is not opened stands for itself, as the only entry of a node above it.
+use Rattle.std.specs.Prelude.{◌≡◌, ℕ, ◌+◌, ◌^◌, ◌<◌, nat_le, List, [], ◌∷◌, All, ⊤, Option, Some, None}
+use Rattle.std.specs.Prelude.{if◌then◌else◌}
 use Rattle.box_math.specs.Bounds.{Bounds, Within}
 use Rattle.tree_node.specs.Boxes.{least_box}
 use Rattle.tree_node.specs.Nodes.{Item, NodeContent}
@@ -32,7 +33,8 @@ node_box dims (item ∷ items) = Some (least_box dims (item ∷ items))
 
 -- what is opened of a root
 abbrev pub opened_root : ℕ → ℕ → ℕ → ℕ → Row → Row
-opened_root dims level other page row = if nat_le other level then row else alone (node_box dims (row_items row)) page row
+opened_root dims level other page row =
+    if nat_le other level then row else alone (node_box dims (row_items row)) page row
 
 -- above the leaves each reference is a number of 32 bits
 abbrev pub HasPages : NodeContent → Type 0
@@ -47,7 +49,8 @@ AllWithin dims b (x ∷ xs) = Within dims x.1 b × AllWithin dims b xs
 abbrev pub Encloses : ℕ → Row → Type 0
 Encloses dims end = ⊤
 Encloses dims (more (object bounds id) rest) = Encloses dims rest
-Encloses dims (more (child bounds page below) rest) = AllWithin dims bounds (objects_in below) × Encloses dims below × Encloses dims rest
+Encloses dims (more (child bounds page below) rest) =
+    AllWithin dims bounds (objects_in below) × Encloses dims below × Encloses dims rest
 
 -- the node has these entries, and the trees below them stand in the pages
 pub record HasRow (dims : ℕ) (pages : PageMap) (c : NodeContent) (row : Row) : Type 0 where

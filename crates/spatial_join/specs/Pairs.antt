@@ -11,7 +11,8 @@ use Rattle.tree_node.specs.Trees.{Row, Tree, objects_in}
 
 -- the pairs of identifiers of an object and each of the others whose box meets its box
 abbrev pub pairs_with : ℕ → List (ℕ × Bounds) → ℕ × Bounds → List (ℕ × ℕ)
-pairs_with dims others object = map (λ other. (object.0, other.0)) (filter (λ other. meets_test dims object.1 other.1) others)
+pairs_with dims others object =
+    map (λ other. (object.0, other.0)) (filter (λ other. meets_test dims object.1 other.1) others)
 
 -- the pairs of identifiers of an object of each list whose boxes meet
 abbrev pub meeting : ℕ → List (ℕ × Bounds) → List (ℕ × Bounds) → List (ℕ × ℕ)

@@ -1,6 +1,6 @@
 //! How the nodes of a pair are opened.
 
-ghost use Rattle.std.specs.Prelude.{◌≡◌, ◌⊎◌, ◌+◌, ◌-◌, ◌<◌, ◌≤◌, ◌^◌, ℕ, Some, None, IfOk, IfErr, OnOk};
+ghost use Rattle.std.specs.Prelude.{◌≡◌, ◌⊎◌, ◌+◌, ◌-◌, ◌<◌, ◌≤◌, ◌^◌, ℕ, Some, None, IfOk, IfErr, OnOk, length};
 ghost use Rattle.box_math.specs.Bounds.{IsDims};
 ghost use Rattle.page_file.specs.Fault.{IsDamage, IsOfDevice};
 ghost use Rattle.page_cache.specs.Cache.{IsHonest, looks_of, pages};
@@ -34,6 +34,7 @@ pub(crate) fn open<const D: usize, B: BlockDevice, A: Allocator + Copy>(
         → IfOk result (λ opening.
         row_items (opened node.level other bounds.now node.page row) ≡ (content_of opening).entries) }
     ensures references { IfOk result (λ opening. HasPages (content_of opening)) }
+    ensures few { IfOk result (λ opening. length opening.entries.items ≤ 100) }
     ensures looks { OnOk result (looks_of cache.new ≤ looks_of cache.old + 1) }
     ensures stands { IsHonest cache.old → (row : Row) → StandsAt D (pages cache.old) node.page node.level row
         → IfErr result IsOfDevice }
@@ -58,6 +59,7 @@ pub(crate) fn open_root<const D: usize, B: BlockDevice, A: Allocator + Copy>(
         → IfOk result (λ opening.
         row_items (opened_root D root.level other root.page row) ≡ (content_of opening).entries) }
     ensures references { IfOk result (λ opening. HasPages (content_of opening)) }
+    ensures few { IfOk result (λ opening. length opening.entries.items ≤ 100) }
     ensures looks { OnOk result (looks_of cache.new ≤ looks_of cache.old + 1) }
     ensures stands { IsHonest cache.old → (row : Row) → StandsAt D (pages cache.old) root.page root.level row
         → IfErr result IsOfDevice }
@@ -75,6 +77,7 @@ fn above<const D: usize>(node: Root, bounds: Option<BBox<D>>) -> Node<D>
     requires { node.level < 255 }
     ensures level { result.level ≡ node.level + 1 }
     ensures entries { (content_of result).entries ≡ lone bounds.entry node.page }
+    ensures few { length result.entries.items ≤ 1 }
 {
     let mut entries = ArrayVec::new();
     if let Some(bounds) = bounds {

@@ -1,6 +1,6 @@
 //! The descent into the pairs of nodes whose boxes meet.
 
-ghost use Rattle.std.specs.Prelude.{◌≡◌, ◌⊎◌, ◌↔◌, ◌+◌, ◌*◌, ◌≤◌, ℕ, IfErr, OnOk};
+ghost use Rattle.std.specs.Prelude.{◌≡◌, ◌⊎◌, ◌↔◌, ◌+◌, ◌*◌, ◌≤◌, ℕ, IfErr, OnOk, length};
 ghost use Rattle.box_math.specs.Bounds.{IsDims};
 ghost use Rattle.page_file.specs.Fault.{IsDamage, IsOfDevice};
 ghost use Rattle.page_cache.specs.Cache.{IsHonest, looks_of, pages};
@@ -11,8 +11,10 @@ ghost use Rattle.tree_node.specs.Trees.{Row};
 ghost use Rattle.spatial_join.specs.Opening.{Encloses, HasPages, HasRow};
 ghost use Rattle.spatial_join.specs.Pairs.{Adds};
 
+use crate::columns::{columns_of, next_place};
 use crate::opening::open;
 use block_device::BlockDevice;
+use box_math::meet_mask;
 use node_page::{Node, Root};
 use page_cache::PageCache;
 use page_file::Fault;
@@ -29,6 +31,7 @@ pub(crate) fn add_pairs<const D: usize, B: BlockDevice, A: Allocator + Copy, H: 
     requires leaves { left.now.level ≡ 0 ↔ right.now.level ≡ 0 }
     requires left_pages { HasPages (content_of left.now) }
     requires right_pages { HasPages (content_of right.now) }
+    requires few { length right.now.entries.items ≤ 100 }
     ensures asks { Asks cache.old cache.new result }
     ensures pairs { IsHonest cache.old → (s t : Row) → HasRow D (pages cache.old) (content_of left.now) s
         → HasRow D (pages cache.old) (content_of right.now) t → Encloses D s → Encloses D t
@@ -41,11 +44,14 @@ pub(crate) fn add_pairs<const D: usize, B: BlockDevice, A: Allocator + Copy, H: 
         → HasRow D (pages cache.old) (content_of right.now) t → IfErr result IsOfDevice }
     ensures other_faults { IfErr result (λ f. IsOfDevice f ⊎ IsDamage f) }
 {
+    // The boxes are in columns, so that an entry is compared with eight of them at once.
+    let (lows, highs) = columns_of(right);
     for entry in left.entries.as_slice() {
-        for other in right.entries.as_slice() {
-            if !entry.bounds.meets(&other.bounds) {
-                continue;
-            }
+        let mask = meet_mask(&lows, &highs, right.entries.len(), &entry.bounds);
+        let mut from = 0;
+        'other: while let Some(place) = next_place(mask, from) {
+            from = place + 1;
+            let other = right.entries[place];
             if left.level == 0 {
                 pairs.push((entry.reference, other.reference))?;
                 continue;

@@ -39,3 +39,6 @@ returns-clause-entries g c = λ h row at.
     root_above g.row.D c.args.root.level c.args.other c.args.root.page row (content_of c.in_ok-node.node).entries (omega (arith, c.if-other-root.false)) same
     ∙ ap (λ (o : Option Bounds). lone o c.args.root.page) (sym c.node_box.ensures)
     ∙ sym c.above.ensures.entries
+
+pub returns-clause-few : goal.returns-clause-few
+returns-clause-few g c = omega (arith, c.above.ensures.few)

@@ -1,0 +1,70 @@
+//! The boxes of a node in columns, as `meet_mask` takes them, and the places that a mask names.
+
+ghost use Rattle.std.specs.Prelude.{◌≡◌, ℕ, ◌<◌, ◌≤◌, true, false, IfSome, IfNone, length};
+ghost use Rattle.box_math.specs.Bounds.{on_axis};
+ghost use Rattle.box_math.specs.Masks.{has_bit};
+ghost use Rattle.tree_node.specs.Boxes.{box_at};
+ghost use Rattle.tree_node.specs.Nodes.{items_of};
+ghost use Rattle.node_page.specs.Columns.{cell};
+
+use node_page::Node;
+
+/// The lows and the highs of a node's entries, 100 at most: a column for each axis, each number in the place of its
+/// entry.
+pub(crate) fn columns_of<const D: usize>(node: &Node<D>) -> ([[i32; 100]; D], [[i32; 100]; D])
+    requires { length node.now.entries.items ≤ 100 }
+    ensures lows { (axis place : ℕ) → axis < D → place < length node.now.entries.items
+        → cell result.0 axis place ≡ on_axis (box_at (items_of node.now.entries.items) place).low axis }
+    ensures highs { (axis place : ℕ) → axis < D → place < length node.now.entries.items
+        → cell result.1 axis place ≡ on_axis (box_at (items_of node.now.entries.items) place).high axis }
+{
+    let mut lows = [[0; 100]; D];
+    let mut highs = [[0; 100]; D];
+    for axis in 0..D {
+        lows[axis] = low_column(node, axis);
+        highs[axis] = high_column(node, axis);
+    }
+    (lows, highs)
+}
+
+// The lows on one axis.
+fn low_column<const D: usize>(node: &Node<D>, axis: usize) -> [i32; 100]
+    requires axis { axis < D }
+    requires few { length node.now.entries.items ≤ 100 }
+    ensures { (place : ℕ) → place < length node.now.entries.items
+        → on_axis result place ≡ on_axis (box_at (items_of node.now.entries.items) place).low axis }
+{
+    let mut column = [0; 100];
+    for place in 0..node.entries.len() {
+        column[place] = node.entries[place].bounds.low()[axis];
+    }
+    column
+}
+
+// The highs on one axis.
+fn high_column<const D: usize>(node: &Node<D>, axis: usize) -> [i32; 100]
+    requires axis { axis < D }
+    requires few { length node.now.entries.items ≤ 100 }
+    ensures { (place : ℕ) → place < length node.now.entries.items
+        → on_axis result place ≡ on_axis (box_at (items_of node.now.entries.items) place).high axis }
+{
+    let mut column = [0; 100];
+    for place in 0..node.entries.len() {
+        column[place] = node.entries[place].bounds.high()[axis];
+    }
+    column
+}
+
+/// The first place from one on whose bit is set.
+pub(crate) fn next_place(mask: u128, from: usize) -> Option<usize>
+    requires { from < 128 }
+    ensures set { IfSome result (λ place. (from ≤ place) × (place < 128) × (has_bit mask place ≡ true)) }
+    ensures first { IfSome result (λ place. (k : ℕ) → from ≤ k → k < place → has_bit mask k ≡ false) }
+    ensures none { IfNone result ((k : ℕ) → from ≤ k → has_bit mask k ≡ false) }
+{
+    let rest = mask >> from;
+    if rest == 0 {
+        return None;
+    }
+    Some(from + rest.trailing_zeros() as usize)
+}
