@@ -11,8 +11,8 @@ use Rattle.tree_node.specs.Rows.{branches_of, item_in}
 use Rattle.tree_node.specs.Positions.{pick}
 use Rattle.tree_node.specs.Orders.{in_order}
 use Rattle.reinsert.specs.Children.{Child}
-use Rattle.reinsert.specs.Called.{is_called}
-use Rattle.reinsert.specs.Far.{far_count, far_places, farther}
+use Rattle.reinsert.specs.Called.{is_called, none_called}
+use Rattle.reinsert.specs.Far.{far_count, far_order, far_places, farther}
 use Rattle.reinsert.specs.Placing.{Outcome, State, Settles, Places, IsRootAfter, Placing, waiting_on, after_child}
 use Rattle.reinsert.specs.Insertion.{Placings}
 use Rattle.reinsert.specs.Kept.{InsertionEnds}
@@ -67,7 +67,7 @@ free_below-fewer (suc top) level called below free = ⊎_elim
 -- ---- each level gives one far set
 
 length-far-le : (dims p : ℕ) (items : List Item) → length (far_places dims p items) ≤ p
-unfolding far_places
+unfolding far_places far_order
 length-far-le dims p items =
     let order = in_order (farther dims items) (length items) in
     omega (arith, length-reverse (take p order), length-take p order)
@@ -147,5 +147,5 @@ left-placings dims most elsewhere zero old new h = omega (arith, ap (left most) 
 left-placings dims most elsewhere (suc count) old new h = omega (arith, left-placings dims most elsewhere count h.0 new h.2, left-placing dims most elsewhere old h.0 h.1)
 
 pub insertion_ends : InsertionEnds
-insertion_ends dims most start elsewhere branch level old new h =
-    omega (arith, left-placings dims most elsewhere h.count _ _ h.placed, more_levels (far_count most) (free_below old.level start) old.level (free_below-le old.level start))
+insertion_ends dims most elsewhere branch level old new h =
+    omega (arith, left-placings dims most elsewhere h.count _ _ h.placed, more_levels (far_count most) (free_below old.level none_called) old.level (free_below-le old.level none_called))

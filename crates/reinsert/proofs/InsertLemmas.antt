@@ -20,15 +20,16 @@ use Rattle.node_page.specs.Changes.{AllWait}
 use Rattle.node_page.proofs.PartLemmas.{there_not_missing, none_or_some, moves_same, moves_in_turn}
 use Rattle.reinsert.specs.declared.settled.Settled.{Settled}
 use Rattle.reinsert.specs.declared.waiting.Wait.{Wait}
+use Rattle.reinsert.specs.Called.{none_called}
 use Rattle.reinsert.specs.Children.{occurs_at, Child, boxed}
 use Rattle.reinsert.specs.Placing.{State, Placing, Outcome, IsRootAfter}
-use Rattle.reinsert.specs.Insertion.{Placings, IsInsertion}
+use Rattle.reinsert.specs.Insertion.{Placings, IsInsertion, at_first}
 use Rattle.reinsert.specs.Placed.{Held, held_of, held_in, Holds, BesideStands, OutcomeStands, occurs_beside, occurs_after, CanPlace, PlacesTo, ComesIn}
 use Rattle.reinsert.specs.Inserted.{IsRootOf, CanInsert, InsertsTo, IsAt, StepsTo, occurs_in_state}
 use Rattle.reinsert.proofs.StandLemmas.{zero_there, one_at_most, moves_with, rest_same, rest_once}
 use Rattle.reinsert.proofs.MovesLemmas.{Moves_none}
-use Rattle.reinsert.proofs.SettledLemmas.{WaitingStand_frame, is_some_from}
-use Rattle.reinsert.proofs.PlaceLemmas.{waiting_live, WaitingStand-append}
+use Rattle.reinsert.proofs.SettledLemmas.{AllWait_frame, is_some_from, of_sum, hit_live, waiting_live, outcome_live}
+use Rattle.reinsert.proofs.PlaceLemmas.{AllWait-append}
 
 -- ---- the placings so far
 
@@ -74,10 +75,10 @@ nothing_left [] h = refl
 nothing_left (w ∷ ws) h = absurd (some_last (reverse (map held_in ws)) (held_in w) (h ∙ reverse-append (held_in w ∷ []) (map held_in ws)))
 
 -- where nothing waits, the entry is inserted
-pub inserted_end : {D : ℕ} (dims most level : ℕ) (start : List Bool) (elsewhere : ℕ → ℕ) (m m' : PageMap) (t : Tree) (branch : Branch) (root : Root) (waits : List (Wait D)) (called : List Bool)
-    → Reached dims most elsewhere m m' (record { tree = t; waiting = record { branch = branch; level = level } ∷ []; called = start }) root waits called → waits ≡ [] → InsertsTo dims most start m m' level t branch elsewhere root
-inserted_end dims most level start elsewhere m m' t branch root waits called h none =
-    let s : State = record { tree = t; waiting = record { branch = branch; level = level } ∷ []; called = start } in
+pub inserted_end : {D : ℕ} (dims most level : ℕ) (elsewhere : ℕ → ℕ) (m m' : PageMap) (t : Tree) (branch : Branch) (root : Root) (waits : List (Wait D)) (called : List Bool)
+    → Reached dims most elsewhere m m' (at_first t branch level) root waits called → waits ≡ [] → InsertsTo dims most m m' level t branch elsewhere root
+inserted_end dims most level elsewhere m m' t branch root waits called h none =
+    let s : State = at_first t branch level in
     let left : h.last.waiting ≡ [] = nothing_left h.last.waiting (sym (ap (map held_of) none) ∙ h.isat.holds) in
     let last : h.last ≡ record { tree = h.last.tree; waiting = []; called = h.last.called } = ap (λ ws. let x : State = record { tree = h.last.tree; waiting = ws; called = h.last.called } in x) left in
     let counts : (n : ℕ) → occurs_in_state h.last n ≡ occurs_in n h.last.tree = λ n. omega (arith, ap (occurs_waiting n) left) in
@@ -90,9 +91,9 @@ inserted_end dims most level start elsewhere m m' t branch root waits called h n
     }
 
 -- the entry alone waits
-pub begun : {D : ℕ} (dims : ℕ) (m : PageMap) (root : Root) (first : Wait D) (start : List Bool) (t : Tree) (branch : Branch) (elsewhere : ℕ → ℕ) → CanInsert dims m root (item_of first.entry) first.level t branch elsewhere
-    → IsAt dims m root (first ∷ []) start elsewhere (record { tree = t; waiting = record { branch = branch; level = first.level } ∷ []; called = start })
-begun dims m root first start t branch elsewhere can = record {
+pub begun : {D : ℕ} (dims : ℕ) (m : PageMap) (root : Root) (first : Wait D) (t : Tree) (branch : Branch) (elsewhere : ℕ → ℕ) → CanInsert dims m root (item_of first.entry) first.level t branch elsewhere
+    → IsAt dims m root (first ∷ []) none_called elsewhere (at_first t branch first.level)
+begun dims m root first t branch elsewhere can = record {
   at = can.at;
   there = can.stands.root;
   below = can.stands.below;
@@ -112,25 +113,6 @@ none_beside dims (Some c) h = absurd (cc)
 some_beside : (dims : ℕ) (b : Item) (o : Option Child) → Some b ≡ option_map (λ c. item_in (boxed dims c)) o → (c : Child) × (o ≡ Some c) × (b ≡ item_in (boxed dims c))
 some_beside dims b None h = absurd (cc)
 some_beside dims b (Some c) h = (c, refl, cc)
-
-of_sum : (P : Type 0) (x y : ℕ) → 0 < x + y → (0 < x → P) → (0 < y → P) → P
-of_sum P x y some a b = ⊎_elim (λ none. b (omega (arith, some, none))) a (none_or_some x)
-
-hit_live : (m : PageMap) (page n : ℕ) → IsSome (m page) → 0 < cond (eqb page n) 1 0 → IsSome (m n)
-hit_live m page n live hit = ⊎_elim (λ is. subst (λ k. IsSome (m k)) is live) (λ differs. absurd (omega (arith, hit, zero_there page n differs))) (cases_eq page n)
-
-beside_live : (dims : ℕ) (m : PageMap) (level n : ℕ) (b : Option Child) → BesideStands dims m level b → 0 < occurs_beside n b → IsSome (m n)
-beside_live dims m level n None k there = absurd (omega (arith, there))
-beside_live dims m level n (Some c) k there = of_sum (IsSome (m n)) (cond (eqb c.page n) 1 0) (occurs n c.row) there (hit_live m c.page n (page_of_node dims (m c.page) _ k.0)) (below_there dims m level c.row n k.1)
-
--- each page of what a node became is live
-outcome_live : (dims : ℕ) (m : PageMap) (page level : ℕ) (o : Outcome) (n : ℕ) → OutcomeStands dims m page level o → 0 < occurs_after page o n → IsSome (m n)
-outcome_live dims m page level o n h some =
-    of_sum (IsSome (m n)) (occurs_at page n o.row + occurs_beside n o.beside) (occurs_waiting n o.far) some
-    (λ here. of_sum (IsSome (m n)) (occurs_at page n o.row) (occurs_beside n o.beside) here
-    (λ row. of_sum (IsSome (m n)) (cond (eqb page n) 1 0) (occurs n o.row) row (hit_live m page n (page_of_node dims (m page) _ h.there)) (below_there dims m level o.row n h.below))
-    (λ beside. beside_live dims m level n o.beside h.beside beside))
-    (waiting_live dims m o.far n h.far)
 
 -- what the code holds after a placing
 holds_after : {D : ℕ} (waits waits' : List (Wait D)) (rest far : List Waiter) → Holds waits rest → map held_of waits' ≡ map held_of waits ++ reverse (map held_in far) → Holds waits' (far ++ rest)
@@ -192,7 +174,7 @@ module _ {D : ℕ} (most : ℕ) (elsewhere : ℕ → ℕ) (m m1 : PageMap) (t : 
     once = rest_once m m1 _ _ others done.moves apart others_live
 
     waiting_stand : AllWait D m1 (done.outcome.far ++ ws)
-    waiting_stand = WaitingStand-append D m1 done.outcome.far ws done.stands.far (WaitingStand_frame D m m1 ws (λ n p. same n (omega (arith, p))) ws_stand)
+    waiting_stand = AllWait-append D m1 done.outcome.far ws done.stands.far (AllWait_frame D m m1 ws (λ n p. same n (omega (arith, p))) ws_stand)
 
     far_counts : (n : ℕ) → occurs_waiting n (done.outcome.far ++ ws) ≡ occurs_waiting n done.outcome.far + occurs_waiting n ws
     far_counts n = total-append (λ (x : Waiter). occurs_on n x.branch) done.outcome.far ws
@@ -290,6 +272,9 @@ module _ {D : ℕ} (most : ℕ) (elsewhere : ℕ → ℕ) (m m1 : PageMap) (t : 
         outside = λ n none none'. grown.others n (λ is. absurd (omega (arith, none', occurs_here root'.page, subst (λ k. ◌≡◌ {A = ℕ} (cond (eqb root'.page k) 1 0) 1) (sym is) (occurs_here root'.page))));
         came = λ n none some. ⊎_elim (λ is. ap m1 (sym is) ∙ grown.free) (λ differs. absurd (omega (arith, none, some, zero_there root'.page n differs))) (cases_eq root'.page n);
         went = λ n some none. absurd (omega (arith, some, none));
+        live = λ n some. of_sum (IsSome (m2 n)) (cond (eqb root'.page n) 1 0) (occurs_after t.page done.outcome n + occurs_waiting n ws) some
+            (hit_live m2 root'.page n (page_of_node D (m2 root'.page) _ grown.there))
+            (λ p. subst IsSome (sym (stays n (omega (arith, p)))) (after_first_live n (omega (arith, p))));
         once = λ n. omega (arith, new_once n);
       }
 
@@ -317,7 +302,7 @@ module _ {D : ℕ} (most : ℕ) (elsewhere : ℕ → ℕ) (m m1 : PageMap) (t : 
           at = record { page = refl; level = is_level };
           there = over_there;
           below = over_stands;
-          far = WaitingStand_frame D m1 m2 (done.outcome.far ++ ws) (λ n p. stays n (omega (arith, far_counts n, p))) waiting_stand;
+          far = AllWait_frame D m1 m2 (done.outcome.far ++ ws) (λ n p. stays n (omega (arith, far_counts n, p))) waiting_stand;
           holds = holds_after waits waits1 ws done.outcome.far held done.shows.far;
           calls = done.shows.calls;
           apart = λ n. omega (arith, next_once n);

@@ -127,7 +127,7 @@ module _ (w : ℕ × Bounds → ℕ) where
   weight-placings dims most elsewhere (suc count) old new h = weight-placings dims most elsewhere count h.0 new h.2 ∙ weight-placing dims most elsewhere old h.0 h.1
 
 -- an insertion keeps each sum over the objects
-pub weight-insertion : (w : ℕ × Bounds → ℕ) (dims most : ℕ) (start : List Bool) (elsewhere : ℕ → ℕ) (branch : Branch) (level : ℕ) (old new : Tree) → IsInsertion dims most start elsewhere branch level old new
+pub weight-insertion : (w : ℕ × Bounds → ℕ) (dims most : ℕ) (elsewhere : ℕ → ℕ) (branch : Branch) (level : ℕ) (old new : Tree) → IsInsertion dims most elsewhere branch level old new
     → total w (objects_on branch ++ objects_in old.row) ≡ total w (objects_in new.row)
-weight-insertion w dims most start elsewhere branch level old new h =
+weight-insertion w dims most elsewhere branch level old new h =
     omega (arith, total-append w (objects_on branch) (objects_in old.row), weight-placings w dims most elsewhere h.count _ _ h.placed)

@@ -23,7 +23,7 @@ use Rattle.reinsert.specs.Children.{occurs_at, Child, child_at, with_child, boxe
 use Rattle.reinsert.specs.Placing.{Outcome, Settles, Places, GoesBelow, beside_branches, after_child}
 use Rattle.reinsert.specs.Placed.{held_of, held_in, BesideStands, OutcomeStands, occurs_beside, occurs_after, CanSettle, SettlesTo, Shows, CanPlace, PlacesTo, items_after, items_beside, set_box}
 use Rattle.reinsert.proofs.StandLemmas.{RowStands-append, zero_there, moves_with, rest_same, rest_once}
-use Rattle.reinsert.proofs.SettledLemmas.{WaitingStand_frame, is_some_from}
+use Rattle.reinsert.proofs.SettledLemmas.{AllWait_frame, waiting_live}
 use Rattle.reinsert.proofs.ChildLemmas.{HasChild, has_child, items-with_child, occurs-with_child, RowStands-with_child}
 
 -- ---- the entry is added to the node itself
@@ -89,16 +89,9 @@ above_items {D} row at c lower waits waits' called down entries is shows are =
     map-append item_in (branches_of new) (beside_branches D down.beside) ∙ ap (λ (es : List Item). es ++ map item_in (beside_branches D down.beside)) here
     ∙ ap (λ (es : List Item). set_box (map item_of entries) at lower.bounds ++ es) next
 
-pub waiting_live : (dims : ℕ) (m : PageMap) (ws : List Waiter) (n : ℕ) → AllWait dims m ws → 0 < occurs_waiting n ws → IsSome (m n)
-waiting_live dims m [] n h there = absurd (omega (arith, there))
-waiting_live dims m (w ∷ ws) n h there = ⊎_elim
-    (λ none. waiting_live dims m ws n h.1 (omega (arith, there, none)))
-    (λ some. below_there dims m w.level (more w.branch end) n h.0 (omega (arith, some, occurs_one n w.branch)))
-    (none_or_some (occurs_on n w.branch))
-
-pub WaitingStand-append : (dims : ℕ) (m : PageMap) (xs ys : List Waiter) → AllWait dims m xs → AllWait dims m ys → AllWait dims m (xs ++ ys)
-WaitingStand-append dims m [] ys h k = k
-WaitingStand-append dims m (x ∷ xs) ys h k = (h.0, WaitingStand-append dims m xs ys h.1 k)
+pub AllWait-append : (dims : ℕ) (m : PageMap) (xs ys : List Waiter) → AllWait dims m xs → AllWait dims m ys → AllWait dims m (xs ++ ys)
+AllWait-append dims m [] ys h k = k
+AllWait-append dims m (x ∷ xs) ys h k = (h.0, AllWait-append dims m xs ys h.1 k)
 
 beside_row_stands : (dims : ℕ) (m : PageMap) (level : ℕ) (beside : Option Child) → 0 < level → BesideStands dims m (level - 1) beside → RowStands dims m level (row_of (beside_branches dims beside))
 beside_row_stands dims m level None high h = tt
@@ -230,7 +223,7 @@ module _ {D : ℕ} (most top level target at : ℕ) (called called1 : List Bool)
           there = up.stands.there;
           below = up.stands.below;
           beside = up.stands.beside;
-          far = WaitingStand-append D m' up.outcome.far done.outcome.far up.stands.far (WaitingStand_frame D m1 m' done.outcome.far waiting_stays done.stands.far);
+          far = AllWait-append D m' up.outcome.far done.outcome.far up.stands.far (AllWait_frame D m1 m' done.outcome.far waiting_stays done.stands.far);
         };
         moves = moves_in_turn m m1 m' _ _ _ lower_moves upper_moves;
         shows = record { bounds = up.shows.bounds; beside = up.shows.beside; far = far_shown; calls = up.shows.calls };

@@ -20,7 +20,7 @@ use Rattle.rstar_split.specs.Divided.{IsDividedBySplit}
 use Rattle.rstar_split.proofs.SplitParts.{split_parts}
 use Rattle.node_page.specs.Layout.{IsReference, IsSpellable}
 use Rattle.node_page.specs.Standing.{PageMap, HasNode, RowStands, node_in}
-use Rattle.node_page.proofs.StandingLemmas.{node_stays, row_stays, below_there}
+use Rattle.node_page.proofs.StandingLemmas.{node_stays, row_stays, below_there, page_of_node}
 use Rattle.node_page.specs.Parts.{Moves}
 use Rattle.node_page.specs.Changes.{AllWait}
 use Rattle.node_page.proofs.PartLemmas.{there_not_missing, none_or_some}
@@ -30,28 +30,58 @@ use Rattle.reinsert.specs.Children.{occurs_at, Child, boxed}
 use Rattle.reinsert.specs.Called.{is_called}
 use Rattle.reinsert.specs.Far.{far_count, far_places, near_places, IsDividedFar}
 use Rattle.reinsert.specs.Placing.{Outcome, Settles, waiting_on, reinserted, IsSplit}
-use Rattle.reinsert.specs.Placed.{held_of, held_in, held_with, OutcomeStands, occurs_after, CanSettle, SettlesTo, Shows, SplitsOff}
+use Rattle.reinsert.specs.Placed.{held_of, held_in, held_with, BesideStands, OutcomeStands, occurs_after, occurs_beside, CanSettle, SettlesTo, Shows, SplitsOff}
 use Rattle.reinsert.proofs.StandLemmas.{RowStands-append, RowStands-pick, zero_there, one_at_most}
 use Rattle.reinsert.proofs.FarParts.{far_parts}
 use Rattle.std.proofs.lemmas.List.Elements.{All-map}
 
 -- ---- what waits
 
-pub WaitingStand_frame : (dims : ℕ) (m m' : PageMap) (ws : List Waiter) → ((n : ℕ) → 0 < occurs_waiting n ws → m' n ≡ m n) → AllWait dims m ws → AllWait dims m' ws
-WaitingStand_frame dims m m' [] same h = h
-WaitingStand_frame dims m m' (w ∷ ws) same h = (
+pub AllWait_frame : (dims : ℕ) (m m' : PageMap) (ws : List Waiter) → ((n : ℕ) → 0 < occurs_waiting n ws → m' n ≡ m n) → AllWait dims m ws → AllWait dims m' ws
+AllWait_frame dims m m' [] same h = h
+AllWait_frame dims m m' (w ∷ ws) same h = (
   row_stays dims m m' w.level (more w.branch end) (λ n p. same n (omega (arith, occurs_one n w.branch, p))) h.0,
-  WaitingStand_frame dims m m' ws (λ n p. same n (omega (arith, p))) h.1,
+  AllWait_frame dims m m' ws (λ n p. same n (omega (arith, p))) h.1,
 )
 
-pub WaitingStand-map : (dims : ℕ) (m : PageMap) (level : ℕ) (xs : List Branch) → RowStands dims m level (row_of xs) → AllWait dims m (waiting_on level xs)
-WaitingStand-map dims m level [] h = tt
-WaitingStand-map dims m level (object bounds id ∷ xs) h = ((h.0, tt), WaitingStand-map dims m level xs h.1)
-WaitingStand-map dims m level (child bounds page below ∷ xs) h = ((h.0, h.1, h.2, tt), WaitingStand-map dims m level xs h.3)
+pub AllWait-map : (dims : ℕ) (m : PageMap) (level : ℕ) (xs : List Branch) → RowStands dims m level (row_of xs) → AllWait dims m (waiting_on level xs)
+AllWait-map dims m level [] h = tt
+AllWait-map dims m level (object bounds id ∷ xs) h = ((h.0, tt), AllWait-map dims m level xs h.1)
+AllWait-map dims m level (child bounds page below ∷ xs) h = ((h.0, h.1, h.2, tt), AllWait-map dims m level xs h.3)
 
 occurs_waiting-map : (n level : ℕ) (xs : List Branch) → occurs_waiting n (waiting_on level xs) ≡ total (occurs_on n) xs
 occurs_waiting-map n level [] = refl
 occurs_waiting-map n level (x ∷ xs) = omega (arith, occurs_waiting-map n level xs)
+
+-- ---- each page of what a node became is live
+
+pub is_some_from : {X : Type 0} (o : Option X) (x : X) → o ≡ Some x → IsSome o
+is_some_from None x is = absurd (cc)
+is_some_from (Some y) x is = refl
+
+pub of_sum : (P : Type 0) (x y : ℕ) → 0 < x + y → (0 < x → P) → (0 < y → P) → P
+of_sum P x y some a b = ⊎_elim (λ (none : x ≡ 0). b (omega (arith, some, none))) a (none_or_some x)
+
+pub hit_live : (m : PageMap) (page n : ℕ) → IsSome (m page) → 0 < cond (eqb page n) 1 0 → IsSome (m n)
+hit_live m page n live hit = ⊎_elim (λ (is : page ≡ n). subst (λ k. IsSome (m k)) is live) (λ differs. absurd (omega (arith, hit, zero_there page n differs))) (cases_eq page n)
+
+pub waiting_live : (dims : ℕ) (m : PageMap) (ws : List Waiter) (n : ℕ) → AllWait dims m ws → 0 < occurs_waiting n ws → IsSome (m n)
+waiting_live dims m [] n h there = absurd (omega (arith, there))
+waiting_live dims m (w ∷ ws) n h there = of_sum (IsSome (m n)) (occurs_on n w.branch) (occurs_waiting n ws) there
+    (λ some. below_there dims m w.level (more w.branch end) n h.0 (omega (arith, some, occurs_one n w.branch)))
+    (waiting_live dims m ws n h.1)
+
+beside_live : (dims : ℕ) (m : PageMap) (level n : ℕ) (b : Option Child) → BesideStands dims m level b → 0 < occurs_beside n b → IsSome (m n)
+beside_live dims m level n None k there = absurd (omega (arith, there))
+beside_live dims m level n (Some c) k there = of_sum (IsSome (m n)) (cond (eqb c.page n) 1 0) (occurs n c.row) there (hit_live m c.page n (page_of_node dims (m c.page) _ k.0)) (below_there dims m level c.row n k.1)
+
+pub outcome_live : (dims : ℕ) (m : PageMap) (page level : ℕ) (o : Outcome) (n : ℕ) → OutcomeStands dims m page level o → 0 < occurs_after page o n → IsSome (m n)
+outcome_live dims m page level o n h some =
+    of_sum (IsSome (m n)) (occurs_at page n o.row + occurs_beside n o.beside) (occurs_waiting n o.far) some
+    (λ here. of_sum (IsSome (m n)) (occurs_at page n o.row) (occurs_beside n o.beside) here
+    (λ row. of_sum (IsSome (m n)) (cond (eqb page n) 1 0) (occurs n o.row) row (hit_live m page n (page_of_node dims (m page) _ h.there)) (below_there dims m level o.row n h.below))
+    (λ beside. beside_live dims m level n o.beside h.beside beside))
+    (waiting_live dims m o.far n h.far)
 
 -- ---- the node is written in its page, and what it had is in it or waits
 
@@ -69,7 +99,7 @@ module _ (dims : ℕ) (m m' : PageMap) (page level : ℕ) (branches : List Branc
     there = written;
     below = row_stays dims m m' level row (λ n p. others n (apart n (omega (arith, counts n, p)))) stands;
     beside = tt;
-    far = WaitingStand_frame dims m m' far (λ n p. others n (apart n (omega (arith, counts n, p)))) wait;
+    far = AllWait_frame dims m m' far (λ n p. others n (apart n (omega (arith, counts n, p)))) wait;
   }
 
   pub written_moves : Moves m m' (λ n. occurs_at page n (row_of branches)) (occurs_after page (record { row = row; beside = None; far = far; called = called }))
@@ -77,6 +107,7 @@ module _ (dims : ℕ) (m m' : PageMap) (page level : ℕ) (branches : List Branc
     outside = λ n none same. others n (elsewhere n none);
     came = λ n none some. absurd (omega (arith, counts n, none, some));
     went = λ n some none. absurd (omega (arith, counts n, none, some));
+    live = λ n some. outcome_live dims m' page level _ n written_stands some;
     once = λ n. omega (arith, counts n, can.distinct n);
   }
 
@@ -120,15 +151,12 @@ module _ (dims : ℕ) (m m' : PageMap) (page level number : ℕ) (branches first
     outside = λ n none none'. off.others n (none_here n none) (λ is. absurd (omega (arith, occurs_here number, subst (λ k. occurs_after page after_splitting k ≡ 0) is none')));
     came = λ n none some. ⊎_elim (λ is. ap m (sym is) ∙ off.free) (λ differs. absurd (omega (arith, counts n, none, some, zero_there number n differs))) (cases_eq number n);
     went = λ n some none. absurd (omega (arith, counts n, none, some));
+    live = λ n some. outcome_live dims m' page level after_splitting n split_stands some;
     once = λ n. ⊎_elim
         (λ is. omega (arith, counts n, subst (λ k. occurs k (row_of branches) ≡ 0) is no_number, one_at_most number n, zero_there page n (λ same. not_page (is ∙ sym same))))
         (λ differs. omega (arith, counts n, can.distinct n, zero_there number n differs))
         (cases_eq number n);
   }
-
-pub is_some_from : {X : Type 0} (o : Option X) (x : X) → o ≡ Some x → IsSome o
-is_some_from None x is = absurd (cc)
-is_some_from (Some y) x is = refl
 
 -- a page comes in and is written, and then the node's own page is written
 pub splits_off : (dims : ℕ) (m m1 m2 m3 : PageMap) (page number : ℕ) (first second : NodeContent) → IsSome (m page) → m number ≡ None → SameBut number m m1 → node_in dims (m2 number) ≡ Some second → SameBut number m1 m2
@@ -197,7 +225,7 @@ module _ {D : ℕ} (most top level : ℕ) (called : List Bool) (branches : List 
       let counts : (n : ℕ) → occurs n (row_of kept) + occurs_waiting n waits_on ≡ occurs n (row_of branches) =
       λ n. omega (arith, occurs-row_of n kept, occurs_waiting-map n level gone, occurs-row_of n branches, parts_have_all (occurs_on n) branches (near_places D p items) (far_places D p items) parts) in
       let stands = RowStands-pick D m level branches (near_places D p items) can.stands in
-      let wait = WaitingStand-map D m level gone (RowStands-pick D m level branches (far_places D p items) can.stands) in
+      let wait = AllWait-map D m level gone (RowStands-pick D m level branches (far_places D p items) can.stands) in
       let test : nat_le (length branches) most ≡ false = grind (arith, nat_tests, length_branches, many) in
       let test' : nat_lt level top && not (is_called called level) ≡ true = grind (arith, nat_tests, not_called, below) in
       record {

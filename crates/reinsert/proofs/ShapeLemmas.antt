@@ -3,8 +3,7 @@ use Rattle.std.proofs.Common.{◌≡◌, ℕ, zero, suc, ◌+◌, ◌-◌, ◌<�
 use Rattle.std.specs.Prelude.{⊤, nat_le, nat_lt, not, ◌&&◌}
 use Rattle.std.proofs.lemmas.Bool.Decides.{nat_tests}
 use Rattle.std.proofs.lemmas.List.{length-map, length-append}
-use Rattle.box_math.specs.Bounds.{Bounds, IsBox, Within, join_of}
-use Rattle.box_math.proofs.BoxLaws.{Within-refl, Within-trans, IsBox-join_of, join_of-encloses, join_of-least}
+use Rattle.box_math.specs.Bounds.{Bounds}
 use Rattle.tree_node.specs.Trees.{Row, end, more, Branch, object, child, Tree, RowOnLevel, row_items, row_length}
 use Rattle.tree_node.specs.Shape.{least_entries, RowWithin, IsLeastBox, RowHasShape}
 use Rattle.tree_node.specs.Boxes.{RowHasBoxes, box_round, least_box}
@@ -13,6 +12,7 @@ use Rattle.tree_node.specs.Positions.{pick, AreParts}
 use Rattle.tree_node.proofs.RowLemmas.{row_of-branches_of}
 use Rattle.rstar_split.proofs.SplitParts.{split_parts}
 use Rattle.reinsert.specs.Children.{Child, child_at, with_child, boxed}
+use Rattle.tree_node.proofs.BoxLemmas.{join_is_least_box}
 use Rattle.reinsert.specs.Called.{is_called}
 use Rattle.reinsert.specs.Far.{far_count, far_places, near_places}
 use Rattle.reinsert.specs.Placing.{Outcome, State, Settles, Places, IsRootAfter, Placing, waiting_on, beside_branches, after_child}
@@ -75,45 +75,6 @@ module _ (dims most : ℕ) where
   Sound-branches_of : (level : ℕ) (row : Row) → Sound level row → Sound level (row_of (branches_of row))
   Sound-branches_of level row h = subst (Sound level) (sym (row_of-branches_of row)) h
 
-  -- ---- the least box
-
-  round_box : (b : Bounds) (row : Row) → IsBox dims b → RowHasBoxes dims row → IsBox dims (box_round dims b (row_items row))
-  round_box b end box h = box
-  round_box b (more (object bounds id) rest) box h = round_box (join_of dims b bounds) rest (IsBox-join_of dims b bounds box h.0) h.1
-  round_box b (more (child bounds page below) rest) box h = round_box (join_of dims b bounds) rest (IsBox-join_of dims b bounds box h.0) h.2
-
-  round_holds : (b : Bounds) (row : Row) → Within dims b (box_round dims b (row_items row))
-  round_holds b end = Within-refl dims b
-  round_holds b (more (object bounds id) rest) = Within-trans dims _ _ _ (join_of-encloses dims b bounds).0 (round_holds (join_of dims b bounds) rest)
-  round_holds b (more (child bounds page below) rest) = Within-trans dims _ _ _ (join_of-encloses dims b bounds).0 (round_holds (join_of dims b bounds) rest)
-
-  round_encloses : (b : Bounds) (row : Row) → RowWithin dims row (box_round dims b (row_items row))
-  round_encloses b end = tt
-  round_encloses b (more (object bounds id) rest) =
-      let c = join_of dims b bounds in (Within-trans dims _ _ _ (join_of-encloses dims b bounds).1 (round_holds c rest), round_encloses c rest)
-  round_encloses b (more (child bounds page below) rest) =
-      let c = join_of dims b bounds in (Within-trans dims _ _ _ (join_of-encloses dims b bounds).1 (round_holds c rest), round_encloses c rest)
-
-  round_least : (b : Bounds) (row : Row) (c : Bounds) → Within dims b c → RowWithin dims row c → Within dims (box_round dims b (row_items row)) c
-  round_least b end c here h = here
-  round_least b (more (object bounds id) rest) c here h = round_least (join_of dims b bounds) rest c (join_of-least dims b bounds c here h.0) h.1
-  round_least b (more (child bounds page below) rest) c here h = round_least (join_of dims b bounds) rest c (join_of-least dims b bounds c here h.0) h.1
-
-  -- the least box as it is computed is the least
-  pub is_least : (row : Row) → 0 < row_length row → RowHasBoxes dims row → IsLeastBox dims (least_box dims (row_items row)) row
-  unfolding least_box
-  is_least end some h = absurd (omega (arith, some))
-  is_least (more (object bounds id) rest) some h = record {
-    box = round_box bounds rest h.0 h.1;
-    encloses = (round_holds bounds rest, round_encloses bounds rest);
-    least = λ c box within. round_least bounds rest c within.0 within.1;
-  }
-  is_least (more (child bounds page below) rest) some h = record {
-    box = round_box bounds rest h.0 h.2;
-    encloses = (round_holds bounds rest, round_encloses bounds rest);
-    least = λ c box within. round_least bounds rest c within.0 within.1;
-  }
-
   -- ---- children
 
   -- a node of this level with from the least to the most entries
@@ -121,7 +82,7 @@ module _ (dims most : ℕ) where
   IsFull level row = (least_entries most ≤ row_length row) × (row_length row ≤ most) × Sound level row
 
   full_least : (level : ℕ) (row : Row) → IsFull level row → IsLeastBox dims (least_box dims (row_items row)) row
-  full_least level row full = is_least row (omega (arith, full.0)) full.2.1
+  full_least level row full = join_is_least_box dims row (omega (arith, full.0)) full.2.1
 
   Sound-boxed : (level : ℕ) (c : Child) → 0 < level → IsFull (level - 1) c.row → Sound level (more (boxed dims c) end)
   Sound-boxed level c high full =
@@ -336,14 +297,14 @@ placing_keeps_loose_shape dims most elsewhere old new h capacity shape =
     }
 
 pub insertion_keeps_loose_shape : InsertionKeepsLooseShape
-insertion_keeps_loose_shape dims most start elsewhere branch level old new h capacity entry boxes shape =
+insertion_keeps_loose_shape dims most elsewhere branch level old new h capacity entry boxes shape =
     let fits = first_fits dims most elsewhere h.count _ _ _ _ h.placed refl refl in
     let done = placings_shaped dims most 1 elsewhere h.count _ _ capacity (omega arith)
     (record { tree = record { few = shape.few; some = shape.some; below = (shape.below, boxes, shape.levels) }; far = (fits, entry, tt) }) h.placed in
     (record { few = done.tree.few; some = done.tree.some; levels = done.tree.below.2; below = done.tree.below.0 }, done.tree.below.1)
 
 pub insertion_keeps_shape : InsertionKeepsShape
-insertion_keeps_shape dims most start elsewhere branch level old new h capacity entry boxes shape =
+insertion_keeps_shape dims most elsewhere branch level old new h capacity entry boxes shape =
     let fits = first_fits dims most elsewhere h.count _ _ _ _ h.placed refl refl in
     let done = placings_shaped dims most 2 elsewhere h.count _ _ capacity (omega arith)
     (record { tree = record { few = shape.few; some = shape.some; below = (shape.below, boxes, shape.levels) }; far = (fits, entry, tt) }) h.placed in

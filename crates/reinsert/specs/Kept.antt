@@ -5,7 +5,7 @@ use Rattle.box_math.specs.Bounds.{Bounds}
 use Rattle.tree_node.specs.Trees.{end, more, Branch, object, child, Tree, RowOnLevel, objects_in, occurs_in}
 use Rattle.tree_node.specs.Shape.{RowHasShape, HasShape, HasLooseShape}
 use Rattle.tree_node.specs.Boxes.{RowHasBoxes}
-use Rattle.tree_node.specs.Rows.{Waiter}
+use Rattle.tree_node.specs.Rows.{Waiter, objects_on}
 use Rattle.reinsert.specs.Far.{far_count}
 use Rattle.reinsert.specs.Placing.{State, Placing}
 use Rattle.reinsert.specs.Insertion.{IsInsertion}
