@@ -1,5 +1,5 @@
 -- A node that has settled: what stands, which pages moved, and what the code shows of it.
-use Rattle.std.proofs.Common.{Option, Some, None, IsSome, ◌≡◌, ◌⊎◌, ℕ, zero, suc, ◌+◌, ◌-◌, ◌<◌, ◌≤◌, Bool, true, false, cond, eqb, List, [], ◌∷◌, ◌++◌, length, map, take, drop, set, reverse, All, refl, sym, ap, subst, ◌∙◌, ⊎_elim, arith}
+use Rattle.std.proofs.Common.{Result, Ok, Err, IfOk, IfSome, Option, Some, None, IsSome, ◌≡◌, ◌⊎◌, ℕ, zero, suc, ◌+◌, ◌-◌, ◌<◌, ◌≤◌, Bool, true, false, cond, eqb, List, [], ◌∷◌, ◌++◌, length, map, take, drop, set, reverse, All, refl, sym, ap, subst, ◌∙◌, ⊎_elim, arith}
 use Rattle.std.specs.Prelude.{nat_le, nat_lt, ◌&&◌, not}
 use Rattle.std.specs.Option.{option_map}
 use Rattle.std.proofs.lemmas.Bool.{cases_eq}
@@ -290,3 +290,8 @@ pub All-part : {D : ℕ} (level : ℕ) (entries part : List (Entry D)) (places :
 All-part {D} level entries part places is h =
     let P : Entry D → Type 0 = λ e. IsReference level e.reference in
     subst (λ xs. All P xs) (sym is) (All-pick P entries places h)
+
+-- where nothing was split off, nothing is said of it
+pub none_refers : {D : ℕ} {E : Type 0} (r : Result (Settled D) E) (P : Entry D → Type 0) → IfOk r (λ s. s.beside ≡ None) → IfOk r (λ s. IfSome s.beside P)
+none_refers (Ok s) P none = subst (λ o. IfSome o P) (sym none) tt
+none_refers (Err e) P none = tt
