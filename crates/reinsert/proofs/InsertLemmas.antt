@@ -27,7 +27,6 @@ use Rattle.reinsert.specs.Insertion.{Placings, IsInsertion, at_first}
 use Rattle.reinsert.specs.Placed.{Held, held_of, held_in, Holds, BesideStands, OutcomeStands, occurs_beside, occurs_after, CanPlace, PlacesTo, ComesIn}
 use Rattle.reinsert.specs.Inserted.{IsRootOf, CanInsert, InsertsTo, IsAt, StepsTo, occurs_in_state}
 use Rattle.reinsert.proofs.StandLemmas.{zero_there, one_at_most, moves_with, rest_same, rest_once}
-use Rattle.reinsert.proofs.MovesLemmas.{Moves_none}
 use Rattle.reinsert.proofs.SettledLemmas.{AllWait_frame, is_some_from, of_sum, hit_live, waiting_live, outcome_live}
 use Rattle.reinsert.proofs.PlaceLemmas.{AllWait-append}
 
@@ -133,14 +132,14 @@ snoc_same (a ∷ xs) (b ∷ ys) x y h =
     let lists = parts.0 in (cc, parts.1)
 
 -- what waits is one entry, which is placed now, and others
-record Ready {D : ℕ} (waits : List (Wait D)) (first : Wait D) (all : List Waiter) : Type 0 where
-  w : Waiter
-  ws : List Waiter
-  all_is : all ≡ w ∷ ws
-  is : held_of first ≡ held_in w
-  held : Holds waits ws
+pub record Ready {D : ℕ} (waits : List (Wait D)) (first : Wait D) (all : List Waiter) : Type 0 where
+  pub w : Waiter
+  pub ws : List Waiter
+  pub all_is : all ≡ w ∷ ws
+  pub is : held_of first ≡ held_in w
+  pub held : Holds waits ws
 
-ready : {D : ℕ} (waits : List (Wait D)) (first : Wait D) (all : List Waiter) → Holds (waits ++ first ∷ []) all → Ready waits first all
+pub ready : {D : ℕ} (waits : List (Wait D)) (first : Wait D) (all : List Waiter) → Holds (waits ++ first ∷ []) all → Ready waits first all
 ready waits first [] h = absurd (some_last (map held_of waits) (held_of first) (sym (sym (map-append held_of waits (first ∷ [])) ∙ h)))
 ready waits first (w ∷ ws) h =
     let same = snoc_same (map held_of waits) (reverse (map held_in ws)) (held_of first) (held_in w)

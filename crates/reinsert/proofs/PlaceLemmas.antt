@@ -5,7 +5,8 @@ use Rattle.std.proofs.lemmas.List.{map-append, append-nil, reverse-append}
 use Rattle.std.specs.Option.{option_map}
 use Rattle.tree_node.specs.declared.node.Entry.{Entry}
 use Rattle.tree_node.specs.Nodes.{NodeContent, Item, item_of}
-use Rattle.tree_node.specs.Trees.{Row, end, more, Branch, row_items, occurs}
+use Rattle.tree_node.specs.Trees.{Row, end, more, Branch, object, child, row_items, row_length, occurs}
+use Rattle.tree_node.specs.Shape.{RowHasShape}
 use Rattle.tree_node.specs.Rows.{branches_of, row_of, item_in, occurs_on, Waiter, occurs_waiting}
 use Rattle.tree_node.specs.Positions.{total}
 use Rattle.tree_node.specs.Boxes.{least_box}
@@ -21,7 +22,7 @@ use Rattle.reinsert.specs.declared.settled.Settled.{Settled}
 use Rattle.reinsert.specs.declared.waiting.Wait.{Wait}
 use Rattle.reinsert.specs.Children.{occurs_at, Child, child_at, with_child, boxed}
 use Rattle.reinsert.specs.Placing.{Outcome, Settles, Places, GoesBelow, beside_branches, after_child}
-use Rattle.reinsert.specs.Placed.{held_of, held_in, BesideStands, OutcomeStands, occurs_beside, occurs_after, CanSettle, SettlesTo, Shows, CanPlace, PlacesTo, items_after, items_beside, set_box}
+use Rattle.reinsert.specs.Placed.{held_of, held_in, BesideStands, OutcomeStands, occurs_beside, occurs_after, HasFewEntries, CanSettle, SettlesTo, Shows, CanPlace, PlacesTo, items_after, items_beside, set_box}
 use Rattle.reinsert.proofs.StandLemmas.{RowStands-append, zero_there, moves_with, rest_same, rest_once}
 use Rattle.reinsert.proofs.SettledLemmas.{AllWait_frame, waiting_live}
 use Rattle.reinsert.proofs.ChildLemmas.{HasChild, has_child, items-with_child, occurs-with_child, RowStands-with_child}
@@ -283,3 +284,54 @@ over_ok (Err e) X Y most top level target at reference called called1 branch row
 -- the entries that were read are those of the tree that stands
 pub items_read : (dims : ℕ) (m : PageMap) (page level level' : ℕ) (row : Row) (entries : List Item) → HasNode dims m page level row → node_in dims (m page) ≡ Some (record { level = level'; entries = entries }) → row_items row ≡ entries
 items_read dims m page level level' row entries there read = ap (λ (c : NodeContent). c.entries) (same_content dims m page _ _ there read)
+
+-- ---- where no page is damaged
+
+few_below : (dims most : ℕ) (row : Row) (at : ℕ) (c : Child) → child_at row at ≡ Some c → RowHasShape dims most row → HasFewEntries dims most c.row
+few_below dims most end at c is h = absurd (cc)
+few_below dims most (more (object bounds id) rest) zero c is h = absurd (cc)
+few_below dims most (more (object bounds id) rest) (suc at) c is h = few_below dims most rest at c is h
+few_below dims most (more (child bounds page below) rest) zero c is h =
+    let this : record { page = page; row = below } ≡ c = cc in
+    subst (λ (x : Child). HasFewEntries dims most x.row) this (h.1, h.3)
+few_below dims most (more (child bounds page below) rest) (suc at) c is h = few_below dims most rest at c is h.4
+
+pub few_items : (dims most : ℕ) (row : Row) → HasFewEntries dims most row → length (row_items row) ≤ most
+few_items dims most row h = omega (arith, h.0, count row)
+  where
+    count : (row : Row) → length (row_items row) ≡ row_length row
+    count end = refl
+    count (more (object bounds id) rest) = omega (arith, count rest)
+    count (more (child bounds page below) rest) = omega (arith, count rest)
+
+-- the chosen child can take the entry, and has few entries too
+pub few_can : {D : ℕ} (most level target at reference : ℕ) (branch : Branch) (row : Row) (m m0 : PageMap) (page : ℕ) (entries : List (Entry D)) (d : Entry D)
+    → ((n : ℕ) → m0 n ≡ m n) → CanPlace D m page level target row branch → target < level → row_items row ≡ map item_of entries → at < length (map item_of entries)
+    → reference ≡ (get_or (map item_of entries) at (item_of d)).reference → HasFewEntries D most row
+    → (below : Row) × CanPlace D m0 reference (level - 1) target below branch × HasFewEntries D most below
+few_can {D} most level target at reference branch row m m0 page entries d same before above are within refers few =
+    let can = can_place_from D m m0 page level target row branch same before in
+    let h = has_child D m0 level row at (omega (arith, above)) (omega (arith, within, ap length are)) can.below in
+    let is : reference ≡ h.from.page = refers ∙ ap (λ (es : List Item). (get_or es at (item_of d)).reference) (sym are) ∙ h.reference (item_of d) in (
+      h.from.row,
+      record {
+        there = subst (λ n. HasNode D m0 n (level - 1) h.from.row) (sym is) h.node;
+        below = h.stands;
+        entry = can.entry;
+        distinct = λ n. subst (λ k. occurs_at k n h.from.row + occurs_on n branch ≤ 1) (sym is) (omega (arith, h.fewer n, can.distinct n));
+      },
+      few_below D most row at h.from h.there few.1,
+    )
+
+-- the node's page is still live when its child has settled
+pub live_after : {D : ℕ} (Y : Type 0) (most top level target at reference : ℕ) (called called1 : List Bool) (branch : Branch) (row : Row) (m m0 m1 : PageMap) (page : ℕ) (lower : Settled D) (waits waits1 : List (Wait D)) (entries : List (Entry D)) (d : Entry D)
+    → ((n : ℕ) → m0 n ≡ m n) → CanPlace D m page level target row branch → target < level → row_items row ≡ map item_of entries → at < length (map item_of entries)
+    → reference ≡ (get_or (map item_of entries) at (item_of d)).reference
+    → ((below : Row) → CanPlace D m0 reference (level - 1) target below branch → Y × PlacesTo D most top (level - 1) target called branch below m0 m1 reference lower waits waits1 called1)
+    → Y × IsSome (m1 page)
+live_after {D} Y most top level target at reference called called1 branch row m m0 m1 page lower waits waits1 entries d same before above are within refers callee =
+    let can = can_place_from D m m0 page level target row branch same before in
+    let h = has_child D m0 level row at (omega (arith, above)) (omega (arith, within, ap length are)) can.below in
+    let is : reference ≡ h.from.page = refers ∙ ap (λ (es : List Item). (get_or es at (item_of d)).reference) (sym are) ∙ h.reference (item_of d) in
+    let both = callee h.from.row (child_can most top level target at called called1 branch row m0 m1 page lower waits waits1 can above h reference is) in
+    (both.0, (can_settle most top level target at called called1 branch row m0 m1 page lower waits waits1 can above h reference is both.1).live)
