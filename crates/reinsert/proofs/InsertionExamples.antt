@@ -1,19 +1,15 @@
--- Worked examples of placings and insertions. No other proof rests on them.
-use Rattle.tree_node.specs.Nodes.{Item}
-use Rattle.tree_node.specs.Trees.{Row, end, more, Branch, object, child, Tree, row_items}
-use Rattle.tree_node.specs.Rows.{row_of}
-use Rattle.tree_node.specs.Boxes.{least_box}
-use Rattle.tree_node.specs.Positions.{pick}
-use Rattle.choose_subtree.specs.Choice.{IsChosenChild}
-use Rattle.rstar_split.specs.Cuts.{order_of, Splits}
-use Rattle.reinsert.specs.Insertion.{IsInsertion}
-use Rattle.reinsert.specs.Called.{none_called, all_called}
-use Rattle.reinsert.specs.Choice.{IsFirstLeast, AtMost, child_key}
-use Rattle.reinsert.specs.Cuts.{Bound, by_lower, by_upper, axis_margin, cut_key}
-use Rattle.reinsert.specs.Far.{far_places, near_places}
-use Rattle.std.proofs.Common.{replicate, ◌≡◌, ℕ, zero, suc, ◌+◌, ◌<◌, ◌≤◌, ◌*◌, List, [], ◌∷◌, Some, None, true, false, refl, arith, pos}
+-- Worked insertions (docs/RULES.md). No other proof rests on them.
+use Rattle.std.proofs.Common.{replicate, Bool, ◌≡◌, ℕ, zero, suc, ◌<◌, ◌≤◌, List, [], ◌∷◌, Some, None, true, false, refl, arith, pos}
 use Rattle.std.proofs.lemmas.Bool.Decides.{nat_tests}
 use Rattle.box_math.specs.Bounds.{Bounds}
+use Rattle.tree_node.specs.Keys.{AtMost}
+use Rattle.tree_node.specs.Nodes.{Item}
+use Rattle.tree_node.specs.Rows.{Waiter, row_of}
+use Rattle.tree_node.specs.Trees.{Row, object, child, Tree, row_items}
+use Rattle.tree_node.proofs.KeyLemmas.{AtMost-itself}
+use Rattle.choose_subtree.specs.Choice.{IsChosenChild, child_key}
+use Rattle.rstar_split.specs.Cuts.{Splits}
+use Rattle.reinsert.specs.Insertion.{IsInsertion}
 
 -- the box of one point of the plane, and a box
 abbrev point : ℕ → ℕ → Bounds
@@ -25,94 +21,10 @@ box x y x' y' = record { low = pos x ∷ pos y ∷ []; high = pos x' ∷ pos y' 
 abbrev at : ℕ → ℕ → ℕ → Item
 at id x y = record { bounds = point x y; reference = id }
 
--- ---- five points on a line: both axes have the same margin sum, and all volumes and overlaps are 0
+-- ---- the fifth of five points on a line, which are split so, splits the root
 
 abbrev line : List Item
 line = at 1 0 0 ∷ at 2 1 0 ∷ at 3 2 0 ∷ at 4 3 0 ∷ at 5 10 0 ∷ []
-
-line_order : order_of line 0 by_lower ≡ 0 ∷ 1 ∷ 2 ∷ 3 ∷ 4 ∷ []
-unfolding order_of
-line_order = refl
-
-line_margins : (axis_margin 2 line 2 0 ≡ 36) × (axis_margin 2 line 2 1 ≡ 36)
-unfolding axis_margin order_of least_box
-line_margins = (refl, refl)
-
-line_cuts : (cut_key 2 line 0 by_lower 2 ≡ 0 ∷ 0 ∷ 0 ∷ 2 ∷ []) × (cut_key 2 line 0 by_lower 3 ≡ 0 ∷ 0 ∷ 0 ∷ 3 ∷ []) × (cut_key 2 line 0 by_upper 2 ≡ 0 ∷ 0 ∷ 1 ∷ 2 ∷ [])
-unfolding cut_key order_of least_box Rattle.box_math.specs.Measures.overlap_of Rattle.box_math.specs.Bounds.meets_test
-line_cuts = (refl, refl, refl)
-
--- ---- the first overflow below the root: the far entry is taken out
-
-abbrev crowd : List Item
-crowd = at 3 100 100 ∷ at 4 102 102 ∷ at 5 104 100 ∷ at 6 60 60 ∷ at 8 103 101 ∷ []
-
-pub crowd_box : least_box 2 crowd ≡ box 60 60 104 102
-unfolding least_box
-crowd_box = refl
-
-crowd_far : (far_places 2 1 crowd ≡ 3 ∷ []) × (near_places 2 1 crowd ≡ 0 ∷ 1 ∷ 2 ∷ 4 ∷ [])
-unfolding far_places near_places least_box
-crowd_far = (refl, refl)
-
--- ---- equal distances: of the farthest the smaller reference is taken out
-
-abbrev row : List Item
-row = at 1 0 0 ∷ at 2 1 0 ∷ at 6 11 0 ∷ at 7 4 0 ∷ at 8 5 0 ∷ []
-
-row_far : (far_places 2 1 row ≡ 0 ∷ []) × (near_places 2 1 row ≡ 1 ∷ 2 ∷ 3 ∷ 4 ∷ [])
-unfolding far_places near_places least_box
-row_far = (refl, refl)
-
--- three wait, the nearest first
-three_far : far_places 2 3 row ≡ 1 ∷ 2 ∷ 0 ∷ []
-unfolding far_places least_box
-three_far = refl
-
--- ---- the child that a box goes to
-
--- (60,60): enlargements of the area 3596 and 1840, and no overlap
-abbrev two_leaves : List Item
-two_leaves = record { bounds = box 0 0 2 2; reference = 3 } ∷ record { bounds = box 100 100 104 102; reference = 4 } ∷ []
-
-two_keys : (child_key 2 1 two_leaves (point 60 60) 0 ≡ 0 ∷ 3596 ∷ 4 ∷ []) × (child_key 2 1 two_leaves (point 60 60) 1 ≡ 0 ∷ 1840 ∷ 8 ∷ [])
-unfolding child_key Rattle.box_math.specs.Measures.overlap_of Rattle.box_math.specs.Bounds.meets_test
-two_keys = (refl, refl)
-
--- ---- the fifth point on the line splits the root, whether or not overflows may be treated by ReInsert
-
-at_most_itself : (xs : List ℕ) → AtMost xs xs
-at_most_itself [] = tt
-at_most_itself (x ∷ xs) = (omega arith, λ same. at_most_itself xs)
-
-axes : (a : ℕ) → a < 2 → AtMost (axis_margin 2 line 2 0 ∷ []) (axis_margin 2 line 2 a ∷ [])
-axes zero lt = at_most_itself (axis_margin 2 line 2 0 ∷ [])
-axes (suc zero) lt = (omega (arith, line_margins), λ same. tt)
-axes (suc (suc a)) lt = absurd (omega (arith, lt))
-
-cuts : (b : Bound) (s : ℕ) → 2 ≤ s → s + 2 ≤ 5 → AtMost (cut_key 2 line 0 by_lower 2) (cut_key 2 line 0 b s)
-unfolding cut_key order_of least_box Rattle.box_math.specs.Measures.overlap_of Rattle.box_math.specs.Bounds.meets_test
-cuts b zero low high = absurd (omega (arith, low))
-cuts b (suc zero) low high = absurd (omega (arith, low))
-cuts by_lower (suc (suc zero)) low high = (omega arith, λ a. (omega arith, λ b. (omega arith, λ c. (omega arith, λ d. tt))))
-cuts by_upper (suc (suc zero)) low high = (omega arith, λ a. (omega arith, λ b. (omega arith, λ c. (omega arith, λ d. tt))))
-cuts by_lower (suc (suc (suc zero))) low high = (omega arith, λ a. (omega arith, λ b. (omega arith, λ c. (omega arith, λ d. tt))))
-cuts by_upper (suc (suc (suc zero))) low high = (omega arith, λ a. (omega arith, λ b. (omega arith, λ c. (omega arith, λ d. tt))))
-cuts b (suc (suc (suc (suc s)))) low high = absurd (omega (arith, high))
-
-line_splits : Splits 2 4 line (0 ∷ 1 ∷ []) (2 ∷ 3 ∷ 4 ∷ [])
-unfolding order_of
-line_splits = record {
-  axis = 0;
-  bound = by_lower;
-  size = 2;
-  axis_least = record { within = omega arith; least = axes; first = λ j lt. absurd (omega (arith, lt)) };
-  first_full = omega arith;
-  second_full = omega arith;
-  least = cuts;
-  first_is = refl;
-  second_is = refl;
-}
 
 abbrev four : Tree
 four = record { page = 3; level = 0; row = row_of (object (point 0 0) 1 ∷ object (point 1 0) 2 ∷ object (point 2 0) 3 ∷ object (point 3 0) 4 ∷ []) }
@@ -126,9 +38,9 @@ second_leaf = row_of (object (point 2 0) 3 ∷ object (point 3 0) 4 ∷ object (
 abbrev five : Tree
 five = record { page = 6; level = 1; row = row_of (child (box 0 0 1 0) 3 first_leaf ∷ child (box 2 0 10 0) 5 second_leaf ∷ []) }
 
-pub fifth : IsInsertion 2 4 none_called (λ n. 0) (object (point 10 0) 5) 0 four five
-unfolding least_box
-fifth = record {
+pub fifth : Splits 2 4 line (0 ∷ 1 ∷ []) (2 ∷ 3 ∷ 4 ∷ []) → IsInsertion 2 4 (λ n. 0) (object (point 10 0) 5) 0 four five
+unfolding Rattle.tree_node.specs.Boxes.least_box
+fifth line_splits = record {
   count = 1;
   called = true ∷ replicate 40 false;
   placed = (
@@ -148,3 +60,112 @@ fifth = record {
     refl,
   );
 }
+
+-- ---- the first overflow below a root: entry 6 is taken out of the second leaf and goes into the first
+
+abbrev low : Row
+low = row_of (object (point 0 0) 1 ∷ object (point 2 2) 2 ∷ object (point 42 42) 7 ∷ [])
+
+abbrev high : Row
+high = row_of (object (point 100 100) 3 ∷ object (point 102 102) 4 ∷ object (point 104 100) 5 ∷ object (point 60 60) 6 ∷ [])
+
+abbrev seven : Row
+seven = row_of (child (box 0 0 42 42) 3 low ∷ child (box 60 60 104 102) 5 high ∷ [])
+
+abbrev high_after : Row
+high_after = row_of (object (point 100 100) 3 ∷ object (point 102 102) 4 ∷ object (point 104 100) 5 ∷ object (point 103 101) 8 ∷ [])
+
+abbrev between : Row
+between = row_of (child (box 0 0 42 42) 3 low ∷ child (box 100 100 104 102) 5 high_after ∷ [])
+
+abbrev low_after : Row
+low_after = row_of (object (point 0 0) 1 ∷ object (point 2 2) 2 ∷ object (point 42 42) 7 ∷ object (point 60 60) 6 ∷ [])
+
+abbrev eight : Row
+eight = row_of (child (box 0 0 60 60) 3 low_after ∷ child (box 100 100 104 102) 5 high_after ∷ [])
+
+-- the overlaps grow by 1763 and 0
+second_least : (j : ℕ) → j < 2 → AtMost (child_key 2 1 (row_items seven) (point 103 101) 1) (child_key 2 1 (row_items seven) (point 103 101) j)
+unfolding child_key Rattle.choose_subtree.specs.Choice.overlap_at Rattle.box_math.specs.Measures.overlap_of Rattle.box_math.specs.Bounds.meets_test
+second_least zero lt = (omega arith, λ same. absurd (omega (arith, same)))
+second_least (suc zero) lt = AtMost-itself (child_key 2 1 (row_items seven) (point 103 101) 1)
+second_least (suc (suc j)) lt = absurd (omega (arith, lt))
+
+second_first : (j : ℕ) → j < 1 → ¬ (child_key 2 1 (row_items seven) (point 103 101) j ≡ child_key 2 1 (row_items seven) (point 103 101) 1)
+unfolding child_key Rattle.choose_subtree.specs.Choice.overlap_at Rattle.box_math.specs.Measures.overlap_of Rattle.box_math.specs.Bounds.meets_test
+second_first zero lt same = absurd (cc)
+second_first (suc j) lt same = absurd (omega (arith, lt))
+
+to_second : IsChosenChild 2 1 (row_items seven) (point 103 101) 1
+to_second = record { within = omega arith; least = second_least; first = second_first }
+
+-- then no overlap grows, and the areas by 1836 and 1840
+first_least : (j : ℕ) → j < 2 → AtMost (child_key 2 1 (row_items between) (point 60 60) 0) (child_key 2 1 (row_items between) (point 60 60) j)
+unfolding child_key Rattle.choose_subtree.specs.Choice.overlap_at Rattle.box_math.specs.Measures.overlap_of Rattle.box_math.specs.Bounds.meets_test
+first_least zero lt = AtMost-itself (child_key 2 1 (row_items between) (point 60 60) 0)
+first_least (suc zero) lt = (omega arith, λ a. (omega arith, λ same. absurd (omega (arith, same))))
+first_least (suc (suc j)) lt = absurd (omega (arith, lt))
+
+to_first : IsChosenChild 2 1 (row_items between) (point 60 60) 0
+to_first = record { within = omega arith; least = first_least; first = λ j lt same. absurd (omega (arith, lt)) }
+
+pub first_overflow : IsInsertion 2 4 (λ n. 0) (object (point 103 101) 8) 0 (record { page = 6; level = 1; row = seven }) (record { page = 6; level = 1; row = eight })
+unfolding Rattle.tree_node.specs.Boxes.least_box Rattle.reinsert.specs.Far.far_places Rattle.reinsert.specs.Far.near_places Rattle.reinsert.specs.Far.far_order Rattle.reinsert.specs.Far.farther
+first_overflow =
+    let six : Waiter = record { branch = object (point 60 60) 6; level = 0 } in
+    let called : List Bool = true ∷ replicate 40 false in
+    record {
+      count = 2;
+      called = called;
+      placed = (
+        record { tree = record { page = 6; level = 1; row = between }; waiting = six ∷ []; called = called },
+        record {
+          first = record { branch = object (point 103 101) 8; level = 0 };
+          rest = [];
+          waits = refl;
+          fits = omega arith;
+          outcome = record { row = between; beside = None; far = six ∷ []; called = called };
+          places = record {
+            at = 1;
+            chosen = to_second;
+            from = record { page = 5; row = high };
+            there = refl;
+            below = record { row = high_after; beside = None; far = six ∷ []; called = called };
+            settled = refl;
+            above = record { row = between; beside = None; far = []; called = called };
+            settles = refl;
+            is = refl;
+          };
+          root = refl;
+          waiting = refl;
+          called = refl;
+          distinct = λ n. grind (arith, nat_tests);
+        },
+        (
+          record { tree = record { page = 6; level = 1; row = eight }; waiting = []; called = called },
+          record {
+            first = six;
+            rest = [];
+            waits = refl;
+            fits = omega arith;
+            outcome = record { row = eight; beside = None; far = []; called = called };
+            places = record {
+              at = 0;
+              chosen = to_first;
+              from = record { page = 3; row = low };
+              there = refl;
+              below = record { row = low_after; beside = None; far = []; called = called };
+              settled = refl;
+              above = record { row = eight; beside = None; far = []; called = called };
+              settles = refl;
+              is = refl;
+            };
+            root = refl;
+            waiting = refl;
+            called = refl;
+            distinct = λ n. grind (arith, nat_tests);
+          },
+          refl,
+        ),
+      );
+    }
