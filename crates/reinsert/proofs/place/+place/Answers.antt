@@ -162,6 +162,7 @@ returns-clause-faults g t c = λ h row branch item can few.
     (c.in_ok-node.ensures.asks.map.pages_stay h.honest) can (omega (arith, c.requires.levels, c.if-at-target.false)) read c.child_for-place_of_child.ensures.chosen.within (c.child_for-place_of_child.ensures.page (item_of c.args.entry.now))
     (λ below could. c.in_ok-lower.ensures.placed (c.in_ok-node.ensures.asks.map.sound.0 h) below branch item could) in
     c.put_above.ensures.faults live.0 live.1
+
 pub returns-in_err-node-clause-alters : goal.returns-in_err-node-clause-alters
 returns-in_err-node-clause-alters g t c =
     alters_so c.args.cache.now c.read_fitting.new.cache (before c.in_err-node.field-0.0) c.from_residual.result c.from_residual.ensures.1
