@@ -23,7 +23,8 @@ with_child end at b new = end
 with_child (more (object bounds id) rest) zero b new = more (object bounds id) rest
 with_child (more (object bounds id) rest) (suc at) b new = more (object bounds id) (with_child rest at b new)
 with_child (more (child bounds page below) rest) zero b new = more (child b page new) rest
-with_child (more (child bounds page below) rest) (suc at) b new = more (child bounds page below) (with_child rest at b new)
+with_child (more (child bounds page below) rest) (suc at) b new = more (child bounds page below)
+    (with_child rest at b new)
 
 -- the entry of a child, with the least box
 abbrev pub boxed : ℕ → Child → Branch

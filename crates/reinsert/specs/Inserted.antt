@@ -23,9 +23,10 @@ pub record IsRootFrom (old new : Root) : Type 0 where
   pub low : new.level ≤ 40
   pub page : (3 ≤ new.page) × (new.page < 2 ^ 31)
 
--- The tree stands at the root, and so does that of the entry, which is for a level of the tree. No page is twice in them and
--- elsewhere, and each that occurs elsewhere is live.
-pub record CanInsert (dims : ℕ) (m : PageMap) (root : Root) (item : Item) (level : ℕ) (t : Tree) (branch : Branch) (elsewhere : ℕ → ℕ) : Type 0 where
+-- The tree stands at the root, and so does that of the entry, which is for a level of the tree. No page is twice in
+-- them and elsewhere, and each that occurs elsewhere is live.
+pub record CanInsert (dims : ℕ) (m : PageMap) (root : Root) (item : Item) (level : ℕ) (t : Tree) (branch : Branch)
+    (elsewhere : ℕ → ℕ) : Type 0 where
   pub at : IsRootOf root t
   pub stands : Stands dims m t
   pub entry : item_in branch ≡ item
@@ -34,9 +35,10 @@ pub record CanInsert (dims : ℕ) (m : PageMap) (root : Root) (item : Item) (lev
   pub apart : (n : ℕ) → occurs_in n t + occurs_on n branch + elsewhere n ≤ 1
   pub live : (n : ℕ) → 0 < elsewhere n → IsSome (m n)
 
--- A tree stands at the root, which a lawful insertion leads to. Pages that are in neither tree stay; those that came in were not
--- live.
-pub record InsertsTo (dims most : ℕ) (m m' : PageMap) (level : ℕ) (t : Tree) (branch : Branch) (elsewhere : ℕ → ℕ) (root : Root) : Type 0 where
+-- A tree stands at the root, which a lawful insertion leads to. Pages that are in neither tree stay; those that came in
+-- were not live.
+pub record InsertsTo (dims most : ℕ) (m m' : PageMap) (level : ℕ) (t : Tree) (branch : Branch) (elsewhere : ℕ
+    → ℕ) (root : Root) : Type 0 where
   pub new : Tree
   pub at : IsRootOf root new
   pub stands : Stands dims m' new
@@ -50,7 +52,8 @@ abbrev pub occurs_in_state : State → ℕ → ℕ
 occurs_in_state s n = occurs_in n s.tree + occurs_waiting n s.waiting
 
 -- pages and variables are in this state
-pub record IsAt {D : ℕ} (dims : ℕ) (m : PageMap) (root : Root) (waits : List (Wait D)) (called : List Bool) (elsewhere : ℕ → ℕ) (s : State) : Type 0 where
+pub record IsAt {D : ℕ} (dims : ℕ) (m : PageMap) (root : Root) (waits : List (Wait D)) (called : List Bool)
+    (elsewhere : ℕ → ℕ) (s : State) : Type 0 where
   pub at : IsRootOf root s.tree
   pub there : HasNode dims m s.tree.page s.tree.level s.tree.row
   pub below : RowStands dims m s.tree.level s.tree.row
@@ -61,7 +64,8 @@ pub record IsAt {D : ℕ} (dims : ℕ) (m : PageMap) (root : Root) (waits : List
   pub live : (n : ℕ) → 0 < elsewhere n → IsSome (m n)
 
 -- one placing on
-pub record StepsTo {D : ℕ} (dims most : ℕ) (m m' : PageMap) (elsewhere : ℕ → ℕ) (s : State) (root : Root) (waits : List (Wait D)) (called : List Bool) : Type 0 where
+pub record StepsTo {D : ℕ} (dims most : ℕ) (m m' : PageMap) (elsewhere : ℕ
+    → ℕ) (s : State) (root : Root) (waits : List (Wait D)) (called : List Bool) : Type 0 where
   pub next : State
   pub placing : Placing dims most elsewhere s next
   pub isat : IsAt dims m' root waits called elsewhere next

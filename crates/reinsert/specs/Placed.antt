@@ -60,7 +60,8 @@ occurs_beside n (Some c) = occurs_at c.page n c.row
 
 -- how often a page occurs in what a node became
 abbrev pub occurs_after : ℕ → Outcome → ℕ → ℕ
-occurs_after page outcome n = occurs_at page n outcome.row + occurs_beside n outcome.beside + occurs_waiting n outcome.far
+occurs_after page outcome n = occurs_at page n outcome.row + occurs_beside n outcome.beside + occurs_waiting n
+    outcome.far
 
 -- what a node became stands
 pub record OutcomeStands (dims : ℕ) (m : PageMap) (page level : ℕ) (outcome : Outcome) : Type 0 where
@@ -72,7 +73,8 @@ pub record OutcomeStands (dims : ℕ) (m : PageMap) (page level : ℕ) (outcome 
 -- ---- what each step needs, and what it leaves
 
 -- the code hands up what the node became, and has added what waits again
-pub record Shows {D : ℕ} (dims : ℕ) (settled : Settled D) (waits waits' : List (Wait D)) (called' : List Bool) (outcome : Outcome) : Type 0 where
+pub record Shows {D : ℕ} (dims : ℕ) (settled : Settled D) (waits waits' : List (Wait D)) (called' : List Bool)
+    (outcome : Outcome) : Type 0 where
   pub bounds : settled.bounds ≡ least_box dims (row_items outcome.row)
   pub beside : option_map item_of settled.beside ≡ option_map (λ c. item_in (boxed dims c)) outcome.beside
   pub far : map held_of waits' ≡ map held_of waits ++ reverse (map held_in outcome.far)
@@ -85,7 +87,8 @@ pub record CanSettle (dims : ℕ) (m : PageMap) (page level : ℕ) (branches : L
   pub distinct : (n : ℕ) → occurs_at page n (row_of branches) ≤ 1
 
 -- the node of these entries has settled
-pub record SettlesTo {D : ℕ} (dims most top level : ℕ) (called : List Bool) (branches : List Branch) (m m' : PageMap) (page : ℕ) (settled : Settled D) (waits waits' : List (Wait D)) (called' : List Bool) : Type 0 where
+pub record SettlesTo {D : ℕ} (dims most top level : ℕ) (called : List Bool) (branches : List Branch) (m m' : PageMap)
+    (page : ℕ) (settled : Settled D) (waits waits' : List (Wait D)) (called' : List Bool) : Type 0 where
   pub outcome : Outcome
   pub settles : Settles dims most top level called branches outcome
   pub stands : OutcomeStands dims m' page level outcome
@@ -100,12 +103,14 @@ pub record CanPlace (dims : ℕ) (m : PageMap) (page level target : ℕ) (row : 
   pub distinct : (n : ℕ) → occurs_at page n row + occurs_on n branch ≤ 1
 
 -- the entry was placed below the node
-pub record PlacesTo {D : ℕ} (dims most top level target : ℕ) (called : List Bool) (branch : Branch) (row : Row) (m m' : PageMap) (page : ℕ) (settled : Settled D) (waits waits' : List (Wait D)) (called' : List Bool) : Type 0 where
-  pub outcome : Outcome
-  pub places : Places dims most top level (level - target) called branch row outcome
-  pub stands : OutcomeStands dims m' page level outcome
-  pub moves : Moves m m' (λ n. occurs_at page n row + occurs_on n branch) (occurs_after page outcome)
-  pub shows : Shows dims settled waits waits' called' outcome
+pub record PlacesTo {D : ℕ} (dims most top level target : ℕ) (called : List Bool) (branch : Branch) (row : Row)
+    (m m' : PageMap) (page : ℕ) (settled : Settled D) (waits waits' : List (Wait D)) (called' : List Bool) : Type 0
+  where
+    pub outcome : Outcome
+    pub places : Places dims most top level (level - target) called branch row outcome
+    pub stands : OutcomeStands dims m' page level outcome
+    pub moves : Moves m m' (λ n. occurs_at page n row + occurs_on n branch) (occurs_after page outcome)
+    pub shows : Shows dims settled waits waits' called' outcome
 
 -- ---- where no page is damaged
 

@@ -19,8 +19,8 @@ use page_file::Fault;
 use std::alloc::Allocator;
 use tree_node::{Entry, Node, Root};
 
-// Makes a root over the old one, which has these bounds now, and what was split off. A tree that would grow above level 40
-// is damaged at its root.
+// Makes a root over the old one, which has these bounds now, and what was split off. A tree that would grow above level
+// 40 is damaged at its root.
 pub(crate) fn grow<const D: usize, B: BlockDevice, A: Allocator + Copy>(
     cache: &mut PageCache<B, A>,
     root: Root,
@@ -35,7 +35,12 @@ pub(crate) fn grow<const D: usize, B: BlockDevice, A: Allocator + Copy>(
     ensures level { IfOk result (λ new. (new.level ≡ root.level + 1) × (new.level ≤ 40)) }
     ensures page { IfOk result (λ new. (3 ≤ new.page) × (new.page < 2 ^ 31)) }
     ensures grown { IsPageMap cache.old → IfOk result (λ new. IsPageMap cache.new
-        × ComesIn D (pages cache.old) (pages cache.new) new.page (record { level = root.level + 1; entries = record { bounds = bounds.entry; reference = root.page } ∷ item_of beside.entry ∷ [] })) }
+        × ComesIn D (pages cache.old) (pages cache.new) new.page
+        (record {
+          level = root.level + 1;
+          entries = record { bounds = bounds.entry; reference = root.page } ∷
+              item_of beside.entry ∷ [];
+        })) }
     ensures faults { IsPageMap cache.old → root.level < 40 → IfErr result (IsNoDamage cache.new) }
 {
     if root.level >= 40 {

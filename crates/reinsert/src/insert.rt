@@ -28,16 +28,17 @@ use page_file::Fault;
 use std::alloc::Allocator;
 use tree_node::{Entry, Root};
 
-/// Inserts an entry at a level of the tree at that root (docs/RULES.md): on level 0 an object, above it a child, which refers
-/// to a page from 3 to 2^31 - 1. The gate has to be open.
+/// Inserts an entry at a level of the tree at that root (docs/RULES.md): on level 0 an object, above it a child, which
+/// refers to a page from 3 to 2^31 - 1. The gate has to be open.
 ///
-/// Where the pages are a sound map and stand for a tree there, and above level 0 for one at the entry's reference, they stand
-/// on `Ok` for a tree that a lawful insertion leads to. Pages outside these trees stay, and those that come in were not live.
-/// The root's level does not fall.
+/// Where the pages are a sound map and stand for a tree there, and above level 0 for one at the entry's reference, they
+/// stand on `Ok` for a tree that a lawful insertion leads to. Pages outside these trees stay, and those that come in
+/// were not live. The root's level does not fall.
 ///
-/// A refusal that is not `touched` leaves the map as it was; `Memory` for the room of what waits is one. Where the trees have
-/// their shape, but that a root may have one entry, a refusal is of memory or of the device, or all page numbers are given out
-/// (`NoPages`). A tree of level 40 takes no entry, since it could grow: its root is `Damaged`, untouched.
+/// A refusal that is not `touched` leaves the map as it was; `Memory` for the room of what waits is one. Where the
+/// trees have their shape, but that a root may have one entry, a refusal is of memory or of the device, or all page
+/// numbers are given out (`NoPages`). A tree of level 40 takes no entry, since it could grow: its root is `Damaged`,
+/// untouched.
 pub fn insert_at<const D: usize, B: BlockDevice, A: Allocator + Copy, H: Allocator>(
     alloc: H,
     cache: &mut PageCache<B, A>,
@@ -56,7 +57,8 @@ pub fn insert_at<const D: usize, B: BlockDevice, A: Allocator + Copy, H: Allocat
     ensures root { IfOk result (IsRootFrom root) }
     ensures inserted { IsPageMap cache.old → (t : Tree) (branch : Branch) (elsewhere : ℕ → ℕ)
         → CanInsert D (pages cache.old) root (item_of entry.now) level t branch elsewhere →
-        IfOk result (λ after. IsPageMap cache.new × InsertsTo D m_max (pages cache.old) (pages cache.new) level t branch elsewhere after) }
+        IfOk result (λ after. IsPageMap cache.new
+        × InsertsTo D m_max (pages cache.old) (pages cache.new) level t branch elsewhere after) }
     ensures faults { IsPageMap cache.old → (t : Tree) (branch : Branch) (elsewhere : ℕ → ℕ)
         → CanInsert D (pages cache.old) root (item_of entry.now) level t branch elsewhere
         → HasLooseShape D m_max t → RowHasBoxes D t.row → EntryHasShape D m_max level branch →
@@ -66,8 +68,8 @@ pub fn insert_at<const D: usize, B: BlockDevice, A: Allocator + Copy, H: Allocat
     insert_with(cache, root, entry, level, m_max, &mut waiting)
 }
 
-/// Inserts an entry as `insert_at` does, and takes no memory by itself. The `Waiting` serves again afterwards, also after a
-/// refusal.
+/// Inserts an entry as `insert_at` does, and takes no memory by itself. The `Waiting` serves again afterwards, also
+/// after a refusal.
 pub fn insert_with<const D: usize, B: BlockDevice, A: Allocator + Copy>(
     cache: &mut PageCache<B, A>,
     root: Root,
@@ -86,12 +88,14 @@ pub fn insert_with<const D: usize, B: BlockDevice, A: Allocator + Copy>(
     ensures root { IfOk result (IsRootFrom root) }
     ensures inserted { IsPageMap cache.old → (t : Tree) (branch : Branch) (elsewhere : ℕ → ℕ)
         → CanInsert D (pages cache.old) root (item_of entry.now) level t branch elsewhere →
-        IfOk result (λ after. IsPageMap cache.new × InsertsTo D m_max (pages cache.old) (pages cache.new) level t branch elsewhere after) }
+        IfOk result (λ after. IsPageMap cache.new
+        × InsertsTo D m_max (pages cache.old) (pages cache.new) level t branch elsewhere after) }
     ensures faults { IsPageMap cache.old → (t : Tree) (branch : Branch) (elsewhere : ℕ → ℕ)
         → CanInsert D (pages cache.old) root (item_of entry.now) level t branch elsewhere
         → HasLooseShape D m_max t → RowHasBoxes D t.row → EntryHasShape D m_max level branch →
         IfErr result (λ b. IsNoDamage cache.new b.cause) }
-    ensures tall { root.level ≡ 40 → (result ≡ Err (before (fault.Damaged root.page))) × IsUnchanged cache.old cache.new }
+    ensures tall { root.level ≡ 40 → (result ≡ Err (before (fault.Damaged root.page)))
+        × IsUnchanged cache.old cache.new }
 {
     if root.level >= 40 {
         return Err(Broken::from(Fault::Damaged(root.page)));
@@ -128,9 +132,13 @@ fn place_one<const D: usize, B: BlockDevice, A: Allocator + Copy>(
     ensures alters { Alters cache.old cache.new result }
     ensures measure { measure_of waiting.new ≤ measure_of waiting.old }
     ensures root { IfOk result (IsRootFrom root) }
-    ensures placed { IsPageMap cache.old → (s : State) (elsewhere : ℕ → ℕ) → IsAt D (pages cache.old) root (waiting.old.waits.items ++ first.now ∷ []) waiting.old.called elsewhere s →
-        IfOk result (λ after. IsPageMap cache.new × StepsTo D m_max (pages cache.old) (pages cache.new) elsewhere s after waiting.new.waits.items waiting.new.called) }
-    ensures faults { IsPageMap cache.old → (s : State) (elsewhere : ℕ → ℕ) → IsAt D (pages cache.old) root (waiting.old.waits.items ++ first.now ∷ []) waiting.old.called elsewhere s
+    ensures placed { IsPageMap cache.old → (s : State) (elsewhere : ℕ → ℕ)
+        → IsAt D (pages cache.old) root (waiting.old.waits.items ++ first.now ∷ []) waiting.old.called elsewhere s →
+        IfOk result (λ after. IsPageMap cache.new
+        × StepsTo D m_max (pages cache.old) (pages cache.new) elsewhere s after waiting.new.waits.items
+        waiting.new.called) }
+    ensures faults { IsPageMap cache.old → (s : State) (elsewhere : ℕ → ℕ)
+        → IsAt D (pages cache.old) root (waiting.old.waits.items ++ first.now ∷ []) waiting.old.called elsewhere s
         → StateHasShape D m_max s →
         IfErr result (λ b. IsNoDamage cache.new b.cause) }
 {

@@ -1,5 +1,5 @@
-//! What the order of the farthest means, and what lawful insertions keep: each law is the contract of a function that does
-//! nothing.
+//! What the order of the farthest means, and what lawful insertions keep: each law is the contract of a function that
+//! does nothing.
 
 ghost use Rattle.std.specs.Prelude.{◌≡◌, ℕ, ◌<◌, ◌↔◌, List, length};
 ghost use Rattle.tree_node.specs.Nodes.{Item};
@@ -20,8 +20,8 @@ pub fn an_insertion_keeps_the_objects()
     ensures { InsertionKeepsObjects }
 {}
 
-/// The shape of a tree stays where a root that is no leaf may have one entry: the nodes' counts of entries and the least
-/// boxes.
+/// The shape of a tree stays where a root that is no leaf may have one entry: the nodes' counts of entries and the
+/// least boxes.
 pub fn an_insertion_keeps_loose_shape()
     ensures { InsertionKeepsLooseShape }
 {}

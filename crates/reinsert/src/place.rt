@@ -16,7 +16,8 @@ ghost use Rattle.node_page.specs.Broken.{Alters};
 ghost use Rattle.node_page.specs.Layout.{IsReference};
 ghost use Rattle.node_page.specs.Standing.{node_in};
 ghost use Rattle.reinsert.specs.Faults.{IsNoDamage};
-ghost use Rattle.reinsert.specs.Placed.{CanPlace, CanSettle, HasFewEntries, PlacesTo, SettlesTo, items_after, measure_of};
+ghost use Rattle.reinsert.specs.Placed.{CanPlace, CanSettle, HasFewEntries, PlacesTo, SettlesTo};
+ghost use Rattle.reinsert.specs.Placed.{items_after, measure_of};
 
 use crate::settle::settle;
 use crate::settled::Settled;
@@ -50,7 +51,9 @@ pub(crate) fn place<const D: usize, B: BlockDevice, A: Allocator + Copy>(
     ensures beside { IfOk result (λ s. IfSome s.beside (λ e. IsReference (at.level + 1) e.reference)) }
     ensures placed { IsPageMap cache.old → (row : Row) (branch : Branch) → item_in branch ≡ item_of entry.now
         → CanPlace D (pages cache.old) at.page at.level target row branch →
-        IfOk result (λ s. IsPageMap cache.new × PlacesTo D m_max top at.level target waiting.old.called branch row (pages cache.old) (pages cache.new) at.page s waiting.old.waits.items waiting.new.waits.items waiting.new.called) }
+        IfOk result (λ s. IsPageMap cache.new
+        × PlacesTo D m_max top at.level target waiting.old.called branch row (pages cache.old) (pages cache.new)
+        at.page s waiting.old.waits.items waiting.new.waits.items waiting.new.called) }
     ensures faults { IsPageMap cache.old → (row : Row) (branch : Branch) → item_in branch ≡ item_of entry.now
         → CanPlace D (pages cache.old) at.page at.level target row branch → HasFewEntries D m_max row →
         IfErr result (λ b. IsNoDamage cache.new b.cause) }
@@ -85,8 +88,10 @@ fn read_fitting<const D: usize, B: BlockDevice, A: Allocator + Copy>(
 ) -> Result<Node<D>, Fault>
     requires dims { IsDims D }
     ensures asks { Asks cache.old cache.new result }
-    ensures node { IsHonest cache.old → IsLive cache.old at.page → IfOk result (λ node. node_in D (pages cache.old at.page) ≡ Some (content_of node)) }
-    ensures faults { IsHonest cache.old → (c : NodeContent) → node_in D (pages cache.old at.page) ≡ Some c → c.level ≡ at.level → length c.entries ≤ m_max
+    ensures node { IsHonest cache.old → IsLive cache.old at.page
+        → IfOk result (λ node. node_in D (pages cache.old at.page) ≡ Some (content_of node)) }
+    ensures faults { IsHonest cache.old → (c : NodeContent) → node_in D (pages cache.old at.page) ≡ Some c
+        → c.level ≡ at.level → length c.entries ≤ m_max
         → IfErr result IsOfDevice }
     ensures level { IfOk result (λ node. node.level ≡ at.level) }
     ensures few { IfOk result (λ node. array_vec_len node.entries ≤ m_max) }
@@ -134,9 +139,12 @@ fn put_here<const D: usize, B: BlockDevice, A: Allocator + Copy>(
     ensures alters { Alters cache.old cache.new result }
     ensures measure { measure_of waiting.new ≤ measure_of waiting.old }
     ensures beside { IfOk result (λ s. IfSome s.beside (λ e. IsReference (node.entry.level + 1) e.reference)) }
-    ensures settled { IsPageMap cache.old → (branches : List Branch) → map item_in branches ≡ map item_of node.entry.entries.items ++ item_of entry.now ∷ []
+    ensures settled { IsPageMap cache.old → (branches : List Branch)
+        → map item_in branches ≡ map item_of node.entry.entries.items ++ item_of entry.now ∷ []
         → CanSettle D (pages cache.old) page node.entry.level branches →
-        IfOk result (λ s. IsPageMap cache.new × SettlesTo D m_max top node.entry.level waiting.old.called branches (pages cache.old) (pages cache.new) page s waiting.old.waits.items waiting.new.waits.items waiting.new.called) }
+        IfOk result (λ s. IsPageMap cache.new
+        × SettlesTo D m_max top node.entry.level waiting.old.called branches (pages cache.old) (pages cache.new)
+        page s waiting.old.waits.items waiting.new.waits.items waiting.new.called) }
     ensures touched { IfErr result (λ b. b.touched ≡ true) }
     ensures faults { IsPageMap cache.old → IsLive cache.old page → IfErr result (λ b. IsNoDamage cache.new b.cause) }
 {
@@ -169,9 +177,12 @@ fn put_above<const D: usize, B: BlockDevice, A: Allocator + Copy>(
     ensures alters { Alters cache.old cache.new result }
     ensures measure { measure_of waiting.new ≤ measure_of waiting.old }
     ensures beside { IfOk result (λ s. IfSome s.beside (λ e. IsReference (node.entry.level + 1) e.reference)) }
-    ensures settled { IsPageMap cache.old → (branches : List Branch) → map item_in branches ≡ items_after D node.entry.entries.items at lower.entry
+    ensures settled { IsPageMap cache.old → (branches : List Branch)
+        → map item_in branches ≡ items_after D node.entry.entries.items at lower.entry
         → CanSettle D (pages cache.old) page node.entry.level branches →
-        IfOk result (λ s. IsPageMap cache.new × SettlesTo D m_max top node.entry.level waiting.old.called branches (pages cache.old) (pages cache.new) page s waiting.old.waits.items waiting.new.waits.items waiting.new.called) }
+        IfOk result (λ s. IsPageMap cache.new
+        × SettlesTo D m_max top node.entry.level waiting.old.called branches (pages cache.old) (pages cache.new)
+        page s waiting.old.waits.items waiting.new.waits.items waiting.new.called) }
     ensures touched { IfErr result (λ b. b.touched ≡ true) }
     ensures faults { IsPageMap cache.old → IsLive cache.old page → IfErr result (λ b. IsNoDamage cache.new b.cause) }
 {
@@ -203,9 +214,12 @@ fn settle_above<const D: usize, B: BlockDevice, A: Allocator + Copy>(
     ensures changes { Changes cache.old cache.new result }
     ensures measure { measure_of waiting.new ≤ measure_of waiting.old }
     ensures beside { IfOk result (λ s. IfSome s.beside (λ e. IsReference (node.entry.level + 1) e.reference)) }
-    ensures settled { IsPageMap cache.old → (branches : List Branch) → map item_in branches ≡ items_after D node.entry.entries.items at lower.entry
+    ensures settled { IsPageMap cache.old → (branches : List Branch)
+        → map item_in branches ≡ items_after D node.entry.entries.items at lower.entry
         → CanSettle D (pages cache.old) page node.entry.level branches →
-        IfOk result (λ s. IsPageMap cache.new × SettlesTo D m_max top node.entry.level waiting.old.called branches (pages cache.old) (pages cache.new) page s waiting.old.waits.items waiting.new.waits.items waiting.new.called) }
+        IfOk result (λ s. IsPageMap cache.new
+        × SettlesTo D m_max top node.entry.level waiting.old.called branches (pages cache.old) (pages cache.new)
+        page s waiting.old.waits.items waiting.new.waits.items waiting.new.called) }
     ensures faults { IsPageMap cache.old → IsLive cache.old page → IfErr result (IsNoDamage cache.new) }
 {
     let Settled { bounds, beside } = lower;

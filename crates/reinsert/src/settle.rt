@@ -56,9 +56,12 @@ pub(crate) fn settle<const D: usize, B: BlockDevice, A: Allocator + Copy>(
     ensures changes { Changes cache.old cache.new result }
     ensures measure { measure_of waiting.new ≤ measure_of waiting.old }
     ensures beside { IfOk result (λ s. IfSome s.beside (λ e. IsReference (node.entry.level + 1) e.reference)) }
-    ensures settled { IsPageMap cache.old → (branches : List Branch) → map item_in branches ≡ map item_of node.entry.entries.items
+    ensures settled { IsPageMap cache.old → (branches : List Branch)
+        → map item_in branches ≡ map item_of node.entry.entries.items
         → CanSettle D (pages cache.old) page node.entry.level branches →
-        IfOk result (λ s. IsPageMap cache.new × SettlesTo D m_max top node.entry.level waiting.old.called branches (pages cache.old) (pages cache.new) page s waiting.old.waits.items waiting.new.waits.items waiting.new.called) }
+        IfOk result (λ s. IsPageMap cache.new
+        × SettlesTo D m_max top node.entry.level waiting.old.called branches (pages cache.old) (pages cache.new)
+        page s waiting.old.waits.items waiting.new.waits.items waiting.new.called) }
     ensures faults { IsPageMap cache.old → IsLive cache.old page → IfErr result (IsNoDamage cache.new) }
 {
     if node.entries.len() <= m_max {
@@ -83,9 +86,14 @@ fn write_fitting<const D: usize, B: BlockDevice, A: Allocator + Copy>(
     requires refers { All (λ e. IsReference node.level e.reference) node.entries.items }
     ensures changes { Changes cache.old cache.new result }
     ensures alone { IfOk result (λ s. s.beside ≡ None) }
-    ensures settled { IsPageMap cache.old → (most top : ℕ) (called : List Bool) (waits : List (Wait D)) (branches : List Branch) → array_vec_len node.entry.entries ≤ most
-        → map item_in branches ≡ map item_of node.entry.entries.items → CanSettle D (pages cache.old) page node.entry.level branches →
-        IfOk result (λ s. IsPageMap cache.new × SettlesTo D most top node.entry.level called branches (pages cache.old) (pages cache.new) page s waits waits called) }
+    ensures settled { IsPageMap cache.old
+        → (most top : ℕ) (called : List Bool) (waits : List (Wait D)) (branches : List Branch)
+        → array_vec_len node.entry.entries ≤ most
+        → map item_in branches ≡ map item_of node.entry.entries.items
+        → CanSettle D (pages cache.old) page node.entry.level branches →
+        IfOk result (λ s. IsPageMap cache.new
+        × SettlesTo D most top node.entry.level called branches (pages cache.old) (pages cache.new) page s waits
+        waits called) }
     ensures faults { IsPageMap cache.old → IsLive cache.old page → IfErr result (IsNoDamage cache.new) }
 {
     let bounds = least(node.entries.as_slice());
@@ -115,8 +123,11 @@ fn take_out_far<const D: usize, B: BlockDevice, A: Allocator + Copy>(
     ensures measure { measure_of waiting.new ≤ measure_of waiting.old }
     ensures alone { IfOk result (λ s. s.beside ≡ None) }
     ensures settled { IsPageMap cache.old → (top : ℕ) (branches : List Branch) → node.entry.level < top
-        → map item_in branches ≡ map item_of node.entry.entries.items → CanSettle D (pages cache.old) page node.entry.level branches →
-        IfOk result (λ s. IsPageMap cache.new × SettlesTo D m_max top node.entry.level waiting.old.called branches (pages cache.old) (pages cache.new) page s waiting.old.waits.items waiting.new.waits.items waiting.new.called) }
+        → map item_in branches ≡ map item_of node.entry.entries.items
+        → CanSettle D (pages cache.old) page node.entry.level branches →
+        IfOk result (λ s. IsPageMap cache.new
+        × SettlesTo D m_max top node.entry.level waiting.old.called branches (pages cache.old) (pages cache.new)
+        page s waiting.old.waits.items waiting.new.waits.items waiting.new.called) }
     ensures faults { IsPageMap cache.old → IsLive cache.old page → IfErr result (IsNoDamage cache.new) }
 {
     let Node { level, entries } = node;
@@ -151,9 +162,13 @@ fn split_off<const D: usize, B: BlockDevice, A: Allocator + Copy>(
     ensures changes { Changes cache.old cache.new result }
     ensures measure { measure_of waiting.new ≤ measure_of waiting.old }
     ensures beside { IfOk result (λ s. IfSome s.beside (λ e. IsReference (node.entry.level + 1) e.reference)) }
-    ensures settled { IsPageMap cache.old → (top : ℕ) (branches : List Branch) → (node.entry.level < top → is_called waiting.old.called node.entry.level ≡ true)
-        → map item_in branches ≡ map item_of node.entry.entries.items → CanSettle D (pages cache.old) page node.entry.level branches →
-        IfOk result (λ s. IsPageMap cache.new × SettlesTo D m_max top node.entry.level waiting.old.called branches (pages cache.old) (pages cache.new) page s waiting.old.waits.items waiting.new.waits.items waiting.new.called) }
+    ensures settled { IsPageMap cache.old → (top : ℕ) (branches : List Branch)
+        → (node.entry.level < top → is_called waiting.old.called node.entry.level ≡ true)
+        → map item_in branches ≡ map item_of node.entry.entries.items
+        → CanSettle D (pages cache.old) page node.entry.level branches →
+        IfOk result (λ s. IsPageMap cache.new
+        × SettlesTo D m_max top node.entry.level waiting.old.called branches (pages cache.old) (pages cache.new)
+        page s waiting.old.waits.items waiting.new.waits.items waiting.new.called) }
     ensures faults { IsPageMap cache.old → IsLive cache.old page → IfErr result (IsNoDamage cache.new) }
 {
     let Node { level, entries } = node;
@@ -194,7 +209,8 @@ fn write_both<const D: usize, B: BlockDevice, A: Allocator + Copy>(
     ensures changes { Changes cache.old cache.new result }
     ensures number { IfOk result (λ n. (3 ≤ n) × (n < 2 ^ 31)) }
     ensures written { IsPageMap cache.old → IsLive cache.old page →
-        IfOk result (λ n. IsPageMap cache.new × SplitsOff D (pages cache.old) (pages cache.new) page n (content_of first.now) (content_of second.now)) }
+        IfOk result (λ n. IsPageMap cache.new
+        × SplitsOff D (pages cache.old) (pages cache.new) page n (content_of first.now) (content_of second.now)) }
     ensures faults { IsPageMap cache.old → IsLive cache.old page → IfErr result (IsNoDamage cache.new) }
 {
     let number = cache.allocate()?;

@@ -286,13 +286,13 @@ fn insert_boxes(
 #[test]
 fn many_boxes_are_each_in_one_leaf(rt: HostRuntime) -> Result<(), Fail> {
     let mut waiting = Waiting::make(rt.alloc())?;
-    for m_max in [4, 10, 100] {
+    for (least, m_max) in [(2, 4), (4, 10), (40, 100)] {
         let mut cache = empty_tree(rt.alloc())?;
         let root = insert_boxes(&mut cache, &mut waiting, 400, m_max)?;
         let lists = leaf_lists::<2, _, _, _>(rt.alloc(), &mut cache, root)?;
         let mut ids = Vec::new(rt.alloc());
         for list in lists.iter() {
-            assert!(rt; 2 * m_max / 5 <= list.len() && 2 <= list.len() && list.len() <= m_max);
+            assert!(rt; least <= list.len() && list.len() <= m_max);
             for &id in list.iter() {
                 ids.push(id)?;
             }

@@ -71,7 +71,8 @@ impl<const D: usize> Waiting<D> {
         requires first { Called.is_called self.old.called level ≡ false }
         requires few { array_vec_len far.now ≤ 30 }
         requires refers { All (λ e. IsReference level e.reference) far.now.items }
-        ensures waits { map held_of self.new.waits.items ≡ map held_of self.old.waits.items ++ reverse (map (held_with level) far.now.items) }
+        ensures waits { map held_of self.new.waits.items ≡ map held_of self.old.waits.items ++ reverse
+            (map (held_with level) far.now.items) }
         ensures called { self.new.called ≡ set self.old.called level true }
         ensures measure { measure_of self.new ≤ measure_of self.old }
     {
