@@ -7,7 +7,7 @@ ghost use Rattle.page_cache.specs.Cache.{IsPageMap, gate_of, pages};
 ghost use Rattle.page_cache.specs.Calls.{Changes};
 ghost use Rattle.tree_node.specs.Nodes.{item_of};
 ghost use Rattle.node_page.specs.Layout.{IsReference};
-ghost use Rattle.reinsert.specs.Faults.{IsNoDamage};
+ghost use Rattle.reinsert.specs.Faults.{IsChangeFault, IsNoDamage};
 ghost use Rattle.reinsert.specs.Placed.{ComesIn};
 
 use arrayvec::ArrayVec;
@@ -42,6 +42,7 @@ pub(crate) fn grow<const D: usize, B: BlockDevice, A: Allocator + Copy>(
               item_of beside.entry ∷ [];
         })) }
     ensures faults { IsPageMap cache.old → root.level < 40 → IfErr result (IsNoDamage cache.new) }
+    ensures other_faults { IfErr result IsChangeFault }
 {
     if root.level >= 40 {
         return Err(Fault::Damaged(root.page));

@@ -11,7 +11,7 @@ ghost use Rattle.tree_node.specs.Shape.{HasLooseShape};
 ghost use Rattle.tree_node.specs.Trees.{Branch, Tree};
 ghost use Rattle.node_page.specs.Broken.{Alters, before};
 ghost use Rattle.node_page.specs.Layout.{IsReference};
-ghost use Rattle.reinsert.specs.Faults.{IsNoDamage};
+ghost use Rattle.reinsert.specs.Faults.{IsChangeFault, IsNoDamage};
 ghost use Rattle.reinsert.specs.Inserted.{CanInsert, InsertsTo, IsAt, IsRootFrom, StepsTo};
 ghost use Rattle.reinsert.specs.Kept.{EntryHasShape, StateHasShape};
 ghost use Rattle.reinsert.specs.Placed.{measure_of};
@@ -63,6 +63,7 @@ pub fn insert_at<const D: usize, B: BlockDevice, A: Allocator + Copy, H: Allocat
         → CanInsert D (pages cache.old) root (item_of entry.now) level t branch elsewhere
         → HasLooseShape D m_max t → RowHasBoxes D t.row → EntryHasShape D m_max level branch →
         IfErr result (λ b. IsNoDamage cache.new b.cause) }
+    ensures other_faults { IfErr result (λ b. IsChangeFault b.cause) }
 {
     let mut waiting = Waiting::make(alloc)?;
     insert_with(cache, root, entry, level, m_max, &mut waiting)
@@ -96,6 +97,7 @@ pub fn insert_with<const D: usize, B: BlockDevice, A: Allocator + Copy>(
         IfErr result (λ b. IsNoDamage cache.new b.cause) }
     ensures tall { root.level ≡ 40 → (result ≡ Err (before (fault.Damaged root.page)))
         × IsUnchanged cache.old cache.new }
+    ensures other_faults { IfErr result (λ b. IsChangeFault b.cause) }
 {
     if root.level >= 40 {
         return Err(Broken::from(Fault::Damaged(root.page)));
@@ -141,6 +143,7 @@ fn place_one<const D: usize, B: BlockDevice, A: Allocator + Copy>(
         → IsAt D (pages cache.old) root (waiting.old.waits.items ++ first.now ∷ []) waiting.old.called elsewhere s
         → StateHasShape D m_max s →
         IfErr result (λ b. IsNoDamage cache.new b.cause) }
+    ensures other_faults { IfErr result (λ b. IsChangeFault b.cause) }
 {
     if first.level > root.level {
         return Err(Broken::from(Fault::Damaged(root.page)));

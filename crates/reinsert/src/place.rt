@@ -1,10 +1,10 @@
 //! An entry placed below a node, and the nodes above settled.
 
 ghost use Rattle.std.specs.Prelude.{◌≡◌, ◌^◌, ◌+◌, ◌<◌, ◌≤◌, ◌++◌, ◌∷◌, [], Some, true, false, ℕ, List, All, length, map};
-ghost use Rattle.std.specs.Prelude.{slice_index_or, IfOk, IfErr, IfSome};
+ghost use Rattle.std.specs.Prelude.{◌⊎◌, slice_index_or, IfOk, IfErr, IfSome};
 ghost use Rattle.arrayvec.specs.ArrayVec.{array_vec_len};
 ghost use Rattle.box_math.specs.Bounds.{IsDims};
-ghost use Rattle.page_file.specs.Fault.{IsOfDevice};
+ghost use Rattle.page_file.specs.Fault.{IsDamage, IsOfDevice};
 ghost use Rattle.page_file.specs.declared.gate.Gate.TheVariants.{Open};
 ghost use Rattle.page_cache.specs.Cache.{IsHonest, IsLive, IsPageMap, gate_of, pages};
 ghost use Rattle.page_cache.specs.Calls.{Asks, Changes};
@@ -15,7 +15,7 @@ ghost use Rattle.tree_node.specs.Trees.{Row, Branch};
 ghost use Rattle.node_page.specs.Broken.{Alters};
 ghost use Rattle.node_page.specs.Layout.{IsReference};
 ghost use Rattle.node_page.specs.Standing.{node_in};
-ghost use Rattle.reinsert.specs.Faults.{IsNoDamage};
+ghost use Rattle.reinsert.specs.Faults.{IsChangeFault, IsNoDamage};
 ghost use Rattle.reinsert.specs.Placed.{CanPlace, CanSettle, HasFewEntries, PlacesTo, SettlesTo};
 ghost use Rattle.reinsert.specs.Placed.{items_after, measure_of};
 
@@ -57,6 +57,7 @@ pub(crate) fn place<const D: usize, B: BlockDevice, A: Allocator + Copy>(
     ensures faults { IsPageMap cache.old → (row : Row) (branch : Branch) → item_in branch ≡ item_of entry.now
         → CanPlace D (pages cache.old) at.page at.level target row branch → HasFewEntries D m_max row →
         IfErr result (λ b. IsNoDamage cache.new b.cause) }
+    ensures other_faults { IfErr result (λ b. IsChangeFault b.cause) }
 {
     let node = read_fitting(cache, at, m_max)?;
     if at.level == target {
@@ -97,6 +98,7 @@ fn read_fitting<const D: usize, B: BlockDevice, A: Allocator + Copy>(
     ensures few { IfOk result (λ node. array_vec_len node.entries ≤ m_max) }
     ensures some { IfOk result (λ node. 0 < at.level → 0 < array_vec_len node.entries) }
     ensures refers { IfOk result (λ node. All (λ e. IsReference at.level e.reference) node.entries.items) }
+    ensures other_faults { IfErr result (λ f. IsOfDevice f ⊎ IsDamage f) }
 {
     let node = read_node::<D, B, A>(cache, at.page, at.level)?;
     if node.entries.len() > m_max {
@@ -147,6 +149,7 @@ fn put_here<const D: usize, B: BlockDevice, A: Allocator + Copy>(
         page s waiting.old.waits.items waiting.new.waits.items waiting.new.called) }
     ensures touched { IfErr result (λ b. b.touched ≡ true) }
     ensures faults { IsPageMap cache.old → IsLive cache.old page → IfErr result (λ b. IsNoDamage cache.new b.cause) }
+    ensures other_faults { IfErr result (λ b. IsChangeFault b.cause) }
 {
     node.entries.push(*entry);
     match settle(cache, page, node, top, m_max, waiting) {
@@ -185,6 +188,7 @@ fn put_above<const D: usize, B: BlockDevice, A: Allocator + Copy>(
         page s waiting.old.waits.items waiting.new.waits.items waiting.new.called) }
     ensures touched { IfErr result (λ b. b.touched ≡ true) }
     ensures faults { IsPageMap cache.old → IsLive cache.old page → IfErr result (λ b. IsNoDamage cache.new b.cause) }
+    ensures other_faults { IfErr result (λ b. IsChangeFault b.cause) }
 {
     match settle_above(cache, page, node, at, lower, top, m_max, waiting) {
         Ok(settled) => Ok(settled),
@@ -221,6 +225,7 @@ fn settle_above<const D: usize, B: BlockDevice, A: Allocator + Copy>(
         × SettlesTo D m_max top node.entry.level waiting.old.called branches (pages cache.old) (pages cache.new)
         page s waiting.old.waits.items waiting.new.waits.items waiting.new.called) }
     ensures faults { IsPageMap cache.old → IsLive cache.old page → IfErr result (IsNoDamage cache.new) }
+    ensures other_faults { IfErr result IsChangeFault }
 {
     let Settled { bounds, beside } = lower;
     node.entries[at].bounds = bounds;

@@ -13,7 +13,7 @@ ghost use Rattle.tree_node.specs.Trees.{Branch};
 ghost use Rattle.node_page.specs.Layout.{IsReference, IsSpellable};
 ghost use Rattle.reinsert.specs.Called.{is_called};
 ghost use Rattle.reinsert.specs.Far;
-ghost use Rattle.reinsert.specs.Faults.{IsNoDamage};
+ghost use Rattle.reinsert.specs.Faults.{IsChangeFault, IsNoDamage};
 ghost use Rattle.reinsert.specs.Placed.{CanSettle, SettlesTo, SplitsOff, measure_of};
 ghost use Rattle.reinsert.specs.declared.waiting.Wait.{Wait};
 
@@ -63,6 +63,7 @@ pub(crate) fn settle<const D: usize, B: BlockDevice, A: Allocator + Copy>(
         × SettlesTo D m_max top node.entry.level waiting.old.called branches (pages cache.old) (pages cache.new)
         page s waiting.old.waits.items waiting.new.waits.items waiting.new.called) }
     ensures faults { IsPageMap cache.old → IsLive cache.old page → IfErr result (IsNoDamage cache.new) }
+    ensures other_faults { IfErr result IsChangeFault }
 {
     if node.entries.len() <= m_max {
         return write_fitting(cache, page, node);
@@ -95,6 +96,7 @@ fn write_fitting<const D: usize, B: BlockDevice, A: Allocator + Copy>(
         × SettlesTo D most top node.entry.level called branches (pages cache.old) (pages cache.new) page s waits
         waits called) }
     ensures faults { IsPageMap cache.old → IsLive cache.old page → IfErr result (IsNoDamage cache.new) }
+    ensures other_faults { IfErr result IsChangeFault }
 {
     let bounds = least(node.entries.as_slice());
     write_node(cache, page, &node)?;
@@ -129,6 +131,7 @@ fn take_out_far<const D: usize, B: BlockDevice, A: Allocator + Copy>(
         × SettlesTo D m_max top node.entry.level waiting.old.called branches (pages cache.old) (pages cache.new)
         page s waiting.old.waits.items waiting.new.waits.items waiting.new.called) }
     ensures faults { IsPageMap cache.old → IsLive cache.old page → IfErr result (IsNoDamage cache.new) }
+    ensures other_faults { IfErr result IsChangeFault }
 {
     let Node { level, entries } = node;
     let (near, far) = farthest(&entries, far_count(m_max));
@@ -170,6 +173,7 @@ fn split_off<const D: usize, B: BlockDevice, A: Allocator + Copy>(
         × SettlesTo D m_max top node.entry.level waiting.old.called branches (pages cache.old) (pages cache.new)
         page s waiting.old.waits.items waiting.new.waits.items waiting.new.called) }
     ensures faults { IsPageMap cache.old → IsLive cache.old page → IfErr result (IsNoDamage cache.new) }
+    ensures other_faults { IfErr result IsChangeFault }
 {
     let Node { level, entries } = node;
     waiting.call(level);
@@ -212,6 +216,7 @@ fn write_both<const D: usize, B: BlockDevice, A: Allocator + Copy>(
         IfOk result (λ n. IsPageMap cache.new
         × SplitsOff D (pages cache.old) (pages cache.new) page n (content_of first.now) (content_of second.now)) }
     ensures faults { IsPageMap cache.old → IsLive cache.old page → IfErr result (IsNoDamage cache.new) }
+    ensures other_faults { IfErr result IsChangeFault }
 {
     let number = cache.allocate()?;
     write_node(cache, number, second)?;

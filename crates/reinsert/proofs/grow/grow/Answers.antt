@@ -10,8 +10,8 @@ use Rattle.reinsert.proofs.WaitLemmas.{All-one}
 use Rattle.reinsert.proofs.SettledLemmas.{is_some_from, spellable_of}
 use Rattle.page_cache.specs.Calls.{changes_and_refuses}
 use Rattle.node_page.proofs.NodeLemmas.{at_error}
-use Rattle.reinsert.specs.Faults.{IsNoDamage}
-use Rattle.reinsert.proofs.FaultLemmas.{spent}
+use Rattle.reinsert.specs.Faults.{IsNoDamage, IsChangeFault}
+use Rattle.reinsert.proofs.FaultLemmas.{spent, one_more}
 use Rattle.reinsert.proofs.grow.grow.Goals as goal
 
 pub returns-in_err-page-clause-faults : goal.returns-in_err-page-clause-faults
@@ -44,3 +44,9 @@ returns-clause-grown g c = λ h.
         others = λ k differs. c.write_node.ensures.others map1.honest live1 k differs ∙ fresh.2 k differs;
       },
     )
+
+pub returns-in_err-page-clause-other_faults : goal.returns-in_err-page-clause-other_faults
+returns-in_err-page-clause-other_faults g c = at_error c.from_residual.result c.in_err-page.field-0.0 IsChangeFault c.from_residual.ensures.1 c.in_err-page.ensures.other_faults
+
+pub returns-in_err-write_node-clause-other_faults : goal.returns-in_err-write_node-clause-other_faults
+returns-in_err-write_node-clause-other_faults g c = at_error c.from_residual-in_err-write_node.result c.in_err-write_node.field-0.0 IsChangeFault c.from_residual-in_err-write_node.ensures.1 (one_more _ _ _ c.in_err-write_node.ensures.other_faults)

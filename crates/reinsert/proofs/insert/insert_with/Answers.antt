@@ -7,7 +7,7 @@ use Rattle.node_page.specs.Standing.{PageMap}
 use Rattle.node_page.specs.declared.broken.Broken.{Broken}
 use Rattle.reinsert.specs.declared.waiting.Wait.{Wait}
 use Rattle.reinsert.specs.Called.{none_called}
-use Rattle.reinsert.specs.Faults.{IsNoDamage}
+use Rattle.reinsert.specs.Faults.{IsNoDamage, IsChangeFault}
 use Rattle.reinsert.specs.Inserted.{IsAt}
 use Rattle.reinsert.specs.Insertion.{at_first}
 use Rattle.reinsert.specs.Placing.{State}
@@ -92,3 +92,10 @@ pub returns-clause-inserted : goal.returns-clause-inserted
 returns-clause-inserted g c = λ h t branch elsewhere can.
     let r = c.placing.invariant.2 h t branch elsewhere can in
     (r.0, inserted_end g.row.D c.args.m_max c.args.level elsewhere (pages c.args.cache.now) (pages c.placing.cache) t branch c.placing.now c.placing.waiting.waits.items c.placing.waiting.called r.1 (c.in_default.ensures.none refl))
+
+pub returns-in_err-now-clause-other_faults : goal.returns-in_err-now-clause-other_faults
+returns-in_err-now-clause-other_faults g c =
+    at_broken c.from_residual.result c.in_err-now.field-0.0 (λ (b : Broken). IsChangeFault b.cause) c.from_residual.ensures.1 c.in_err-now.ensures.other_faults
+
+pub returns-in-Err-clause-other_faults : goal.returns-in-Err-clause-other_faults
+returns-in-Err-clause-other_faults g c = subst (λ (b : Broken). IsChangeFault b.cause) (sym c.midway.ensures) c.in-Err.ensures.other_faults

@@ -5,7 +5,7 @@ use Rattle.page_cache.specs.Calls.{changes_in_turn}
 use Rattle.node_page.specs.Broken.{changes_and_breaks, made_alters}
 use Rattle.node_page.specs.Standing.{PageMap}
 use Rattle.node_page.specs.declared.broken.Broken.{Broken}
-use Rattle.reinsert.specs.Faults.{IsNoDamage}
+use Rattle.reinsert.specs.Faults.{IsNoDamage, IsChangeFault}
 use Rattle.reinsert.proofs.BrokenLemmas.{at_broken}
 use Rattle.reinsert.proofs.InsertLemmas.{first_alone, first_beside}
 use Rattle.reinsert.proofs.StateLemmas.{first_can, low_root}
@@ -57,3 +57,10 @@ returns-in-Err-clause-faults g c = λ h s elsewhere at shape.
     let sound = (c.in_ok-bounds.ensures.placed h f.row f.branch f.item f.can).0 in
     let low = low_root c.args.m_max elsewhere m c.args.root waits c.args.first.now called s at shape c.requires.root.1 in
     subst (λ (b : Broken). IsNoDamage c.grow.new.cache b.cause) (sym c.midway.ensures) (c.in-Err.ensures.faults sound low)
+
+pub returns-in_err-bounds-clause-other_faults : goal.returns-in_err-bounds-clause-other_faults
+returns-in_err-bounds-clause-other_faults g c =
+    at_broken c.from_residual.result c.in_err-bounds.field-0.0 (λ (b : Broken). IsChangeFault b.cause) c.from_residual.ensures.1 c.in_err-bounds.ensures.other_faults
+
+pub returns-in-Err-clause-other_faults : goal.returns-in-Err-clause-other_faults
+returns-in-Err-clause-other_faults g c = subst (λ (b : Broken). IsChangeFault b.cause) (sym c.midway.ensures) c.in-Err.ensures.other_faults

@@ -14,10 +14,11 @@ use Rattle.node_page.specs.Layout.{IsReference}
 use Rattle.node_page.specs.Standing.{PageMap}
 use Rattle.node_page.specs.declared.broken.Broken.{Broken}
 use Rattle.node_page.proofs.StandingLemmas.{page_of_node}
-use Rattle.reinsert.specs.Faults.{IsNoDamage}
+use Rattle.reinsert.specs.Faults.{IsNoDamage, IsChangeFault}
 use Rattle.reinsert.specs.Placed.{CanSettle, SettlesTo}
 use Rattle.reinsert.proofs.BrokenLemmas.{at_broken, changes_and_alters}
 use Rattle.reinsert.proofs.PlaceLemmas.{few_can, few_items, here_ok, items_read, live_after, over_ok}
+use Rattle.reinsert.proofs.FaultLemmas.{one_more}
 use Rattle.reinsert.proofs.place.+place.Goals as goal
 
 pub put_here-requires : goal.put_here-requires
@@ -189,3 +190,11 @@ returns-clause-alters g t c =
     let low = c.place.new.cache in
     changes_and_alters old low c.put_above.new.cache c.put_above.result
     (changes_in_turn old mid low None (asks_changes old mid None c.in_ok-node.ensures.asks) c.in_ok-lower.ensures.alters.changes) c.put_above.ensures.alters c.put_above.ensures.touched
+
+pub returns-in_err-node-clause-other_faults : goal.returns-in_err-node-clause-other_faults
+returns-in_err-node-clause-other_faults g t c =
+    at_broken c.from_residual.result (before c.in_err-node.field-0.0) (λ (b : Broken). IsChangeFault b.cause) c.from_residual.ensures.1 (one_more _ _ _ c.in_err-node.ensures.other_faults)
+
+pub returns-in_err-lower-clause-other_faults : goal.returns-in_err-lower-clause-other_faults
+returns-in_err-lower-clause-other_faults g t c =
+    at_broken c.from_residual-in_err-lower.result c.in_err-lower.field-0.0 (λ (b : Broken). IsChangeFault b.cause) c.from_residual-in_err-lower.ensures.1 c.in_err-lower.ensures.other_faults

@@ -1,7 +1,7 @@
 -- The goals of `put_above` that are proved by hand.
 use Rattle.std.proofs.Common.{Err, sym, subst}
 use Rattle.node_page.specs.declared.broken.Broken.{Broken}
-use Rattle.reinsert.specs.Faults.{IsNoDamage}
+use Rattle.reinsert.specs.Faults.{IsNoDamage, IsChangeFault}
 use Rattle.reinsert.proofs.BrokenLemmas.{breaks_midway}
 use Rattle.reinsert.proofs.place.put_above.Goals as goal
 
@@ -10,3 +10,6 @@ returns-in-Err-clause-alters g c = breaks_midway c.args.cache.now c.settle_above
 
 pub returns-in-Err-clause-faults : goal.returns-in-Err-clause-faults
 returns-in-Err-clause-faults g c = λ h live. subst (λ (b : Broken). IsNoDamage c.settle_above.new.cache b.cause) (sym c.midway.ensures) (c.in-Err.ensures.faults h live)
+
+pub returns-in-Err-clause-other_faults : goal.returns-in-Err-clause-other_faults
+returns-in-Err-clause-other_faults g c = subst (λ (b : Broken). IsChangeFault b.cause) (sym c.midway.ensures) c.in-Err.ensures.other_faults

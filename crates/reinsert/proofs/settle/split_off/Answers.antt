@@ -4,6 +4,8 @@ use Rattle.tree_node.specs.Boxes.{least_box}
 use Rattle.tree_node.specs.Nodes.{Item, item_of}
 use Rattle.tree_node.specs.declared.node.Entry.{Entry}
 use Rattle.reinsert.proofs.SettledLemmas.{All-part, spellable_of, split_settled}
+use Rattle.node_page.proofs.NodeLemmas.{at_error}
+use Rattle.reinsert.specs.Faults.{IsChangeFault}
 use Rattle.reinsert.proofs.settle.split_off.Goals as goal
 
 pub write_both-requires : goal.write_both-requires
@@ -40,3 +42,6 @@ returns-clause-settled g c = λ h top branches held are can.
           (c.least-bounds.ensures ∙ ap (λ (es : List (Entry g.row.D)). least_box g.row.D (map item_of es)) c.as_slice.ensures.value) refl item
           c.call.ensures.waits c.call.ensures.called written.1,
     )
+
+pub returns-in_err-number-clause-other_faults : goal.returns-in_err-number-clause-other_faults
+returns-in_err-number-clause-other_faults g c = at_error c.from_residual.result c.in_err-number.field-0.0 IsChangeFault c.from_residual.ensures.1 c.in_err-number.ensures.other_faults

@@ -5,6 +5,9 @@ use Rattle.tree_node.specs.Nodes.{item_of}
 use Rattle.tree_node.specs.declared.node.Entry.{Entry}
 use Rattle.reinsert.specs.Far.{IsDividedFar}
 use Rattle.reinsert.proofs.SettledLemmas.{All-part, far_settled, spellable_of}
+use Rattle.node_page.proofs.NodeLemmas.{at_error}
+use Rattle.reinsert.proofs.FaultLemmas.{one_more}
+use Rattle.reinsert.specs.Faults.{IsChangeFault}
 use Rattle.reinsert.proofs.settle.take_out_far.Goals as goal
 
 pub wait_again-requires : goal.wait_again-requires
@@ -53,3 +56,6 @@ returns-clause-settled g c = λ h top branches below are can. (
       c.wait_again.ensures.waits c.wait_again.ensures.called
       (c.in_ok-write_node.ensures.written h.honest can.live) (c.write_node.ensures.others h.honest can.live),
 )
+
+pub returns-in_err-write_node-clause-other_faults : goal.returns-in_err-write_node-clause-other_faults
+returns-in_err-write_node-clause-other_faults g c = at_error c.from_residual.result c.in_err-write_node.field-0.0 IsChangeFault c.from_residual.ensures.1 (one_more _ _ _ c.in_err-write_node.ensures.other_faults)

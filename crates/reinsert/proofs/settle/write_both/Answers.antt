@@ -6,8 +6,8 @@ use Rattle.tree_node.specs.Nodes.{content_of}
 use Rattle.node_page.specs.Standing.{PageMap}
 use Rattle.node_page.proofs.NodeLemmas.{at_error}
 use Rattle.node_page.proofs.PartLemmas.{there_not_missing}
-use Rattle.reinsert.specs.Faults.{IsNoDamage}
-use Rattle.reinsert.proofs.FaultLemmas.{spent}
+use Rattle.reinsert.specs.Faults.{IsNoDamage, IsChangeFault}
+use Rattle.reinsert.proofs.FaultLemmas.{spent, one_more}
 use Rattle.reinsert.proofs.SettledLemmas.{is_some_from, splits_off}
 use Rattle.reinsert.proofs.settle.write_both.Goals as goal
 
@@ -68,3 +68,12 @@ returns-clause-written g c = λ h live.
       splits_off g.row.D m m1 m2 m3 page n (content_of c.args.first.now) (content_of c.args.second.now) live fresh.0 fresh.2
           (c.in_ok-write_node.ensures.written map1.honest live1) wrote (c.in_ok-write_node-2.ensures.written map2.honest live2) after,
     )
+
+pub returns-in_err-number-clause-other_faults : goal.returns-in_err-number-clause-other_faults
+returns-in_err-number-clause-other_faults g c = at_error c.from_residual.result c.in_err-number.field-0.0 IsChangeFault c.from_residual.ensures.1 c.in_err-number.ensures.other_faults
+
+pub returns-in_err-write_node-clause-other_faults : goal.returns-in_err-write_node-clause-other_faults
+returns-in_err-write_node-clause-other_faults g c = at_error c.from_residual-in_err-write_node.result c.in_err-write_node.field-0.0 IsChangeFault c.from_residual-in_err-write_node.ensures.1 (one_more _ _ _ c.in_err-write_node.ensures.other_faults)
+
+pub returns-in_err-write_node-2-clause-other_faults : goal.returns-in_err-write_node-2-clause-other_faults
+returns-in_err-write_node-2-clause-other_faults g c = at_error c.from_residual-in_err-write_node-2.result c.in_err-write_node-2.field-0.0 IsChangeFault c.from_residual-in_err-write_node-2.ensures.1 (one_more _ _ _ c.in_err-write_node-2.ensures.other_faults)
