@@ -1,10 +1,10 @@
 -- A change that broke off.
-use Rattle.std.proofs.Common.{Result, Ok, Err, IfErr, IsErrAnd, ◌≡◌, ◌∙◌, None, Some, true, false, sym, subst}
+use Rattle.std.proofs.Common.{Result, Ok, Err, IfErr, IsErrAnd, ◌≡◌, ◌∙◌, None, Some, true, sym, subst}
 use Rattle.std.proofs.lemmas.Bool.{true≢false}
 use Rattle.page_file.specs.declared.fault.Fault.{Fault}
-use Rattle.page_cache.specs.Calls.{AsksUntil, ChangesUntil, asks_changes, changes_in_turn, no_call_changes}
+use Rattle.page_cache.specs.Calls.{ChangesUntil, changes_in_turn, no_call_changes}
 use Rattle.page_cache.specs.declared.cache.PageCache.{PageCache}
-use Rattle.node_page.specs.Broken.{Alters, cause_in, changes_and_breaks, made_alters, midway}
+use Rattle.node_page.specs.Broken.{Alters, changes_and_breaks, made_alters, midway}
 use Rattle.node_page.specs.declared.broken.Broken.{Broken}
 
 pub at_broken : {T : Type 0} (r : Result T Broken) (f : Broken) (P : Broken → Type 0) → IsErrAnd r (λ e. e ≡ f) → P f → IfErr r P

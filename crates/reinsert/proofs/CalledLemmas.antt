@@ -1,7 +1,6 @@
 -- How many levels are not called.
-use Rattle.std.proofs.Common.{◌≡◌, ℕ, zero, suc, ◌+◌, ◌<◌, ◌≤◌, Bool, true, false, cond, List, [], ◌∷◌, length, set, get_or, refl, arith}
+use Rattle.std.proofs.Common.{◌≡◌, ℕ, zero, suc, ◌+◌, ◌≤◌, Bool, true, false, cond, List, [], ◌∷◌, set, arith}
 use Rattle.std.proofs.lemmas.Bool.{true≢false}
-use Rattle.tree_node.specs.Positions.{total}
 use Rattle.reinsert.specs.Called.{is_called, free_levels}
 
 one_each : (b : Bool) → cond b 0 1 ≤ 1

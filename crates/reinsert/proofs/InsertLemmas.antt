@@ -1,20 +1,19 @@
 -- One placing after the other.
-use Rattle.std.proofs.Common.{Option, Some, None, IsSome, Result, Ok, Err, IfOk, IfSome, ◌≡◌, ◌∙◌, ◌⊎◌, ℕ, zero, suc, ◌+◌, ◌-◌, ◌<◌, ◌≤◌, Bool, cond, eqb, List, [], ◌∷◌, ◌++◌, length, map, reverse, refl, sym, ap, subst, ⊎_elim, arith, append_assoc}
+use Rattle.std.proofs.Common.{Option, Some, None, IsSome, IfSome, ◌≡◌, ◌∙◌, ℕ, zero, suc, ◌+◌, ◌-◌, ◌<◌, ◌≤◌, Bool, cond, eqb, List, [], ◌∷◌, ◌++◌, map, reverse, refl, sym, ap, subst, ⊎_elim, arith}
 use Rattle.std.proofs.lemmas.Bool.{cases_eq}
-use Rattle.std.proofs.lemmas.List.{map-append, append-nil, reverse-append}
+use Rattle.std.proofs.lemmas.List.{map-append, reverse-append}
 use Rattle.std.specs.Option.{option_map}
 use Rattle.box_math.specs.Bounds.{Bounds}
 use Rattle.tree_node.specs.declared.node.Entry.{Entry}
 use Rattle.tree_node.specs.declared.node.Root.{Root}
-use Rattle.tree_node.specs.Nodes.{NodeContent, Item, item_of}
+use Rattle.tree_node.specs.Nodes.{Item, item_of}
 use Rattle.tree_node.specs.Trees.{Row, end, more, Branch, Tree, row_items, occurs, occurs_in}
 use Rattle.tree_node.specs.Rows.{row_of, item_in, occurs_on, Waiter, occurs_waiting}
-use Rattle.tree_node.specs.Positions.{total}
 use Rattle.tree_node.specs.Boxes.{least_box}
-use Rattle.tree_node.proofs.RowLemmas.{occurs_one, occurs_here}
+use Rattle.tree_node.proofs.RowLemmas.{occurs_here}
 use Rattle.tree_node.proofs.PositionLemmas.{total-append}
-use Rattle.node_page.specs.Standing.{PageMap, HasNode, RowStands, Stands, node_in}
-use Rattle.node_page.proofs.StandingLemmas.{page_of_node, node_stays, row_stays, below_there}
+use Rattle.node_page.specs.Standing.{PageMap, HasNode, RowStands}
+use Rattle.node_page.proofs.StandingLemmas.{page_of_node, node_stays, row_stays}
 use Rattle.node_page.specs.Parts.{Moves}
 use Rattle.node_page.specs.Changes.{AllWait}
 use Rattle.node_page.proofs.PartLemmas.{there_not_missing, none_or_some, moves_same, moves_in_turn}
@@ -22,12 +21,12 @@ use Rattle.reinsert.specs.declared.settled.Settled.{Settled}
 use Rattle.reinsert.specs.declared.waiting.Wait.{Wait}
 use Rattle.reinsert.specs.Called.{none_called}
 use Rattle.reinsert.specs.Children.{occurs_at, Child, boxed}
-use Rattle.reinsert.specs.Placing.{State, Placing, Outcome, IsRootAfter}
-use Rattle.reinsert.specs.Insertion.{Placings, IsInsertion, at_first}
-use Rattle.reinsert.specs.Placed.{Held, held_of, held_in, Holds, BesideStands, OutcomeStands, occurs_beside, occurs_after, CanPlace, PlacesTo, ComesIn}
+use Rattle.reinsert.specs.Placing.{State, Placing, IsRootAfter}
+use Rattle.reinsert.specs.Insertion.{Placings, at_first}
+use Rattle.reinsert.specs.Placed.{Held, held_of, held_in, Holds, BesideStands, occurs_beside, occurs_after, CanPlace, PlacesTo, ComesIn}
 use Rattle.reinsert.specs.Inserted.{IsRootOf, CanInsert, InsertsTo, IsAt, StepsTo, occurs_in_state}
 use Rattle.reinsert.proofs.StandLemmas.{zero_there, one_at_most, moves_with, rest_same, rest_once}
-use Rattle.reinsert.proofs.SettledLemmas.{AllWait_frame, is_some_from, of_sum, hit_live, waiting_live, outcome_live}
+use Rattle.reinsert.proofs.SettledLemmas.{AllWait_frame, of_sum, hit_live, waiting_live, outcome_live}
 use Rattle.reinsert.proofs.PlaceLemmas.{AllWait-append}
 
 -- ---- the placings so far

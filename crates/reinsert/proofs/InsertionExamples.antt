@@ -1,5 +1,5 @@
 -- Worked insertions (docs/RULES.md). No other proof rests on them.
-use Rattle.std.proofs.Common.{replicate, Bool, ◌≡◌, ℕ, zero, suc, ◌<◌, ◌≤◌, List, [], ◌∷◌, Some, None, true, false, refl, arith, pos}
+use Rattle.std.proofs.Common.{replicate, Bool, ◌≡◌, ℕ, zero, suc, ◌<◌, List, [], ◌∷◌, Some, None, true, false, refl, arith, pos}
 use Rattle.std.proofs.lemmas.Bool.Decides.{nat_tests}
 use Rattle.box_math.specs.Bounds.{Bounds}
 use Rattle.tree_node.specs.Keys.{AtMost}

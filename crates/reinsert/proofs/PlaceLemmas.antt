@@ -1,7 +1,7 @@
 -- An entry placed below a node: at the node itself, and below its chosen child.
-use Rattle.std.proofs.Common.{Option, Some, None, IsSome, Result, Ok, Err, IfOk, ◌≡◌, ◌∙◌, ◌⊎◌, ℕ, zero, suc, ◌+◌, ◌-◌, ◌<◌, ◌≤◌, Bool, cond, eqb, List, [], ◌∷◌, ◌++◌, length, map, get_or, reverse, refl, sym, ap, subst, ⊎_elim, arith, append_assoc}
+use Rattle.std.proofs.Common.{Option, Some, None, IsSome, Result, Ok, Err, IfOk, ◌≡◌, ◌∙◌, ℕ, zero, suc, ◌+◌, ◌-◌, ◌<◌, ◌≤◌, Bool, List, [], ◌∷◌, ◌++◌, length, map, get_or, reverse, refl, sym, ap, subst, ⊎_elim, arith, append_assoc}
 use Rattle.std.proofs.lemmas.Bool.{cases_eq}
-use Rattle.std.proofs.lemmas.List.{map-append, append-nil, reverse-append}
+use Rattle.std.proofs.lemmas.List.{map-append, reverse-append}
 use Rattle.std.specs.Option.{option_map}
 use Rattle.tree_node.specs.declared.node.Entry.{Entry}
 use Rattle.tree_node.specs.Nodes.{NodeContent, Item, item_of}
@@ -10,19 +10,19 @@ use Rattle.tree_node.specs.Shape.{RowHasShape}
 use Rattle.tree_node.specs.Rows.{branches_of, row_of, item_in, occurs_on, Waiter, occurs_waiting}
 use Rattle.tree_node.specs.Positions.{total}
 use Rattle.tree_node.specs.Boxes.{least_box}
-use Rattle.tree_node.proofs.RowLemmas.{items-row_of, row_of-branches_of, items-branches_of, occurs-row_of, occurs-branches_of, occurs_one, occurs_here}
+use Rattle.tree_node.proofs.RowLemmas.{row_of-branches_of, items-branches_of, occurs-row_of, occurs-branches_of, occurs_here}
 use Rattle.tree_node.proofs.PositionLemmas.{total-append}
 use Rattle.choose_subtree.specs.Choice.{IsChosenChild}
 use Rattle.node_page.specs.Standing.{PageMap, HasNode, node_in, RowStands}
 use Rattle.node_page.proofs.StandingLemmas.{page_of_node, node_stays, row_stays, same_content, below_there}
 use Rattle.node_page.specs.Parts.{Moves}
 use Rattle.node_page.specs.Changes.{AllWait}
-use Rattle.node_page.proofs.PartLemmas.{none_or_some, moves_same, moves_from, moves_in_turn}
+use Rattle.node_page.proofs.PartLemmas.{moves_same, moves_from, moves_in_turn}
 use Rattle.reinsert.specs.declared.settled.Settled.{Settled}
 use Rattle.reinsert.specs.declared.waiting.Wait.{Wait}
 use Rattle.reinsert.specs.Children.{occurs_at, Child, child_at, with_child, boxed}
-use Rattle.reinsert.specs.Placing.{Outcome, Settles, Places, GoesBelow, beside_branches, after_child}
-use Rattle.reinsert.specs.Placed.{held_of, held_in, BesideStands, OutcomeStands, occurs_beside, occurs_after, HasFewEntries, CanSettle, SettlesTo, Shows, CanPlace, PlacesTo, items_after, items_beside, set_box}
+use Rattle.reinsert.specs.Placing.{Outcome, Settles, Places, beside_branches, after_child}
+use Rattle.reinsert.specs.Placed.{held_of, held_in, BesideStands, occurs_beside, occurs_after, HasFewEntries, CanSettle, SettlesTo, Shows, CanPlace, PlacesTo, items_after, items_beside, set_box}
 use Rattle.reinsert.proofs.StandLemmas.{RowStands-append, zero_there, moves_with, rest_same, rest_once}
 use Rattle.reinsert.proofs.SettledLemmas.{AllWait_frame, waiting_live}
 use Rattle.reinsert.proofs.ChildLemmas.{HasChild, has_child, items-with_child, occurs-with_child, RowStands-with_child}

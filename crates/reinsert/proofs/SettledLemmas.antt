@@ -1,37 +1,36 @@
 -- A node that has settled: what stands, which pages moved, and what the code shows of it.
-use Rattle.std.proofs.Common.{Result, Ok, Err, IfOk, IfSome, Option, Some, None, IsSome, ◌≡◌, ◌⊎◌, ℕ, zero, suc, ◌+◌, ◌-◌, ◌<◌, ◌≤◌, Bool, true, false, cond, eqb, List, [], ◌∷◌, ◌++◌, length, map, take, drop, set, reverse, All, refl, sym, ap, subst, ◌∙◌, ⊎_elim, arith}
+use Rattle.std.proofs.Common.{Result, Ok, Err, IfOk, IfSome, Option, Some, None, IsSome, ◌≡◌, ℕ, ◌+◌, ◌<◌, ◌≤◌, Bool, true, false, cond, eqb, List, [], ◌∷◌, ◌++◌, length, map, set, reverse, All, refl, sym, ap, subst, ◌∙◌, ⊎_elim, arith}
 use Rattle.std.specs.Prelude.{nat_le, nat_lt, ◌&&◌, not}
 use Rattle.std.specs.Option.{option_map}
 use Rattle.std.proofs.lemmas.Bool.{cases_eq}
 use Rattle.std.proofs.lemmas.Bool.Decides.{nat_tests}
 use Rattle.std.proofs.lemmas.List.{append-nil, length-map}
-use Rattle.box_math.specs.Bounds.{Bounds}
 use Rattle.page_file.specs.Pages.{SameBut}
 use Rattle.tree_node.specs.declared.node.Entry.{Entry}
 use Rattle.tree_node.specs.Nodes.{Item, NodeContent, item_of}
 use Rattle.tree_node.specs.Trees.{Row, end, more, Branch, object, child, row_items, occurs}
-use Rattle.tree_node.specs.Rows.{branches_of, row_of, item_in, occurs_on, Waiter, occurs_waiting}
+use Rattle.tree_node.specs.Rows.{row_of, item_in, occurs_on, Waiter, occurs_waiting}
 use Rattle.tree_node.specs.Positions.{total, pick, AreParts}
 use Rattle.tree_node.specs.Boxes.{least_box}
-use Rattle.tree_node.proofs.RowLemmas.{items-row_of, items-branches_of, occurs-row_of, occurs_one, occurs_here}
+use Rattle.tree_node.proofs.RowLemmas.{items-row_of, occurs-row_of, occurs_one, occurs_here}
 use Rattle.tree_node.proofs.PositionLemmas.{map-pick, parts_have_all, All-pick}
 use Rattle.rstar_split.specs.Cuts.{Splits}
 use Rattle.rstar_split.specs.Divided.{IsDividedBySplit}
 use Rattle.rstar_split.proofs.SplitParts.{split_parts}
 use Rattle.node_page.specs.Layout.{IsReference, IsSpellable}
 use Rattle.node_page.specs.Standing.{PageMap, HasNode, RowStands, node_in}
-use Rattle.node_page.proofs.StandingLemmas.{node_stays, row_stays, below_there, page_of_node}
+use Rattle.node_page.proofs.StandingLemmas.{row_stays, below_there, page_of_node}
 use Rattle.node_page.specs.Parts.{Moves}
 use Rattle.node_page.specs.Changes.{AllWait}
 use Rattle.node_page.proofs.PartLemmas.{there_not_missing, none_or_some}
 use Rattle.reinsert.specs.declared.settled.Settled.{Settled}
 use Rattle.reinsert.specs.declared.waiting.Wait.{Wait}
-use Rattle.reinsert.specs.Children.{occurs_at, Child, boxed}
+use Rattle.reinsert.specs.Children.{occurs_at, Child}
 use Rattle.reinsert.specs.Called.{is_called}
 use Rattle.reinsert.specs.Far.{far_count, far_places, near_places, IsDividedFar}
-use Rattle.reinsert.specs.Placing.{Outcome, Settles, waiting_on, reinserted, IsSplit}
-use Rattle.reinsert.specs.Placed.{held_of, held_in, held_with, BesideStands, OutcomeStands, occurs_after, occurs_beside, CanSettle, SettlesTo, Shows, SplitsOff}
-use Rattle.reinsert.proofs.StandLemmas.{RowStands-append, RowStands-pick, zero_there, one_at_most}
+use Rattle.reinsert.specs.Placing.{Outcome, waiting_on, reinserted}
+use Rattle.reinsert.specs.Placed.{held_of, held_in, held_with, BesideStands, OutcomeStands, occurs_after, occurs_beside, CanSettle, SettlesTo, SplitsOff}
+use Rattle.reinsert.proofs.StandLemmas.{RowStands-pick, zero_there, one_at_most}
 use Rattle.reinsert.proofs.FarParts.{far_parts}
 use Rattle.std.proofs.lemmas.List.Elements.{All-map}
 

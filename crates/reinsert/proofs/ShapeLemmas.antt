@@ -5,8 +5,8 @@ use Rattle.std.proofs.lemmas.Bool.Decides.{nat_tests}
 use Rattle.std.proofs.lemmas.List.{length-map, length-append}
 use Rattle.box_math.specs.Bounds.{Bounds}
 use Rattle.tree_node.specs.Trees.{Row, end, more, Branch, object, child, Tree, RowOnLevel, row_items, row_length}
-use Rattle.tree_node.specs.Shape.{least_entries, RowWithin, IsLeastBox, RowHasShape}
-use Rattle.tree_node.specs.Boxes.{RowHasBoxes, box_round, least_box}
+use Rattle.tree_node.specs.Shape.{least_entries, IsLeastBox, RowHasShape}
+use Rattle.tree_node.specs.Boxes.{RowHasBoxes, least_box}
 use Rattle.tree_node.specs.Rows.{branches_of, row_of, item_in, Waiter}
 use Rattle.tree_node.specs.Positions.{pick, AreParts}
 use Rattle.tree_node.proofs.RowLemmas.{row_of-branches_of}

@@ -1,12 +1,12 @@
 -- Trees that stand, by lists of their entries, and changes of pages beside what stays.
-use Rattle.std.proofs.Common.{◌≡◌, ◌⊎◌, ℕ, zero, suc, ◌+◌, ◌-◌, ◌<◌, ◌≤◌, IsSome, cond, eqb, List, [], ◌∷◌, ◌++◌, take, drop, refl, ⊎_elim, arith}
+use Rattle.std.proofs.Common.{◌≡◌, ℕ, zero, suc, ◌+◌, ◌<◌, ◌≤◌, IsSome, cond, eqb, List, [], ◌∷◌, ◌++◌, take, drop, arith}
 use Rattle.std.proofs.lemmas.Bool.Decides.{nat_tests}
 use Rattle.tree_node.specs.Trees.{Row, end, more, Branch, object, child}
 use Rattle.tree_node.specs.Rows.{row_of}
 use Rattle.tree_node.specs.Positions.{pick}
 use Rattle.node_page.specs.Standing.{PageMap, RowStands}
 use Rattle.node_page.specs.Parts.{Moves}
-use Rattle.node_page.proofs.PartLemmas.{moves_beside, none_or_some, the_rest_stays}
+use Rattle.node_page.proofs.PartLemmas.{moves_beside, the_rest_stays}
 
 -- ---- trees that stand
 

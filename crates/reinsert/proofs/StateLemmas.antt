@@ -1,22 +1,22 @@
 -- Where no page is damaged: states of shape between two placings.
-use Rattle.std.proofs.Common.{◌≡◌, ◌∙◌, ℕ, zero, suc, ◌+◌, ◌^◌, ◌<◌, ◌≤◌, Bool, cond, eqb, List, [], ◌∷◌, ◌++◌, sym, ap, subst, ⊎_elim, arith}
+use Rattle.std.proofs.Common.{◌≡◌, ℕ, zero, suc, ◌+◌, ◌^◌, ◌<◌, ◌≤◌, Bool, List, [], ◌∷◌, ◌++◌, sym, ap, subst, ⊎_elim, arith}
 use Rattle.std.proofs.lemmas.Bool.{cases_eq}
 use Rattle.tree_node.specs.Boxes.{RowHasBoxes}
 use Rattle.tree_node.specs.Nodes.{item_of}
-use Rattle.tree_node.specs.Rows.{Waiter, item_in, occurs_on, occurs_waiting}
+use Rattle.tree_node.specs.Rows.{item_in, occurs_on, occurs_waiting}
 use Rattle.tree_node.specs.Shape.{HasLooseShape}
-use Rattle.tree_node.specs.Trees.{Row, Branch, Tree, occurs, occurs_in}
+use Rattle.tree_node.specs.Trees.{Row, Branch, Tree, occurs_in}
 use Rattle.tree_node.specs.declared.node.Root.{Root}
 use Rattle.node_page.specs.Changes.{AllWait}
 use Rattle.node_page.specs.Standing.{PageMap, Stands}
 use Rattle.node_page.proofs.StandingBoxes.{child_pages_are_references}
-use Rattle.reinsert.specs.Inserted.{CanInsert, IsAt}
+use Rattle.reinsert.specs.Inserted.{IsAt}
 use Rattle.reinsert.specs.Insertion.{Placings, at_first}
 use Rattle.reinsert.specs.Kept.{AllHaveShape, EntryHasShape, StateHasShape}
-use Rattle.reinsert.specs.Placed.{CanPlace, HasFewEntries, Held, held_in, held_of}
+use Rattle.reinsert.specs.Placed.{CanPlace, HasFewEntries, Held}
 use Rattle.reinsert.specs.Placing.{State}
 use Rattle.reinsert.specs.declared.waiting.Wait.{Wait}
-use Rattle.reinsert.proofs.InsertLemmas.{Ready, ready}
+use Rattle.reinsert.proofs.InsertLemmas.{ready}
 use Rattle.reinsert.proofs.LevelLemmas.{shape_bounds_level}
 use Rattle.reinsert.proofs.ShapeLemmas.{placing_keeps_loose_shape}
 use Rattle.reinsert.proofs.StandLemmas.{zero_there}

@@ -1,9 +1,9 @@
 -- The far set waits, one entry after the other from the last.
-use Rattle.std.proofs.Common.{◌≡◌, ℕ, ◌+◌, ◌-◌, ◌<◌, ◌≤◌, List, [], ◌∷◌, ◌++◌, length, map, take, reverse, get_or, refl, sym, ap, ◌∙◌, arith, append_assoc, All, zero, suc}
+use Rattle.std.proofs.Common.{◌≡◌, ℕ, ◌+◌, ◌-◌, ◌<◌, List, [], ◌∷◌, ◌++◌, length, map, take, reverse, get_or, sym, ap, ◌∙◌, arith, append_assoc, All, zero, suc}
 use Rattle.std.proofs.lemmas.List.{take_more, get_or-reverse, length-map, get_or-map, map-append, length-reverse}
 use Rattle.tree_node.specs.declared.node.Entry.{Entry}
 use Rattle.reinsert.specs.declared.waiting.Wait.{Wait}
-use Rattle.reinsert.specs.Placed.{Held, held_of, held_with}
+use Rattle.reinsert.specs.Placed.{held_of, held_with}
 
 turned_more : {A : Type 0} (xs : List A) (p : ℕ) (d : A) → p < length xs → take (p + 1) (reverse xs) ≡ take p (reverse xs) ++ get_or xs (length xs - 1 - p) d ∷ []
 turned_more xs p d within = take_more (reverse xs) p d (omega (arith, length-reverse xs, within)) ∙ ap (λ x. take p (reverse xs) ++ x ∷ []) (get_or-reverse xs p d within)

@@ -1,5 +1,5 @@
 -- Which levels are called: for each level whether a node on it has overflowed in this insertion.
-use Rattle.std.specs.Prelude.{ℕ, ◌+◌, Bool, true, false, List, slice_index_or, replicate, if◌then◌else◌}
+use Rattle.std.specs.Prelude.{ℕ, Bool, true, false, List, slice_index_or, replicate, if◌then◌else◌}
 use Rattle.tree_node.specs.Positions.{total}
 
 abbrev pub is_called : List Bool → ℕ → Bool

@@ -1,15 +1,15 @@
 -- What an insertion needs, and what it leaves.
-use Rattle.std.specs.Prelude.{◌≡◌, ℕ, ◌+◌, ◌^◌, ◌<◌, ◌≤◌, Bool, List, [], ◌∷◌, Some, IsSome}
+use Rattle.std.specs.Prelude.{◌≡◌, ℕ, ◌+◌, ◌^◌, ◌<◌, ◌≤◌, Bool, List, IsSome}
 use Rattle.tree_node.specs.declared.node.Root.{Root}
 use Rattle.tree_node.specs.Nodes.{Item}
 use Rattle.tree_node.specs.Trees.{Tree, Branch, more, end, occurs_in}
-use Rattle.tree_node.specs.Rows.{item_in, occurs_on, Waiter, occurs_waiting}
+use Rattle.tree_node.specs.Rows.{item_in, occurs_on, occurs_waiting}
 use Rattle.node_page.specs.Standing.{PageMap, Stands, HasNode, RowStands}
 use Rattle.node_page.specs.Parts.{Moves}
 use Rattle.node_page.specs.Changes.{AllWait}
 use Rattle.reinsert.specs.declared.waiting.Wait.{Wait}
 use Rattle.reinsert.specs.Placing.{State, Placing}
-use Rattle.reinsert.specs.Insertion.{Placings, IsInsertion}
+use Rattle.reinsert.specs.Insertion.{IsInsertion}
 use Rattle.reinsert.specs.Placed.{Holds}
 
 -- the tree's root is there

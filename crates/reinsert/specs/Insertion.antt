@@ -2,7 +2,6 @@
 -- the order in which entries wait is our rule, docs/RULES.md).
 use Rattle.std.specs.Prelude.{◌≡◌, ℕ, zero, suc, Bool, List, [], ◌∷◌}
 use Rattle.tree_node.specs.Trees.{Branch, Tree}
-use Rattle.tree_node.specs.Rows.{Waiter}
 use Rattle.reinsert.specs.Called.{none_called}
 use Rattle.reinsert.specs.Placing.{State, Placing}
 

@@ -1,8 +1,7 @@
 -- What each lawful insertion keeps.
-use Rattle.std.specs.Prelude.{⊤, ℕ, ◌+◌, ◌*◌, ◌^◌, ◌<◌, ◌≤◌, Bool, List, [], ◌∷◌, ◌++◌}
+use Rattle.std.specs.Prelude.{⊤, ℕ, ◌+◌, ◌*◌, ◌^◌, ◌<◌, ◌≤◌, List, [], ◌∷◌, ◌++◌}
 use Rattle.std.specs.List.Sorted.{IsPermutation}
-use Rattle.box_math.specs.Bounds.{Bounds}
-use Rattle.tree_node.specs.Trees.{end, more, Branch, object, child, Tree, RowOnLevel, objects_in, occurs_in}
+use Rattle.tree_node.specs.Trees.{end, more, Branch, Tree, RowOnLevel, objects_in, occurs_in}
 use Rattle.tree_node.specs.Shape.{RowHasShape, HasShape, HasLooseShape}
 use Rattle.tree_node.specs.Boxes.{RowHasBoxes}
 use Rattle.tree_node.specs.Rows.{Waiter, objects_on}

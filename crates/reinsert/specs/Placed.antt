@@ -1,13 +1,10 @@
 -- What the code has done where a placing is done below a node: the words of its inner contracts.
-use Rattle.std.specs.Prelude.{◌≡◌, ℕ, zero, suc, ◌+◌, ◌-◌, ◌<◌, ◌≤◌, Bool, List, [], ◌∷◌, ◌++◌, length, map, reverse, ⊤, ◌*◌, Option, Some, None, IsSome, if◌then◌else◌}
+use Rattle.std.specs.Prelude.{◌≡◌, ℕ, zero, suc, ◌+◌, ◌-◌, ◌≤◌, Bool, List, [], ◌∷◌, ◌++◌, map, reverse, ⊤, ◌*◌, Option, Some, None, IsSome}
 use Rattle.std.specs.Option.{option_map}
-use Rattle.std.specs.declared.vec.Vec.{Vec}
 use Rattle.tree_node.specs.declared.node.Entry.{Entry}
-use Rattle.tree_node.specs.declared.node.Root.{Root}
 use Rattle.tree_node.specs.Nodes.{NodeContent, Item, item_of}
-use Rattle.tree_node.specs.Trees.{Row, end, more, Branch, Tree, row_items, row_length, occurs}
-use Rattle.tree_node.specs.Rows.{branches_of, row_of, item_in, occurs_on, Waiter, occurs_waiting}
-use Rattle.tree_node.specs.Positions.{total, pick}
+use Rattle.tree_node.specs.Trees.{Row, end, more, Branch, row_items, row_length}
+use Rattle.tree_node.specs.Rows.{row_of, item_in, occurs_on, Waiter, occurs_waiting}
 use Rattle.tree_node.specs.Boxes.{least_box}
 use Rattle.tree_node.specs.Shape.{RowHasShape}
 use Rattle.node_page.specs.Changes.{AllWait}
@@ -18,7 +15,7 @@ use Rattle.reinsert.specs.declared.waiting.Wait.{Wait}
 use Rattle.reinsert.specs.declared.waiting.Waiting.{Waiting as Room}
 use Rattle.reinsert.specs.Children.{occurs_at, Child, boxed}
 use Rattle.reinsert.specs.Called.{free_levels}
-use Rattle.reinsert.specs.Placing.{Outcome, Settles, Places, after_child}
+use Rattle.reinsert.specs.Placing.{Outcome, Settles, Places}
 use Rattle.arrayvec.specs.ArrayVec.{array_vec_len}
 use Rattle.box_math.specs.Bounds.{Bounds}
 use Rattle.page_file.specs.Pages.{SameBut}

@@ -1,6 +1,6 @@
 -- What placing one entry makes of a tree (InsertData and OverflowTreatment of Beckmann, Kriegel, Schneider and Seeger
 -- 1990; where new entries stand, and that an overflow of the root calls its level, are our rule, docs/RULES.md).
-use Rattle.std.specs.Prelude.{◌≡◌, ℕ, zero, suc, ◌+◌, ◌-◌, ◌<◌, ◌≤◌, Bool, true, not, ◌&&◌, nat_lt, nat_le, MatchBool, List, [], ◌∷◌, ◌++◌, length, map, set, Option, Some, None, slice_index_or}
+use Rattle.std.specs.Prelude.{◌≡◌, ℕ, zero, suc, ◌+◌, ◌-◌, ◌≤◌, Bool, true, not, ◌&&◌, nat_lt, nat_le, MatchBool, List, [], ◌∷◌, ◌++◌, length, map, set, Option, Some, None}
 use Rattle.box_math.specs.Bounds.{Bounds}
 use Rattle.tree_node.specs.Trees.{Row, Branch, Tree, row_items, occurs_in}
 use Rattle.tree_node.specs.Rows.{Waiter, branches_of, row_of, item_in, occurs_waiting}

@@ -1,13 +1,10 @@
 -- The goals of `grow` that are proved by hand.
-use Rattle.std.proofs.Common.{rules, ◌≡◌, ◌∙◌, ◌+◌, List, [], ◌∷◌, ◌++◌, Err, Some, map, All, length, sym, ap, subst, arith}
-use Rattle.std.proofs.lemmas.List.Elements.{All-append}
+use Rattle.std.proofs.Common.{◌≡◌, ◌∙◌, ◌+◌, List, [], ◌∷◌, ◌++◌, Err, Some, map, ap}
 use Rattle.page_cache.specs.Cache.{pages}
 use Rattle.tree_node.specs.declared.node.Entry.{Entry}
-use Rattle.tree_node.specs.Nodes.{NodeContent, Item, item_of}
-use Rattle.node_page.specs.Layout.{IsReference}
+use Rattle.tree_node.specs.Nodes.{NodeContent, item_of}
 use Rattle.node_page.specs.Standing.{PageMap}
-use Rattle.reinsert.proofs.WaitLemmas.{All-one}
-use Rattle.reinsert.proofs.SettledLemmas.{is_some_from, spellable_of}
+use Rattle.reinsert.proofs.SettledLemmas.{is_some_from}
 use Rattle.page_cache.specs.Calls.{changes_and_refuses}
 use Rattle.node_page.proofs.NodeLemmas.{at_error}
 use Rattle.reinsert.specs.Faults.{IsNoDamage, IsChangeFault}

@@ -1,6 +1,6 @@
 -- The goals of `insert_with` that are proved by hand.
-use Rattle.std.proofs.Common.{◌≡◌, ◌++◌, [], ◌∷◌, List, Bool, Err, None, Some, sym, subst, refl, arith}
-use Rattle.page_cache.specs.Cache.{IsPageMap, pages}
+use Rattle.std.proofs.Common.{◌++◌, [], ◌∷◌, List, Bool, Err, None, sym, subst, refl, arith}
+use Rattle.page_cache.specs.Cache.{pages}
 use Rattle.page_cache.specs.Calls.{changes_in_turn}
 use Rattle.node_page.specs.Broken.{changes_and_breaks}
 use Rattle.node_page.specs.Standing.{PageMap}

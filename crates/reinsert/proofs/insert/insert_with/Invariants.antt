@@ -1,5 +1,5 @@
 -- What holds at each turn of the loop of `insert_with`, and what falls.
-use Rattle.std.proofs.Common.{◌≡◌, ℕ, None}
+use Rattle.std.proofs.Common.{ℕ, None}
 use Rattle.page_cache.specs.Cache.{IsPageMap, pages}
 use Rattle.page_cache.specs.Calls.{ChangesUntil}
 use Rattle.tree_node.specs.Nodes.{item_of}

@@ -1,5 +1,5 @@
 -- The goals of `place_one` that are proved by hand.
-use Rattle.std.proofs.Common.{Ok, Err, None, Some, ◌≡◌, ◌∙◌, ◌+◌, ap, subst, sym, arith}
+use Rattle.std.proofs.Common.{Err, None, subst, sym, arith}
 use Rattle.page_cache.specs.Cache.{IsPageMap, pages}
 use Rattle.page_cache.specs.Calls.{changes_in_turn}
 use Rattle.node_page.specs.Broken.{changes_and_breaks, made_alters}

@@ -1,9 +1,8 @@
 -- The goals of `place` that are proved by hand.
-use Rattle.std.proofs.Common.{rules, ◌≡◌, ◌∙◌, ◌+◌, ◌-◌, ◌<◌, [], ◌∷◌, ◌++◌, List, map, All, IfOk, IfSome, IsSome, None, Some, inl, false, refl, sym, ap, subst, arith}
-use Rattle.page_cache.specs.Cache.{IsPageMap, KeepsMap, pages}
+use Rattle.std.proofs.Common.{rules, ◌≡◌, ◌∙◌, ◌+◌, ◌-◌, [], ◌∷◌, ◌++◌, List, map, All, IfOk, IfSome, IsSome, None, Some, inl, false, refl, sym, ap, subst, arith}
+use Rattle.page_cache.specs.Cache.{IsPageMap, pages}
 use Rattle.page_cache.specs.Calls.{asks_changes, changes_in_turn}
 use Rattle.page_cache.specs.Laws.{the_map_is_kept_in_turn}
-use Rattle.box_math.specs.Bounds.{Bounds}
 use Rattle.tree_node.specs.declared.node.Entry.{Entry}
 use Rattle.tree_node.specs.Nodes.{Item, item_of}
 use Rattle.tree_node.specs.Trees.{row_items}

@@ -1,5 +1,5 @@
 -- The goals of `put_here` that are proved by hand.
-use Rattle.std.proofs.Common.{rules, ◌≡◌, ◌∙◌, [], ◌∷◌, ◌++◌, List, map, sym, ap, subst, arith, All, Err}
+use Rattle.std.proofs.Common.{rules, ◌∙◌, [], ◌∷◌, map, sym, ap, subst, arith, All, Err}
 use Rattle.std.proofs.lemmas.List.{map-append}
 use Rattle.std.proofs.lemmas.List.Elements.{All-append}
 use Rattle.tree_node.specs.declared.node.Entry.{Entry}

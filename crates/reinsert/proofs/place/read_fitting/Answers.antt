@@ -1,5 +1,5 @@
 -- The goals of `read_fitting` that are proved by hand.
-use Rattle.std.proofs.Common.{◌≡◌, subst, ap, All, arith, length}
+use Rattle.std.proofs.Common.{subst, ap, All, arith, length}
 use Rattle.std.proofs.lemmas.List.{length-map}
 use Rattle.page_file.specs.Fault.{IsOfDevice}
 use Rattle.page_cache.specs.Cache.{pages}

@@ -1,5 +1,5 @@
 -- The goals of `settle_above` that are proved by hand.
-use Rattle.std.proofs.Common.{rules, ◌≡◌, ◌∙◌, ◌+◌, List, sym, ap, subst, refl, arith, IfOk, IfSome, ◌<◌, ℕ, length, get_or}
+use Rattle.std.proofs.Common.{rules, ◌≡◌, ◌∙◌, ◌+◌, sym, ap, subst, refl, arith, IfOk, IfSome, ◌<◌, ℕ, length, get_or}
 use Rattle.page_cache.specs.Cache.{IsPageMap, pages}
 use Rattle.tree_node.specs.declared.node.Entry.{Entry}
 use Rattle.tree_node.specs.declared.node.Node.{Node}

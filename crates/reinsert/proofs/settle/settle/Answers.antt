@@ -1,5 +1,5 @@
 -- The goals of `settle` that are proved by hand.
-use Rattle.std.proofs.Common.{◌≡◌, ◌+◌, ◌<◌, None, true, IfOk, IfSome, sym, arith}
+use Rattle.std.proofs.Common.{◌≡◌, ◌+◌, ◌<◌, true, sym, arith}
 use Rattle.tree_node.specs.declared.node.Entry.{Entry}
 use Rattle.node_page.specs.Layout.{IsReference}
 use Rattle.reinsert.specs.Called.{is_called}

@@ -1,5 +1,5 @@
 -- The goals of `take_out_far` that are proved by hand.
-use Rattle.std.proofs.Common.{rules, ◌≡◌, ◌∙◌, List, map, refl, ap, subst, arith}
+use Rattle.std.proofs.Common.{rules, ◌∙◌, List, map, refl, ap, subst, arith}
 use Rattle.tree_node.specs.Boxes.{least_box}
 use Rattle.tree_node.specs.Nodes.{item_of}
 use Rattle.tree_node.specs.declared.node.Entry.{Entry}

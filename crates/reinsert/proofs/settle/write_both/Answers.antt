@@ -1,5 +1,5 @@
 -- The goals of `write_both` that are proved by hand.
-use Rattle.std.proofs.Common.{◌≡◌, ◌∙◌, ℕ, None, Err, ap, sym, subst, IsSome, inl}
+use Rattle.std.proofs.Common.{◌≡◌, ◌∙◌, None, Err, ap, sym, subst, IsSome, inl}
 use Rattle.page_cache.specs.Cache.{pages}
 use Rattle.page_cache.specs.Calls.{changes_and_refuses, changes_in_turn}
 use Rattle.tree_node.specs.Nodes.{content_of}
