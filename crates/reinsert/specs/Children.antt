@@ -1,4 +1,4 @@
--- The children of a node, as values.
+-- The children of a node, as values (Guttman 1984).
 use Rattle.std.specs.Prelude.{ℕ, zero, suc, ◌+◌, Option, Some, None, if◌then◌else◌, ◌==◌}
 use Rattle.box_math.specs.Bounds.{Bounds}
 use Rattle.tree_node.specs.Trees.{Row, end, more, Branch, object, child, row_items, occurs}

@@ -1,4 +1,4 @@
--- What may end a change of trees.
+-- What may end a change of trees (our rule, docs/FORMAT.md, "Trees of pages").
 use Rattle.std.specs.Prelude.{◌≡◌, ◌^◌, ◌≤◌, ◌⊎◌}
 use Rattle.page_file.specs.Fault.{IsDamage, IsOfDevice}
 use Rattle.page_file.specs.declared.fault.Fault.{Fault}

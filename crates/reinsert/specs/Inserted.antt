@@ -1,4 +1,4 @@
--- What an insertion needs, and what it leaves.
+-- What an insertion needs of the pages, and what it leaves (our rule, docs/FORMAT.md, "Trees of pages").
 use Rattle.std.specs.Prelude.{◌≡◌, ℕ, ◌+◌, ◌^◌, ◌<◌, ◌≤◌, Bool, List, IsSome}
 use Rattle.tree_node.specs.declared.node.Root.{Root}
 use Rattle.tree_node.specs.Nodes.{Item}
@@ -37,8 +37,8 @@ pub record CanInsert (dims : ℕ) (m : PageMap) (root : Root) (item : Item) (lev
 
 -- A tree stands at the root, which a lawful insertion leads to. Pages that are in neither tree stay; those that came in
 -- were not live.
-pub record InsertsTo (dims most : ℕ) (m m' : PageMap) (level : ℕ) (t : Tree) (branch : Branch) (elsewhere : ℕ
-    → ℕ) (root : Root) : Type 0 where
+pub record InsertsTo (dims most : ℕ) (m m' : PageMap) (level : ℕ) (t : Tree) (branch : Branch)
+    (elsewhere : ℕ → ℕ) (root : Root) : Type 0 where
   pub new : Tree
   pub at : IsRootOf root new
   pub stands : Stands dims m' new
@@ -64,8 +64,8 @@ pub record IsAt {D : ℕ} (dims : ℕ) (m : PageMap) (root : Root) (waits : List
   pub live : (n : ℕ) → 0 < elsewhere n → IsSome (m n)
 
 -- one placing on
-pub record StepsTo {D : ℕ} (dims most : ℕ) (m m' : PageMap) (elsewhere : ℕ
-    → ℕ) (s : State) (root : Root) (waits : List (Wait D)) (called : List Bool) : Type 0 where
+pub record StepsTo {D : ℕ} (dims most : ℕ) (m m' : PageMap) (elsewhere : ℕ → ℕ) (s : State) (root : Root)
+    (waits : List (Wait D)) (called : List Bool) : Type 0 where
   pub next : State
   pub placing : Placing dims most elsewhere s next
   pub isat : IsAt dims m' root waits called elsewhere next

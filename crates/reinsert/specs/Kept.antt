@@ -1,4 +1,4 @@
--- What each lawful insertion keeps.
+-- What each lawful insertion keeps: laws of its definition, and of the shape of trees (Guttman 1984).
 use Rattle.std.specs.Prelude.{⊤, ℕ, ◌+◌, ◌*◌, ◌^◌, ◌<◌, ◌≤◌, List, [], ◌∷◌, ◌++◌}
 use Rattle.std.specs.List.Sorted.{IsPermutation}
 use Rattle.tree_node.specs.Trees.{end, more, Branch, Tree, RowOnLevel, objects_in, occurs_in}
@@ -23,8 +23,8 @@ InsertionKeepsObjects =
 -- an entry for a node of this level whose tree has shape: each node in it has from the least to the most entries and a
 -- least box
 abbrev pub EntryHasShape : ℕ → ℕ → ℕ → Branch → Type 0
-EntryHasShape dims most level branch = RowHasShape dims most (more branch end) × RowHasBoxes dims (more branch end)
-    × RowOnLevel level (more branch end)
+EntryHasShape dims most level branch =
+    RowHasShape dims most (more branch end) × RowHasBoxes dims (more branch end) × RowOnLevel level (more branch end)
 
 abbrev pub InsertionKeepsLooseShape : Type 0
 InsertionKeepsLooseShape =
@@ -43,8 +43,8 @@ InsertionKeepsShape =
 -- each entry that waits does so for a node of a level of the tree, and has shape
 abbrev pub AllHaveShape : ℕ → ℕ → ℕ → List Waiter → Type 0
 AllHaveShape dims most top [] = ⊤
-AllHaveShape dims most top (w ∷ ws) = (w.level ≤ top) × EntryHasShape dims most w.level w.branch
-    × AllHaveShape dims most top ws
+AllHaveShape dims most top (w ∷ ws) =
+    (w.level ≤ top) × EntryHasShape dims most w.level w.branch × AllHaveShape dims most top ws
 
 -- the tree between two placings has loose shape, and so has what waits
 pub record StateHasShape (dims most : ℕ) (s : State) : Type 0 where

@@ -57,8 +57,8 @@ occurs_beside n (Some c) = occurs_at c.page n c.row
 
 -- how often a page occurs in what a node became
 abbrev pub occurs_after : ℕ → Outcome → ℕ → ℕ
-occurs_after page outcome n = occurs_at page n outcome.row + occurs_beside n outcome.beside + occurs_waiting n
-    outcome.far
+occurs_after page outcome n =
+    occurs_at page n outcome.row + occurs_beside n outcome.beside + occurs_waiting n outcome.far
 
 -- what a node became stands
 pub record OutcomeStands (dims : ℕ) (m : PageMap) (page level : ℕ) (outcome : Outcome) : Type 0 where
