@@ -1,0 +1,66 @@
+//! A root over a root that was split.
+
+ghost use Rattle.std.specs.Prelude.{◌≡◌, ◌^◌, ◌+◌, ◌<◌, ◌≤◌, ◌∷◌, [], Some, None, ℕ, IfOk, IfErr};
+ghost use Rattle.box_math.specs.Bounds.{IsDims};
+ghost use Rattle.page_file.specs.declared.gate.Gate.TheVariants.{Open};
+ghost use Rattle.page_cache.specs.Cache.{IsPageMap, gate_of, pages};
+ghost use Rattle.page_cache.specs.Calls.{Changes};
+ghost use Rattle.tree_node.specs.Nodes.{item_of};
+ghost use Rattle.node_page.specs.Layout.{IsReference};
+ghost use Rattle.reinsert.specs.Faults.{IsChangeFault, IsNoDamage};
+ghost use Rattle.reinsert.specs.Placed.{ComesIn};
+
+use arrayvec::ArrayVec;
+use block_device::BlockDevice;
+use box_math::BBox;
+use node_page::write_node;
+use page_cache::PageCache;
+use page_file::Fault;
+use std::alloc::Allocator;
+use tree_node::{Entry, Node, Root};
+
+// Makes a root over the old one, which has these bounds now, and what was split off. A tree that would grow above level
+// 40 is damaged at its root.
+pub(crate) fn grow<const D: usize, B: BlockDevice, A: Allocator + Copy>(
+    cache: &mut PageCache<B, A>,
+    root: Root,
+    bounds: BBox<D>,
+    beside: Entry<D>,
+) -> Result<Root, Fault>
+    requires dims { IsDims D }
+    requires open { gate_of cache.old ≡ Open }
+    requires page { (3 ≤ root.page) × (root.page < 2 ^ 31) }
+    requires refers { IsReference 1 beside.reference }
+    ensures changes { Changes cache.old cache.new result }
+    ensures level { IfOk result (λ new. (new.level ≡ root.level + 1) × (new.level ≤ 40)) }
+    ensures page { IfOk result (λ new. (3 ≤ new.page) × (new.page < 2 ^ 31)) }
+    ensures grown { IsPageMap cache.old → IfOk result (λ new. IsPageMap cache.new
+        × ComesIn D (pages cache.old) (pages cache.new) new.page
+        (record {
+          level = root.level + 1;
+          entries = record { bounds = bounds.entry; reference = root.page } ∷
+              item_of beside.entry ∷ [];
+        })) }
+    ensures faults { IsPageMap cache.old → root.level < 40 → IfErr result (IsNoDamage cache.new) }
+    ensures other_faults { IfErr result IsChangeFault }
+{
+    if root.level >= 40 {
+        return Err(Fault::Damaged(root.page));
+    }
+    let mut entries = ArrayVec::new();
+    entries.push(Entry {
+        bounds,
+        reference: u64::from(root.page),
+    });
+    entries.push(beside);
+    let node = Node {
+        level: root.level + 1,
+        entries,
+    };
+    let page = cache.allocate()?;
+    write_node(cache, page, &node)?;
+    Ok(Root {
+        page,
+        level: node.level,
+    })
+}

@@ -1,0 +1,167 @@
+//! A lawful insertion: placings, one after the other, until nothing waits.
+
+ghost use Rattle.std.specs.Prelude.{◌≡◌, ◌^◌, ◌+◌, ◌<◌, ◌≤◌, ◌++◌, ◌∷◌, [], ℕ, Err, IfOk, IfErr};
+ghost use Rattle.box_math.specs.Bounds.{IsDims};
+ghost use Rattle.page_file.specs.declared.fault.Fault.TheVariants as fault;
+ghost use Rattle.page_file.specs.declared.gate.Gate.TheVariants.{Open};
+ghost use Rattle.page_cache.specs.Cache.{IsPageMap, IsUnchanged, gate_of, pages};
+ghost use Rattle.tree_node.specs.Boxes.{RowHasBoxes};
+ghost use Rattle.tree_node.specs.Nodes.{item_of};
+ghost use Rattle.tree_node.specs.Shape.{HasLooseShape};
+ghost use Rattle.tree_node.specs.Trees.{Branch, Tree};
+ghost use Rattle.node_page.specs.Broken.{Alters, before};
+ghost use Rattle.node_page.specs.Layout.{IsReference};
+ghost use Rattle.reinsert.specs.Faults.{IsChangeFault, IsNoDamage};
+ghost use Rattle.reinsert.specs.Inserted.{CanInsert, InsertsTo, IsAt, IsRootFrom, StepsTo};
+ghost use Rattle.reinsert.specs.Kept.{EntryHasShape, StateHasShape};
+ghost use Rattle.reinsert.specs.Placed.{measure_of};
+ghost use Rattle.reinsert.specs.Placing.{State};
+
+use crate::grow::grow;
+use crate::place::place;
+use crate::settled::Settled;
+use crate::waiting::{Wait, Waiting};
+use block_device::BlockDevice;
+use node_page::Broken;
+use page_cache::PageCache;
+use page_file::Fault;
+use std::alloc::Allocator;
+use tree_node::{Entry, Root};
+
+/// Inserts an entry at a level of the tree at that root (docs/RULES.md): on level 0 an object, above it a child, which
+/// refers to a page from 3 to 2^31 - 1. The gate has to be open.
+///
+/// Where the pages are a sound map and stand for a tree there, and above level 0 for one at the entry's reference, they
+/// stand on `Ok` for a tree that a lawful insertion leads to. Pages outside these trees stay, and those that come in
+/// were not live. The root's level does not fall.
+///
+/// A refusal that is not `touched` leaves the map as it was; `Memory` for the room of what waits is one. Where the
+/// trees have their shape, but that a root may have one entry, a refusal is of memory or of the device, or all page
+/// numbers are given out (`NoPages`). A tree of level 40 takes no entry, since it could grow: its root is `Damaged`,
+/// untouched.
+pub fn insert_at<const D: usize, B: BlockDevice, A: Allocator + Copy, H: Allocator>(
+    alloc: H,
+    cache: &mut PageCache<B, A>,
+    root: Root,
+    entry: &Entry<D>,
+    level: u8,
+    m_max: usize,
+) -> Result<Root, Broken>
+    requires dims { IsDims D }
+    requires open { gate_of cache.old ≡ Open }
+    requires most { (4 ≤ m_max) × (m_max ≤ 100) }
+    requires levels { (level ≤ root.level) × (root.level ≤ 40) }
+    requires root { (3 ≤ root.page) × (root.page < 2 ^ 31) }
+    requires refers { IsReference level entry.now.reference }
+    ensures alters { Alters cache.old cache.new result }
+    ensures root { IfOk result (IsRootFrom root) }
+    ensures inserted { IsPageMap cache.old → (t : Tree) (branch : Branch) (elsewhere : ℕ → ℕ)
+        → CanInsert D (pages cache.old) root (item_of entry.now) level t branch elsewhere →
+        IfOk result (λ after. IsPageMap cache.new
+        × InsertsTo D m_max (pages cache.old) (pages cache.new) level t branch elsewhere after) }
+    ensures faults { IsPageMap cache.old → (t : Tree) (branch : Branch) (elsewhere : ℕ → ℕ)
+        → CanInsert D (pages cache.old) root (item_of entry.now) level t branch elsewhere
+        → HasLooseShape D m_max t → RowHasBoxes D t.row → EntryHasShape D m_max level branch →
+        IfErr result (λ b. IsNoDamage cache.new b.cause) }
+    ensures other_faults { IfErr result (λ b. IsChangeFault b.cause) }
+{
+    let mut waiting = Waiting::make(alloc)?;
+    insert_with(cache, root, entry, level, m_max, &mut waiting)
+}
+
+/// Inserts an entry as `insert_at` does, and takes no memory by itself. The `Waiting` serves again afterwards, also
+/// after a refusal.
+pub fn insert_with<const D: usize, B: BlockDevice, A: Allocator + Copy>(
+    cache: &mut PageCache<B, A>,
+    root: Root,
+    entry: &Entry<D>,
+    level: u8,
+    m_max: usize,
+    waiting: &mut Waiting<D>,
+) -> Result<Root, Broken>
+    requires dims { IsDims D }
+    requires open { gate_of cache.old ≡ Open }
+    requires most { (4 ≤ m_max) × (m_max ≤ 100) }
+    requires levels { (level ≤ root.level) × (root.level ≤ 40) }
+    requires root { (3 ≤ root.page) × (root.page < 2 ^ 31) }
+    requires refers { IsReference level entry.now.reference }
+    ensures alters { Alters cache.old cache.new result }
+    ensures root { IfOk result (IsRootFrom root) }
+    ensures inserted { IsPageMap cache.old → (t : Tree) (branch : Branch) (elsewhere : ℕ → ℕ)
+        → CanInsert D (pages cache.old) root (item_of entry.now) level t branch elsewhere →
+        IfOk result (λ after. IsPageMap cache.new
+        × InsertsTo D m_max (pages cache.old) (pages cache.new) level t branch elsewhere after) }
+    ensures faults { IsPageMap cache.old → (t : Tree) (branch : Branch) (elsewhere : ℕ → ℕ)
+        → CanInsert D (pages cache.old) root (item_of entry.now) level t branch elsewhere
+        → HasLooseShape D m_max t → RowHasBoxes D t.row → EntryHasShape D m_max level branch →
+        IfErr result (λ b. IsNoDamage cache.new b.cause) }
+    ensures tall { root.level ≡ 40 → (result ≡ Err (before (fault.Damaged root.page)))
+        × IsUnchanged cache.old cache.new }
+    ensures other_faults { IfErr result (λ b. IsChangeFault b.cause) }
+{
+    if root.level >= 40 {
+        return Err(Broken::from(Fault::Damaged(root.page)));
+    }
+    waiting.begin();
+    let first = Wait {
+        entry: *entry,
+        level,
+    };
+    let mut now = place_one(cache, root, &first, m_max, waiting)?;
+    'placing: while let Some(wait) = waiting.next() {
+        now = match place_one(cache, now, &wait, m_max, waiting) {
+            Ok(after) => after,
+            Err(broken) => return Err(Broken::midway(broken.cause)),
+        };
+    }
+    Ok(now)
+}
+
+// Places one entry, which waits no longer.
+fn place_one<const D: usize, B: BlockDevice, A: Allocator + Copy>(
+    cache: &mut PageCache<B, A>,
+    root: Root,
+    first: &Wait<D>,
+    m_max: usize,
+    waiting: &mut Waiting<D>,
+) -> Result<Root, Broken>
+    requires dims { IsDims D }
+    requires open { gate_of cache.old ≡ Open }
+    requires most { (4 ≤ m_max) × (m_max ≤ 100) }
+    requires level { root.level ≤ 40 }
+    requires root { (3 ≤ root.page) × (root.page < 2 ^ 31) }
+    requires refers { IsReference first.now.level first.now.entry.reference }
+    ensures alters { Alters cache.old cache.new result }
+    ensures measure { measure_of waiting.new ≤ measure_of waiting.old }
+    ensures root { IfOk result (IsRootFrom root) }
+    ensures placed { IsPageMap cache.old → (s : State) (elsewhere : ℕ → ℕ)
+        → IsAt D (pages cache.old) root (waiting.old.waits.items ++ first.now ∷ []) waiting.old.called elsewhere s →
+        IfOk result (λ after. IsPageMap cache.new
+        × StepsTo D m_max (pages cache.old) (pages cache.new) elsewhere s after waiting.new.waits.items
+        waiting.new.called) }
+    ensures faults { IsPageMap cache.old → (s : State) (elsewhere : ℕ → ℕ)
+        → IsAt D (pages cache.old) root (waiting.old.waits.items ++ first.now ∷ []) waiting.old.called elsewhere s
+        → StateHasShape D m_max s →
+        IfErr result (λ b. IsNoDamage cache.new b.cause) }
+    ensures other_faults { IfErr result (λ b. IsChangeFault b.cause) }
+{
+    if first.level > root.level {
+        return Err(Broken::from(Fault::Damaged(root.page)));
+    }
+    let Settled { bounds, beside } = place(
+        cache,
+        root,
+        &first.entry,
+        first.level,
+        root.level,
+        m_max,
+        waiting,
+    )?;
+    let Some(beside) = beside else {
+        return Ok(root);
+    };
+    match grow(cache, root, bounds, beside) {
+        Ok(after) => Ok(after),
+        Err(fault) => Err(Broken::midway(fault)),
+    }
+}

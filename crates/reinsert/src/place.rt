@@ -1,0 +1,236 @@
+//! An entry placed below a node, and the nodes above settled.
+
+ghost use Rattle.std.specs.Prelude.{◌≡◌, ◌^◌, ◌+◌, ◌<◌, ◌≤◌, ◌++◌, ◌∷◌, [], Some, true, false, ℕ, List, All, length, map};
+ghost use Rattle.std.specs.Prelude.{◌⊎◌, slice_index_or, IfOk, IfErr, IfSome};
+ghost use Rattle.arrayvec.specs.ArrayVec.{array_vec_len};
+ghost use Rattle.box_math.specs.Bounds.{IsDims};
+ghost use Rattle.page_file.specs.Fault.{IsDamage, IsOfDevice};
+ghost use Rattle.page_file.specs.declared.gate.Gate.TheVariants.{Open};
+ghost use Rattle.page_cache.specs.Cache.{IsHonest, IsLive, IsPageMap, gate_of, pages};
+ghost use Rattle.page_cache.specs.Calls.{Asks, Changes};
+ghost use Rattle.choose_subtree.specs.Choice.{IsChosenChild};
+ghost use Rattle.tree_node.specs.Nodes.{Item, NodeContent, content_of, item_of};
+ghost use Rattle.tree_node.specs.Rows.{item_in};
+ghost use Rattle.tree_node.specs.Trees.{Row, Branch};
+ghost use Rattle.node_page.specs.Broken.{Alters};
+ghost use Rattle.node_page.specs.Layout.{IsReference};
+ghost use Rattle.node_page.specs.Standing.{node_in};
+ghost use Rattle.reinsert.specs.Faults.{IsChangeFault, IsNoDamage};
+ghost use Rattle.reinsert.specs.Placed.{CanPlace, CanSettle, HasFewEntries, PlacesTo, SettlesTo};
+ghost use Rattle.reinsert.specs.Placed.{items_after, measure_of};
+
+use crate::settle::settle;
+use crate::settled::Settled;
+use crate::waiting::Waiting;
+use block_device::BlockDevice;
+use box_math::BBox;
+use choose_subtree::choose;
+use node_page::{Broken, read_node};
+use page_cache::PageCache;
+use page_file::Fault;
+use std::alloc::Allocator;
+use tree_node::{Entry, Node, Root};
+
+// Puts the entry into the node on its level that the choice leads to from this node down.
+pub(crate) fn place<const D: usize, B: BlockDevice, A: Allocator + Copy>(
+    cache: &mut PageCache<B, A>,
+    at: Root,
+    entry: &Entry<D>,
+    target: u8,
+    top: u8,
+    m_max: usize,
+    waiting: &mut Waiting<D>,
+) -> Result<Settled<D>, Broken>
+    requires dims { IsDims D }
+    requires open { gate_of cache.old ≡ Open }
+    requires most { (4 ≤ m_max) × (m_max ≤ 100) }
+    requires levels { (target ≤ at.level) × (at.level ≤ top) × (top ≤ 40) }
+    requires refers { IsReference target entry.now.reference }
+    ensures alters { Alters cache.old cache.new result }
+    ensures measure { measure_of waiting.new ≤ measure_of waiting.old }
+    ensures beside { IfOk result (λ s. IfSome s.beside (λ e. IsReference (at.level + 1) e.reference)) }
+    ensures placed { IsPageMap cache.old → (row : Row) (branch : Branch) → item_in branch ≡ item_of entry.now
+        → CanPlace D (pages cache.old) at.page at.level target row branch →
+        IfOk result (λ s. IsPageMap cache.new
+        × PlacesTo D m_max top at.level target waiting.old.called branch row (pages cache.old) (pages cache.new)
+        at.page s waiting.old.waits.items waiting.new.waits.items waiting.new.called) }
+    ensures faults { IsPageMap cache.old → (row : Row) (branch : Branch) → item_in branch ≡ item_of entry.now
+        → CanPlace D (pages cache.old) at.page at.level target row branch → HasFewEntries D m_max row →
+        IfErr result (λ b. IsNoDamage cache.new b.cause) }
+    ensures other_faults { IfErr result (λ b. IsChangeFault b.cause) }
+{
+    let node = read_fitting(cache, at, m_max)?;
+    if at.level == target {
+        return put_here(cache, at.page, node, entry, top, m_max, waiting);
+    }
+    let (place_of_child, page) = child_for(&node, &entry.bounds);
+    let below = Root {
+        page,
+        level: at.level - 1,
+    };
+    let lower = place(cache, below, entry, target, top, m_max, waiting)?;
+    put_above(
+        cache,
+        at.page,
+        node,
+        place_of_child,
+        lower,
+        top,
+        m_max,
+        waiting,
+    )
+}
+
+// Reads a node of at most the most entries.
+fn read_fitting<const D: usize, B: BlockDevice, A: Allocator + Copy>(
+    cache: &mut PageCache<B, A>,
+    at: Root,
+    m_max: usize,
+) -> Result<Node<D>, Fault>
+    requires dims { IsDims D }
+    ensures asks { Asks cache.old cache.new result }
+    ensures node { IsHonest cache.old → IsLive cache.old at.page
+        → IfOk result (λ node. node_in D (pages cache.old at.page) ≡ Some (content_of node)) }
+    ensures faults { IsHonest cache.old → (c : NodeContent) → node_in D (pages cache.old at.page) ≡ Some c
+        → c.level ≡ at.level → length c.entries ≤ m_max
+        → IfErr result IsOfDevice }
+    ensures level { IfOk result (λ node. node.level ≡ at.level) }
+    ensures few { IfOk result (λ node. array_vec_len node.entries ≤ m_max) }
+    ensures some { IfOk result (λ node. 0 < at.level → 0 < array_vec_len node.entries) }
+    ensures refers { IfOk result (λ node. All (λ e. IsReference at.level e.reference) node.entries.items) }
+    ensures other_faults { IfErr result (λ f. IsOfDevice f ⊎ IsDamage f) }
+{
+    let node = read_node::<D, B, A>(cache, at.page, at.level)?;
+    if node.entries.len() > m_max {
+        return Err(Fault::Damaged(at.page));
+    }
+    Ok(node)
+}
+
+// The place of the child that a new box goes to, and the child's page.
+fn child_for<const D: usize>(node: &Node<D>, bounds: &BBox<D>) -> (usize, u32)
+    requires dims { IsDims D }
+    requires above { 0 < node.now.level }
+    requires some { 0 < array_vec_len node.now.entries }
+    requires refers { All (λ e. IsReference node.now.level e.reference) node.now.entries.items }
+    ensures within { result.0 < array_vec_len node.now.entries }
+    ensures chosen { IsChosenChild D node.now.level (map item_of node.now.entries.items) bounds.now result.0 }
+    ensures page { (d : Item) → result.1 ≡ (slice_index_or (map item_of node.now.entries.items) result.0 d).reference }
+{
+    let at = choose(node, bounds);
+    (at, node.entries[at].reference as u32)
+}
+
+// Adds the entry to the node, and writes it.
+fn put_here<const D: usize, B: BlockDevice, A: Allocator + Copy>(
+    cache: &mut PageCache<B, A>,
+    page: u32,
+    mut node: Node<D>,
+    entry: &Entry<D>,
+    top: u8,
+    m_max: usize,
+    waiting: &mut Waiting<D>,
+) -> Result<Settled<D>, Broken>
+    requires dims { IsDims D }
+    requires open { gate_of cache.old ≡ Open }
+    requires most { (4 ≤ m_max) × (m_max ≤ 100) }
+    requires top { (node.level ≤ top) × (top ≤ 40) }
+    requires few { array_vec_len node.entries ≤ m_max }
+    requires refers { All (λ e. IsReference node.level e.reference) node.entries.items }
+    requires refers_too { IsReference node.level entry.now.reference }
+    ensures alters { Alters cache.old cache.new result }
+    ensures measure { measure_of waiting.new ≤ measure_of waiting.old }
+    ensures beside { IfOk result (λ s. IfSome s.beside (λ e. IsReference (node.entry.level + 1) e.reference)) }
+    ensures settled { IsPageMap cache.old → (branches : List Branch)
+        → map item_in branches ≡ map item_of node.entry.entries.items ++ item_of entry.now ∷ []
+        → CanSettle D (pages cache.old) page node.entry.level branches →
+        IfOk result (λ s. IsPageMap cache.new
+        × SettlesTo D m_max top node.entry.level waiting.old.called branches (pages cache.old) (pages cache.new)
+        page s waiting.old.waits.items waiting.new.waits.items waiting.new.called) }
+    ensures touched { IfErr result (λ b. b.touched ≡ true) }
+    ensures faults { IsPageMap cache.old → IsLive cache.old page → IfErr result (λ b. IsNoDamage cache.new b.cause) }
+    ensures other_faults { IfErr result (λ b. IsChangeFault b.cause) }
+{
+    node.entries.push(*entry);
+    match settle(cache, page, node, top, m_max, waiting) {
+        Ok(settled) => Ok(settled),
+        Err(fault) => Err(Broken::midway(fault)),
+    }
+}
+
+// Writes a node whose child at the place has settled, of which pages were written.
+fn put_above<const D: usize, B: BlockDevice, A: Allocator + Copy>(
+    cache: &mut PageCache<B, A>,
+    page: u32,
+    node: Node<D>,
+    at: usize,
+    lower: Settled<D>,
+    top: u8,
+    m_max: usize,
+    waiting: &mut Waiting<D>,
+) -> Result<Settled<D>, Broken>
+    requires dims { IsDims D }
+    requires open { gate_of cache.old ≡ Open }
+    requires most { (4 ≤ m_max) × (m_max ≤ 100) }
+    requires top { (node.level ≤ top) × (top ≤ 40) }
+    requires within { at < array_vec_len node.entries }
+    requires few { array_vec_len node.entries ≤ m_max }
+    requires refers { All (λ e. IsReference node.level e.reference) node.entries.items }
+    requires beside { IfSome lower.beside (λ e. IsReference node.level e.reference) }
+    ensures alters { Alters cache.old cache.new result }
+    ensures measure { measure_of waiting.new ≤ measure_of waiting.old }
+    ensures beside { IfOk result (λ s. IfSome s.beside (λ e. IsReference (node.entry.level + 1) e.reference)) }
+    ensures settled { IsPageMap cache.old → (branches : List Branch)
+        → map item_in branches ≡ items_after D node.entry.entries.items at lower.entry
+        → CanSettle D (pages cache.old) page node.entry.level branches →
+        IfOk result (λ s. IsPageMap cache.new
+        × SettlesTo D m_max top node.entry.level waiting.old.called branches (pages cache.old) (pages cache.new)
+        page s waiting.old.waits.items waiting.new.waits.items waiting.new.called) }
+    ensures touched { IfErr result (λ b. b.touched ≡ true) }
+    ensures faults { IsPageMap cache.old → IsLive cache.old page → IfErr result (λ b. IsNoDamage cache.new b.cause) }
+    ensures other_faults { IfErr result (λ b. IsChangeFault b.cause) }
+{
+    match settle_above(cache, page, node, at, lower, top, m_max, waiting) {
+        Ok(settled) => Ok(settled),
+        Err(fault) => Err(Broken::midway(fault)),
+    }
+}
+
+// Writes a node whose child at the place has settled.
+fn settle_above<const D: usize, B: BlockDevice, A: Allocator + Copy>(
+    cache: &mut PageCache<B, A>,
+    page: u32,
+    mut node: Node<D>,
+    at: usize,
+    lower: Settled<D>,
+    top: u8,
+    m_max: usize,
+    waiting: &mut Waiting<D>,
+) -> Result<Settled<D>, Fault>
+    requires dims { IsDims D }
+    requires open { gate_of cache.old ≡ Open }
+    requires most { (4 ≤ m_max) × (m_max ≤ 100) }
+    requires top { (node.level ≤ top) × (top ≤ 40) }
+    requires within { at < array_vec_len node.entries }
+    requires few { array_vec_len node.entries ≤ m_max }
+    requires refers { All (λ e. IsReference node.level e.reference) node.entries.items }
+    requires beside { IfSome lower.beside (λ e. IsReference node.level e.reference) }
+    ensures changes { Changes cache.old cache.new result }
+    ensures measure { measure_of waiting.new ≤ measure_of waiting.old }
+    ensures beside { IfOk result (λ s. IfSome s.beside (λ e. IsReference (node.entry.level + 1) e.reference)) }
+    ensures settled { IsPageMap cache.old → (branches : List Branch)
+        → map item_in branches ≡ items_after D node.entry.entries.items at lower.entry
+        → CanSettle D (pages cache.old) page node.entry.level branches →
+        IfOk result (λ s. IsPageMap cache.new
+        × SettlesTo D m_max top node.entry.level waiting.old.called branches (pages cache.old) (pages cache.new)
+        page s waiting.old.waits.items waiting.new.waits.items waiting.new.called) }
+    ensures faults { IsPageMap cache.old → IsLive cache.old page → IfErr result (IsNoDamage cache.new) }
+    ensures other_faults { IfErr result IsChangeFault }
+{
+    let Settled { bounds, beside } = lower;
+    node.entries[at].bounds = bounds;
+    if let Some(entry) = beside {
+        node.entries.push(entry);
+    }
+    settle(cache, page, node, top, m_max, waiting)
+}

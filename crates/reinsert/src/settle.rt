@@ -1,0 +1,225 @@
+//! A node that may have one entry too many is written, its far set waits again, or it is split.
+
+ghost use Rattle.std.specs.Prelude.{◌≡◌, ◌^◌, ◌+◌, ◌<◌, ◌≤◌, true, false, ℕ, Bool, List, None, All, map, IfOk, IfErr};
+ghost use Rattle.std.specs.Prelude.{IfSome};
+ghost use Rattle.arrayvec.specs.ArrayVec.{array_vec_len};
+ghost use Rattle.box_math.specs.Bounds.{IsDims};
+ghost use Rattle.page_file.specs.declared.gate.Gate.TheVariants.{Open};
+ghost use Rattle.page_cache.specs.Cache.{IsLive, IsPageMap, gate_of, pages};
+ghost use Rattle.page_cache.specs.Calls.{Changes};
+ghost use Rattle.tree_node.specs.Nodes.{content_of, item_of};
+ghost use Rattle.tree_node.specs.Rows.{item_in};
+ghost use Rattle.tree_node.specs.Trees.{Branch};
+ghost use Rattle.node_page.specs.Layout.{IsReference, IsSpellable};
+ghost use Rattle.reinsert.specs.Called.{is_called};
+ghost use Rattle.reinsert.specs.Far;
+ghost use Rattle.reinsert.specs.Faults.{IsChangeFault, IsNoDamage};
+ghost use Rattle.reinsert.specs.Placed.{CanSettle, SettlesTo, SplitsOff, measure_of};
+ghost use Rattle.reinsert.specs.declared.waiting.Wait.{Wait};
+
+use crate::far::farthest;
+use crate::settled::Settled;
+use crate::waiting::Waiting;
+use block_device::BlockDevice;
+use node_page::write_node;
+use page_cache::PageCache;
+use page_file::Fault;
+use rstar_split::split;
+use std::alloc::Allocator;
+use tree_node::{Entry, Node, least};
+
+// How many entries a far set has: 30 in a hundred.
+fn far_count(m_max: usize) -> usize
+    requires { (4 ≤ m_max) × (m_max ≤ 100) }
+    ensures value { result ≡ Far.far_count m_max }
+    ensures few { (1 ≤ result) × (result ≤ 30) × (result + 1 ≤ m_max) }
+{
+    (3 * m_max / 10).max(1)
+}
+
+// Writes a node that may have one entry too many.
+pub(crate) fn settle<const D: usize, B: BlockDevice, A: Allocator + Copy>(
+    cache: &mut PageCache<B, A>,
+    page: u32,
+    node: Node<D>,
+    top: u8,
+    m_max: usize,
+    waiting: &mut Waiting<D>,
+) -> Result<Settled<D>, Fault>
+    requires dims { IsDims D }
+    requires open { gate_of cache.old ≡ Open }
+    requires most { (4 ≤ m_max) × (m_max ≤ 100) }
+    requires top { (node.level ≤ top) × (top ≤ 40) }
+    requires some { 0 < array_vec_len node.entries }
+    requires few { array_vec_len node.entries ≤ m_max + 1 }
+    requires refers { All (λ e. IsReference node.level e.reference) node.entries.items }
+    ensures changes { Changes cache.old cache.new result }
+    ensures measure { measure_of waiting.new ≤ measure_of waiting.old }
+    ensures beside { IfOk result (λ s. IfSome s.beside (λ e. IsReference (node.entry.level + 1) e.reference)) }
+    ensures settled { IsPageMap cache.old → (branches : List Branch)
+        → map item_in branches ≡ map item_of node.entry.entries.items
+        → CanSettle D (pages cache.old) page node.entry.level branches →
+        IfOk result (λ s. IsPageMap cache.new
+        × SettlesTo D m_max top node.entry.level waiting.old.called branches (pages cache.old) (pages cache.new)
+        page s waiting.old.waits.items waiting.new.waits.items waiting.new.called) }
+    ensures faults { IsPageMap cache.old → IsLive cache.old page → IfErr result (IsNoDamage cache.new) }
+    ensures other_faults { IfErr result IsChangeFault }
+{
+    if node.entries.len() <= m_max {
+        return write_fitting(cache, page, node);
+    }
+    if node.level < top && !waiting.is_called(node.level) {
+        return take_out_far(cache, page, node, m_max, waiting);
+    }
+    split_off(cache, page, node, m_max, waiting)
+}
+
+// Writes a node of at most the most entries.
+fn write_fitting<const D: usize, B: BlockDevice, A: Allocator + Copy>(
+    cache: &mut PageCache<B, A>,
+    page: u32,
+    node: Node<D>,
+) -> Result<Settled<D>, Fault>
+    requires dims { IsDims D }
+    requires open { gate_of cache.old ≡ Open }
+    requires some { 0 < array_vec_len node.entries }
+    requires few { array_vec_len node.entries ≤ 100 }
+    requires refers { All (λ e. IsReference node.level e.reference) node.entries.items }
+    ensures changes { Changes cache.old cache.new result }
+    ensures alone { IfOk result (λ s. s.beside ≡ None) }
+    ensures settled { IsPageMap cache.old
+        → (most top : ℕ) (called : List Bool) (waits : List (Wait D)) (branches : List Branch)
+        → array_vec_len node.entry.entries ≤ most
+        → map item_in branches ≡ map item_of node.entry.entries.items
+        → CanSettle D (pages cache.old) page node.entry.level branches →
+        IfOk result (λ s. IsPageMap cache.new
+        × SettlesTo D most top node.entry.level called branches (pages cache.old) (pages cache.new) page s waits
+        waits called) }
+    ensures faults { IsPageMap cache.old → IsLive cache.old page → IfErr result (IsNoDamage cache.new) }
+    ensures other_faults { IfErr result IsChangeFault }
+{
+    let bounds = least(node.entries.as_slice());
+    write_node(cache, page, &node)?;
+    Ok(Settled {
+        bounds,
+        beside: None,
+    })
+}
+
+// Takes the far set out of a node of one entry too many, which waits again, and writes the rest.
+fn take_out_far<const D: usize, B: BlockDevice, A: Allocator + Copy>(
+    cache: &mut PageCache<B, A>,
+    page: u32,
+    node: Node<D>,
+    m_max: usize,
+    waiting: &mut Waiting<D>,
+) -> Result<Settled<D>, Fault>
+    requires dims { IsDims D }
+    requires open { gate_of cache.old ≡ Open }
+    requires most { (4 ≤ m_max) × (m_max ≤ 100) }
+    requires level { node.level < 41 }
+    requires many { array_vec_len node.entries ≡ m_max + 1 }
+    requires refers { All (λ e. IsReference node.level e.reference) node.entries.items }
+    requires first { is_called waiting.old.called node.level ≡ false }
+    ensures changes { Changes cache.old cache.new result }
+    ensures measure { measure_of waiting.new ≤ measure_of waiting.old }
+    ensures alone { IfOk result (λ s. s.beside ≡ None) }
+    ensures settled { IsPageMap cache.old → (top : ℕ) (branches : List Branch) → node.entry.level < top
+        → map item_in branches ≡ map item_of node.entry.entries.items
+        → CanSettle D (pages cache.old) page node.entry.level branches →
+        IfOk result (λ s. IsPageMap cache.new
+        × SettlesTo D m_max top node.entry.level waiting.old.called branches (pages cache.old) (pages cache.new)
+        page s waiting.old.waits.items waiting.new.waits.items waiting.new.called) }
+    ensures faults { IsPageMap cache.old → IsLive cache.old page → IfErr result (IsNoDamage cache.new) }
+    ensures other_faults { IfErr result IsChangeFault }
+{
+    let Node { level, entries } = node;
+    let (near, far) = farthest(&entries, far_count(m_max));
+    let bounds = least(near.as_slice());
+    waiting.wait_again(&far, level);
+    let rest = Node {
+        level,
+        entries: near,
+    };
+    write_node(cache, page, &rest)?;
+    Ok(Settled {
+        bounds,
+        beside: None,
+    })
+}
+
+// Splits a node of one entry too many over its page and one that was not live.
+fn split_off<const D: usize, B: BlockDevice, A: Allocator + Copy>(
+    cache: &mut PageCache<B, A>,
+    page: u32,
+    node: Node<D>,
+    m_max: usize,
+    waiting: &mut Waiting<D>,
+) -> Result<Settled<D>, Fault>
+    requires dims { IsDims D }
+    requires open { gate_of cache.old ≡ Open }
+    requires most { (4 ≤ m_max) × (m_max ≤ 100) }
+    requires level { node.level < 41 }
+    requires many { array_vec_len node.entries ≡ m_max + 1 }
+    requires refers { All (λ e. IsReference node.level e.reference) node.entries.items }
+    ensures changes { Changes cache.old cache.new result }
+    ensures measure { measure_of waiting.new ≤ measure_of waiting.old }
+    ensures beside { IfOk result (λ s. IfSome s.beside (λ e. IsReference (node.entry.level + 1) e.reference)) }
+    ensures settled { IsPageMap cache.old → (top : ℕ) (branches : List Branch)
+        → (node.entry.level < top → is_called waiting.old.called node.entry.level ≡ true)
+        → map item_in branches ≡ map item_of node.entry.entries.items
+        → CanSettle D (pages cache.old) page node.entry.level branches →
+        IfOk result (λ s. IsPageMap cache.new
+        × SettlesTo D m_max top node.entry.level waiting.old.called branches (pages cache.old) (pages cache.new)
+        page s waiting.old.waits.items waiting.new.waits.items waiting.new.called) }
+    ensures faults { IsPageMap cache.old → IsLive cache.old page → IfErr result (IsNoDamage cache.new) }
+    ensures other_faults { IfErr result IsChangeFault }
+{
+    let Node { level, entries } = node;
+    waiting.call(level);
+    let (first, second) = split(&entries, m_max);
+    let bounds = least(first.as_slice());
+    let other = least(second.as_slice());
+    let first = Node {
+        level,
+        entries: first,
+    };
+    let second = Node {
+        level,
+        entries: second,
+    };
+    let number = write_both(cache, page, &first, &second)?;
+    let beside = Entry {
+        bounds: other,
+        reference: u64::from(number),
+    };
+    Ok(Settled {
+        bounds,
+        beside: Some(beside),
+    })
+}
+
+// Writes two nodes, the second into a page that was not live, and gives the number of that.
+fn write_both<const D: usize, B: BlockDevice, A: Allocator + Copy>(
+    cache: &mut PageCache<B, A>,
+    page: u32,
+    first: &Node<D>,
+    second: &Node<D>,
+) -> Result<u32, Fault>
+    requires dims { IsDims D }
+    requires open { gate_of cache.old ≡ Open }
+    requires first { IsSpellable (content_of first.now) }
+    requires second { IsSpellable (content_of second.now) }
+    ensures changes { Changes cache.old cache.new result }
+    ensures number { IfOk result (λ n. (3 ≤ n) × (n < 2 ^ 31)) }
+    ensures written { IsPageMap cache.old → IsLive cache.old page →
+        IfOk result (λ n. IsPageMap cache.new
+        × SplitsOff D (pages cache.old) (pages cache.new) page n (content_of first.now) (content_of second.now)) }
+    ensures faults { IsPageMap cache.old → IsLive cache.old page → IfErr result (IsNoDamage cache.new) }
+    ensures other_faults { IfErr result IsChangeFault }
+{
+    let number = cache.allocate()?;
+    write_node(cache, number, second)?;
+    write_node(cache, page, first)?;
+    Ok(number)
+}

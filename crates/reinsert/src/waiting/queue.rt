@@ -1,0 +1,85 @@
+//! What waits: taken, added to, and begun anew.
+
+ghost use Rattle.std.specs.Prelude.{◌≡◌, ◌+◌, ◌<◌, ◌≤◌, ◌++◌, ◌∷◌, [], All, true, false, map, reverse, set};
+ghost use Rattle.std.specs.Prelude.{IsNone, IfSome, IfErr};
+ghost use Rattle.arrayvec.specs.ArrayVec.{array_vec_len};
+ghost use Rattle.page_file.specs.declared.fault.Fault.TheVariants as fault;
+ghost use Rattle.node_page.specs.Layout.{IsReference};
+ghost use Rattle.reinsert.specs.Called;
+ghost use Rattle.reinsert.specs.Called.{none_called};
+ghost use Rattle.reinsert.specs.Placed.{held_of, held_with, measure_of};
+
+use crate::waiting::{Wait, Waiting};
+use arrayvec::ArrayVec;
+use page_file::Fault;
+use std::alloc::Allocator;
+use tree_node::Entry;
+
+impl<const D: usize> Waiting<D> {
+    /// All the memory that insertions take: a box in which nothing waits yet. A refusal is `Memory`.
+    pub fn make<H: Allocator>(alloc: H) -> Result<Box<Waiting<D>, H>, Fault>
+        ensures { IfErr result (λ f. f ≡ fault.Memory) }
+    {
+        let empty = Waiting {
+            waits: ArrayVec::new(),
+            called: [false; 41],
+        };
+        Ok(Box::new(alloc, empty)?)
+    }
+
+    // Nothing waits, and no level is called.
+    pub(crate) fn begin(&mut self)
+        ensures waits { self.new.waits.items ≡ [] }
+        ensures called { self.new.called ≡ none_called }
+    {
+        self.waits.clear();
+        self.called = [false; 41];
+    }
+
+    // The first that waits.
+    pub(crate) fn next(&mut self) -> Option<Wait<D>>
+        ensures none { IsNone result → self.old.waits.items ≡ [] }
+        ensures some { IfSome result (λ w. self.old.waits.items ≡ self.new.waits.items ++ w ∷ []) }
+        ensures refers { IfSome result (λ w. IsReference w.level w.entry.reference) }
+        ensures called { self.new.called ≡ self.old.called }
+        ensures measure { IfSome result (λ w. measure_of self.new < measure_of self.old) }
+    {
+        self.waits.pop()
+    }
+
+    // Whether a node on the level has overflowed.
+    pub(crate) fn is_called(&self, level: u8) -> bool
+        requires { level < 41 }
+        ensures { result ≡ Called.is_called self.now.called level }
+    {
+        self.called[usize::from(level)]
+    }
+
+    // A node on the level has overflowed.
+    pub(crate) fn call(&mut self, level: u8)
+        requires { level < 41 }
+        ensures waits { self.new.waits.items ≡ self.old.waits.items }
+        ensures called { self.new.called ≡ set self.old.called level true }
+        ensures measure { measure_of self.new ≤ measure_of self.old }
+    {
+        self.called[usize::from(level)] = true;
+    }
+
+    // A node on a level that was not called has overflowed, and its far set waits before all others.
+    pub(crate) fn wait_again(&mut self, far: &ArrayVec<Entry<D>, 101>, level: u8)
+        requires level { level < 41 }
+        requires first { Called.is_called self.old.called level ≡ false }
+        requires few { array_vec_len far.now ≤ 30 }
+        requires refers { All (λ e. IsReference level e.reference) far.now.items }
+        ensures waits { map held_of self.new.waits.items ≡ map held_of self.old.waits.items ++ reverse
+            (map (held_with level) far.now.items) }
+        ensures called { self.new.called ≡ set self.old.called level true }
+        ensures measure { measure_of self.new ≤ measure_of self.old }
+    {
+        self.called[usize::from(level)] = true;
+        for passed in 0..far.len() {
+            let entry = far[far.len() - 1 - passed];
+            self.waits.push(Wait { entry, level });
+        }
+    }
+}
