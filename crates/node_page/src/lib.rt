@@ -3,6 +3,8 @@
 
 mod broken;
 mod check;
+#[cfg(test)]
+mod check_tests;
 mod columns;
 mod entries;
 mod head;
@@ -17,6 +19,8 @@ mod tests;
 #[cfg(test)]
 mod tree_tests;
 mod view;
+#[cfg(test)]
+mod view_tests;
 mod visits;
 
 pub use broken::Broken;
