@@ -3,6 +3,7 @@ pub mod Layout
 pub mod PageLaws
 pub mod Columns
 pub mod Standing
+pub mod Rooted
 pub mod StandingLaws
 pub mod Parts
 pub mod Changes
