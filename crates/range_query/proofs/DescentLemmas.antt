@@ -10,17 +10,23 @@ use Rattle.page_cache.specs.Laws.{looks_are_few}
 use Rattle.page_cache.specs.declared.cache.PageCache.{PageCache}
 use Rattle.tree_node.specs.Nodes.{Item}
 use Rattle.tree_node.specs.Searches.{counted, objects_reached, reached}
+use Rattle.tree_node.specs.Shape.{HasLooseShape, HasShape}
+use Rattle.tree_node.specs.declared.node.Root.{Root}
 use Rattle.tree_node.specs.Trees.{Row, end, more, object, child, Tree, row_items}
 use Rattle.node_page.specs.Rooted.{IsTreeAt}
 use Rattle.node_page.specs.Standing.{PageMap, RowStands, StandsAt, Stands}
 use Rattle.node_page.proofs.StandingLemmas.{node_stays, row_stays}
 use Rattle.range_query.specs.Entries.{object_of, passing_entries, reference_of}
 
--- a tree at a page and level stands there
-pub tree_at : (dims : ℕ) (m : PageMap) (page level : ℕ) (t : Tree) → t.page ≡ page → t.level ≡ level → Stands dims m t → StandsAt dims m page level t.row
-tree_at dims m page level t page_is level_is stands =
-    let there : StandsAt dims m t.page t.level t.row = record { node = stands.root; below = stands.below } in
-    subst (λ (l : ℕ). StandsAt dims m page l t.row) level_is (subst (λ (n : ℕ). StandsAt dims m n t.level t.row) page_is there)
+-- a tree at a root stands there
+pub tree_at : (dims most : ℕ) (m : PageMap) (root : Root) (t : Tree) → IsTreeAt dims most m root t → StandsAt dims m root.page root.level t.row
+tree_at dims most m root t is =
+    let there : StandsAt dims m t.page t.level t.row = record { node = is.stands.root; below = is.stands.below } in
+    subst (λ (l : ℕ). StandsAt dims m root.page l t.row) is.level_is (subst (λ (n : ℕ). StandsAt dims m n t.level t.row) is.page_is there)
+
+-- the shape is one of a looser kind
+pub loose : (dims most : ℕ) (t : Tree) → HasShape dims most t → HasLooseShape dims most t
+loose dims most t shape = record { levels = shape.levels; few = shape.few; some = λ above. let two = shape.some above in omega (arith, two); below = shape.below }
 
 stands_on : (dims : ℕ) (old new : PageMap) (page level : ℕ) (row : Row) → ((n : ℕ) → new n ≡ old n) → StandsAt dims old page level row → StandsAt dims new page level row
 stands_on dims old new page level row same at = record {
