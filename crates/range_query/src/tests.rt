@@ -1,9 +1,5 @@
 //! Tests of range queries over small trees, over pages that stand for no tree, and with memory and device refused.
 
-ghost use Rattle.std.specs.Prelude.{◌≡◌, IfOk};
-ghost use Rattle.page_cache.specs.Cache.{gate_of};
-ghost use Rattle.page_file.specs.declared.gate.Gate.TheVariants.{Open};
-
 use crate::{around, inside, point, window};
 use block_device::{BlockDevice, FuseDevice, FuseMode, MemoryDevice};
 use box_math::BBox;
@@ -57,9 +53,9 @@ fn scene<B: BlockDevice + Drop>(
     let file = create_pages(device).map_err(|(fault, _)| fault)?;
     let mut cache = PageCache::over(alloc, file, 8).map_err(|(fault, _)| fault)?;
     cache.begin_change()?;
-    for _ in 0..3 {
-        cache.allocate()?;
-    }
+    cache.allocate()?;
+    cache.allocate()?;
+    cache.allocate()?;
     cache.put(3, &page_of(0, left))?;
     cache.put(4, &page_of(0, right))?;
     cache.put(5, &page_of(1, root))?;
@@ -170,8 +166,8 @@ fn refused_memory_is_answered(rt: HostRuntime) -> Result<(), Fail> {
 }
 
 // The answer to a window over the tree, opened anew over a device of which one call fails after so many.
-fn window_after(alloc: Global, device: MemoryDevice, passes: u64) -> Result<[u64; 5], Fault> {
-    let fuse = FuseDevice::new(device, passes, FuseMode::Once);
+fn window_after(alloc: Global, device: MemoryDevice, passes: u32) -> Result<[u64; 5], Fault> {
+    let fuse = FuseDevice::new(device, u64::from(passes), FuseMode::Once);
     let file = page_file::open_pages(fuse).map_err(|_| Fault::Damaged(0))?;
     let mut cache = PageCache::over(alloc, file, 8).map_err(|(fault, _)| fault)?;
     let all = bounds([0, 0], [10, 0])?;
