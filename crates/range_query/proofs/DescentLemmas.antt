@@ -18,16 +18,6 @@ use Rattle.node_page.specs.Standing.{PageMap, RowStands, StandsAt, Stands}
 use Rattle.node_page.proofs.StandingLemmas.{node_stays, row_stays}
 use Rattle.range_query.specs.Entries.{object_of, passing_entries, reference_of}
 
--- a tree at a root stands there
-pub tree_at : (dims most : ℕ) (m : PageMap) (root : Root) (t : Tree) → IsTreeAt dims most m root t → StandsAt dims m root.page root.level t.row
-tree_at dims most m root t is =
-    let there : StandsAt dims m t.page t.level t.row = record { node = is.stands.root; below = is.stands.below } in
-    subst (λ (l : ℕ). StandsAt dims m root.page l t.row) is.level_is (subst (λ (n : ℕ). StandsAt dims m n t.level t.row) is.page_is there)
-
--- the shape is one of a looser kind
-pub loose : (dims most : ℕ) (t : Tree) → HasShape dims most t → HasLooseShape dims most t
-loose dims most t shape = record { levels = shape.levels; few = shape.few; some = λ above. let two = shape.some above in omega (arith, two); below = shape.below }
-
 stands_on : (dims : ℕ) (old new : PageMap) (page level : ℕ) (row : Row) → ((n : ℕ) → new n ≡ old n) → StandsAt dims old page level row → StandsAt dims new page level row
 stands_on dims old new page level row same at = record {
   node = node_stays dims old new page level row (same page) at.node;

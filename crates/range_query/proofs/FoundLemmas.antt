@@ -12,41 +12,8 @@ use Rattle.tree_node.specs.Trees.{Row, end, more, object, child, Tree, objects_i
 use Rattle.node_page.specs.Layout.{item_at}
 use Rattle.node_page.specs.Rooted.{IsTreeAt}
 use Rattle.node_page.specs.Standing.{PageMap, RowStands, StandsAt, node_in}
-use Rattle.node_page.proofs.Reading.{item_of_node, size_of, spells}
+use Rattle.node_page.proofs.RootedLemmas.{HasOrderedBoxes, boxes_ordered}
 use Rattle.range_query.proofs.QueryLemmas.{Finds}
-
--- ---- the boxes of the objects of a tree that stands are ordered
-
-abbrev IsOrderedItem : ℕ → Item → Type 0
-IsOrderedItem dims item = IsOrdered dims item.bounds.low item.bounds.high
-
-abbrev pub HasOrderedBoxes : ℕ → Row → Type 0
-HasOrderedBoxes dims end = ⊤
-HasOrderedBoxes dims (more (object bounds id) rest) = IsOrdered dims bounds.low bounds.high × HasOrderedBoxes dims rest
-HasOrderedBoxes dims (more (child bounds page below) rest) = HasOrderedBoxes dims below × HasOrderedBoxes dims rest
-
-items_ordered : (dims : ℕ) (page : Option (List ℕ)) (c : NodeContent) → node_in dims page ≡ Some c → All (IsOrderedItem dims) c.entries
-items_ordered dims None c there = absurd (cc)
-items_ordered dims (Some page) c there =
-    let s = spells dims page c there in
-    let size = size_of dims page c s in
-    λ k d lt. subst (IsOrderedItem dims) (sym (item_of_node dims page c k d s lt)) (s.each k (omega (arith, lt, size))).ordered
-
-row_ordered : (dims : ℕ) (m : PageMap) (level : ℕ) (row : Row) → All (IsOrderedItem dims) (row_items row) → RowStands dims m level row → HasOrderedBoxes dims row
-row_ordered dims m level end items stands = tt
-row_ordered dims m level (more (object bounds id) rest) items stands = (
-  All-head (IsOrderedItem dims) (record { bounds = bounds; reference = id }) (row_items rest) items,
-  row_ordered dims m level rest (All-tail (IsOrderedItem dims) (record { bounds = bounds; reference = id }) (row_items rest) items) stands.1,
-)
-row_ordered dims m level (more (child bounds page below) rest) items stands = (
-  row_ordered dims m (level - 1) below (items_ordered dims (m page) (record { level = level - 1; entries = row_items below }) stands.1) stands.2,
-  row_ordered dims m level rest (All-tail (IsOrderedItem dims) (record { bounds = bounds; reference = page }) (row_items rest) items) stands.3,
-)
-
-pub boxes_ordered : (dims : ℕ) (m : PageMap) (page level : ℕ) (row : Row) → StandsAt dims m page level row → HasOrderedBoxes dims row
-boxes_ordered dims m page level row at = row_ordered dims m level row (items_ordered dims (m page) (record { level = level; entries = row_items row }) at.node) at.below
-
--- ---- none is missed
 
 fails_within : (dims : ℕ) (guard test : Bounds → Bool) (a b : Bounds) → Finds dims guard test → IsOrdered dims a.low a.high → Within dims a b → guard b ≡ false → test a ≡ false
 fails_within dims guard test a b finds ordered within fails = case (test a) refl

@@ -177,7 +177,7 @@ fn window_after(alloc: Global, device: MemoryDevice, passes: u32) -> Result<[u64
 
 #[test]
 fn a_refused_call_of_the_device_is_answered(rt: HostRuntime) -> Result<(), Fail> {
-    let mut refused = 0;
+    let mut refused: u32 = 0;
     for passes in 0..40 {
         let cache = points(rt.alloc(), MemoryDevice::new(rt.alloc()))?;
         let device = cache.close().map_err(|(fault, _)| fault)?;
@@ -190,7 +190,7 @@ fn a_refused_call_of_the_device_is_answered(rt: HostRuntime) -> Result<(), Fail>
             }
             Err(fault) => {
                 if fault == Fault::Device {
-                    refused += 1;
+                    refused = refused.saturating_add(1);
                 }
             }
         }

@@ -6,7 +6,7 @@ use Rattle.tree_node.specs.Searches.{counted, objects_reached, passing_objects}
 use Rattle.tree_node.specs.Shape.{HasLooseShape}
 use Rattle.tree_node.proofs.SearchLemmas.{admitted_are_reached}
 use Rattle.range_query.specs.Queries.{is_admitted, is_sought}
-use Rattle.range_query.proofs.DescentLemmas.{loose, tree_at}
+use Rattle.node_page.proofs.RootedLemmas.{loose, tree_at}
 use Rattle.range_query.proofs.FoundLemmas.{nothing_missed}
 use Rattle.range_query.proofs.QueryLemmas.{admitted_guards, sought_is_admitted}
 use Rattle.range_query.proofs.range.range.Goals as goal
