@@ -9,6 +9,7 @@ pub mod ColumnLemmas
 pub mod Examples
 pub mod StandingLemmas
 pub mod StandingBoxes
+pub mod RootedLemmas
 pub mod PartLemmas
 pub mod ChangeLemmas
 pub mod StandingExamples

@@ -1,0 +1,83 @@
+-- What a loop over the entries of a node has taken.
+use Rattle.std.proofs.Common.{◌≡◌, ◌∙◌, ℕ, ◌+◌, ◌<◌, ◌≤◌, Bool, true, false, cond, Some, List, [], ◌∷◌, ◌++◌, All, length, take, get_or, map, refl, sym, ap, subst, arith}
+use Rattle.std.specs.Prelude.{slice_get}
+use Rattle.std.proofs.lemmas.Bool.{false≢true}
+use Rattle.std.proofs.lemmas.List.{append_assoc, append-nil, get_or_default, map-append, take_all, take_more}
+use Rattle.std.proofs.lemmas.List.Elements.{All-get_or, filter-append}
+use Rattle.std.proofs.lemmas.Option.{slice_get-get_or}
+use Rattle.box_math.specs.Bounds.{Bounds, IsBox, meets_test}
+use Rattle.box_math.specs.Masks.{has_bit}
+use Rattle.box_math.proofs.BoxLaws.{Within-refl}
+use Rattle.tree_node.specs.Boxes.{no_item}
+use Rattle.tree_node.specs.Nodes.{Item}
+use Rattle.range_query.specs.Entries.{passing_entries}
+use Rattle.range_query.specs.declared.query.Query.{Query}
+use Rattle.range_query.specs.Queries.{is_admitted, is_sought}
+use Rattle.range_query.proofs.QueryLemmas.{sought_is_admitted}
+
+-- something of each entry before place i that passes a test is taken
+pub record Taken {X : Type 0} (f : Item → X) (test : Bounds → Bool) (items : List Item) (i : ℕ) (old now : List X) : Type 0 where
+  pub is : now ≡ old ++ map f (passing_entries test (take i items))
+
+one_more : {X : Type 0} (f : Item → X) (test : Bounds → Bool) (items : List Item) (i : ℕ) (x : Item) → i < length items → x ≡ get_or items i x → (b : Bool) → test x.bounds ≡ b
+    → map f (passing_entries test (take (i + 1) items)) ≡ map f (passing_entries test (take i items)) ++ cond b (f x ∷ []) []
+one_more {X} f test items i x within is b passes =
+    let taken : take (i + 1) items ≡ take i items ++ x ∷ [] = take_more items i x within ∙ ap (λ (y : Item). take i items ++ y ∷ []) (sym is) in
+    let split = filter-append (λ (item : Item). test item.bounds) (take i items) (x ∷ []) in
+    let last : map f (cond (test x.bounds) (x ∷ []) []) ≡ cond b (f x ∷ []) [] = ap (λ (t : Bool). map f (cond t (x ∷ []) [])) passes ∙ pushed b in
+    ap (λ (xs : List Item). map f (passing_entries test xs)) taken ∙ ap (map f) split
+    ∙ map-append f (passing_entries test (take i items)) (cond (test x.bounds) (x ∷ []) []) ∙ ap (λ (ys : List X). map f (passing_entries test (take i items)) ++ ys) last
+  where
+    pushed : (t : Bool) → map f (cond t (x ∷ []) []) ≡ cond t (f x ∷ []) []
+    pushed true = refl
+    pushed false = refl
+
+module _ {X : Type 0} {f : Item → X} {test : Bounds → Bool} {items : List Item} {i : ℕ} {old now : List X} where
+  pub one_taken : Taken f test items i old now → (x : Item) → i < length items → x ≡ get_or items i x → test x.bounds ≡ true → (next : List X) → next ≡ now ++ f x ∷ [] → Taken f test items (i + 1) old next
+  one_taken so_far x within is passes next pushed = record {
+    is = pushed ∙ ap (λ (xs : List X). xs ++ f x ∷ []) so_far.is ∙ append_assoc old (map f (passing_entries test (take i items))) (f x ∷ [])
+        ∙ ap (λ (xs : List X). old ++ xs) (sym (one_more f test items i x within is true passes));
+  }
+
+  pub one_passed : Taken f test items i old now → (x : Item) → i < length items → x ≡ get_or items i x → test x.bounds ≡ false → Taken f test items (i + 1) old now
+  one_passed so_far x within is fails = record {
+    is = so_far.is ∙ ap (λ (xs : List X). old ++ xs) (sym (one_more f test items i x within is false fails ∙ append-nil (map f (passing_entries test (take i items)))));
+  }
+
+  pub all_taken : Taken f test items i old now → length items ≤ i → now ≡ old ++ map f (passing_entries test items)
+  all_taken so_far past = so_far.is ∙ ap (λ (xs : List Item). old ++ map f (passing_entries test xs)) (take_all i items past)
+
+pub none_taken : {X : Type 0} (f : Item → X) (test : Bounds → Bool) (items : List Item) (old : List X) → Taken f test items 0 old old
+none_taken f test items old = record { is = sym (append-nil old) }
+
+-- ---- an entry whose bit is not set
+
+not_true : (b : Bool) → (b ≡ true → ⊥) → b ≡ false
+not_true true no_way = absurd (no_way refl)
+not_true false no_way = refl
+
+-- where each admitted box meets the window, an entry whose bit is not set is not admitted
+unset_fails : (dims : ℕ) (test : Bounds → Bool) (window : Bounds) (items : List Item) (mask i : ℕ) → i < length items
+    → ((b : Bounds) → IsBox dims b → test b ≡ true → meets_test dims b window ≡ true) → All (λ item. IsBox dims item.bounds) items
+    → ((place : ℕ) (item : Item) → slice_get items place ≡ Some item → has_bit mask place ≡ meets_test dims item.bounds window) → has_bit mask i ≡ false
+    → test (get_or items i no_item).bounds ≡ false
+unset_fails dims test window items mask i within meets boxes met unset =
+    let x = get_or items i no_item in
+    let box = All-get_or (λ (item : Item). IsBox dims item.bounds) items i no_item within boxes in
+    let bit = met i x (slice_get-get_or items i no_item within) in
+    not_true (test x.bounds) (λ passes. false≢true (sym unset ∙ bit ∙ meets x.bounds box passes))
+
+module _ {X : Type 0} {f : Item → X} {items : List Item} {i : ℕ} {old now : List X} where
+  pub sought_unset : {D : ℕ} (q : Query D) (window : Bounds) (mask : ℕ) → i < length items → ((b : Bounds) → is_admitted q b ≡ true → meets_test D b window ≡ true)
+      → All (λ item. IsBox D item.bounds) items → ((place : ℕ) (item : Item) → slice_get items place ≡ Some item → has_bit mask place ≡ meets_test D item.bounds window) → has_bit mask i ≡ false
+      → Taken f (is_sought q) items i old now → Taken f (is_sought q) items (i + 1) old now
+  sought_unset {D} q window mask within meets boxes met unset so_far =
+      let fails = unset_fails D (is_sought q) window items mask i within (λ b box passes. meets b (sought_is_admitted q b b (λ axis lt. (box.spans axis lt).ordered) (Within-refl D b) passes)) boxes met unset in
+      one_passed so_far (get_or items i no_item) within (get_or_default items i no_item (get_or items i no_item) within) fails
+
+  pub admitted_unset : {D : ℕ} (q : Query D) (window : Bounds) (mask : ℕ) → i < length items → ((b : Bounds) → is_admitted q b ≡ true → meets_test D b window ≡ true)
+      → All (λ item. IsBox D item.bounds) items → ((place : ℕ) (item : Item) → slice_get items place ≡ Some item → has_bit mask place ≡ meets_test D item.bounds window) → has_bit mask i ≡ false
+      → Taken f (is_admitted q) items i old now → Taken f (is_admitted q) items (i + 1) old now
+  admitted_unset {D} q window mask within meets boxes met unset so_far =
+      let fails = unset_fails D (is_admitted q) window items mask i within (λ b box passes. meets b passes) boxes met unset in
+      one_passed so_far (get_or items i no_item) within (get_or_default items i no_item (get_or items i no_item) within) fails

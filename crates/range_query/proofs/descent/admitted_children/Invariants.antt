@@ -1,0 +1,11 @@
+-- What holds at each turn of the loop of `admitted_children`.
+use Rattle.std.proofs.Common.{[], ◌≤◌, length}
+use Rattle.node_page.specs.Views.{content_in}
+use Rattle.range_query.specs.Entries.{reference_of}
+use Rattle.range_query.specs.Queries.{is_admitted}
+use Rattle.range_query.proofs.EntryLemmas.{Taken}
+use Rattle.range_query.proofs.descent.admitted_children.Given as goal
+
+-- the pages of the entries so far that are admitted are taken, and they are no more than these
+abbrev pub invariant-loop-place : goal.invariant-loop-place
+invariant-loop-place g l = Taken reference_of (is_admitted l.fn.query) (content_in l.node).entries l.place [] l.children.items × (length l.children.items ≤ l.place)

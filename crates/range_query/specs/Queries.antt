@@ -1,0 +1,29 @@
+-- Range queries over trees: what is sought, which nodes are looked into, and what is answered (the search of Guttman 1984; the
+-- intersection, point and enclosure queries of Beckmann, Kriegel, Schneider and Seeger 1990 are `Window`, `Point` and
+-- `Around`; `Inside`, and the order of answers, are our rule, docs/FORMAT.md, "Trees of pages").
+use Rattle.std.specs.Prelude.{ℕ, Bool, List, IsPermutation}
+use Rattle.std.specs.List.Sorted.{IsNonDecreasingBy}
+use Rattle.box_math.specs.Bounds.{Bounds, holds_test, meets_test, within_test}
+use Rattle.tree_node.specs.Searches.{passing_objects}
+use Rattle.tree_node.specs.Trees.{Tree}
+use Rattle.range_query.specs.declared.query.Query.{Query}
+use Rattle.range_query.specs.declared.query.Query.TheVariants.{Window, Inside, Around, Point}
+
+-- whether a query seeks an object with this box
+abbrev pub is_sought : {D : ℕ} → Query D → Bounds → Bool
+is_sought {D} (Window window) b = meets_test D b window
+is_sought {D} (Inside window) b = within_test D b window
+is_sought {D} (Around inner) b = within_test D inner b
+is_sought {D} (Point point) b = holds_test D b point
+
+-- whether it looks into a node with this box
+abbrev pub is_admitted : {D : ℕ} → Query D → Bounds → Bool
+is_admitted {D} (Window window) b = meets_test D b window
+is_admitted {D} (Inside window) b = meets_test D b window
+is_admitted {D} (Around inner) b = within_test D inner b
+is_admitted {D} (Point point) b = holds_test D b point
+
+-- the objects of the tree whose boxes pass the test, each as often as the tree has it, by identifier
+pub record IsRangeAnswer (test : Bounds → Bool) (t : Tree) (rows : List (ℕ × Bounds)) : Type 0 where
+  pub all : IsPermutation (passing_objects test t.row) rows
+  pub order : IsNonDecreasingBy (λ row. row.0) rows

@@ -1,0 +1,130 @@
+//! The descent of a range query into the nodes that it admits.
+
+ghost use Rattle.std.specs.Prelude.{◌≡◌, ◌⊎◌, ◌+◌, ◌++◌, ◌<◌, Some, map, IfErr, IfOk, OnOk};
+ghost use Rattle.block_device.specs.Device.{one_more};
+ghost use Rattle.box_math.specs.Bounds.{IsDims};
+ghost use Rattle.box_math.specs.Masks.{has_bit};
+ghost use Rattle.page_file.specs.Fault.{IsDamage, IsOfDevice};
+ghost use Rattle.page_cache.specs.Cache.{IsHonest, looks_of, pages};
+ghost use Rattle.page_cache.specs.Calls.{Asks};
+ghost use Rattle.tree_node.specs.Nodes.{NodeContent};
+ghost use Rattle.tree_node.specs.Searches.{counted, objects_reached, reached};
+ghost use Rattle.tree_node.specs.Trees.{Row};
+ghost use Rattle.node_page.specs.Standing.{StandsAt, node_in};
+ghost use Rattle.range_query.specs.Entries.{object_of, passing_entries, reference_of};
+ghost use Rattle.range_query.specs.Queries.{is_admitted, is_sought};
+
+use crate::query::Query;
+use arrayvec::ArrayVec;
+use block_device::BlockDevice;
+use box_math::BBox;
+use node_page::{Root, view_node};
+use page_cache::PageCache;
+use page_file::Fault;
+use std::alloc::Allocator;
+
+/// Appends the objects below a node that are sought and reached through admitted boxes, from left to right.
+pub(crate) fn descend<const D: usize, B: BlockDevice, A: Allocator + Copy, H: Allocator>(
+    cache: &mut PageCache<B, A>,
+    root: Root,
+    query: &Query<D>,
+    rows: &mut Vec<(u64, BBox<D>), H>,
+) -> Result<(), Fault>
+    requires { IsDims D }
+    ensures asks { Asks cache.old cache.new result }
+    ensures rows { IsHonest cache.old → (row : Row) → StandsAt D (pages cache.old) root.page root.level row
+        → OnOk result (rows.new.items
+        ≡ rows.old.items ++ objects_reached (is_admitted query.now) (is_sought query.now) row) }
+    ensures looks { IsHonest cache.old → (row : Row) → StandsAt D (pages cache.old) root.page root.level row
+        → OnOk result (looks_of cache.new ≡ counted (looks_of cache.old) (1 + reached (is_admitted query.now) row)) }
+    ensures stands { IsHonest cache.old → (row : Row) → StandsAt D (pages cache.old) root.page root.level row
+        → IfErr result IsOfDevice }
+    ensures other_faults { IfErr result (λ f. IsOfDevice f ⊎ IsDamage f) }
+{
+    if root.level == 0 {
+        return add_sought::<D, B, A, H>(cache, root.page, query, rows);
+    }
+    let children = admitted_children::<D, B, A>(cache, root, query)?;
+    for page in children.as_slice() {
+        let below = Root {
+            page: *page,
+            level: root.level - 1,
+        };
+        descend::<D, B, A, H>(cache, below, query, rows)?;
+    }
+    Ok(())
+}
+
+// Appends the objects of a leaf that are sought, by position.
+fn add_sought<const D: usize, B: BlockDevice, A: Allocator + Copy, H: Allocator>(
+    cache: &mut PageCache<B, A>,
+    page: u32,
+    query: &Query<D>,
+    rows: &mut Vec<(u64, BBox<D>), H>,
+) -> Result<(), Fault>
+    requires { IsDims D }
+    ensures asks { Asks cache.old cache.new result }
+    ensures rows { IsHonest cache.old → (c : NodeContent) → node_in D (pages cache.old page) ≡ Some c → c.level ≡ 0
+        → OnOk result (rows.new.items
+        ≡ rows.old.items ++ map object_of (passing_entries (is_sought query.now) c.entries)) }
+    ensures looks { OnOk result (looks_of cache.new ≡ one_more (looks_of cache.old)) }
+    ensures there { IsHonest cache.old → (c : NodeContent) → node_in D (pages cache.old page) ≡ Some c → c.level ≡ 0
+        → IfErr result IsOfDevice }
+    ensures other_faults { IfErr result (λ f. IsOfDevice f ⊎ IsDamage f) }
+{
+    let leaf = view_node::<D, B, A>(cache, page, 0)?;
+    let mask = leaf.mask(&query.reach());
+    for place in 0..leaf.len() {
+        if !is_set(mask, place) {
+            continue;
+        }
+        let entry = leaf.entry(place);
+        if !query.seeks(&entry.bounds) {
+            continue;
+        }
+        rows.push((entry.reference, entry.bounds))?;
+    }
+    Ok(())
+}
+
+// The pages of the children of a node that are admitted, by position.
+fn admitted_children<const D: usize, B: BlockDevice, A: Allocator + Copy>(
+    cache: &mut PageCache<B, A>,
+    root: Root,
+    query: &Query<D>,
+) -> Result<ArrayVec<u32, 100>, Fault>
+    requires dims { IsDims D }
+    requires above { 0 < root.level }
+    ensures asks { Asks cache.old cache.new result }
+    ensures children { IsHonest cache.old → (c : NodeContent) → node_in D (pages cache.old root.page) ≡ Some c
+        → c.level ≡ root.level
+        → IfOk result (λ children. children.items ≡ map reference_of (passing_entries (is_admitted query.now) c.entries)) }
+    ensures looks { OnOk result (looks_of cache.new ≡ one_more (looks_of cache.old)) }
+    ensures there { IsHonest cache.old → (c : NodeContent) → node_in D (pages cache.old root.page) ≡ Some c
+        → c.level ≡ root.level → IfErr result IsOfDevice }
+    ensures other_faults { IfErr result (λ f. IsOfDevice f ⊎ IsDamage f) }
+{
+    let node = view_node::<D, B, A>(cache, root.page, root.level)?;
+    let mask = node.mask(&query.reach());
+    let mut children = ArrayVec::new();
+    for place in 0..node.len() {
+        if !is_set(mask, place) {
+            continue;
+        }
+        let entry = node.entry(place);
+        if !query.admits(&entry.bounds) {
+            continue;
+        }
+        children.push(entry.reference as u32);
+    }
+    Ok(children)
+}
+
+// Whether the bit of the mask in the place is set.
+#[inline]
+fn is_set(mask: u128, place: usize) -> bool
+    requires { place < 128 }
+    ensures { result ≡ has_bit mask place }
+{
+    (mask >> place) % 2 == 1
+}

@@ -1,0 +1,11 @@
+//! Range queries over trees of pages: windows, boxes inside and around a box, and points (docs/FORMAT.md, "Trees of
+//! pages").
+#![tactic(auto)]
+
+mod descent;
+mod query;
+mod range;
+#[cfg(test)]
+mod tests;
+
+pub use range::{around, inside, point, window};
