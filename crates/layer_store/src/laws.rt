@@ -46,8 +46,8 @@ pub fn stops_leave_what_the_session_state_says<D: BlockDevice, A: Allocator>()
         (c : Blocks) → D.left_since (device_in store) s.stops.since c → IsRefusedOrImageOf s.stops.so_far c }
 {}
 
-/// Once a closing has ended, refused or not, a stop at any moment since the beginning left blocks that opening refuses, or
-/// an image of one of the tables so far or of the table that was closed.
+/// Once a closing has ended, refused or not, a stop at any moment since the beginning left blocks that opening
+/// refuses, or an image of one of the tables so far or of the table that was closed.
 pub fn a_closing_adds_its_table<D: BlockDevice, A: Allocator>()
     ensures { (store : Store D A ⟦<D as BlockDevice>⟧) (s : SessionState) (t : Table) (device : D) →
         Represents store s → LeavesOnly D.moment D.left_since (device_in store) device
