@@ -1,6 +1,6 @@
 -- What a change of trees keeps of the cache that it works on, be it made or broken off (our rule, docs/FORMAT.md,
 -- "Trees of pages"): the words of page_cache/specs/Calls.antt for an answer that says whether pages were touched.
-use Rattle.std.proofs.Common.{◌≡◌, ◌∙◌, Option, None, Some, true, false, ap, refl, subst, sym}
+use Rattle.std.proofs.Common.{◌≡◌, ◌∙◌, Option, None, Some, true, false, ap, subst, sym}
 use Rattle.std.specs.Prelude.{Result, Ok, Err, IfErr, IsErrAnd}
 use Rattle.page_file.specs.declared.fault.Fault.{Fault}
 use Rattle.page_cache.specs.Cache.{KeepsMap}
