@@ -1,5 +1,5 @@
 -- Boxes that `==` compares.
-use Rattle.std.proofs.Common.{◌≡◌, ◌∙◌, Bool, true, false, ◌&&◌, ◌↔◌, IsTrue, ℤ, List, refl, sym, ap, ap₂}
+use Rattle.std.proofs.Common.{◌≡◌, ◌∙◌, Bool, true, false, ◌&&◌, ◌↔◌, ℤ, List, refl, sym, ap, ap₂}
 use Rattle.std.specs.Ordering.{int_eq}
 use Rattle.std.specs.Cmp.Rules.{signed_items}
 use Rattle.box_math.specs.Bounds.{Bounds}

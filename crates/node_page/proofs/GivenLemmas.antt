@@ -1,15 +1,14 @@
 -- Trees in the pages given out: one that stands in live pages stands there too, and the other way round in a sound map.
-use Rattle.std.proofs.Common.{◌≡◌, ◌∙◌, ℕ, ◌-◌, ◌<◌, ◌≤◌, List, Option, Some, None, refl, sym, ap, subst, arith}
-use Rattle.block_bytes.specs.Numbers.{number_at}
-use Rattle.page_cache.specs.Cache.{IsHonest, IsPageMap, blocks_behind, given, next_of, pages}
+use Rattle.std.proofs.Common.{◌≡◌, ◌∙◌, ℕ, ◌-◌, ◌<◌, ◌≤◌, List, Option, Some, None, refl, ap, subst, arith}
+use Rattle.page_cache.specs.Cache.{IsPageMap, blocks_behind, given, next_of, pages}
 use Rattle.page_cache.specs.Laws.{a_live_page_is_given, a_page_in_use_is_live}
 use Rattle.page_cache.specs.declared.cache.PageCache.{PageCache}
 use Rattle.page_file.specs.Given.{given_is}
 use Rattle.page_file.specs.Layout.{kind_of}
 use Rattle.tree_node.specs.Nodes.{NodeContent}
-use Rattle.tree_node.specs.Trees.{Row, Tree, end, more, object, child, row_items}
+use Rattle.tree_node.specs.Trees.{Row, Tree, end, more, object, child}
 use Rattle.node_page.specs.Layout.{node_at}
-use Rattle.node_page.specs.Standing.{HasNode, PageMap, RowStands, Stands, StandsAt, node_in}
+use Rattle.node_page.specs.Standing.{PageMap, RowStands, Stands, StandsAt, node_in}
 use Rattle.node_page.proofs.Reading.{spells}
 
 -- nodes of one map are nodes of the other

@@ -1,5 +1,5 @@
 -- Leaves read one after another.
-use Rattle.std.proofs.Common.{◌≡◌, ◌∙◌, ℕ, zero, suc, ◌+◌, ◌-◌, ◌<◌, ◌≤◌, Bool, true, None, Some, List, [], ◌∷◌, ◌++◌, length, drop, take, map, get_or, All, ◌^◌, refl, sym, ap, ap₂, subst, arith}
+use Rattle.std.proofs.Common.{◌≡◌, ◌∙◌, ℕ, zero, suc, ◌+◌, ◌-◌, ◌<◌, ◌≤◌, true, None, Some, List, [], ◌∷◌, ◌++◌, length, drop, take, map, get_or, All, ◌^◌, refl, sym, ap, ap₂, subst, arith}
 use Rattle.std.proofs.lemmas.List.{append_assoc, append-nil, length-map, take_all}
 use Rattle.std.proofs.lemmas.List.Elements.{All-get_or}
 use Rattle.std.proofs.Math.Seq.{take-suc}
@@ -10,7 +10,7 @@ use Rattle.page_cache.specs.declared.cache.PageCache.{PageCache}
 use Rattle.tree_node.specs.declared.node.Entry.{Entry}
 use Rattle.tree_node.specs.Nodes.{NodeContent, Item, item_of, references_of}
 use Rattle.node_page.specs.Layout.{IsReference}
-use Rattle.tree_node.specs.Searches.{counted, nodes_in, passing}
+use Rattle.tree_node.specs.Searches.{counted, passing}
 use Rattle.tree_node.specs.Trees.{Row, end, more, object, child, ids_in, leaf_ids, row_items}
 use Rattle.node_page.specs.Standing.{PageMap, RowStands, StandsAt, node_in}
 use Rattle.tree_node.proofs.RowLemmas.{entry_item, items_from, no_leaves, row_drop}

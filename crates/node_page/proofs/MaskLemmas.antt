@@ -1,5 +1,5 @@
 -- Masks of the boxes in a page: by axes, and cut where the places end.
-use Rattle.std.proofs.Common.{◌≡◌, ℕ, zero, suc, ◌+◌, ◌*◌, ◌-◌, ◌^◌, ◌<◌, ◌≤◌, ◌==◌, ℤ, ◌&&◌, nat_lt, int_le, min, Bool, true, false, bit_and, List, FitsSigned, w32, map, refl, sym, ◌∙◌, ap, ap₂, subst, inl, inr, of_z, to_z, pow_mono, arith}
+use Rattle.std.proofs.Common.{◌≡◌, ℕ, zero, suc, ◌+◌, ◌*◌, ◌-◌, ◌^◌, ◌<◌, ◌≤◌, ◌==◌, ℤ, ◌&&◌, nat_lt, int_le, min, Bool, bit_and, List, FitsSigned, w32, map, refl, sym, ◌∙◌, ap, ap₂, subst, inl, inr, of_z, to_z, pow_mono, arith}
 use Rattle.std.proofs.lemmas.Bool.{cases_lt, le-ltb, lt-ltb}
 use Rattle.std.proofs.lemmas.Int.{ints, to_z-of_z}
 use Rattle.std.proofs.lemmas.List.FromFn.{length-map-range_with_len}

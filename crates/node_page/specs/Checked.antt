@@ -13,7 +13,8 @@ abbrev pub named_pages : List ℕ → Part
 named_pages list n = times_in n list
 
 -- a tree of the shape stands at the page, with these objects from left to right, and with these pages
-pub record IsCheckedTree (dims most : ℕ) (pages : PageMap) (page level : ℕ) (pairs : List (ℕ × Bounds)) (list : List ℕ) : Type 0 where
+pub record IsCheckedTree (dims most : ℕ) (pages : PageMap) (page level : ℕ) (pairs : List (ℕ × Bounds))
+    (list : List ℕ) : Type 0 where
   pub tree : Tree
   pub page_is : tree.page ≡ page
   pub level_is : tree.level ≡ level
@@ -27,7 +28,8 @@ abbrev pub pairs_of : List Item → List (ℕ × Bounds)
 pairs_of items = map (λ item. (item.reference, item.bounds)) items
 
 -- the trees below a node stand, and their nodes have the shape: their objects and pages were appended to those before
-pub record AddsTree (dims most : ℕ) (pages : PageMap) (c : NodeContent) (pairs_before pairs : List (ℕ × Bounds)) (list_before list : List ℕ) : Type 0 where
+pub record AddsTree (dims most : ℕ) (pages : PageMap) (c : NodeContent) (pairs_before pairs : List (ℕ × Bounds))
+    (list_before list : List ℕ) : Type 0 where
   pub row : Row
   pub items_are : row_items row ≡ c.entries
   pub stands : RowStands dims pages c.level row

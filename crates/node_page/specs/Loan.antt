@@ -13,7 +13,8 @@ use Rattle.page_cache.specs.declared.cache.PageCache.{PageCache}
 
 -- A node was read at page n, or refused, in one look, or at most one where it is refused; a number of no page given out
 -- needs no call of the device.
-pub record IsReadAt {D A : Type 0} {m : _} {T : Type 0} (old new : PageCache D A m) (n : ℕ) (result : Result T Fault) : Type 0 where
+pub record IsReadAt {D A : Type 0} {m : _} {T : Type 0} (old new : PageCache D A m) (n : ℕ) (result : Result T Fault)
+    : Type 0 where
   pub asks : Asks old new result
   pub looks : OnOk result (looks_of new ≡ one_more (looks_of old))
   pub refused_looks : OnErr result ((looks_of new ≡ looks_of old) ⊎ (looks_of new ≡ one_more (looks_of old)))

@@ -35,9 +35,9 @@ pub struct TreeFacts<const D: usize, H: Allocator> {
 
 /// Checks the tree at a root, each of whose nodes has at most `m_max` entries, and answers what it holds.
 ///
-/// On an honest device it answers so only where a tree of that shape stands at the root, no page of it twice; else it is
-/// `Damaged` with the number of a page. Where such a tree stands, a refusal is `Memory` or `Device`. No page is read
-/// twice, whatever the pages are. Map and gate stay, also after a refusal.
+/// On an honest device it answers so only where a tree of that shape stands at the root, no page of it twice; else it
+/// is `Damaged` with the number of a page. Where such a tree stands, a refusal is `Memory` or `Device`. No page is
+/// read twice, whatever the pages are. Map and gate stay, also after a refusal.
 pub fn check_tree<const D: usize, B: BlockDevice, A: Allocator + Copy, H: Allocator + Copy>(
     alloc: H,
     cache: &mut PageCache<B, A>,
@@ -46,8 +46,8 @@ pub fn check_tree<const D: usize, B: BlockDevice, A: Allocator + Copy, H: Alloca
 ) -> Result<TreeFacts<D, H>, Fault>
     requires { IsDims D }
     ensures asks { Asks cache.old cache.new result }
-    ensures tree { IsPageMap cache.old → IfOk result (λ facts. IsCheckedTree D m_max (pages cache.old) root.page root.level
-        facts.pairs.items facts.pages.items) }
+    ensures tree { IsPageMap cache.old → IfOk result (λ facts. IsCheckedTree D m_max (pages cache.old) root.page
+        root.level facts.pairs.items facts.pages.items) }
     ensures given_tree { IsHonest cache.old → IfOk result (λ facts. IsCheckedTree D m_max (given cache.old) root.page
         root.level facts.pairs.items facts.pages.items) }
     ensures stands { IsHonest cache.old → (t : Tree) → t.page ≡ root.page → t.level ≡ root.level
@@ -107,7 +107,8 @@ fn add_below<const D: usize, B: BlockDevice, A: Allocator + Copy, H: Allocator +
         → RowStands D (given cache.old) node.now.level row → RowHasShape D m_max row
         → ((n : ℕ) → times_in n visits.old.pages.items + occurs n row ≤ 1) → IfErr result IsOfDevice }
     ensures numbers { length visits.new.marks.items ≡ length visits.old.marks.items }
-    ensures looks { looks_of cache.new + length visits.old.pages.items ≤ looks_of cache.old + length visits.new.pages.items }
+    ensures looks { looks_of cache.new + length visits.old.pages.items
+        ≤ looks_of cache.old + length visits.new.pages.items }
     ensures other_faults { IfErr result (λ f. IsOfDevice f ⊎ IsDamage f) }
 {
     if node.level == 0 {

@@ -1,7 +1,8 @@
 //! What pages spell, and which trees stand in pages: each law is the contract of a function that does nothing, but
 //! for `a_node_comes_back`, which encodes and decodes, and `a_node_is_viewed_and_comes_back`, which looks at a page.
 
-ghost use Rattle.std.specs.Prelude.{◌≡◌, ◌⊎◌, ◌<◌, ◌≤◌, ◌^◌, ℕ, Some, IfErr, IfOk, IsErrOf, OnErr, OnOk, length, option_map};
+ghost use Rattle.std.specs.Prelude.{◌≡◌, ◌⊎◌, ◌<◌, ◌≤◌, ◌^◌, ℕ, Some, IfErr, IfOk, IsErrOf};
+ghost use Rattle.std.specs.Prelude.{OnErr, OnOk, length, option_map};
 ghost use Rattle.block_device.specs.Device.{one_more};
 ghost use Rattle.box_math.specs.Bounds.{IsDims};
 ghost use Rattle.tree_node.specs.Nodes.{NodeContent, content_of};
@@ -138,8 +139,8 @@ pub fn a_node_is_viewed_and_comes_back<const D: usize, B: BlockDevice, A: Alloca
     level: u8,
 ) -> Result<usize, Fault>
     requires { IsDims D }
-    ensures count { IsHonest cache.old → IsLive cache.old page → IfOk result (λ count. option_map (λ c. length c.entries)
-        (node_in D (pages cache.old page)) ≡ Some count) }
+    ensures count { IsHonest cache.old → IsLive cache.old page → IfOk result (λ count.
+        option_map (λ c. length c.entries) (node_in D (pages cache.old page)) ≡ Some count) }
     ensures asks { Asks cache.old cache.new result }
     ensures looks { OnOk result (looks_of cache.new ≡ one_more (looks_of cache.old)) }
     ensures refused_looks { OnErr result

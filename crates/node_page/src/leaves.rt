@@ -36,8 +36,8 @@ pub fn leaf_lists<const D: usize, B: BlockDevice, A: Allocator + Copy, H: Alloca
         IfOk result (λ lists. lists_of lists ≡ leaf_ids t.level t.row) }
     ensures found { IsPageMap cache.old → IfOk result (λ lists. AreLeavesAt D (pages cache.old) root.page root.level
         (lists_of lists) (looks_of cache.old) (looks_of cache.new)) }
-    ensures given_found { IsHonest cache.old → IfOk result (λ lists. AreLeavesAt D (given cache.old) root.page root.level
-        (lists_of lists) (looks_of cache.old) (looks_of cache.new)) }
+    ensures given_found { IsHonest cache.old → IfOk result (λ lists. AreLeavesAt D (given cache.old) root.page
+        root.level (lists_of lists) (looks_of cache.old) (looks_of cache.new)) }
     ensures stands { IsHonest cache.old → (t : Tree) → t.page ≡ root.page → t.level ≡ root.level
         → Stands D (pages cache.old) t →
         IfErr result IsOfDevice }

@@ -28,7 +28,8 @@ pub fn view_node<'a, const D: usize, B: BlockDevice, A: Allocator + Copy>(
     ensures* read_at { sem 𝓛 (EndsReadAt B.row A.row B.BlockDevice A.Allocator cache.entry page result) }
     ensures node { IsHonest cache.old → IsLive cache.old page
         → IfOk result (λ view. node_in D (pages cache.old page) ≡ Some (content_in view)) }
-    ensures given_node { IsHonest cache.old → IfOk result (λ view. node_in D (given cache.old page) ≡ Some (content_in view)) }
+    ensures given_node { IsHonest cache.old
+        → IfOk result (λ view. node_in D (given cache.old page) ≡ Some (content_in view)) }
     ensures level { IfOk result (λ view. (content_in view).level ≡ level) }
     ensures spellable { IfOk result (λ view. IsSpellable (content_in view)) }
     ensures boxes { IfOk result (λ view. All (λ item. IsBox D item.bounds) (content_in view).entries) }

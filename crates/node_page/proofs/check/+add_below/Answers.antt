@@ -1,5 +1,5 @@
 -- The goals of `add_below` that are proved by hand.
-use Rattle.std.proofs.Common.{◌≡◌, ◌∙◌, ◌⊎◌, ℕ, ◌-◌, ◌<◌, List, None, length, map, ap, inl, refl, subst, sym, ⊎_elim, arith}
+use Rattle.std.proofs.Common.{◌≡◌, ◌∙◌, ◌⊎◌, ℕ, ◌-◌, ◌<◌, None, length, map, ap, inl, refl, subst, sym, ⊎_elim, arith}
 use Rattle.std.proofs.lemmas.List.{length-map}
 use Rattle.block_device.specs.Device.{one_more}
 use Rattle.page_file.specs.Fault.{IsDamage, IsOfDevice}

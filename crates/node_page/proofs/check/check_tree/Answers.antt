@@ -1,9 +1,9 @@
 -- The goals of `check_tree` that are proved by hand.
-use Rattle.std.proofs.Common.{◌≡◌, ◌∙◌, ◌++◌, ◌∷◌, [], ℕ, ◌≤◌, ◌+◌, List, None, Vec, ap, subst, sym, ⊎_elim, arith}
+use Rattle.std.proofs.Common.{◌≡◌, ◌∙◌, ◌++◌, ◌∷◌, [], ℕ, List, None, Vec, ap, subst, sym, ⊎_elim, arith}
 use Rattle.std.proofs.lemmas.List.{length-map}
 use Rattle.block_device.specs.Device.{one_more}
 use Rattle.page_file.specs.Fault.{IsOfDevice}
-use Rattle.page_cache.specs.Cache.{given, looks_of, next_of}
+use Rattle.page_cache.specs.Cache.{given, looks_of}
 use Rattle.page_cache.specs.Calls.{asks_and_refuses, asks_in_turn, no_call_asks}
 use Rattle.page_cache.specs.Laws.{numbers_are_few}
 use Rattle.tree_node.specs.Nodes.{content_of, item_of}

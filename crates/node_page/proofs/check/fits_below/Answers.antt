@@ -1,5 +1,5 @@
 -- The counts and the box are those that were compared.
-use Rattle.std.proofs.Common.{◌≡◌, ◌∙◌, List, ap, length, map, sym, arith}
+use Rattle.std.proofs.Common.{◌≡◌, ◌∙◌, List, ap, map, sym, arith}
 use Rattle.std.proofs.lemmas.List.{length-map}
 use Rattle.tree_node.specs.Boxes.{least_box}
 use Rattle.tree_node.specs.declared.node.Entry.{Entry}

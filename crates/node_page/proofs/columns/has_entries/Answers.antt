@@ -1,7 +1,5 @@
 -- A place holds an entry where its columns say so.
-use Rattle.std.proofs.Common.{◌≡◌, ◌+◌, ◌*◌, ℕ, ◌<◌, ◌≤ℤ◌, true, refl, arith}
-use Rattle.block_bytes.specs.Numbers.{number_at}
-use Rattle.node_page.specs.Layout.{IsEntry, IsReference, item_at}
+use Rattle.std.proofs.Common.{refl, arith}
 use Rattle.node_page.proofs.ColumnLemmas.{entry_in_columns, ordered_in_columns, refers_in_columns}
 use Rattle.node_page.proofs.columns.has_entries.Goals as goal
 use Rattle.node_page.proofs.columns.has_entries.Goals.{else-level-gt0-via-then-level-gt0+else-not-are_references, else-level-gt0-via-else-level-gt0}

@@ -1,12 +1,12 @@
 -- The goals of `add_leaves` that are proved by hand.
-use Rattle.std.proofs.Common.{◌≡◌, ◌∙◌, ℕ, ◌++◌, List, Some, map, ap, sym, subst, arith}
+use Rattle.std.proofs.Common.{◌∙◌, map, ap, sym, arith}
 use Rattle.std.proofs.lemmas.List.{length-map}
 use Rattle.page_file.specs.Fault.{IsOfDevice}
 use Rattle.page_cache.specs.Cache.{given, looks_of}
 use Rattle.page_cache.specs.Calls.{asks_and_refuses}
-use Rattle.tree_node.specs.Nodes.{Item, NodeContent, content_of, item_of}
+use Rattle.tree_node.specs.Nodes.{content_of, item_of}
 use Rattle.node_page.specs.Lists.{lists_of}
-use Rattle.node_page.specs.Standing.{PageMap, node_in}
+use Rattle.node_page.specs.Standing.{PageMap}
 use Rattle.node_page.proofs.LeafLemmas.{below_here, child_page, entries_there, found_all, found_none, leaf_found, one_more_read}
 use Rattle.node_page.proofs.NodeLemmas.{at_error, on_ok}
 use Rattle.node_page.proofs.leaves.+add_leaves.Goals as goal

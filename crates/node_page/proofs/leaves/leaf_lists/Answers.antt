@@ -2,7 +2,7 @@
 use Rattle.std.proofs.Common.{◌≡◌, ◌∙◌, ◌++◌, ℕ, List, [], ap, map, sym}
 use Rattle.page_file.specs.Fault.{IsOfDevice}
 use Rattle.page_cache.specs.Cache.{given}
-use Rattle.tree_node.specs.Trees.{Row, leaf_ids}
+use Rattle.tree_node.specs.Trees.{leaf_ids}
 use Rattle.node_page.specs.Lists.{lists_of}
 use Rattle.node_page.proofs.GivenLemmas.{given_tree_is_live, live_tree_is_given}
 use Rattle.node_page.proofs.NodeLemmas.{at_error}

@@ -1,5 +1,5 @@
 -- The mask of all places.
-use Rattle.std.proofs.Common.{◌≡◌, ◌-◌, ◌≤◌, ◌+◌, ◌*◌, ◌/◌, ◌%◌, ◌^◌, ◌<◌, ◌&&◌, ℕ, Bool, nat_lt, bit_and, sym, ap, ap₂, subst, ◌∙◌, arith, pow_mono}
+use Rattle.std.proofs.Common.{◌≡◌, ◌-◌, ◌≤◌, ◌+◌, ◌*◌, ◌/◌, ◌%◌, ◌^◌, ℕ, Bool, bit_and, sym, ap, ap₂, ◌∙◌, arith, pow_mono}
 use Rattle.box_math.specs.Bounds.{meets_test}
 use Rattle.box_math.specs.Masks.{has_bit, mask_from}
 use Rattle.box_math.proofs.MaskLemmas.{bit_of_mask, eight_fit, eight_more, no_mask}

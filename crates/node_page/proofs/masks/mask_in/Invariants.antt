@@ -1,5 +1,5 @@
 -- What holds at each turn of the loop over the blocks, from the last one down.
-use Rattle.std.proofs.Common.{◌≡◌, ◌-◌, ◌≤◌, ◌%◌, ◌+◌}
+use Rattle.std.proofs.Common.{◌≡◌, ◌-◌, ◌≤◌, ◌%◌}
 use Rattle.box_math.specs.Bounds.{meets_test}
 use Rattle.box_math.specs.Masks.{mask_from}
 use Rattle.node_page.specs.Layout.{item_at}

@@ -1,7 +1,7 @@
 -- Without its head, or with a place that holds no entry of the level, the page spells no node of it, and else that of its places.
-use Rattle.std.proofs.Common.{◌≡◌, ◌<◌, ℕ, true, refl, arith, slice_index}
+use Rattle.std.proofs.Common.{◌≡◌, true, refl, arith}
 use Rattle.tree_node.specs.Nodes.{NodeContent}
-use Rattle.node_page.specs.Layout.{IsEntry, item_at, items_at}
+use Rattle.node_page.specs.Layout.{items_at}
 use Rattle.node_page.proofs.Named.{spells_nodes}
 use Rattle.node_page.proofs.Reading.{spells, spellable, no_head, no_places, all_places}
 use Rattle.node_page.proofs.view.NodeView.of.Goals as goal

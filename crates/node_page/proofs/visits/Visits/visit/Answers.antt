@@ -1,5 +1,5 @@
 -- One page more is marked.
-use Rattle.std.proofs.Common.{◌≡◌, ◌∙◌, ◌++◌, [], ◌∷◌, ◌<◌, ℕ, List, Bool, false, length, sym, ap, subst, get_or}
+use Rattle.std.proofs.Common.{◌≡◌, ◌∙◌, ◌<◌, ℕ, List, Bool, false, length, sym, ap, subst, get_or}
 use Rattle.std.proofs.Math.ListN.{set}
 use Rattle.std.specs.Prelude.{true}
 use Rattle.node_page.specs.Visits.{AreMarked}
