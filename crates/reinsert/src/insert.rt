@@ -111,7 +111,13 @@ pub fn insert_with<const D: usize, B: BlockDevice, A: Allocator + Copy>(
     'placing: while let Some(wait) = waiting.next() {
         now = match place_one(cache, now, &wait, m_max, waiting) {
             Ok(after) => after,
-            Err(broken) => return Err(Broken::midway(broken.cause)),
+            // pages were written by the placings before
+            Err(broken) => {
+                return Err(Broken {
+                    cause: broken.cause,
+                    touched: true,
+                });
+            }
         };
     }
     Ok(now)

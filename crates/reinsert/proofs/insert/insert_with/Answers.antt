@@ -1,5 +1,5 @@
 -- The goals of `insert_with` that are proved by hand.
-use Rattle.std.proofs.Common.{◌++◌, [], ◌∷◌, List, Bool, Err, None, sym, subst, refl, arith}
+use Rattle.std.proofs.Common.{true, ◌++◌, [], ◌∷◌, List, Bool, Err, None, sym, subst, refl, arith}
 use Rattle.page_cache.specs.Cache.{pages}
 use Rattle.page_cache.specs.Calls.{changes_in_turn}
 use Rattle.node_page.specs.Broken.{changes_and_breaks}
@@ -55,7 +55,7 @@ placing-init g c = (
 
 pub returns-in-Err-clause-alters : goal.returns-in-Err-clause-alters
 returns-in-Err-clause-alters g c =
-    changes_and_breaks c.args.cache.now c.placing.cache c.place_one-in-Some.new.cache c.in-Err.broken.cause (Err c.midway.result) c.midway.ensures
+    changes_and_breaks c.args.cache.now c.placing.cache c.place_one-in-Some.new.cache c.in-Err.broken.cause (Err (record { cause = c.in-Err.broken.cause; touched = true })) refl
     c.placing.invariant.0 c.in-Err.ensures.alters.changes
 
 pub returns-in-Err-clause-faults : goal.returns-in-Err-clause-faults
@@ -67,7 +67,7 @@ returns-in-Err-clause-faults g c = λ h t branch elsewhere can shape boxes entry
     let at2 = subst (λ (cs : List Bool). IsAt D m1 c.placing.now (c.next.new.self.waits.items ++ c.in-Some.wait ∷ []) cs elsewhere r.1.last) (sym c.next.ensures.called) at1 in
     let last = placings_keep_shape D c.args.m_max elsewhere r.1.count (at_first t branch c.args.level) r.1.last r.1.run (omega (arith, c.requires.most))
     (first_has_shape D c.args.m_max c.args.level t branch can.fits shape boxes entry) in
-    subst (λ (b : Broken). IsNoDamage c.place_one-in-Some.new.cache b.cause) (sym c.midway.ensures) (c.in-Err.ensures.faults r.0 r.1.last elsewhere at2 last)
+    c.in-Err.ensures.faults r.0 r.1.last elsewhere at2 last
 
 pub placing-preserved : goal.placing-preserved
 placing-preserved g c = (
@@ -96,6 +96,3 @@ returns-clause-inserted g c = λ h t branch elsewhere can.
 pub returns-in_err-now-clause-other_faults : goal.returns-in_err-now-clause-other_faults
 returns-in_err-now-clause-other_faults g c =
     at_broken c.from_residual.result c.in_err-now.field-0.0 (λ (b : Broken). IsChangeFault b.cause) c.from_residual.ensures.1 c.in_err-now.ensures.other_faults
-
-pub returns-in-Err-clause-other_faults : goal.returns-in-Err-clause-other_faults
-returns-in-Err-clause-other_faults g c = subst (λ (b : Broken). IsChangeFault b.cause) (sym c.midway.ensures) c.in-Err.ensures.other_faults
