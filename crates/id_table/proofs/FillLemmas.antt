@@ -1,10 +1,9 @@
 -- Objects added one after the other.
-use Rattle.std.proofs.Common.{◌≡◌, ◌∙◌, ◌⊎◌, ◌^◌, ℕ, zero, suc, ◌+◌, ◌<◌, ◌≤◌, None, Some, false, List, [], ◌∷◌, ◌++◌, length, take, drop, get_or, refl, sym, ap, subst, inl, inr, arith}
+use Rattle.std.proofs.Common.{◌≡◌, ◌∙◌, ◌^◌, ℕ, zero, suc, ◌+◌, ◌<◌, ◌≤◌, None, false, List, [], ◌∷◌, ◌++◌, length, take, drop, get_or, refl, sym, ap, subst, inl, inr, arith}
 use Rattle.std.proofs.lemmas.List.{drop_more, take_more}
 use Rattle.std.specs.FinMap as map
 use Rattle.std.specs.FinMap.{FinMap}
 use Rattle.std.specs.Ordering.{nat_cmp}
-use Rattle.std.specs.Prelude.{Result, Ok, Err, OnOk, IfErr}
 use Rattle.box_math.specs.Bounds.{Bounds}
 use Rattle.page_cache.specs.Cache.{IsPageMap, next_of, pages}
 use Rattle.page_cache.specs.Calls.{ChangesUntil, changes_in_turn}
@@ -13,7 +12,6 @@ use Rattle.page_cache.specs.declared.cache.PageCache.{PageCache}
 use Rattle.page_file.specs.declared.fault.Fault.{Fault}
 use Rattle.node_page.specs.Parts.{Moves}
 use Rattle.node_page.proofs.PartLemmas.{moves_in_turn, staying_moves}
-use Rattle.node_page.specs.Standing.{PageMap}
 use Rattle.id_table.specs.Changes.{Adds, AreNew, Fills, with_all}
 use Rattle.id_table.specs.Faults.{IsOfPages}
 use Rattle.id_table.specs.Table.{IdTable, IdsStand, Object, objects_of, part_of}

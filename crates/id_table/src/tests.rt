@@ -86,7 +86,10 @@ fn a_full_bucket_gets_one_before_it(rt: HostRuntime) -> Result<(), Fail> {
     assert_eq!(rt; head(&mut cache, 5)?, (100, 4));
     assert_eq!(rt; head(&mut cache, 4)?, (100, 0));
     for k in 0..250u16 {
-        assert!(rt; get::<3, _, _>(&mut cache, table, 1000 * u64::from(k) + 7)? == Some(point(i32::from(k))?));
+        assert!(rt;
+            get::<3, _, _>(&mut cache, table, 1000 * u64::from(k) + 7)?
+                == Some(point(i32::from(k))?)
+        );
     }
     assert!(rt; get::<3, _, _>(&mut cache, table, 250_007)?.is_none());
     assert!(rt; get::<3, _, _>(&mut cache, table, 8)?.is_none());
