@@ -5,7 +5,7 @@ ghost use Rattle.std.specs.Prelude.{◌≡◌, IfOk};
 ghost use Rattle.page_file.specs.declared.gate.Gate.TheVariants.{Open};
 ghost use Rattle.page_cache.specs.Cache.{gate_of};
 
-use crate::{add, free_all, get, make, remove};
+use crate::{add, fill, free_all, get, make, remove};
 use block_bytes::{read_u16, read_u32};
 use block_device::MemoryDevice;
 use box_math::BBox;
@@ -72,6 +72,24 @@ fn seven_and_a_thousand_and_seven_share_a_bucket(rt: HostRuntime) -> Result<(), 
     assert!(rt; remove::<2, _, _>(&mut cache, table, 7).is_ok());
     assert!(rt; get::<2, _, _>(&mut cache, table, 7)?.is_none());
     assert!(rt; get::<2, _, _>(&mut cache, table, 1007)? == Some(point(2)?));
+    Ok(())
+}
+
+#[test]
+fn a_filled_table_has_its_objects(rt: HostRuntime) -> Result<(), Fail> {
+    let mut cache = scene(rt.alloc())?;
+    let Ok(table) = make::<2, _, _>(&mut cache) else {
+        return Err(Fail::from("make"));
+    };
+    let objects = [
+        (7, point::<2>(1)?),
+        (8, point::<2>(2)?),
+        (1007, point::<2>(3)?),
+    ];
+    assert!(rt; fill(&mut cache, table, &objects).is_ok());
+    assert_eq!(rt; head(&mut cache, 4)?, (2, 0));
+    assert!(rt; get::<2, _, _>(&mut cache, table, 8)? == Some(point(2)?));
+    assert!(rt; get::<2, _, _>(&mut cache, table, 1007)? == Some(point(3)?));
     Ok(())
 }
 
