@@ -1,4 +1,5 @@
--- What the calls on an identifier table make of it and of its pages (our rule, docs/FORMAT.md).
+-- What the calls on an identifier table make of it and of its pages (our rule, docs/FORMAT.md, "Identifier
+-- tables").
 use Rattle.std.specs.Prelude.{◌≡◌, ℕ, false, List, [], ◌∷◌, ⊤}
 use Rattle.std.specs.FinMap as map
 use Rattle.std.specs.FinMap.{FinMap}

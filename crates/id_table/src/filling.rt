@@ -20,8 +20,8 @@ use std::alloc::Allocator;
 /// walked: each object wants the directory and the first page of its chain. In the order of the remainders by 1000 each
 /// page is looked at in a row, so that a small cache serves. The gate has to be open.
 ///
-/// With a sound map, where the pages stand for a table at that directory, a refusal is `Memory` or `Device`, or `NoPages`
-/// where all page numbers were given out.
+/// With a sound map, where the pages stand for a table at that directory, a refusal is `Memory` or `Device`, or
+/// `NoPages` where all page numbers were given out.
 pub fn fill<const D: usize, B: BlockDevice, A: Allocator + Copy>(
     cache: &mut PageCache<B, A>,
     directory: u32,
