@@ -10,7 +10,8 @@ use crate::head::count_at;
 use block_bytes::write_u16;
 use box_math::BBox;
 
-/// Adds an object to a bucket page whose count is below 100: it is written in the place after the last one, and counted.
+/// Adds an object to a bucket page whose count is below 100: it is written in the place after the last one, and
+/// counted.
 pub fn push_entry<const D: usize>(page: &mut [u8; 4096], entry: &(u64, BBox<D>))
     requires dims { IsDims D }
     requires room { number_at 2 2 page.old < 100 }

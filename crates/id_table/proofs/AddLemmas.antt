@@ -1,5 +1,5 @@
 -- An object more in a chain, and in the table.
-use Rattle.std.proofs.Common.{◌≡◌, ◌∙◌, ℕ, suc, ◌+◌, ◌<◌, ◌≤◌, All, drop, is_some, rules, Bool, true, false, cond, eqb, Option, Some, None, IsSome, List, [], ◌∷◌, ◌++◌, length, sum_by, refl, sym, ap, subst, ⊎_elim, arith}
+use Rattle.std.proofs.Common.{◌≡◌, ◌∙◌, ℕ, ◌+◌, ◌<◌, ◌≤◌, All, drop, is_some, rules, Bool, true, false, cond, eqb, Option, Some, None, IsSome, List, [], ◌∷◌, ◌++◌, length, sum_by, refl, sym, ap, subst, ⊎_elim, arith}
 use Rattle.std.proofs.lemmas.Bool.{cases_eq}
 use Rattle.std.proofs.lemmas.Bool.Decides.{nat_tests}
 use Rattle.std.proofs.lemmas.Cmp.{nat_cmp_total}
@@ -197,8 +197,8 @@ replaced_before dims old new t class first es stands small link put full placed 
     let part : (n : ℕ) → occurs_in_chain n chain ≤ sum_by (occurs_in_chain n) t.chains = λ n. chain_in_table n class t within in
     let apart : (n : ℕ) → 0 < occurs_in_chain n chain → ¬ (n ≡ put.number) = λ n here is. let p = part put.number in let e : occurs_in_chain n chain ≡ occurs_in_chain put.number chain = ap (λ k. occurs_in_chain k chain) is in omega (arith, e, here, p, unused) in
     let off_directory : (n : ℕ) → 0 < occurs_in_chain n chain → ¬ (n ≡ t.page) = λ n here is.
-        let on_directory : ◌≡◌ {A = ℕ} (cond (eqb t.page n) 1 0) 1 = ap (λ k. cond (eqb t.page k) 1 0) is ∙ occurs_here t.page in
-        let p = part n in omega (arith, on_directory, here, p, stands.once n) in
+    let on_directory : ◌≡◌ {A = ℕ} (cond (eqb t.page n) 1 0) 1 = ap (λ k. cond (eqb t.page k) 1 0) is ∙ occurs_here t.page in
+    let p = part n in omega (arith, on_directory, here, p, stands.once n) in
     let number_of : (n : ℕ) → occurs_in_chain n chain ≡ 0 → 0 < occurs_in_chain n (record { page = put.number; entries = es } ∷ chain) → n ≡ put.number
     = λ n none some. ⊎_elim (λ (is : put.number ≡ n). sym is) (λ (other : ¬ (put.number ≡ n)). let no = not_there put.number n other in absurd (omega (arith, none, some, no))) (cases_eq put.number n) in
     record {
@@ -211,7 +211,7 @@ replaced_before dims old new t class first es stands small link put full placed 
         first,
         put.bucket,
         chain_stays dims old new first chain (λ n here. put.others n (apart n here) (off_directory n here))
-        (subst (λ n. ChainStands dims old n chain) (sym link) (stands.chains class small)),
+            (subst (λ n. ChainStands dims old n chain) (sym link) (stands.chains class small)),
       );
       links = put.link.others;
       filled = record {

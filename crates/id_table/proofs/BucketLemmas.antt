@@ -1,8 +1,8 @@
 -- A bucket at a page of a map, and its objects by place.
-use Rattle.std.proofs.Common.{◌≡◌, ◌∙◌, ℕ, ◌+◌, ◌<◌, Result, Ok, Err, IfErr, Bool, true, false, cond, eqb, Option, Some, None, IsSome, List, [], ◌∷◌, length, get_or, drop, refl, sym, ap, subst, arith}
+use Rattle.std.proofs.Common.{◌≡◌, ◌∙◌, ℕ, ◌+◌, ◌<◌, Result, Ok, Err, IfErr, true, false, cond, eqb, Option, Some, None, IsSome, List, length, get_or, drop, refl, sym, ap, subst, arith}
 use Rattle.std.proofs.lemmas.Bool.Decides.{nat_tests}
 use Rattle.std.proofs.lemmas.List.{drop_more}
-use Rattle.box_math.specs.Bounds.{Bounds, origin_box}
+use Rattle.box_math.specs.Bounds.{origin_box}
 use Rattle.bucket_page.specs.Layout.{BucketContent, bucket_at}
 use Rattle.id_table.specs.Table.{Object, box_in, bucket_in}
 

@@ -4,7 +4,7 @@ use Rattle.std.proofs.lemmas.Bool.{cases_lt}
 use Rattle.block_bytes.specs.Numbers.{IsApart, number_at, put_number, zeros}
 use Rattle.block_bytes.specs.Laws.{length-put, length-zeros, number_at-put, number_at-put_other, number_at-zeros}
 use Rattle.id_table.specs.Pages.{NewDirectory, SetsLink}
-use Rattle.id_table.specs.Table.{IsDirectory, link_place}
+use Rattle.id_table.specs.Table.{link_place}
 
 places_apart : (other class : ℕ) → ¬ (other ≡ class) → IsApart 4 (link_place other) 4 (link_place class)
 places_apart other class differ = ⊎_elim

@@ -1,15 +1,13 @@
 -- A search at a cache.
-use Rattle.std.proofs.Common.{◌≡◌, ◌∙◌, ℕ, ◌+◌, ◌<◌, ◌≤◌, ◌%◌, true, false, cond, eqb, is_some, IsSome, Some, None, Option, List, [], ◌∷◌, length, refl, sym, ap, subst, ⊎_elim, arith}
-use Rattle.std.proofs.lemmas.Bool.{cases_eq}
+use Rattle.std.proofs.Common.{◌≡◌, ◌∙◌, ℕ, ◌+◌, ◌<◌, ◌≤◌, true, false, is_some, Some, None, Option, List, [], ◌∷◌, length, refl, sym, ap, subst, arith}
 use Rattle.std.specs.FinMap as map
 use Rattle.box_math.specs.Bounds.{Bounds}
 use Rattle.bucket_page.specs.Layout.{BucketContent}
-use Rattle.page_cache.specs.Cache.{IsHonest, IsLive, next_of, pages}
+use Rattle.page_cache.specs.Cache.{IsHonest, next_of, pages}
 use Rattle.page_cache.specs.Calls.{AsksUntil, asks_in_turn}
 use Rattle.page_cache.specs.Laws.{a_live_page_was_given_out}
 use Rattle.page_cache.specs.declared.cache.PageCache.{PageCache}
-use Rattle.node_page.specs.Standing.{PageMap}
-use Rattle.id_table.specs.Table.{Bucket, ChainStands, IdTable, IdsStand, IsDirectory, box_in, bucket_in, chain_at, class_of, entries_in, link_at, objects_of, occurs_in_chain}
+use Rattle.id_table.specs.Table.{Bucket, ChainStands, IdTable, IdsStand, IsDirectory, box_in, bucket_in, chain_at, class_of, entries_in, link_at, objects_of}
 use Rattle.id_table.proofs.TableLemmas.{chain_in_table, chain_short, found_by_class, table_there}
 use Rattle.id_table.proofs.WalkLemmas.{Rest, Here, all_left, found_here, is_here, nothing_left, walk_on}
 

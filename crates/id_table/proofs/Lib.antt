@@ -12,3 +12,4 @@ pub mod RemoveLemmas
 pub mod ShrinkLemmas
 pub mod PlaceLemmas
 pub mod FreeLemmas
+pub mod FillLemmas

@@ -1,5 +1,5 @@
 -- A new table.
-use Rattle.std.proofs.Common.{◌≡◌, ◌∙◌, ℕ, zero, suc, ◌+◌, ◌*◌, ◌<◌, ◌≤◌, cond, eqb, Some, None, List, [], ◌∷◌, length, replicate, get_or, sum_by, refl, sym, ap, subst, arith, rules}
+use Rattle.std.proofs.Common.{◌≡◌, ◌∙◌, ℕ, zero, suc, ◌<◌, ◌≤◌, Some, None, List, [], ◌∷◌, length, get_or, sum_by, refl, sym, ap, subst, arith, rules}
 use Rattle.std.proofs.lemmas.Bool.Decides.{nat_tests}
 use Rattle.std.specs.FinMap as map
 use Rattle.std.specs.List.{flat_map}
@@ -10,7 +10,7 @@ use Rattle.node_page.proofs.PartLemmas.{moves_same, one_page_moves}
 use Rattle.id_table.specs.Changes.{Makes}
 use Rattle.id_table.specs.Pages.{NewDirectory}
 use Rattle.id_table.proofs.BucketLemmas.{is_there}
-use Rattle.id_table.specs.Table.{Bucket, ChainStands, IdTable, IdsStand, IsFilled, Object, entries_in, link_at, occurs_in_chain, occurs_in_ids, part_of}
+use Rattle.id_table.specs.Table.{Bucket, ChainStands, IsFilled, entries_in, link_at, occurs_in_chain, occurs_in_ids, part_of}
 
 empties : ℕ → List (List Bucket)
 empties zero = []

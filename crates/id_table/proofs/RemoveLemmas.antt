@@ -1,25 +1,11 @@
 -- An object less in a chain, and in the table.
-use Rattle.std.proofs.Common.{◌≡◌, ◌∙◌, ◌⊎◌, ℕ, zero, suc, ◌+◌, ◌-◌, ◌<◌, ◌≤◌, All, drop, take, get_or, set, Bool, true, false, cond, eqb, is_some, Option, Some, None, List, [], ◌∷◌, ◌++◌, length, sum_by, refl, sym, ap, subst, inl, inr, ⊎_elim, arith, rules}
-use Rattle.std.proofs.lemmas.Bool.{cases_eq, cases_lt}
+use Rattle.std.proofs.Common.{◌≡◌, ◌∙◌, ◌⊎◌, ℕ, zero, suc, ◌+◌, ◌-◌, ◌<◌, ◌≤◌, All, drop, take, get_or, set, Bool, true, false, cond, eqb, Option, Some, None, List, [], ◌∷◌, ◌++◌, length, refl, sym, ap, subst, inl, inr, ⊎_elim, arith}
+use Rattle.std.proofs.lemmas.Bool.{cases_eq}
 use Rattle.std.proofs.lemmas.Bool.Decides.{nat_tests}
-use Rattle.std.proofs.lemmas.Cmp.{nat_cmp_total}
-use Rattle.std.proofs.lemmas.List.{append_assoc, length-set}
-use Rattle.std.proofs.lemmas.List.Concat.{flat_map-append}
 use Rattle.std.proofs.lemmas.List.Elements.{All-cons, All-head, All-tail}
-use Rattle.std.specs.FinMap as map
-use Rattle.std.specs.FinMap.{get-remove, nat_cmp-IsAntisymmetric, same_map}
-use Rattle.std.specs.Ordering.{eq_by_cmp, nat_cmp}
 use Rattle.box_math.specs.Bounds.{Bounds}
-use Rattle.bucket_page.specs.Layout.{BucketContent, popped, replaced}
-use Rattle.page_file.specs.Pages.{SameBut}
-use Rattle.node_page.specs.Standing.{PageMap}
-use Rattle.id_table.specs.Changes.{Removes}
-use Rattle.id_table.specs.Pages.{HasAt, IsInChain, SetsLink, Shrinks, Shortens, Unlinks}
-use Rattle.id_table.specs.Table.{Bucket, ChainStands, IdTable, IdsStand, IsFilled, Object, box_in, bucket_in, chain_at, class_of, entries_in, link_at, objects_of, occurs_in_chain, occurs_in_ids, times_in}
-use Rattle.id_table.proofs.AddLemmas.{all_both, all_more, one_more, times_more}
-use Rattle.id_table.proofs.BucketLemmas.{some_object}
-use Rattle.id_table.proofs.ReplaceLemmas.{Replaces, chain_stays, moves_with, other_chain, stands_with, this_chain, with_chain}
-use Rattle.id_table.proofs.TableLemmas.{chain_in_table, found_by_class, not_there, occurs_here}
+use Rattle.id_table.specs.Table.{Object, box_in, times_in}
+use Rattle.id_table.proofs.AddLemmas.{all_more, one_more, times_more}
 
 -- ---- lists
 

@@ -1,11 +1,10 @@
 -- One chain of a table replaced by another.
-use Rattle.std.proofs.Common.{◌≡◌, ◌∙◌, ℕ, ◌+◌, ◌<◌, ◌≤◌, cond, eqb, Option, Some, None, List, [], ◌∷◌, ◌++◌, length, get_or, set, sum_by, refl, sym, ap, subst, ⊎_elim, arith}
+use Rattle.std.proofs.Common.{◌≡◌, ◌∙◌, ℕ, ◌+◌, ◌<◌, ◌≤◌, cond, eqb, Some, None, List, [], ◌∷◌, length, set, sum_by, sym, ap, subst, ⊎_elim, arith}
 use Rattle.std.proofs.lemmas.Bool.{cases_eq}
 use Rattle.std.proofs.lemmas.List.{get_or-set_other, get_or-set_same, length-set}
 use Rattle.std.proofs.lemmas.List.Sums.{sum_by-set}
 use Rattle.node_page.specs.Parts.{Moves}
 use Rattle.node_page.specs.Standing.{PageMap}
-use Rattle.id_table.specs.Pages.{SetsLink}
 use Rattle.id_table.specs.Table.{Bucket, ChainStands, IdTable, IdsStand, IsDirectory, IsFilled, bucket_in, chain_at, link_at, occurs_in_chain, occurs_in_ids, part_of}
 use Rattle.id_table.proofs.TableLemmas.{chain_in_table, occurs_here, table_there}
 

@@ -1,5 +1,5 @@
 -- A chain that lost an object, and the table without it.
-use Rattle.std.proofs.Common.{◌≡◌, ◌∙◌, ◌⊎◌, ℕ, zero, suc, ◌+◌, ◌-◌, ◌<◌, ◌≤◌, All, drop, take, get_or, set, true, false, cond, eqb, Option, Some, None, List, [], ◌∷◌, ◌++◌, length, sum_by, refl, sym, ap, subst, inl, inr, ⊎_elim, arith, rules}
+use Rattle.std.proofs.Common.{◌≡◌, ◌∙◌, ℕ, zero, suc, ◌+◌, ◌-◌, ◌<◌, ◌≤◌, All, drop, take, get_or, set, false, cond, eqb, Option, Some, None, List, [], ◌∷◌, ◌++◌, length, refl, sym, ap, subst, inl, inr, ⊎_elim, arith}
 use Rattle.std.proofs.lemmas.Bool.{cases_eq, cases_lt}
 use Rattle.std.proofs.lemmas.Bool.Decides.{nat_tests}
 use Rattle.std.proofs.lemmas.Cmp.{nat_cmp_total}
@@ -15,10 +15,10 @@ use Rattle.bucket_page.proofs.Reading.{count_of_bucket, spells}
 use Rattle.node_page.specs.Standing.{PageMap}
 use Rattle.id_table.specs.Changes.{Removes}
 use Rattle.id_table.specs.Pages.{HasAt, IsInChain, Shrinks, Shortens, Unlinks}
-use Rattle.id_table.specs.Table.{Bucket, ChainStands, IdTable, IdsStand, IsFilled, Object, box_in, bucket_in, chain_at, class_of, entries_in, link_at, objects_of, occurs_in_chain, occurs_in_ids, times_in}
+use Rattle.id_table.specs.Table.{Bucket, ChainStands, IdTable, IdsStand, IsFilled, Object, box_in, bucket_in, chain_at, class_of, entries_in, link_at, objects_of, occurs_in_chain, times_in}
 use Rattle.id_table.proofs.BucketLemmas.{some_object}
 use Rattle.id_table.proofs.PlaceLemmas.{here_at, occurs-append}
-use Rattle.id_table.proofs.RemoveLemmas.{Moved, Takes, split_last, split_set, taken_box, taken_placed, taken_single}
+use Rattle.id_table.proofs.RemoveLemmas.{Takes, split_last, split_set, taken_box, taken_placed, taken_single}
 use Rattle.id_table.proofs.ReplaceLemmas.{Replaces, chain_stays, moves_with, other_chain, stands_with, this_chain, with_chain}
 use Rattle.id_table.proofs.TableLemmas.{chain_in_table, found_by_class, not_there, occurs_here}
 

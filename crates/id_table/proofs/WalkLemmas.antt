@@ -3,7 +3,7 @@ use Rattle.std.proofs.Common.{◌≡◌, ◌∙◌, ℕ, suc, ◌+◌, ◌<◌, 
 use Rattle.box_math.specs.Bounds.{Bounds}
 use Rattle.bucket_page.specs.Layout.{BucketContent}
 use Rattle.node_page.specs.Standing.{PageMap}
-use Rattle.id_table.specs.Table.{Bucket, ChainStands, Object, box_in, bucket_in, entries_in, occurs_in_chain}
+use Rattle.id_table.specs.Table.{Bucket, ChainStands, Object, box_in, bucket_in, entries_in}
 use Rattle.id_table.proofs.TableLemmas.{not_here}
 
 in_front : (q : ℕ) (xs ys : List Object) (b : Bounds) → box_in q xs ≡ Some b → box_in q (xs ++ ys) ≡ Some b

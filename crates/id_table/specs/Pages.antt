@@ -1,5 +1,5 @@
 -- What writes into the pages of a table leave.
-use Rattle.std.specs.Prelude.{◌≡◌, ◌⊎◌, ℕ, ◌<◌, ◌≤◌, List, [], ◌∷◌, ◌++◌, Option, Some, None, length, slice_index_or, IsSome, ⊤}
+use Rattle.std.specs.Prelude.{◌≡◌, ◌⊎◌, ℕ, ◌<◌, List, [], ◌∷◌, ◌++◌, Option, Some, None, length, slice_index_or, IsSome, ⊤}
 use Rattle.block_bytes.specs.Numbers.{number_at}
 use Rattle.bucket_page.specs.Layout.{BucketContent, popped}
 use Rattle.page_file.specs.Pages.{SameBut}

@@ -1,5 +1,5 @@
--- Identifier tables, and the pages that they stand in (our rule, docs/FORMAT.md): a directory, and for each remainder of
--- an identifier by 1000 a chain of buckets.
+-- Identifier tables, and the pages that they stand in (our rule, docs/FORMAT.md, "Identifier tables"): a directory, and
+-- for each remainder of an identifier by 1000 a chain of buckets.
 use Rattle.std.specs.Prelude.{◌≡◌, ℕ, ◌+◌, ◌*◌, ◌%◌, ◌<◌, ◌≤◌, List, [], ◌∷◌, length, drop, slice_index_or, All, Option, Some, None, if◌then◌else◌, ◌==◌, option_and_then, sum_by}
 use Rattle.std.specs.FinMap.{FinMap, from_entries}
 use Rattle.std.specs.List.{flat_map}
@@ -77,7 +77,8 @@ bucket_in dims page = option_and_then (bucket_at dims) page
 abbrev pub ChainStands : ℕ → PageMap → ℕ → List Bucket → Type 0
 ChainStands dims pages first [] = first ≡ 0
 ChainStands dims pages first (b ∷ bs) =
-    (first ≡ b.page) × (2 < first) × (next : ℕ) × (bucket_in dims (pages b.page) ≡ Some (record { next = next; entries = b.entries })) × ChainStands dims pages next bs
+    (first ≡ b.page) × (2 < first) × (next : ℕ)
+    × (bucket_in dims (pages b.page) ≡ Some (record { next = next; entries = b.entries })) × ChainStands dims pages next bs
 
 -- every bucket of a chain but the first is full, the identifiers of all have the remainder, and none is there twice
 pub record IsFilled (class : ℕ) (chain : List Bucket) : Type 0 where

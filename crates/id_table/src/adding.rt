@@ -28,11 +28,11 @@ use page_cache::PageCache;
 use page_file::Fault;
 use std::alloc::Allocator;
 
-/// Adds an object to the table, which does not have its identifier: into the first page of its chain, or into a new page
-/// before that one where it is full. The gate has to be open.
+/// Adds an object to the table, which does not have its identifier: into the first page of its chain, or into a new
+/// page before that one where it is full. The gate has to be open.
 ///
-/// With a sound map, where the pages stand for a table at that directory, a refusal is `Memory` or `Device`, or `NoPages`
-/// where all page numbers were given out.
+/// With a sound map, where the pages stand for a table at that directory, a refusal is `Memory` or `Device`, or
+/// `NoPages` where all page numbers were given out.
 pub fn add<const D: usize, B: BlockDevice, A: Allocator + Copy>(
     cache: &mut PageCache<B, A>,
     directory: u32,

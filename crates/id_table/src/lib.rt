@@ -6,6 +6,7 @@ mod adding;
 mod broken;
 mod bucket;
 mod directory;
+mod filling;
 mod freeing;
 mod making;
 mod removing;
@@ -14,6 +15,7 @@ mod search;
 mod tests;
 
 pub use adding::add;
+pub use filling::fill;
 pub use freeing::free_all;
 pub use making::make;
 pub use removing::remove;

@@ -5,7 +5,7 @@ ghost use Rattle.std.specs.Prelude.{◌≡◌, IfOk};
 ghost use Rattle.page_file.specs.declared.gate.Gate.TheVariants.{Open};
 ghost use Rattle.page_cache.specs.Cache.{gate_of};
 
-use crate::{add, free_all, get, make, remove};
+use crate::{add, fill, free_all, get, make, remove};
 use block_bytes::{read_u16, read_u32};
 use block_device::MemoryDevice;
 use box_math::BBox;
@@ -76,6 +76,24 @@ fn seven_and_a_thousand_and_seven_share_a_bucket(rt: HostRuntime) -> Result<(), 
 }
 
 #[test]
+fn a_filled_table_has_its_objects(rt: HostRuntime) -> Result<(), Fail> {
+    let mut cache = scene(rt.alloc())?;
+    let Ok(table) = make::<2, _, _>(&mut cache) else {
+        return Err(Fail::from("make"));
+    };
+    let objects = [
+        (7, point::<2>(1)?),
+        (8, point::<2>(2)?),
+        (1007, point::<2>(3)?),
+    ];
+    assert!(rt; fill(&mut cache, table, &objects).is_ok());
+    assert_eq!(rt; head(&mut cache, 4)?, (2, 0));
+    assert!(rt; get::<2, _, _>(&mut cache, table, 8)? == Some(point(2)?));
+    assert!(rt; get::<2, _, _>(&mut cache, table, 1007)? == Some(point(3)?));
+    Ok(())
+}
+
+#[test]
 fn a_full_bucket_gets_one_before_it(rt: HostRuntime) -> Result<(), Fail> {
     let mut cache = scene(rt.alloc())?;
     let Ok(table) = make::<3, _, _>(&mut cache) else {
@@ -86,7 +104,10 @@ fn a_full_bucket_gets_one_before_it(rt: HostRuntime) -> Result<(), Fail> {
     assert_eq!(rt; head(&mut cache, 5)?, (100, 4));
     assert_eq!(rt; head(&mut cache, 4)?, (100, 0));
     for k in 0..250u16 {
-        assert!(rt; get::<3, _, _>(&mut cache, table, 1000 * u64::from(k) + 7)? == Some(point(i32::from(k))?));
+        assert!(rt;
+            get::<3, _, _>(&mut cache, table, 1000 * u64::from(k) + 7)?
+                == Some(point(i32::from(k))?)
+        );
     }
     assert!(rt; get::<3, _, _>(&mut cache, table, 250_007)?.is_none());
     assert!(rt; get::<3, _, _>(&mut cache, table, 8)?.is_none());

@@ -1,6 +1,6 @@
 -- The goals of `add` that are proved by hand: where the chain of the identifier begins, and what is put there.
-use Rattle.std.proofs.Common.{◌≡◌, ◌∙◌, ◌%◌, ◌<◌, List, ℕ, None, Some, [], ◌∷◌, ap, arith, inl, subst, sym}
-use Rattle.bucket_page.specs.Layout.{bucket_at, pushed}
+use Rattle.std.proofs.Common.{◌≡◌, ◌∙◌, ◌<◌, None, Some, [], ◌∷◌, ap, arith, inl, subst, sym}
+use Rattle.bucket_page.specs.Layout.{bucket_at}
 use Rattle.page_file.specs.Fault.{IsOfDevice}
 use Rattle.page_cache.specs.Cache.{next_of, pages}
 use Rattle.page_cache.specs.Calls.{asks_in_turn}

@@ -1,5 +1,4 @@
 -- The goal of `place_at` that is proved by hand.
-use Rattle.std.proofs.Common.{◌≡◌}
 use Rattle.page_cache.specs.Cache.{pages}
 use Rattle.id_table.proofs.BucketLemmas.{bucket_bytes, page_of_bucket}
 use Rattle.id_table.proofs.bucket.place_at.Goals as goal

@@ -1,5 +1,5 @@
 -- The goals of `place_on` that are proved by hand.
-use Rattle.std.proofs.Common.{◌≡◌, ◌∙◌, ◌<◌, length, sym, arith}
+use Rattle.std.proofs.Common.{◌<◌, length, arith}
 use Rattle.bucket_page.proofs.Reading.{no_head}
 use Rattle.id_table.proofs.BucketLemmas.{passed, some_object}
 use Rattle.id_table.proofs.bucket.place_on.Goals as goal

@@ -1,5 +1,5 @@
 -- The goals of `write_link` that are proved by hand.
-use Rattle.std.proofs.Common.{◌≡◌, ◌∙◌, List, Some, IsSome, ℕ, sym, subst}
+use Rattle.std.proofs.Common.{◌≡◌, ◌∙◌, List, IsSome, ℕ, sym, subst}
 use Rattle.page_cache.specs.Cache.{pages}
 use Rattle.node_page.proofs.NodeLemmas.{on_ok}
 use Rattle.id_table.specs.Pages.{SetsLink}

@@ -1,5 +1,4 @@
 -- The goal of `next_after` that is proved by hand: a page that begins as no bucket spells none.
-use Rattle.std.proofs.Common.{◌≡◌}
 use Rattle.page_cache.specs.Cache.{pages}
 use Rattle.bucket_page.proofs.Reading.{no_head}
 use Rattle.id_table.proofs.BucketLemmas.{bucket_bytes, page_of_bucket}

@@ -1,5 +1,4 @@
 -- The goal of `last_on` that is proved by hand: a page that begins as no bucket spells none.
-use Rattle.std.proofs.Common.{◌≡◌}
 use Rattle.bucket_page.proofs.Reading.{no_head}
 use Rattle.id_table.proofs.removing.last_on.Goals as goal
 

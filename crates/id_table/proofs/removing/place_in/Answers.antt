@@ -1,5 +1,5 @@
 -- The goals of `place_in` that are proved by hand.
-use Rattle.std.proofs.Common.{◌≡◌, None, subst, arith}
+use Rattle.std.proofs.Common.{subst, arith}
 use Rattle.page_file.specs.Fault.{IsOfDevice}
 use Rattle.page_cache.specs.Calls.{no_call_asks}
 use Rattle.node_page.proofs.NodeLemmas.{at_error}

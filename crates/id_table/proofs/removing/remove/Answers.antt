@@ -1,5 +1,5 @@
 -- The goals of `remove` that are proved by hand: where the object is, and what is left of its chain.
-use Rattle.std.proofs.Common.{◌≡◌, ◌∙◌, ◌-◌, ◌%◌, ◌<◌, ℕ, List, None, Some, IsSome, ap, arith, get_or, length, refl, subst, sym}
+use Rattle.std.proofs.Common.{◌≡◌, ◌∙◌, ◌-◌, ◌<◌, None, IsSome, ap, arith, get_or, length, subst, sym}
 use Rattle.bucket_page.specs.Layout.{BucketContent, replaced}
 use Rattle.page_file.specs.Fault.{IsOfDevice}
 use Rattle.page_cache.specs.Cache.{pages}

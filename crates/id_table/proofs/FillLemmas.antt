@@ -1,0 +1,105 @@
+-- Objects added one after the other.
+use Rattle.std.proofs.Common.{◌≡◌, ◌∙◌, ◌^◌, ℕ, zero, suc, ◌+◌, ◌<◌, ◌≤◌, None, false, List, [], ◌∷◌, ◌++◌, length, take, drop, get_or, refl, sym, ap, subst, inl, inr, arith}
+use Rattle.std.proofs.lemmas.List.{drop_more, take_more}
+use Rattle.std.specs.FinMap as map
+use Rattle.std.specs.FinMap.{FinMap}
+use Rattle.std.specs.Ordering.{nat_cmp}
+use Rattle.box_math.specs.Bounds.{Bounds}
+use Rattle.page_cache.specs.Cache.{IsPageMap, next_of, pages}
+use Rattle.page_cache.specs.Calls.{ChangesUntil, changes_in_turn}
+use Rattle.page_cache.specs.Laws.{numbers_are_few}
+use Rattle.page_cache.specs.declared.cache.PageCache.{PageCache}
+use Rattle.page_file.specs.declared.fault.Fault.{Fault}
+use Rattle.node_page.specs.Parts.{Moves}
+use Rattle.node_page.proofs.PartLemmas.{moves_in_turn, staying_moves}
+use Rattle.id_table.specs.Changes.{Adds, AreNew, Fills, with_all}
+use Rattle.id_table.specs.Faults.{IsOfPages}
+use Rattle.id_table.specs.Table.{IdTable, IdsStand, Object, objects_of, part_of}
+use Rattle.id_table.proofs.BucketLemmas.{some_object}
+use Rattle.id_table.proofs.TableLemmas.{table_there}
+
+-- one object more
+with_all-append : (m : FinMap nat_cmp Bounds) (xs : List Object) (x : Object) → with_all m (xs ++ x ∷ []) ≡ map.insert (with_all m xs) x.0 x.1
+with_all-append m [] x = refl
+with_all-append m (y ∷ xs) x = with_all-append (map.insert m y.0 y.1) xs x
+
+module _ {B A : Type 0} {m : _} where
+  -- the table with the objects so far
+  pub record Filled (dims : ℕ) (old now : PageCache B A m) (t : IdTable) (objects : List Object) (count : ℕ) : Type 0 where
+    pub table : IdTable
+    pub page : table.page ≡ t.page
+    pub stands : IdsStand dims (pages now) table
+    pub map_is : IsPageMap now
+    pub has : objects_of table ≡ with_all (objects_of t) (take count objects)
+    pub rest : AreNew (objects_of table) (drop count objects)
+    pub moves : Moves (pages old) (pages now) (part_of t) (part_of table)
+
+  pub record Filling (dims directory : ℕ) (old now : PageCache B A m) (objects : List Object) (count : ℕ) : Type 0 where
+    pub changes : ChangesUntil old now None
+    pub left : IsPageMap old → (t : IdTable) → t.page ≡ directory → IdsStand dims (pages old) t → AreNew (objects_of t) objects → Filled dims old now t objects count
+
+  pub filling_begins : (dims directory : ℕ) (cache : PageCache B A m) (objects : List Object) → ChangesUntil cache cache None → Filling dims directory cache cache objects 0
+  filling_begins dims directory cache objects changes = record {
+    changes = changes;
+    left = λ sound t at stands new. record {
+      table = t;
+      page = refl;
+      stands = stands;
+      map_is = sound;
+      has = refl;
+      rest = new;
+      moves = staying_moves (pages cache) (pages cache) (part_of t) (λ n. refl) stands.once (λ n here. table_there dims (pages cache) t n stands here);
+    };
+  }
+
+  module _ {dims directory : ℕ} {old now : PageCache B A m} {objects : List Object} {count : ℕ} (so_far : Filling dims directory old now objects count) (within : count < length objects) (x : Object) (is : x ≡ get_or objects count some_object) where
+    -- the next object is new to the table with those before it
+    pub next_new : (sound : IsPageMap old) (t : IdTable) (at : t.page ≡ directory) (stands : IdsStand dims (pages old) t) (new : AreNew (objects_of t) objects)
+        → map.contains_key (objects_of (so_far.left sound t at stands new).table) x.0 ≡ false
+    next_new sound t at stands new =
+        let f = so_far.left sound t at stands new in
+        let rest = subst (AreNew (objects_of f.table)) (drop_more objects count some_object within) f.rest in
+        subst (λ (o : Object). map.contains_key (objects_of f.table) o.0 ≡ false) (sym is) rest.0
+
+    pub fills_on : (new : PageCache B A m) → ChangesUntil now new None
+        → (IsPageMap now → (t : IdTable) → t.page ≡ directory → IdsStand dims (pages now) t → IsPageMap new)
+        → (IsPageMap now → (t : IdTable) → t.page ≡ directory → IdsStand dims (pages now) t → map.contains_key (objects_of t) x.0 ≡ false → Adds dims (pages now) (pages new) t x.0 x.1)
+        → Filling dims directory old new objects (count + 1)
+    fills_on new changes sound adds = record {
+      changes = changes_in_turn old now new None so_far.changes changes;
+      left = λ sound_old t at stands fresh.
+          let f = so_far.left sound_old t at stands fresh in
+          let added = adds f.map_is f.table (f.page ∙ at) f.stands (next_new sound_old t at stands fresh) in
+          let rest = subst (AreNew (objects_of f.table)) (drop_more objects count some_object within) f.rest in
+          record {
+            table = added.table;
+            page = added.page ∙ f.page;
+            stands = added.stands;
+            map_is = sound f.map_is f.table (f.page ∙ at) f.stands;
+            has = added.objects ∙ ap (λ (k : FinMap nat_cmp Bounds). map.insert k x.0 x.1) f.has ∙ sym (with_all-append (objects_of t) (take count objects) x)
+                ∙ ap (λ (o : Object). with_all (objects_of t) (take count objects ++ o ∷ [])) is ∙ ap (with_all (objects_of t)) (sym (take_more objects count some_object within));
+            rest = subst (λ (k : FinMap nat_cmp Bounds). AreNew k (drop (count + 1) objects)) (ap (λ (o : Object). map.insert (objects_of f.table) o.0 o.1) (sym is) ∙ sym added.objects) rest.1;
+            moves = moves_in_turn (pages old) (pages now) (pages new) (part_of t) (part_of f.table) (part_of added.table) f.moves added.moves;
+          };
+    }
+
+  -- all of them
+  pub all_filled : (dims directory : ℕ) (old now : PageCache B A m) (objects : List Object) (count : ℕ) → length objects ≤ count → Filling dims directory old now objects count
+      → IsPageMap old → (t : IdTable) → t.page ≡ directory → IdsStand dims (pages old) t → AreNew (objects_of t) objects → Fills dims (pages old) (pages now) t objects
+  all_filled dims directory old now objects count all so_far sound t at stands new =
+      let f = so_far.left sound t at stands new in
+      record { table = f.table; page = f.page; stands = f.stands; objects = f.has ∙ ap (with_all (objects_of t)) (take_whole objects count all); moves = f.moves }
+    where
+      take_whole : (xs : List Object) (n : ℕ) → length xs ≤ n → take n xs ≡ xs
+      take_whole [] zero le = refl
+      take_whole [] (suc n) le = refl
+      take_whole (x ∷ xs) zero le = absurd (omega (arith, le))
+      take_whole (x ∷ xs) (suc n) le = ap (λ l. x ∷ l) (take_whole xs n (omega (arith, le)))
+
+  -- want of page numbers is still so afterwards
+  pub wants_pages : (now new : PageCache B A m) (f : Fault) → next_of now ≤ next_of new → IsOfPages (next_of now) f → IsOfPages (next_of new) f
+  wants_pages now new f grown (inl device) = inl device
+  wants_pages now new f grown (inr none) = let few = numbers_are_few new in inr (none.0, most (next_of now) (next_of new) (2 ^ 31) none.1 grown few.1)
+    where
+      most : (a b limit : ℕ) → a ≡ limit → a ≤ b → b ≤ limit → b ≡ limit
+      most a b limit e le few = omega (arith, e, le, few)

@@ -1,0 +1,48 @@
+//! Many objects added.
+
+ghost use Rattle.std.specs.Prelude.{◌≡◌, IfErr, OnOk};
+ghost use Rattle.box_math.specs.Bounds.{IsDims};
+ghost use Rattle.page_file.specs.declared.gate.Gate.TheVariants.{Open};
+ghost use Rattle.page_cache.specs.Cache.{IsPageMap, gate_of, next_of, pages};
+ghost use Rattle.node_page.specs.Broken.{Alters};
+ghost use Rattle.id_table.specs.Changes.{AreNew, Fills};
+ghost use Rattle.id_table.specs.Faults.{IsOfPages};
+ghost use Rattle.id_table.specs.Table.{IdTable, IdsStand, objects_of};
+
+use crate::adding::add;
+use block_device::BlockDevice;
+use box_math::BBox;
+use node_page::Broken;
+use page_cache::PageCache;
+use std::alloc::Allocator;
+
+/// Adds objects to the table, none of which has an identifier that is there or that one before it has. No chain is
+/// walked: each object wants the directory and the first page of its chain. In the order of the remainders by 1000 each
+/// page is looked at in a row, so that a small cache serves. The gate has to be open.
+///
+/// With a sound map, where the pages stand for a table at that directory, a refusal is `Memory` or `Device`, or
+/// `NoPages` where all page numbers were given out.
+pub fn fill<const D: usize, B: BlockDevice, A: Allocator + Copy>(
+    cache: &mut PageCache<B, A>,
+    directory: u32,
+    objects: &[(u64, BBox<D>)],
+) -> Result<(), Broken>
+    requires dims { IsDims D }
+    requires open { gate_of cache.old ≡ Open }
+    ensures alters { Alters cache.old cache.new result }
+    ensures sound { IsPageMap cache.old → (t : IdTable) → t.page ≡ directory → IdsStand D (pages cache.old) t
+        → AreNew (objects_of t) objects.now → IsPageMap cache.new }
+    ensures filled { IsPageMap cache.old → (t : IdTable) → t.page ≡ directory → IdsStand D (pages cache.old) t
+        → AreNew (objects_of t) objects.now
+        → OnOk result (Fills D (pages cache.old) (pages cache.new) t objects.now) }
+    ensures faults { IsPageMap cache.old → (t : IdTable) → t.page ≡ directory → IdsStand D (pages cache.old) t
+        → AreNew (objects_of t) objects.now → IfErr result (λ b. IsOfPages (next_of cache.new) b.cause) }
+{
+    for object in objects {
+        match add(cache, directory, object.0, &object.1) {
+            Ok(()) => {}
+            Err(broken) => return Err(Broken::midway(broken.cause)),
+        }
+    }
+    Ok(())
+}
