@@ -7,12 +7,13 @@ set -eu
 here=$(cd "$(dirname "$0")" && pwd)
 work=$(mktemp -d)
 trap 'rm -rf "$work"' EXIT
-mkdir -p "$work/crates/query_times/src"
+mkdir -p "$work/crates/query_times/src" "$work/crates/query_times/proofs/tree"
 for crate in box_math refusing block_device block_bytes page_file page_cache box_bytes tree_node node_page range_query; do
     cp -a "$here/../crates/$crate" "$work/crates/$crate"
     grep "^$crate:" "$here/../crates.txt" >>"$work/crates.txt"
 done
 cp "$here/query_times.rattle" "$work/crates/query_times/src/main.rt"
+cp "$here/query_times.antt" "$work/crates/query_times/proofs/tree/Invariants.antt"
 echo 'query_times: range_query node_page page_cache page_file block_device block_bytes box_math' >>"$work/crates.txt"
 git -C "$work" init -q
 (cd "$work/crates/query_times" && rt run) >"$work/log" 2>&1 || { cat "$work/log" >&2; exit 1; }

@@ -1,10 +1,14 @@
 -- What a loop over the entries of a node has taken.
-use Rattle.std.proofs.Common.{◌≡◌, ◌∙◌, ℕ, ◌+◌, ◌<◌, ◌≤◌, Bool, true, false, cond, Some, List, [], ◌∷◌, ◌++◌, All, length, take, get_or, map, refl, sym, ap, subst, arith}
+use Rattle.std.proofs.Common.{◌≡◌, ◌∙◌, ℕ, zero, suc, ◌+◌, ◌-◌, ◌*◌, ◌/◌, ◌%◌, ◌^◌, ◌<◌, ◌≤◌, ◌==◌, ⊎_elim, Bool, true, false, cond, Some, List, [], ◌∷◌, ◌++◌, All, length, take, get_or, map, refl, sym, ap, subst, arith}
 use Rattle.std.specs.Prelude.{slice_get}
-use Rattle.std.proofs.lemmas.Bool.{false≢true}
+use Rattle.std.specs.Int.{bit_at, trailing_zeros, w128}
+use Rattle.std.proofs.lemmas.Bool.{cases_lt, false≢true}
+use Rattle.std.proofs.lemmas.Nat.Bits.{bit_at-trailing_zeros, bit_at-zero, bit_at_cat_high}
 use Rattle.std.proofs.lemmas.List.{append_assoc, append-nil, get_or_default, map-append, take_all, take_more}
 use Rattle.std.proofs.lemmas.List.Elements.{All-get_or, filter-append}
 use Rattle.std.proofs.lemmas.Option.{slice_get-get_or}
+use Rattle.std.proofs.lemmas.Nat.{div-add-mod', pow_pos}
+use Rattle.std.proofs.Math.Nat.{mod-lt}
 use Rattle.box_math.specs.Bounds.{Bounds, IsBox, meets_test}
 use Rattle.box_math.specs.Masks.{has_bit}
 use Rattle.box_math.proofs.BoxLaws.{Within-refl}
@@ -81,3 +85,60 @@ module _ {X : Type 0} {f : Item → X} {items : List Item} {i : ℕ} {old now : 
   admitted_unset {D} q window mask within meets boxes met unset so_far =
       let fails = unset_fails D (is_admitted q) window items mask i within (λ b box passes. meets b passes) boxes met unset in
       one_passed so_far (get_or items i no_item) within (get_or_default items i no_item (get_or items i no_item) within) fails
+
+-- ---- entries up to the next whose bit is set
+
+one_past : {X : Type 0} (f : Item → X) (test : Bounds → Bool) (items : List Item) (i : ℕ) (old now : List X) → length items ≤ i → Taken f test items i old now → Taken f test items (i + 1) old now
+one_past f test items i old now past so_far = record {
+  is = so_far.is ∙ ap (λ (xs : List Item). old ++ map f (passing_entries test xs)) (take_all i items past ∙ sym (take_all (i + 1) items (omega (arith, past))));
+}
+
+skip : {X : Type 0} (f : Item → X) (test : Bounds → Bool) (items : List Item) (old now : List X) (mask i : ℕ)
+    → ((k : ℕ) → k < length items → has_bit mask k ≡ false → Taken f test items k old now → Taken f test items (k + 1) old now)
+    → Taken f test items i old now → (d : ℕ) → ((k : ℕ) → i ≤ k → k < i + d → has_bit mask k ≡ false) → Taken f test items (i + d) old now
+skip f test items old now mask i step so_far zero unset = subst (λ (n : ℕ). Taken f test items n old now) (let e : i ≡ i + 0 = omega arith in e) so_far
+skip f test items old now mask i step so_far (suc d) unset =
+    let before = skip f test items old now mask i step so_far d (λ k low high. unset k low (omega (arith, high))) in
+    let next : Taken f test items (i + d + 1) old now = ⊎_elim
+    (λ (within : i + d < length items). step (i + d) within (unset (i + d) (omega arith) (omega arith)) before)
+    (λ (past : length items ≤ i + d). one_past f test items (i + d) old now past before)
+    (cases_lt (i + d) (length items)) in
+    subst (λ (n : ℕ). Taken f test items n old now) (let e : i + d + 1 ≡ i + suc d = omega arith in e) next
+
+skip_to : {X : Type 0} (f : Item → X) (test : Bounds → Bool) (items : List Item) (old now : List X) (mask i j : ℕ)
+    → ((k : ℕ) → k < length items → has_bit mask k ≡ false → Taken f test items k old now → Taken f test items (k + 1) old now)
+    → Taken f test items i old now → i ≤ j → ((k : ℕ) → i ≤ k → k < j → has_bit mask k ≡ false) → Taken f test items j old now
+skip_to f test items old now mask i j step so_far up unset =
+    let e : i + (j - i) ≡ j = omega (arith, up) in
+    subst (λ (n : ℕ). Taken f test items n old now) e (skip f test items old now mask i step so_far (j - i) (λ k low high. unset k low (omega (arith, high, e))))
+
+module _ {X : Type 0} {f : Item → X} {items : List Item} {old now : List X} where
+  pub sought_to : {D : ℕ} (q : Query D) (window : Bounds) (mask i j : ℕ) → ((b : Bounds) → is_admitted q b ≡ true → meets_test D b window ≡ true)
+      → All (λ item. IsBox D item.bounds) items → ((place : ℕ) (item : Item) → slice_get items place ≡ Some item → has_bit mask place ≡ meets_test D item.bounds window)
+      → i ≤ j → ((k : ℕ) → i ≤ k → k < j → has_bit mask k ≡ false) → Taken f (is_sought q) items i old now → Taken f (is_sought q) items j old now
+  sought_to q window mask i j meets boxes met up unset so_far =
+      skip_to f (is_sought q) items old now mask i j (λ k within no_bit taken. sought_unset q window mask within meets boxes met no_bit taken) so_far up unset
+
+  pub admitted_to : {D : ℕ} (q : Query D) (window : Bounds) (mask i j : ℕ) → ((b : Bounds) → is_admitted q b ≡ true → meets_test D b window ≡ true)
+      → All (λ item. IsBox D item.bounds) items → ((place : ℕ) (item : Item) → slice_get items place ≡ Some item → has_bit mask place ≡ meets_test D item.bounds window)
+      → i ≤ j → ((k : ℕ) → i ≤ k → k < j → has_bit mask k ≡ false) → Taken f (is_admitted q) items i old now → Taken f (is_admitted q) items j old now
+  admitted_to q window mask i j meets boxes met up unset so_far =
+      skip_to f (is_admitted q) items old now mask i j (λ k within no_bit taken. admitted_unset q window mask within meets boxes met no_bit taken) so_far up unset
+
+-- ---- the bits of a mask from a place on
+
+shifted : (mask from k : ℕ) → from ≤ k → bit_at mask k ≡ bit_at (mask / 2 ^ from) (k - from)
+shifted mask from k up =
+    let whole : mask ≡ mask / 2 ^ from * 2 ^ from + mask % 2 ^ from = sym (div-add-mod' mask (2 ^ from)) in
+    ap (λ (n : ℕ). bit_at n k) whole ∙ bit_at_cat_high (mask / 2 ^ from) from (mask % 2 ^ from) k (mod-lt mask (pow_pos from)) up
+
+none_before : (n i : ℕ) → n < 2 ^ 128 → i < trailing_zeros w128 n → bit_at n i ≡ 0
+none_before n i small below = ⊎_elim
+    (λ (some : 0 < n). (bit_at-trailing_zeros w128 n some small).2 i below)
+    (λ (none : n ≤ 0). ap (λ (m : ℕ). bit_at m i) (let e : n ≡ 0 = omega (arith, none) in e) ∙ bit_at-zero i)
+    (cases_lt 0 n)
+
+pub unset_before : (mask from k : ℕ) → mask / 2 ^ from < 2 ^ 128 → from ≤ k → k < from + trailing_zeros w128 (mask / 2 ^ from) → has_bit mask k ≡ false
+unset_before mask from k small up below =
+    let bit : bit_at mask k ≡ 0 = shifted mask from k up ∙ none_before (mask / 2 ^ from) (k - from) small (omega (arith, up, below)) in
+    ap (λ (b : ℕ). b == 1) bit

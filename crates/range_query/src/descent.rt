@@ -1,6 +1,6 @@
 //! The descent of a range query into the nodes that it admits.
 
-ghost use Rattle.std.specs.Prelude.{◌≡◌, ◌⊎◌, ◌+◌, ◌++◌, ◌<◌, Some, map, IfErr, IfOk, OnOk};
+ghost use Rattle.std.specs.Prelude.{◌≡◌, ◌⊎◌, ℕ, ◌+◌, ◌++◌, ◌<◌, ◌≤◌, Some, false, map, IfErr, IfOk, OnOk};
 ghost use Rattle.block_device.specs.Device.{one_more};
 ghost use Rattle.box_math.specs.Bounds.{IsDims};
 ghost use Rattle.box_math.specs.Masks.{has_bit};
@@ -74,11 +74,11 @@ fn add_sought<const D: usize, B: BlockDevice, A: Allocator + Copy, H: Allocator>
 {
     let leaf = view_node::<D, B, A>(cache, page, 0)?;
     let mask = leaf.mask(&query.reach());
-    for place in 0..leaf.len() {
-        if !is_set(mask, place) {
-            continue;
-        }
+    let count = leaf.len();
+    let mut place = next_set(mask, 0);
+    'entries: while place < count {
         let entry = leaf.entry(place);
+        place = next_set(mask, place + 1);
         if !query.seeks(&entry.bounds) {
             continue;
         }
@@ -107,11 +107,11 @@ fn admitted_children<const D: usize, B: BlockDevice, A: Allocator + Copy>(
     let node = view_node::<D, B, A>(cache, root.page, root.level)?;
     let mask = node.mask(&query.reach());
     let mut children = ArrayVec::new();
-    for place in 0..node.len() {
-        if !is_set(mask, place) {
-            continue;
-        }
+    let count = node.len();
+    let mut place = next_set(mask, 0);
+    'entries: while place < count {
         let entry = node.entry(place);
+        place = next_set(mask, place + 1);
         if !query.admits(&entry.bounds) {
             continue;
         }
@@ -120,11 +120,13 @@ fn admitted_children<const D: usize, B: BlockDevice, A: Allocator + Copy>(
     Ok(children)
 }
 
-// Whether the bit of the mask in the place is set.
+// The first place from one on whose bit is set in the mask, or one past all of its bits where none is.
 #[inline]
-fn is_set(mask: u128, place: usize) -> bool
-    requires { place < 128 }
-    ensures { result ≡ has_bit mask place }
+fn next_set(mask: u128, from: usize) -> usize
+    requires { from < 128 }
+    ensures within { from ≤ result }
+    ensures few { result < 256 }
+    ensures unset { (k : ℕ) → from ≤ k → k < result → has_bit mask k ≡ false }
 {
-    (mask >> place) % 2 == 1
+    from + (mask >> from).trailing_zeros() as usize
 }

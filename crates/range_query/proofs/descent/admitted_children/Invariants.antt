@@ -1,5 +1,5 @@
--- What holds at each turn of the loop of `admitted_children`.
-use Rattle.std.proofs.Common.{[], ◌≤◌, length}
+-- What holds at each turn of the loop of `admitted_children`, and that it ends.
+use Rattle.std.proofs.Common.{[], ◌-◌, ◌≤◌, length}
 use Rattle.node_page.specs.Views.{content_in}
 use Rattle.range_query.specs.Entries.{reference_of}
 use Rattle.range_query.specs.Queries.{is_admitted}
@@ -7,5 +7,8 @@ use Rattle.range_query.proofs.EntryLemmas.{Taken}
 use Rattle.range_query.proofs.descent.admitted_children.Given as goal
 
 -- the pages of the entries so far that are admitted are taken, and they are no more than these
-abbrev pub invariant-loop-place : goal.invariant-loop-place
-invariant-loop-place g l = Taken reference_of (is_admitted l.fn.query) (content_in l.node).entries l.place [] l.children.items × (length l.children.items ≤ l.place)
+abbrev pub invariant-entries : goal.invariant-entries
+invariant-entries g l = Taken reference_of (is_admitted l.fn.query) (content_in l.node).entries l.place [] l.children.items × (length l.children.items ≤ l.place)
+
+abbrev pub decreases-entries : goal.decreases-entries
+decreases-entries g l = 256 - l.place
