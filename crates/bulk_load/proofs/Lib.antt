@@ -1,0 +1,5 @@
+-- The files of lemmas.
+pub mod SortLemmas
+pub mod CutLemmas
+pub mod TilingLemmas
+pub mod SlabLemmas
