@@ -3,3 +3,5 @@ pub mod SortLemmas
 pub mod CutLemmas
 pub mod TilingLemmas
 pub mod SlabLemmas
+pub mod RowWords
+pub mod PackedLemmas
