@@ -5,3 +5,4 @@ pub mod TilingLemmas
 pub mod SlabLemmas
 pub mod RowWords
 pub mod PackedLemmas
+pub mod LiftLemmas

@@ -6,3 +6,4 @@ pub mod TilingLaws
 pub mod Packed
 pub mod PackedLaws
 pub mod Loads
+pub mod Levels
