@@ -6,3 +6,4 @@ pub mod SlabLemmas
 pub mod RowWords
 pub mod PackedLemmas
 pub mod LiftLemmas
+pub mod LevelLemmas

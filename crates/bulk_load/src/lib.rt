@@ -2,9 +2,12 @@
 #![tactic(auto)]
 
 pub mod laws;
+mod nodes;
+mod packing;
 mod sorting;
 #[cfg(test)]
 mod tests;
 mod tiling;
 
+pub use packing::load;
 pub use tiling::tile;
