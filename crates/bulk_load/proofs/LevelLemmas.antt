@@ -126,11 +126,11 @@ first_run dims level was runs items waits = record { parents = []; made = tt; se
 next_is : (runs : List (List Branch)) (count : ℕ) → count < length runs → drop count runs ≡ get_or runs count [] ∷ drop (count + 1) runs
 next_is runs count within = let one : suc count ≡ count + 1 = omega arith in drop-cons runs count [] within ∙ ap (λ (k : ℕ). get_or runs count [] ∷ drop k runs) one
 
-run_length : (runs : List (List Branch)) (sizes : List ℕ) (count size : ℕ) → map length runs ≡ sizes → count < length runs → size ≡ get_or sizes count size → length (get_or runs count []) ≡ size
-run_length runs sizes count size same within is = sym (get_or-map length runs count [] size within) ∙ ap (λ (ns : List ℕ). get_or ns count size) same ∙ sym is
+run_length : (runs : List (List Branch)) (sizes : List ℕ) (count size : ℕ) → map length runs ≡ sizes → count < length runs → size ≡ get_or sizes count 0 → length (get_or runs count []) ≡ size
+run_length runs sizes count size same within is = sym (get_or-map length runs count [] 0 within) ∙ ap (λ (ns : List ℕ). get_or ns count 0) same ∙ sym is
 
 pub next_items : (dims level : ℕ) (was now : PageMap) (runs : List (List Branch)) (sizes : List ℕ) (count size : ℕ) (left items : List Item) → Written dims level was now runs count left items
-    → map length runs ≡ sizes → count < length runs → size ≡ get_or sizes count size
+    → map length runs ≡ sizes → count < length runs → size ≡ get_or sizes count 0
     → (take size left ≡ map item_in (get_or runs count [])) × (drop size left ≡ map item_in (joined (drop (count + 1) runs)))
 next_items dims level was now runs sizes count size left items w same within is =
     let run = get_or runs count [] in
@@ -142,7 +142,7 @@ next_items dims level was now runs sizes count size left items w same within is 
 
 -- one run more
 pub one_run_more : (dims level : ℕ) (was mid now : PageMap) (runs : List (List Branch)) (sizes : List ℕ) (count size : ℕ) (left items : List Item) (p : ℕ) (bounds : Bounds)
-    → Written dims level was mid runs count left items → map length runs ≡ sizes → count < length runs → size ≡ get_or sizes count size → 0 < size
+    → Written dims level was mid runs count left items → map length runs ≡ sizes → count < length runs → size ≡ get_or sizes count 0 → 0 < size
     → mid p ≡ None → SameBut p mid now → node_in dims (now p) ≡ Some (record { level = level; entries = take size left }) → bounds ≡ least_box dims (take size left)
     → Written dims level was now runs (count + 1) (drop size left) (items ++ record { bounds = bounds; reference = p } ∷ [])
 one_run_more dims level was mid now runs sizes count size left items p bounds w same within is some free other node bounds_are =

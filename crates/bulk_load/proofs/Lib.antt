@@ -7,3 +7,5 @@ pub mod RowWords
 pub mod PackedLemmas
 pub mod LiftLemmas
 pub mod LevelLemmas
+pub mod SizeLemmas
+pub mod CacheLemmas
