@@ -57,7 +57,7 @@ parents_shape dims most (run ∷ runs) (child bounds page below ∷ ps) four fai
      subst (λ (row : Row). RowHasShape dims most row) (sym are.0) (row_front (RowHasShape dims most) (shape_by_entry dims most) run (joined runs) shape),
      parents_shape dims most runs ps four (All-tail (IsFair most) run runs fair) are.2 (row_back (RowHasShape dims most) (shape_by_entry dims most) run (joined runs) shape))
 
-pub two_runs : (most : ℕ) (runs : List (List Branch)) → All (IsFair most) runs → most < length (joined runs) → 2 ≤ length runs
+pub two_runs : {A : Type 0} (most : ℕ) (runs : List (List A)) → All (IsFair most) runs → most < length (joined runs) → 2 ≤ length runs
 two_runs most [] fair more_than = absurd (omega (arith, more_than))
 two_runs most (run ∷ []) fair more_than = absurd (omega (arith, more_than, (fair 0 run (omega arith)).1, length-append run []))
 two_runs most (run ∷ (other ∷ runs)) fair more_than = omega arith

@@ -8,7 +8,7 @@ use Rattle.tree_node.specs.declared.node.Root.{Root}
 use Rattle.node_page.specs.Parts.{Moves, Part}
 use Rattle.node_page.specs.Standing.{PageMap, RowStands, Stands}
 use Rattle.bulk_load.specs.Packed.{AreParents, Packs}
-use Rattle.bulk_load.specs.Tiling.{joined}
+use Rattle.bulk_load.specs.Tiling.{IsTiled, joined}
 
 -- the pages below some entries
 abbrev pub pages_below : List Branch → Part
@@ -27,6 +27,15 @@ pub record LevelWritten (dims level : ℕ) (was now : PageMap) (runs : List (Lis
   pub made : AreParents dims runs parents
   pub wait : WaitFor dims (suc level) now items parents
   pub moves : Moves was now (pages_below (joined runs)) (pages_below parents)
+
+-- the entries of a level were cut into runs, each of which became a node
+pub record LevelPacked (dims most level : ℕ) (was now : PageMap) (bs : List Branch) (items : List Item) : Type 0 where
+  pub runs : List (List Branch)
+  pub tiled : IsTiled item_in dims most bs runs
+  pub parents : List Branch
+  pub made : AreParents dims runs parents
+  pub wait : WaitFor dims (suc level) now items parents
+  pub moves : Moves was now (pages_below bs) (pages_below parents)
 
 -- the entries of a level became a packed tree, whose root is this
 pub record PackedAt (dims most level : ℕ) (was now : PageMap) (bs : List Branch) (root : Root) : Type 0 where

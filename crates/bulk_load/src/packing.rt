@@ -12,7 +12,7 @@ ghost use Rattle.tree_node.specs.Positions.{total};
 ghost use Rattle.tree_node.specs.Trees.{Branch};
 ghost use Rattle.node_page.specs.Broken.{Alters};
 ghost use Rattle.node_page.specs.Layout.{IsReference};
-ghost use Rattle.bulk_load.specs.Levels.{AreSizes, LevelWritten, PackedAt, WaitFor};
+ghost use Rattle.bulk_load.specs.Levels.{AreSizes, LevelPacked, LevelWritten, PackedAt, WaitFor};
 ghost use Rattle.bulk_load.specs.Loads.{Loads};
 ghost use Rattle.bulk_load.specs.Tiling.{joined};
 
@@ -77,14 +77,40 @@ fn pack<const D: usize, B: BlockDevice, A: Allocator + Copy, H: Allocator + Copy
             Err(cause) => Err(Broken::midway(cause)),
         };
     }
-    let sizes = tile(alloc, entries, m_max)?;
-    let mut parents = match write_level(alloc, cache, entries, sizes.as_slice(), level) {
-        Ok(parents) => parents,
-        Err(cause) => return Err(Broken::midway(cause)),
-    };
+    let mut parents = pack_level(alloc, cache, entries, level, m_max)?;
     match pack(alloc, cache, parents.as_mut_slice(), level + 1, m_max) {
         Ok(root) => Ok(root),
         Err(broken) => Err(Broken::midway(broken.cause)),
+    }
+}
+
+// Puts the entries of a level into order and writes its nodes, and answers an entry for each node.
+fn pack_level<const D: usize, B: BlockDevice, A: Allocator + Copy, H: Allocator + Copy>(
+    alloc: H,
+    cache: &mut PageCache<B, A>,
+    entries: &mut [Entry<D>],
+    level: u8,
+    m_max: u8,
+) -> Result<Vec<Entry<D>, H>, Broken>
+    requires dims { IsDims D }
+    requires open { gate_of cache.old ≡ Open }
+    requires sized { (4 ≤ m_max) × (m_max ≤ 100) }
+    requires above { m_max < length entries.old }
+    requires refers { All (λ item. IsReference level item.reference) (items_of entries.old) }
+    ensures alters { Alters cache.old cache.new result }
+    ensures sound { IsPageMap cache.old → IsPageMap cache.new }
+    ensures two { IfOk result (λ parents. 2 ≤ length parents.items) }
+    ensures half { IfOk result (λ parents. 2 * length parents.items ≤ length entries.old) }
+    ensures refers { IfOk result (λ parents. All (λ item. IsReference (level + 1) item.reference) (items_of parents.items)) }
+    ensures packed { IsPageMap cache.old → (bs : List Branch) → WaitFor D level (pages cache.old) (items_of entries.old) bs
+        → IfOk result (λ parents. LevelPacked D m_max level (pages cache.old) (pages cache.new) bs (items_of parents.items)) }
+    ensures all { IsPermutation entries.old entries.new }
+    ensures faults { IsPageMap cache.old → IfErr result (λ b. IsOfDevice b.cause ⊎ (b.cause ≡ fault.NoPages)) }
+{
+    let sizes = tile(alloc, entries, m_max)?;
+    match write_level(alloc, cache, entries, sizes.as_slice(), level) {
+        Ok(parents) => Ok(parents),
+        Err(cause) => Err(Broken::midway(cause)),
     }
 }
 
