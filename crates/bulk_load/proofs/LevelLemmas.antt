@@ -211,14 +211,12 @@ root_written dims most level was now items bs r waits few level_is free same nod
 
 -- a level is written, and those above it
 pub level_packed : (dims most level : ℕ) (was mid now : PageMap) (bs : List Branch) (runs : List (List Branch)) (parents : List Branch) (r : Root)
-    → most < length bs → IsTiled item_in dims most bs runs → AreParents dims runs parents → IsPermutation bs (joined runs)
-    → Moves was mid (pages_below (joined runs)) (pages_below parents) → PackedAt dims most (suc level) mid now parents r → PackedAt dims most level was now bs r
-level_packed dims most level was mid now bs runs parents r more_than tiled made same moves p = record {
+    → most < length bs → IsTiled item_in dims most bs runs → AreParents dims runs parents → Moves was mid (pages_below bs) (pages_below parents) → PackedAt dims most (suc level) mid now parents r → PackedAt dims most level was now bs r
+level_packed dims most level was mid now bs runs parents r more_than tiled made moves p = record {
   tree = p.tree;
   page = p.page;
   level_is = p.level_is;
   packs = higher level bs runs parents p.tree more_than tiled made p.packs;
   stands = p.stands;
-  moves = moves_in_turn was mid now (pages_below bs) (pages_below parents) (λ n. occurs_in n p.tree)
-      (moves_same was mid (pages_below (joined runs)) (pages_below bs) (pages_below parents) (pages_below parents) (λ n. below_permuted bs (joined runs) n same) (λ n. refl) moves) p.moves;
+  moves = moves_in_turn was mid now (pages_below bs) (pages_below parents) (λ n. occurs_in n p.tree) moves p.moves;
 }

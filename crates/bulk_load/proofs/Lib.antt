@@ -9,3 +9,4 @@ pub mod LiftLemmas
 pub mod LevelLemmas
 pub mod SizeLemmas
 pub mod CacheLemmas
+pub mod LoadLemmas
