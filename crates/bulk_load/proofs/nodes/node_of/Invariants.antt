@@ -1,0 +1,7 @@
+-- What holds at each turn of the loop over the entries.
+use Rattle.std.proofs.Common.{◌≡◌, take}
+use Rattle.bulk_load.proofs.nodes.node_of.Given as goal
+
+-- the entries so far are in the node
+abbrev pub invariant-entries : goal.invariant-entries
+invariant-entries g l = record { level : l.node.level ≡ l.level; so_far : l.node.entries.items ≡ take l.place l.entries }

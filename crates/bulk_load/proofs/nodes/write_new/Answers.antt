@@ -1,0 +1,18 @@
+-- A page given out, and then written.
+use Rattle.std.proofs.Common.{◌≡◌, ◌∙◌, None, Some, List, ℕ, Option, refl, subst, sym}
+use Rattle.std.specs.Prelude.{IsSome}
+use Rattle.page_cache.specs.Calls.{changes_and_refuses, changes_in_turn}
+use Rattle.bulk_load.proofs.nodes.write_new.Goals as goal
+
+pub returns-in_err-write_node-clause-changes : goal.returns-in_err-write_node-clause-changes
+returns-in_err-write_node-clause-changes g c = changes_and_refuses c.args.cache.now c.allocate.new.self c.write_node.new.cache c.in_err-write_node.field-0.0 c.from_residual-in_err-write_node.result
+    c.from_residual-in_err-write_node.ensures.1 c.in_ok-page.ensures.changes c.in_err-write_node.ensures.changes
+
+pub returns-clause-changes : goal.returns-clause-changes
+returns-clause-changes g c = changes_in_turn c.args.cache.now c.allocate.new.self c.write_node.new.cache None c.in_ok-page.ensures.changes c.in_ok-write_node.ensures.changes
+
+pub returns-clause-others : goal.returns-clause-others
+returns-clause-others g c = λ map k other.
+    let given = c.in_ok-page.ensures.fresh map in
+    let live = subst (λ (page : Option (List ℕ)). IsSome page) (sym given.1) refl in
+    c.in_ok-write_node.ensures.others (c.in_ok-page.ensures.sound map).honest live k other ∙ given.2 k other

@@ -1,0 +1,13 @@
+//! Packed trees: all objects of a layer made into a tree at once.
+#![tactic(auto)]
+
+pub mod laws;
+mod nodes;
+mod packing;
+mod sorting;
+#[cfg(test)]
+mod tests;
+mod tiling;
+
+pub use packing::load;
+pub use tiling::tile;

@@ -1,0 +1,148 @@
+//! Packed trees, written level by level into pages that were not live.
+
+ghost use Rattle.std.specs.Prelude.{◌≡◌, ◌⊎◌, ◌+◌, ◌*◌, ◌^◌, ◌<◌, ◌≤◌, ℕ, All, IfErr, IfOk, IsPermutation, List, length, map};
+ghost use Rattle.box_math.specs.Bounds.{IsDims};
+ghost use Rattle.page_file.specs.Fault.{IsOfDevice};
+ghost use Rattle.page_file.specs.declared.fault.Fault.TheVariants as fault;
+ghost use Rattle.page_file.specs.declared.gate.Gate.TheVariants.{Open};
+ghost use Rattle.page_cache.specs.Cache.{IsPageMap, gate_of, pages};
+ghost use Rattle.page_cache.specs.Calls.{Changes};
+ghost use Rattle.tree_node.specs.Nodes.{items_of};
+ghost use Rattle.tree_node.specs.Positions.{total};
+ghost use Rattle.tree_node.specs.Trees.{Branch};
+ghost use Rattle.node_page.specs.Broken.{Alters};
+ghost use Rattle.node_page.specs.Layout.{IsReference};
+ghost use Rattle.bulk_load.specs.Levels.{AreSizes, LevelPacked, LevelWritten, PackedAt, WaitFor};
+ghost use Rattle.bulk_load.specs.Loads.{Loads};
+ghost use Rattle.bulk_load.specs.Tiling.{joined};
+
+use crate::nodes::{write_new, write_parent};
+use crate::tiling::tile;
+use block_device::BlockDevice;
+use node_page::{Broken, Entry, Root};
+use page_cache::PageCache;
+use page_file::Fault;
+use std::alloc::Allocator;
+use tree_node::see_boxes;
+
+/// Makes a tree packed from these objects, in pages that were not live: its nodes have at most `m_max` entries, and no
+/// objects make an empty leaf. The gate has to be open. The objects are left in some order.
+///
+/// A refusal is `Memory`, `Device` or `NoPages` on a sound map. It is untouched where the memory for the order of the
+/// objects was refused, which comes before the first page; the lists of the levels above grow while pages are written.
+pub fn load<const D: usize, B: BlockDevice, A: Allocator + Copy, H: Allocator + Copy>(
+    alloc: H,
+    cache: &mut PageCache<B, A>,
+    objects: &mut [Entry<D>],
+    m_max: u8,
+) -> Result<Root, Broken>
+    requires dims { IsDims D }
+    requires open { gate_of cache.old ≡ Open }
+    requires sized { (4 ≤ m_max) × (m_max ≤ 100) }
+    ensures alters { Alters cache.old cache.new result }
+    ensures sound { IsPageMap cache.old → IsPageMap cache.new }
+    ensures loaded { IsPageMap cache.old
+        → IfOk result (λ root. Loads D m_max (pages cache.old) (pages cache.new) (items_of objects.old) root) }
+    ensures all { IsPermutation objects.old objects.new }
+    ensures faults { IsPageMap cache.old → IfErr result (λ b. IsOfDevice b.cause ⊎ (b.cause ≡ fault.NoPages)) }
+{
+    see_boxes(objects);
+    pack(alloc, cache, objects, 0, m_max)
+}
+
+// Packs the entries of a level, which are left in some order.
+fn pack<const D: usize, B: BlockDevice, A: Allocator + Copy, H: Allocator + Copy>(
+    alloc: H,
+    cache: &mut PageCache<B, A>,
+    entries: &mut [Entry<D>],
+    level: u8,
+    m_max: u8,
+) -> Result<Root, Broken>
+    requires dims { IsDims D }
+    requires open { gate_of cache.old ≡ Open }
+    requires sized { (4 ≤ m_max) × (m_max ≤ 100) }
+    requires some { 0 < level → 1 ≤ length entries.old }
+    requires refers { All (λ item. IsReference level item.reference) (items_of entries.old) }
+    requires fits { length entries.old * 2 ^ level < 2 ^ 64 }
+    ensures alters { Alters cache.old cache.new result }
+    ensures sound { IsPageMap cache.old → IsPageMap cache.new }
+    ensures packed { IsPageMap cache.old → (bs : List Branch) → WaitFor D level (pages cache.old) (items_of entries.old) bs
+        → IfOk result (λ root. PackedAt D m_max level (pages cache.old) (pages cache.new) bs root) }
+    ensures all { IsPermutation entries.old entries.new }
+    ensures faults { IsPageMap cache.old → IfErr result (λ b. IsOfDevice b.cause ⊎ (b.cause ≡ fault.NoPages)) }
+{
+    if entries.len() <= usize::from(m_max) {
+        return match write_new(cache, entries, level) {
+            Ok(page) => Ok(Root { page, level }),
+            Err(cause) => Err(Broken::midway(cause)),
+        };
+    }
+    let mut parents = pack_level(alloc, cache, entries, level, m_max)?;
+    match pack(alloc, cache, parents.as_mut_slice(), level + 1, m_max) {
+        Ok(root) => Ok(root),
+        Err(broken) => Err(Broken::midway(broken.cause)),
+    }
+}
+
+// Puts the entries of a level into order and writes its nodes, and answers an entry for each node.
+fn pack_level<const D: usize, B: BlockDevice, A: Allocator + Copy, H: Allocator + Copy>(
+    alloc: H,
+    cache: &mut PageCache<B, A>,
+    entries: &mut [Entry<D>],
+    level: u8,
+    m_max: u8,
+) -> Result<Vec<Entry<D>, H>, Broken>
+    requires dims { IsDims D }
+    requires open { gate_of cache.old ≡ Open }
+    requires sized { (4 ≤ m_max) × (m_max ≤ 100) }
+    requires above { m_max < length entries.old }
+    requires refers { All (λ item. IsReference level item.reference) (items_of entries.old) }
+    ensures alters { Alters cache.old cache.new result }
+    ensures sound { IsPageMap cache.old → IsPageMap cache.new }
+    ensures two { IfOk result (λ parents. 2 ≤ length parents.items) }
+    ensures half { IfOk result (λ parents. 2 * length parents.items ≤ length entries.old) }
+    ensures refers { IfOk result (λ parents. All (λ item. IsReference (level + 1) item.reference) (items_of parents.items)) }
+    ensures packed { IsPageMap cache.old → (bs : List Branch) → WaitFor D level (pages cache.old) (items_of entries.old) bs
+        → IfOk result (λ parents. LevelPacked D m_max level (pages cache.old) (pages cache.new) bs (items_of parents.items)) }
+    ensures all { IsPermutation entries.old entries.new }
+    ensures faults { IsPageMap cache.old → IfErr result (λ b. IsOfDevice b.cause ⊎ (b.cause ≡ fault.NoPages)) }
+{
+    let sizes = tile(alloc, entries, m_max)?;
+    match write_level(alloc, cache, entries, sizes.as_slice(), level) {
+        Ok(parents) => Ok(parents),
+        Err(cause) => Err(Broken::midway(cause)),
+    }
+}
+
+// Writes the nodes of a level, which take so many of the entries each, and answers an entry for each node.
+fn write_level<const D: usize, B: BlockDevice, A: Allocator + Copy, H: Allocator>(
+    alloc: H,
+    cache: &mut PageCache<B, A>,
+    entries: &[Entry<D>],
+    sizes: &[usize],
+    level: u8,
+) -> Result<Vec<Entry<D>, H>, Fault>
+    requires dims { IsDims D }
+    requires open { gate_of cache.old ≡ Open }
+    requires whole { total (λ size. size) sizes.now ≡ length entries.now }
+    requires sized { AreSizes sizes.now }
+    requires refers { All (λ item. IsReference level item.reference) (items_of entries.now) }
+    ensures changes { Changes cache.old cache.new result }
+    ensures sound { IsPageMap cache.old → IsPageMap cache.new }
+    ensures count { IfOk result (λ parents. length parents.items ≡ length sizes.now) }
+    ensures refers { IfOk result (λ parents. All (λ item. IsReference (level + 1) item.reference) (items_of parents.items)) }
+    ensures written { IsPageMap cache.old → (runs : List (List Branch)) → map length runs ≡ sizes.now
+        → WaitFor D level (pages cache.old) (items_of entries.now) (joined runs)
+        → IfOk result (λ parents. LevelWritten D level (pages cache.old) (pages cache.new) runs (items_of parents.items)) }
+    ensures faults { IsPageMap cache.old → IfErr result (λ f. IsOfDevice f ⊎ (f ≡ fault.NoPages)) }
+{
+    let mut parents = Vec::with_capacity(alloc, sizes.len())?;
+    let mut from = 0;
+    'runs: for place in 0..sizes.len() {
+        let size = sizes[place];
+        let parent = write_parent(cache, &entries[from..from + size], level)?;
+        parents.push(parent)?;
+        from += size;
+    }
+    Ok(parents)
+}

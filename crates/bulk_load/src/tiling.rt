@@ -1,0 +1,114 @@
+//! Entries put into the order of the nodes of a packed tree.
+
+ghost use Rattle.std.specs.Prelude.{◌≡◌, ◌↔◌, ℕ, ◌-◌, ◌^◌, ◌<◌, ◌≤◌, IfErr, IfOk, IsPermutation, IsTrue, OnOk, ◌++◌, slice_index};
+ghost use Rattle.box_math.specs.Bounds.{IsDims};
+ghost use Rattle.page_file.specs.declared.fault.Fault.TheVariants as fault;
+ghost use Rattle.tree_node.specs.Nodes.{item_of};
+ghost use Rattle.bulk_load.specs.Tiling.{AddsRuns, IsLeastRoot, IsTiledInto, even_sizes, size_of_one};
+
+use crate::sorting::sort_on;
+use node_page::Entry;
+use page_file::Fault;
+use std::alloc::Allocator;
+
+/// Puts the entries into the order in which the nodes of a packed tree take them, each at most `m_max`, and answers how
+/// many each node takes: one number for a list of one node, none for no entries. Entries of one centre and one
+/// reference go by position, so there is one such order (docs/RULES.md, "Packed load").
+///
+/// A refusal is `Memory`, and leaves the entries in some order.
+pub fn tile<const D: usize, A: Allocator + Copy>(
+    alloc: A,
+    entries: &mut [Entry<D>],
+    m_max: u8,
+) -> Result<Vec<usize, A>, Fault>
+    requires dims { IsDims D }
+    requires some { 0 < m_max }
+    ensures tiled { IfOk result (λ sizes. IsTiledInto item_of D m_max entries.old entries.new sizes.items) }
+    ensures all { IsPermutation entries.old entries.new }
+    ensures memory { IfErr result (λ f. f ≡ fault.Memory) }
+{
+    let mut sizes = Vec::new(alloc);
+    tile_on(alloc, entries, 0, usize::from(m_max), &mut sizes)?;
+    Ok(sizes)
+}
+
+// Does so on an axis and those after it, and appends the sizes.
+fn tile_on<const D: usize, A: Allocator + Copy>(
+    alloc: A,
+    entries: &mut [Entry<D>],
+    axis: usize,
+    m_max: usize,
+    sizes: &mut Vec<usize, A>,
+) -> Result<(), Fault>
+    requires dims { IsDims D }
+    requires within { axis ≤ D }
+    requires some { 0 < m_max }
+    ensures tiled { OnOk result (AddsRuns item_of D m_max (D - axis) entries.old entries.new sizes.old.items sizes.new.items) }
+    ensures all { IsPermutation entries.old entries.new }
+    ensures memory { IfErr result (λ f. f ≡ fault.Memory) }
+{
+    let count = entries.len();
+    if axis == D {
+        sizes.push(count)?;
+        return Ok(());
+    }
+    if count <= m_max {
+        return add_one(count, sizes);
+    }
+    sort_on(alloc, entries, axis)?;
+    let slabs = least_root((D - axis) as u32, count.div_ceil(m_max));
+    let mut from = 0;
+    'slabs: for slab in 0..slabs {
+        let size = even_size(count, slabs, slab);
+        tile_on(alloc, &mut entries[from..from + size], axis + 1, m_max, sizes)?;
+        from += size;
+    }
+    Ok(())
+}
+
+// Appends the size of a list of one node, if it has one.
+fn add_one<A: Allocator>(count: usize, sizes: &mut Vec<usize, A>) -> Result<(), Fault>
+    ensures added { OnOk result (sizes.new.items ≡ sizes.old.items ++ size_of_one count) }
+    ensures memory { IfErr result (λ f. f ≡ fault.Memory) }
+{
+    if count > 0 {
+        sizes.push(count)?;
+    }
+    Ok(())
+}
+
+// How many of so many elements the run in the place has, of so many even runs.
+fn even_size(count: usize, runs: usize, place: usize) -> usize
+    requires { place < runs }
+    ensures { result ≡ slice_index (even_sizes count runs) place }
+{
+    let short = count / runs;
+    if place < count % runs {
+        short + 1
+    } else {
+        short
+    }
+}
+
+// The least number of slabs on each of the axes with which they make that many cells.
+fn least_root(axes: u32, cells: usize) -> usize
+    requires axes { 0 < axes }
+    requires some { 0 < cells }
+    ensures { IsLeastRoot axes cells result }
+{
+    let mut slabs = 1;
+    'search: while makes_fewer(slabs, axes, cells) {
+        slabs += 1;
+    }
+    slabs
+}
+
+// Whether so many slabs on each of the axes make fewer cells.
+fn makes_fewer(slabs: usize, axes: u32, cells: usize) -> bool
+    ensures { IsTrue result ↔ slabs ^ axes < cells }
+{
+    match slabs.checked_pow(axes) {
+        Some(made) => made < cells,
+        None => false,
+    }
+}
