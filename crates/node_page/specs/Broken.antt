@@ -90,5 +90,12 @@ module _ {D A : Type 0} {m : _} where
   alters_and_breaks old mid new x e result is a b = changes_and_breaks old mid new e.cause result is a.changes b.changes
 
 -- what changes in turn are proved by
-pub ruleset breaks = (made_alters, asks_and_breaks, asks_and_is_refused, asks_and_alters, changes_and_breaks,
-  alters_in_turn, alters_and_breaks)
+pub ruleset breaks = (
+  made_alters,
+  asks_and_breaks,
+  asks_and_is_refused,
+  asks_and_alters,
+  changes_and_breaks,
+  alters_in_turn,
+  alters_and_breaks,
+)

@@ -5,7 +5,9 @@ ghost use Rattle.page_file.specs.Opening.{header_of_block};
 ghost use Rattle.page_file.specs.Pages.{free_page_link, may_link};
 
 use crate::header::Header;
-use block_bytes::{FREE_KIND, read_u8, read_u32, write_u8, write_u16, write_u32, write_u64, zero_block};
+use block_bytes::{
+    FREE_KIND, read_u8, read_u32, write_u8, write_u16, write_u32, write_u64, zero_block,
+};
 
 /// The ASCII text RSTARGAT.
 pub const GATE_TEXT: u64 = 0x5253_5441_5247_4154;

@@ -78,10 +78,7 @@ fn fill<D: BlockDevice, A: Allocator + Copy>(cache: &mut PageCache<D, A>) -> Res
 
 // A cache of 8 pages over a new file, its gate open: pages 3 to 11 are filled with their number, and two are free. It
 // holds 8 of them, or none.
-fn scene<A: Allocator + Copy>(
-    alloc: A,
-    held: bool,
-) -> Result<PageCache<MemoryDevice<A>, A>, Fault>
+fn scene<A: Allocator + Copy>(alloc: A, held: bool) -> Result<PageCache<MemoryDevice<A>, A>, Fault>
     ensures { IfOk result (λ cache. gate_of cache ≡ Open) }
 {
     let file = create_pages(MemoryDevice::new(alloc)).map_err(|(fault, _)| fault)?;
@@ -120,7 +117,11 @@ fn is_refused(alloc: Global, call: Call, held: bool, k: u32) -> Result<bool, Fau
         return Ok(false);
     }
     // Page 3 may hold any bytes where it was put or freed, and else holds its own.
-    let from = if call == Call::Put || call == Call::Free { 4 } else { 3 };
+    let from = if call == Call::Put || call == Call::Free {
+        4
+    } else {
+        3
+    };
     if done != Err(Fault::Memory) || first_other(&mut cache, from)? != 12 {
         return Err(Fault::Damaged(k));
     }
@@ -190,7 +191,10 @@ fn free_pages_that_are_no_chain_are_damaged(rt: HostRuntime) -> Result<(), Fail>
     // The first free page is no longer one: its kind is 0.
     cache.put(13, &[0; 4096])?;
     assert_eq!(rt; cache.allocate(), Err(Fault::Damaged(13)));
-    assert_eq!(rt; cache.free_pages(rt.alloc()).err(), Some(Fault::Damaged(13)));
+    assert_eq!(rt;
+        cache.free_pages(rt.alloc()).err(),
+        Some(Fault::Damaged(13))
+    );
     assert_eq!(rt; first_other(&mut cache, 3)?, 12);
     Ok(())
 }

@@ -15,4 +15,3 @@ kept (Some xs) = refl
 some_said : {F : Type 0} (a b : Option (List ℕ)) (r : Result ℕ F) (line : List ℕ) → WriteAppends a b r line → (said : List ℕ) × Appends a b said
 some_said a b (Ok n) line h = (take n line, h)
 some_said a b (Err f) line h = ([], nothing a b h)
-
