@@ -13,7 +13,7 @@ for crate in box_math refusing block_device block_bytes page_file page_cache box
     grep "^$crate:" "$here/../crates.txt" >>"$work/crates.txt"
 done
 cp "$here/query_times.rattle" "$work/crates/query_times/src/main.rt"
-cp "$here/query_times.antt" "$work/crates/query_times/proofs/tree/Invariants.antt"
+cp "$here/query_times.invariants" "$work/crates/query_times/proofs/tree/Invariants.antt"
 echo 'query_times: range_query node_page page_cache page_file block_device block_bytes box_math' >>"$work/crates.txt"
 git -C "$work" init -q
 (cd "$work/crates/query_times" && rt run) >"$work/log" 2>&1 || { cat "$work/log" >&2; exit 1; }
