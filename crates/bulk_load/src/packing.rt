@@ -1,6 +1,7 @@
 //! Packed trees, written level by level into pages that were not live.
 
-ghost use Rattle.std.specs.Prelude.{◌≡◌, ◌⊎◌, ◌+◌, ◌*◌, ◌^◌, ◌<◌, ◌≤◌, ℕ, All, IfErr, IfOk, IsPermutation, List, length, map};
+ghost use Rattle.std.specs.Prelude.{◌≡◌, ◌⊎◌, ◌+◌, ◌*◌, ◌^◌, ◌<◌, ◌≤◌, ℕ, All, IfErr, IfOk, IsPermutation, List};
+ghost use Rattle.std.specs.Prelude.{length, map};
 ghost use Rattle.box_math.specs.Bounds.{IsDims};
 ghost use Rattle.page_file.specs.Fault.{IsOfDevice};
 ghost use Rattle.page_file.specs.declared.fault.Fault.TheVariants as fault;
@@ -66,7 +67,8 @@ fn pack<const D: usize, B: BlockDevice, A: Allocator + Copy, H: Allocator + Copy
     requires fits { length entries.old * 2 ^ level < 2 ^ 64 }
     ensures alters { Alters cache.old cache.new result }
     ensures sound { IsPageMap cache.old → IsPageMap cache.new }
-    ensures packed { IsPageMap cache.old → (bs : List Branch) → WaitFor D level (pages cache.old) (items_of entries.old) bs
+    ensures packed { IsPageMap cache.old → (bs : List Branch)
+        → WaitFor D level (pages cache.old) (items_of entries.old) bs
         → IfOk result (λ root. PackedAt D m_max level (pages cache.old) (pages cache.new) bs root) }
     ensures all { IsPermutation entries.old entries.new }
     ensures faults { IsPageMap cache.old → IfErr result (λ b. IsOfDevice b.cause ⊎ (b.cause ≡ fault.NoPages)) }
@@ -101,9 +103,12 @@ fn pack_level<const D: usize, B: BlockDevice, A: Allocator + Copy, H: Allocator 
     ensures sound { IsPageMap cache.old → IsPageMap cache.new }
     ensures two { IfOk result (λ parents. 2 ≤ length parents.items) }
     ensures half { IfOk result (λ parents. 2 * length parents.items ≤ length entries.old) }
-    ensures refers { IfOk result (λ parents. All (λ item. IsReference (level + 1) item.reference) (items_of parents.items)) }
-    ensures packed { IsPageMap cache.old → (bs : List Branch) → WaitFor D level (pages cache.old) (items_of entries.old) bs
-        → IfOk result (λ parents. LevelPacked D m_max level (pages cache.old) (pages cache.new) bs (items_of parents.items)) }
+    ensures refers { IfOk result (λ parents. All (λ item. IsReference (level + 1) item.reference)
+        (items_of parents.items)) }
+    ensures packed { IsPageMap cache.old → (bs : List Branch)
+        → WaitFor D level (pages cache.old) (items_of entries.old) bs
+        → IfOk result (λ parents. LevelPacked D m_max level (pages cache.old) (pages cache.new) bs
+        (items_of parents.items)) }
     ensures all { IsPermutation entries.old entries.new }
     ensures faults { IsPageMap cache.old → IfErr result (λ b. IsOfDevice b.cause ⊎ (b.cause ≡ fault.NoPages)) }
 {
@@ -130,10 +135,12 @@ fn write_level<const D: usize, B: BlockDevice, A: Allocator + Copy, H: Allocator
     ensures changes { Changes cache.old cache.new result }
     ensures sound { IsPageMap cache.old → IsPageMap cache.new }
     ensures count { IfOk result (λ parents. length parents.items ≡ length sizes.now) }
-    ensures refers { IfOk result (λ parents. All (λ item. IsReference (level + 1) item.reference) (items_of parents.items)) }
+    ensures refers { IfOk result (λ parents. All (λ item. IsReference (level + 1) item.reference)
+        (items_of parents.items)) }
     ensures written { IsPageMap cache.old → (runs : List (List Branch)) → map length runs ≡ sizes.now
         → WaitFor D level (pages cache.old) (items_of entries.now) (joined runs)
-        → IfOk result (λ parents. LevelWritten D level (pages cache.old) (pages cache.new) runs (items_of parents.items)) }
+        → IfOk result (λ parents. LevelWritten D level (pages cache.old) (pages cache.new) runs
+        (items_of parents.items)) }
     ensures faults { IsPageMap cache.old → IfErr result (λ f. IsOfDevice f ⊎ (f ≡ fault.NoPages)) }
 {
     let mut parents = Vec::with_capacity(alloc, sizes.len())?;

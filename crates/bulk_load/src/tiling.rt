@@ -1,6 +1,7 @@
 //! Entries put into the order of the nodes of a packed tree.
 
-ghost use Rattle.std.specs.Prelude.{◌≡◌, ◌↔◌, ℕ, ◌-◌, ◌^◌, ◌<◌, ◌≤◌, IfErr, IfOk, IsPermutation, IsTrue, OnOk, ◌++◌, slice_index};
+ghost use Rattle.std.specs.Prelude.{◌≡◌, ◌↔◌, ℕ, ◌-◌, ◌^◌, ◌<◌, ◌≤◌, IfErr, IfOk, IsPermutation, IsTrue, OnOk, ◌++◌};
+ghost use Rattle.std.specs.Prelude.{slice_index};
 ghost use Rattle.box_math.specs.Bounds.{IsDims};
 ghost use Rattle.page_file.specs.declared.fault.Fault.TheVariants as fault;
 ghost use Rattle.tree_node.specs.Nodes.{item_of};
@@ -43,7 +44,8 @@ fn tile_on<const D: usize, A: Allocator + Copy>(
     requires dims { IsDims D }
     requires within { axis ≤ D }
     requires some { 0 < m_max }
-    ensures tiled { OnOk result (AddsRuns item_of D m_max (D - axis) entries.old entries.new sizes.old.items sizes.new.items) }
+    ensures tiled { OnOk result (AddsRuns item_of D m_max
+        (D - axis) entries.old entries.new sizes.old.items sizes.new.items) }
     ensures all { IsPermutation entries.old entries.new }
     ensures memory { IfErr result (λ f. f ≡ fault.Memory) }
 {

@@ -98,7 +98,8 @@ fn admitted_children<const D: usize, B: BlockDevice, A: Allocator + Copy>(
     ensures asks { Asks cache.old cache.new result }
     ensures children { IsHonest cache.old → (c : NodeContent) → node_in D (pages cache.old root.page) ≡ Some c
         → c.level ≡ root.level
-        → IfOk result (λ children. children.items ≡ map reference_of (passing_entries (is_admitted query.now) c.entries)) }
+        → IfOk result (λ children. children.items ≡ map reference_of (passing_entries
+        (is_admitted query.now) c.entries)) }
     ensures looks { OnOk result (looks_of cache.new ≡ one_more (looks_of cache.old)) }
     ensures there { IsHonest cache.old → (c : NodeContent) → node_in D (pages cache.old root.page) ≡ Some c
         → c.level ≡ root.level → IfErr result IsOfDevice }
