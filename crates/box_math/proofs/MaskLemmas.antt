@@ -1,7 +1,8 @@
 -- Masks put together: by places, and by axes.
-use Rattle.std.proofs.Common.{ℕ, zero, suc, ◌+◌, ◌*◌, ◌^◌, ◌<◌, ◌≤◌, ◌≡◌, ◌==◌, ℤ, Bool, true, false, ◌&&◌, nat_lt, cond, int_le, List, [], ◌∷◌, map, slice_index_or, refl, sym, ap, ap₂, ◌∙◌, arith, bit_and, inl, inr, subst, pow_mono}
+use Rattle.std.proofs.Common.{ℕ, zero, suc, ◌+◌, ◌*◌, ◌^◌, ◌/◌, ◌<◌, ◌≤◌, ◌≡◌, ◌==◌, ℤ, Bool, true, false, ◌&&◌, nat_lt, cond, int_le, List, [], ◌∷◌, map, slice_index_or, refl, sym, ap, ap₂, ◌∙◌, arith, bit_and, inl, inr, subst, pow_mono, pow_pos}
 use Rattle.std.proofs.lemmas.Bool.{cases_eq, cases_lt, le-ltb, lt-ltb}
 use Rattle.std.proofs.lemmas.List.{get_or_past}
+use Rattle.std.proofs.Math.Nat.{add-mul-div_right, div-eq_of_lt, mul_left_comm, pow-succ'}
 use Rattle.std.proofs.lemmas.Nat.{and_block}
 use Rattle.std.proofs.lemmas.List.FromFn.{get_or-map-range_with_len, length-map-range_with_len}
 use Rattle.std.proofs.lemmas.Simd.{mask_l-lt, bit_mask_l}
@@ -136,6 +137,26 @@ eight_more t place count =
     let b7 = one_more t (place + 7) (place + 8) 1 0 (omega arith) (omega arith) in
     let end = no_mask t (place + 8) in
     omega (arith, s0, s1, s2, s3, s4, s5, s6, s7, b0, b1, b2, b3, b4, b5, b6, b7, end)
+
+-- so many places, and those after them
+pub split_mask : (t : ℕ → Bool) (p place q : ℕ) → mask_from t place (p + q) ≡ mask_from t place p + mask_from t (place + p) q * 2 ^ p
+split_mask t zero place q = omega (arith, ap (λ n. mask_from t place n) (let e : 0 + q ≡ q = omega arith in e), ap (λ n. mask_from t n q) (let e : place + 0 ≡ place = omega arith in e), no_mask t place)
+split_mask t (suc p) place q =
+    let all = one_more t place (place + 1) (suc p + q) (p + q) (omega arith) (omega arith) in
+    let front = one_more t place (place + 1) (suc p) p (omega arith) (omega arith) in
+    let rest = split_mask t p (place + 1) q in
+    let last = ap (λ n. mask_from t n q) (let e : place + 1 + p ≡ place + suc p = omega arith in e) in
+    let x = mask_from t (place + suc p) q in
+    let power : x * 2 ^ suc p ≡ 2 * (x * 2 ^ p) = ap (λ y. x * y) (pow-succ' 2 p) ∙ mul_left_comm x 2 (2 ^ p) in
+    omega (arith, all, front, rest, ap (λ y. y * 2 ^ p) last, power)
+
+-- the places before some are shifted away
+pub shifted_mask : (t : ℕ → Bool) (p place q : ℕ) → mask_from t place (p + q) / 2 ^ p ≡ mask_from t (place + p) q
+unfolding mask_from
+shifted_mask t p place q =
+    let some : 0 < 2 ^ p = pow_pos p in
+    ap (λ m. m / 2 ^ p) (split_mask t p place q) ∙ add-mul-div_right (mask_from t place p) (mask_from t (place + p) q) some
+    ∙ ap (λ n. n + mask_from t (place + p) q) (div-eq_of_lt (mask_lt t place p)) ∙ (let e : 0 + mask_from t (place + p) q ≡ mask_from t (place + p) q = omega arith in e)
 
 set_is : (b : Bool) → (cond b 1 0 == 1) ≡ b
 set_is true = refl

@@ -35,8 +35,29 @@ pub fn meet_mask<const D: usize>(
     mask
 }
 
-// The mask of the places from `at` to `n`, which are fewer than eight.
+// The mask of the places from `at` to `n`, eight at most.
 fn last_mask<const D: usize>(
+    low: &[[i32; 100]; D],
+    high: &[[i32; 100]; D],
+    at: usize,
+    n: usize,
+    window: &BBox<D>,
+) -> u128
+    requires order { at ≤ n }
+    requires few { n ≤ at + 8 }
+    requires within { n ≤ 100 }
+    ensures { result ≡ mask_from (λ k. meets_test D (box_in_columns D low.now high.now k) window.now) at (n - at) }
+{
+    if n < LANES {
+        return single_mask(low, high, at, n, window);
+    }
+    // The eight places up to the last, without those before `at`.
+    let before = at + LANES - n;
+    u128::from(block_mask(low, high, n - LANES, window) >> before)
+}
+
+// The same, place by place.
+fn single_mask<const D: usize>(
     low: &[[i32; 100]; D],
     high: &[[i32; 100]; D],
     at: usize,
