@@ -72,10 +72,10 @@ pub node_written : (dims level : ℕ) (was mid now : PageMap) (all parents run r
 node_written dims level was mid now all parents run rest p bounds b free same node least =
     let live : (n : ℕ) → 0 < pages_below parents n + pages_below (run ++ rest) n → IsSome (mid n) = b.moves.live in
     let own : RowStands dims now level (row_of run) = stay dims level mid now p run free same (λ n there. live n (omega (arith, there, below_append run rest n)))
-        (row_front (RowStands dims mid level) (stands_by_entry dims mid level) run rest b.below) in
+    (row_front (RowStands dims mid level) (stands_by_entry dims mid level) run rest b.below) in
     let one_down : level ≡ suc level - 1 = omega arith in
     let parent : RowStands dims now (suc level) (row_of (child bounds p (row_of run) ∷ [])) =
-        (omega arith, subst (λ (l : ℕ). HasNode dims now p l (row_of run)) one_down node, subst (λ (l : ℕ). RowStands dims now l (row_of run)) one_down own, tt) in
+    (omega arith, subst (λ (l : ℕ). HasNode dims now p l (row_of run)) one_down node, subst (λ (l : ℕ). RowStands dims now l (row_of run)) one_down own, tt) in
     record {
       above = row_together (RowStands dims now (suc level)) (stands_by_entry dims now (suc level)) parents (child bounds p (row_of run) ∷ [])
           (stay dims (suc level) mid now p parents free same (λ n there. live n (omega (arith, there))) b.above) parent;
@@ -136,9 +136,10 @@ next_items dims level was now runs sizes count size left items w same within is 
     let run = get_or runs count [] in
     let rest = joined (drop (count + 1) runs) in
     let whole : left ≡ map item_in run ++ map item_in rest = sym w.left_is ∙ ap (λ (rs : List (List Branch)). map item_in (joined rs)) (next_is runs count within) ∙ map-append item_in run rest in
-    let long : size ≡ length (map item_in run) = sym (length-map run item_in ∙ run_length runs sizes count size same within is) in
-    (ap (take size) whole ∙ ap (λ (k : ℕ). take k (map item_in run ++ map item_in rest)) long ∙ take-append_seam (map item_in run) (map item_in rest),
-     ap (drop size) whole ∙ ap (λ (k : ℕ). drop k (map item_in run ++ map item_in rest)) long ∙ drop-append_seam (map item_in run) (map item_in rest))
+    let long : size ≡ length (map item_in run) = sym (length-map run item_in ∙ run_length runs sizes count size same within is) in (
+      ap (take size) whole ∙ ap (λ (k : ℕ). take k (map item_in run ++ map item_in rest)) long ∙ take-append_seam (map item_in run) (map item_in rest),
+      ap (drop size) whole ∙ ap (λ (k : ℕ). drop k (map item_in run ++ map item_in rest)) long ∙ drop-append_seam (map item_in run) (map item_in rest),
+    )
 
 -- one run more
 pub one_run_more : (dims level : ℕ) (was mid now : PageMap) (runs : List (List Branch)) (sizes : List ℕ) (count size : ℕ) (left items : List Item) (p : ℕ) (bounds : Bounds)
@@ -153,7 +154,7 @@ one_run_more dims level was mid now runs sizes count size left items p bounds w 
     let b : Between dims level was mid (joined runs) w.parents (run ++ rest) = subst (λ (bs : List Branch). Between dims level was mid (joined runs) w.parents bs) here w.between in
     let there : HasNode dims now p level (row_of run) = subst (λ (is : List Item). node_in dims (now p) ≡ Some (record { level = level; entries = is })) (next.0 ∙ sym (items-row_of run)) node in
     let least : IsLeastBox dims bounds (row_of run) = least_of dims bounds run (omega (arith, some, run_length runs sizes count size same within is))
-        (row_front (RowHasBoxes dims) (boxes_by_entry dims) run rest b.below_boxes) (bounds_are ∙ ap (least_box dims) next.0) in
+    (row_front (RowHasBoxes dims) (boxes_by_entry dims) run rest b.below_boxes) (bounds_are ∙ ap (least_box dims) next.0) in
     record {
       parents = w.parents ++ child bounds p (row_of run) ∷ [];
       made = subst (λ (rs : List (List Branch)). AreParents dims rs (w.parents ++ child bounds p (row_of run) ∷ [])) (sym (take_more runs count [] within))
@@ -169,9 +170,9 @@ pub all_written : (dims level : ℕ) (was now : PageMap) (runs : List (List Bran
 all_written dims level was now runs count left items w past =
     let none : drop count runs ≡ [] = drop_all count runs past in
     let pages : (n : ℕ) → both (pages_below w.parents) (pages_below (joined (drop count runs))) n ≡ pages_below w.parents n =
-        λ n. omega (arith, ap (λ (rs : List (List Branch)). pages_below (joined rs) n) none) in
+    λ n. omega (arith, ap (λ (rs : List (List Branch)). pages_below (joined rs) n) none) in
     let moves : Moves was now (pages_below (joined runs)) (pages_below w.parents) = moves_same was now (pages_below (joined runs)) (pages_below (joined runs))
-        (both (pages_below w.parents) (pages_below (joined (drop count runs)))) (pages_below w.parents) (λ n. refl) pages w.between.moves in
+    (both (pages_below w.parents) (pages_below (joined (drop count runs)))) (pages_below w.parents) (λ n. refl) pages w.between.moves in
     record {
       parents = w.parents;
       made = subst (λ (rs : List (List Branch)). AreParents dims rs w.parents) (take_all count runs past) w.made;
@@ -198,8 +199,8 @@ root_written dims most level was now items bs r waits few level_is free same nod
     let live : (n : ℕ) → 0 < pages_below bs n → IsSome (was n) = λ n there. below_there dims was level (row_of bs) n waits.stand there in
     let t : Tree = record { page = r.page; level = level; row = row_of bs } in
     let moves : Moves was now (pages_below bs) (λ n. occurs_in n t) = page_comes was was now r.page (pages_below bs) (pages_below bs) (λ n. occurs_in n t)
-        (staying_moves was was (pages_below bs) (λ n. refl) waits.once live) free
-        (page_of_node dims (now r.page) (record { level = level; entries = row_items (row_of bs) }) there) same (λ n. omega arith) in
+    (staying_moves was was (pages_below bs) (λ n. refl) waits.once live) free
+    (page_of_node dims (now r.page) (record { level = level; entries = row_items (row_of bs) }) there) same (λ n. omega arith) in
     record {
       tree = t;
       page = refl;

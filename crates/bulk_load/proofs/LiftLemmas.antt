@@ -96,10 +96,14 @@ each_alike item item' tiled tiled' one [] (c ∷ cut) runs alike each = absurd (
 each_alike item item' tiled tiled' one (slab ∷ slabs) [] runs alike each = absurd (omega (arith, ap length alike))
 each_alike {A} {B} item item' tiled tiled' one (slab ∷ slabs) (c ∷ cut) runs alike each =
     let first = one slab each.0 c (first_alike item item' slab c slabs cut alike) each.1.1.1 in
-    let later = each_alike item item' tiled tiled' one slabs cut each.1.0 (rest_alike item item' slab c slabs cut alike) each.1.1.2 in
-    (first.rs ++ later.0, ((first.rs, (later.0, (refl, first.is_tiled, later.1.0))),
-     map-append (map item') first.rs later.0 ∙ ap (λ (zs : List (List Item)). zs ++ map (map item') later.0) first.alike
-     ∙ ap (λ (zs : List (List Item)). map (map item) each.0 ++ zs) later.1.1 ∙ sym (map-append (map item) each.0 each.1.0) ∙ ap (λ (zs : List (List A)). map (map item) zs) (sym each.1.1.0)))
+    let later = each_alike item item' tiled tiled' one slabs cut each.1.0 (rest_alike item item' slab c slabs cut alike) each.1.1.2 in (
+      first.rs ++ later.0,
+      (
+        (first.rs, (later.0, (refl, first.is_tiled, later.1.0))),
+        map-append (map item') first.rs later.0 ∙ ap (λ (zs : List (List Item)). zs ++ map (map item') later.0) first.alike
+            ∙ ap (λ (zs : List (List Item)). map (map item) each.0 ++ zs) later.1.1 ∙ sym (map-append (map item) each.0 each.1.0) ∙ ap (λ (zs : List (List A)). map (map item) zs) (sym each.1.1.0),
+      ),
+    )
 
 one_run_alike : {A B : Type 0} (item : A → Item) (item' : B → Item) (xs : List A) (ys : List B) → Alike item item' xs ys → AllAlike item item' (one_run xs) (one_run ys)
 one_run_alike item item' [] [] alike = refl

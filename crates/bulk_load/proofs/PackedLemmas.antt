@@ -37,9 +37,11 @@ parents_on_level dims level (run ∷ runs) [] are on = absurd are
 parents_on_level dims level (run ∷ runs) (object bounds id ∷ ps) are on = absurd are
 parents_on_level dims level (run ∷ runs) (child bounds page below ∷ ps) are on =
     let one_down : level ≡ suc level - 1 = omega arith in
-    let own : RowOnLevel level (row_of run) = row_front (RowOnLevel level) (levels_by_entry level) run (joined runs) on in
-    (omega arith, subst (λ (l : ℕ). RowOnLevel l below) one_down (subst (λ (row : Row). RowOnLevel level row) (sym are.0) own),
-     parents_on_level dims level runs ps are.2 (row_back (RowOnLevel level) (levels_by_entry level) run (joined runs) on))
+    let own : RowOnLevel level (row_of run) = row_front (RowOnLevel level) (levels_by_entry level) run (joined runs) on in (
+      omega arith,
+      subst (λ (l : ℕ). RowOnLevel l below) one_down (subst (λ (row : Row). RowOnLevel level row) (sym are.0) own),
+      parents_on_level dims level runs ps are.2 (row_back (RowOnLevel level) (levels_by_entry level) run (joined runs) on),
+    )
 
 half_is_enough : (most : ℕ) → 4 ≤ most → least_entries most ≤ (most + 1) / 2
 half_is_enough most four = omega (arith, four)
@@ -52,10 +54,13 @@ parents_shape dims most (run ∷ runs) [] four fair are shape = absurd are
 parents_shape dims most (run ∷ runs) (object bounds id ∷ ps) four fair are shape = absurd are
 parents_shape dims most (run ∷ runs) (child bounds page below ∷ ps) four fair are shape =
     let one = fair 0 run (omega arith) in
-    let many : row_length below ≡ length run = ap row_length are.0 ∙ row_length-row_of run in
-    (omega (arith, half_is_enough most four, one.0, many), omega (arith, one.1, many), subst (λ (row : Row). IsLeastBox dims bounds row) (sym are.0) are.1,
-     subst (λ (row : Row). RowHasShape dims most row) (sym are.0) (row_front (RowHasShape dims most) (shape_by_entry dims most) run (joined runs) shape),
-     parents_shape dims most runs ps four (All-tail (IsFair most) run runs fair) are.2 (row_back (RowHasShape dims most) (shape_by_entry dims most) run (joined runs) shape))
+    let many : row_length below ≡ length run = ap row_length are.0 ∙ row_length-row_of run in (
+      omega (arith, half_is_enough most four, one.0, many),
+      omega (arith, one.1, many),
+      subst (λ (row : Row). IsLeastBox dims bounds row) (sym are.0) are.1,
+      subst (λ (row : Row). RowHasShape dims most row) (sym are.0) (row_front (RowHasShape dims most) (shape_by_entry dims most) run (joined runs) shape),
+      parents_shape dims most runs ps four (All-tail (IsFair most) run runs fair) are.2 (row_back (RowHasShape dims most) (shape_by_entry dims most) run (joined runs) shape),
+    )
 
 pub two_runs : {A : Type 0} (most : ℕ) (runs : List (List A)) → All (IsFair most) runs → most < length (joined runs) → 2 ≤ length runs
 two_runs most [] fair more_than = absurd (omega (arith, more_than))
@@ -100,8 +105,13 @@ parents_hold f dims [] [] are = refl
 parents_hold f dims [] (p ∷ ps) are = absurd are
 parents_hold f dims (run ∷ runs) [] are = absurd are
 parents_hold f dims (run ∷ runs) (object bounds id ∷ ps) are = absurd are
-parents_hold f dims (run ∷ runs) (child bounds page below ∷ ps) are = omega (arith,
-    ap (λ (row : Row). total f (objects_in row)) are.0, objects_total f run, total-append (λ (b : Branch). total f (objects_on b)) run (joined runs), parents_hold f dims runs ps are.2)
+parents_hold f dims (run ∷ runs) (child bounds page below ∷ ps) are = omega (
+  arith,
+  ap (λ (row : Row). total f (objects_in row)) are.0,
+  objects_total f run,
+  total-append (λ (b : Branch). total f (objects_on b)) run (joined runs),
+  parents_hold f dims runs ps are.2,
+)
 
 objects_packed : (f : ℕ × Bounds → ℕ) (dims most level : ℕ) (entries : List Branch) (t : Tree) → Packs dims most level entries t
     → total f (objects_in t.row) ≡ total (λ (b : Branch). total f (objects_on b)) entries

@@ -25,10 +25,13 @@ use Rattle.bulk_load.proofs.TilingLemmas.{fair_on, holds_on}
 pub run_ends : (sizes : List ℕ) (place : ℕ) → place < length sizes → total (λ size. size) (take place sizes) + get_or sizes place 0 ≡ total (λ size. size) (take (place + 1) sizes)
 run_ends sizes place within = omega (arith, ap (total (λ size. size)) (take_more sizes place 0 within), total-append (λ size. size) (take place sizes) (get_or sizes place 0 ∷ []))
 
-
 pub run_within : (sizes : List ℕ) (place : ℕ) → place < length sizes → total (λ size. size) (take place sizes) + get_or sizes place 0 ≤ total (λ size. size) sizes
-run_within sizes place within = omega (arith, run_ends sizes place within, total-append (λ size. size) (take (place + 1) sizes) (drop (place + 1) sizes),
-    ap (total (λ size. size)) (take-append-drop (place + 1) sizes))
+run_within sizes place within = omega (
+  arith,
+  run_ends sizes place within,
+  total-append (λ size. size) (take (place + 1) sizes) (drop (place + 1) sizes),
+  ap (total (λ size. size)) (take-append-drop (place + 1) sizes),
+)
 
 -- fair runs of the entries, and what their sizes are
 fair_sizes : {A : Type 0} (most : ℕ) (runs : List (List A)) → 4 ≤ most → most ≤ 100 → All (IsFair most) runs → All (λ size. (2 ≤ size) × (size ≤ 100)) (map length runs)

@@ -60,7 +60,13 @@ fn tile_on<const D: usize, A: Allocator + Copy>(
     let mut from = 0;
     'slabs: for slab in 0..slabs {
         let size = even_size(count, slabs, slab);
-        tile_on(alloc, &mut entries[from..from + size], axis + 1, m_max, sizes)?;
+        tile_on(
+            alloc,
+            &mut entries[from..from + size],
+            axis + 1,
+            m_max,
+            sizes,
+        )?;
         from += size;
     }
     Ok(())

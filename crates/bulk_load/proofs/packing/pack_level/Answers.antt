@@ -15,9 +15,22 @@ use Rattle.bulk_load.proofs.packing.pack_level.Goals as goal
 pub write_level-requires : goal.write_level-requires
 write_level-requires g c =
     let P : Item → Type 0 = λ item. IsReference c.args.level item.reference in
-    let t : TiledSizes (length c.tile.new.entries) c.in_ok-sizes.sizes.items = tiled_sizes c.args.m_max c.args.entries.now c.tile.new.entries c.in_ok-sizes.sizes.items c.requires.dims c.requires.sized.0 c.requires.sized.1 c.requires.above c.in_ok-sizes.ensures.tiled in
-    (search rules, (c.requires.dims, (c.requires.open, (ap (total (λ size. size)) c.as_slice.ensures.value ∙ t.whole, (subst (λ (sizes : List ℕ). AreSizes sizes) (sym c.as_slice.ensures.value) t.sized,
-     All-permutation P (items_of c.args.entries.now) (items_of c.tile.new.entries) (IsPermutation-map item_of c.args.entries.now c.tile.new.entries c.tile.ensures.all) c.requires.refers)))))
+    let t : TiledSizes (length c.tile.new.entries) c.in_ok-sizes.sizes.items = tiled_sizes c.args.m_max c.args.entries.now c.tile.new.entries c.in_ok-sizes.sizes.items c.requires.dims c.requires.sized.0 c.requires.sized.1 c.requires.above c.in_ok-sizes.ensures.tiled in (
+      search rules,
+      (
+        c.requires.dims,
+        (
+          c.requires.open,
+          (
+            ap (total (λ size. size)) c.as_slice.ensures.value ∙ t.whole,
+            (
+              subst (λ (sizes : List ℕ). AreSizes sizes) (sym c.as_slice.ensures.value) t.sized,
+              All-permutation P (items_of c.args.entries.now) (items_of c.tile.new.entries) (IsPermutation-map item_of c.args.entries.now c.tile.new.entries c.tile.ensures.all) c.requires.refers,
+            ),
+          ),
+        ),
+      ),
+    )
 
 pub returns-in-Ok-clause-two : goal.returns-in-Ok-clause-two
 returns-in-Ok-clause-two g c =

@@ -48,10 +48,20 @@ write_parent-requires g c =
     let within = run_within c.args.sizes.now c.runs.place c.runs-test.true in
     let part : List (Entry g.row.D) = take (c.runs.from + size - c.runs.from) (drop c.runs.from c.args.entries.now) in
     let long : length part ≡ size = length-take-le (c.runs.from + size - c.runs.from) (drop c.runs.from c.args.entries.now)
-        (omega (arith, length-drop c.runs.from c.args.entries.now, within, c.runs.invariant.here, c.requires.whole)) ∙ omega arith in
-    let sized = c.requires.sized c.runs.place 0 c.runs-test.true in
-    (search rules, (c.requires.dims, (c.runs.invariant.changes.gate.gate ∙ c.requires.open, ((omega (arith, long, sized.0), omega (arith, long, sized.1)),
-     part_refers (λ (item : Item). IsReference c.args.level item.reference) (c.runs.from + size - c.runs.from) c.runs.from c.args.entries.now c.requires.refers))))
+    (omega (arith, length-drop c.runs.from c.args.entries.now, within, c.runs.invariant.here, c.requires.whole)) ∙ omega arith in
+    let sized = c.requires.sized c.runs.place 0 c.runs-test.true in (
+      search rules,
+      (
+        c.requires.dims,
+        (
+          c.runs.invariant.changes.gate.gate ∙ c.requires.open,
+          (
+            (omega (arith, long, sized.0), omega (arith, long, sized.1)),
+            part_refers (λ (item : Item). IsReference c.args.level item.reference) (c.runs.from + size - c.runs.from) c.runs.from c.args.entries.now c.requires.refers,
+          ),
+        ),
+      ),
+    )
 
 pub returns-in_err-parent-clause-changes : goal.returns-in_err-parent-clause-changes
 returns-in_err-parent-clause-changes g c = changes_and_refuses c.args.cache.now c.runs.cache c.write_parent.new.cache c.in_err-parent.field-0.0 c.from_residual-in_err-parent.result
@@ -78,7 +88,7 @@ overflow_add-from-in-runs g c = let within = run_within c.args.sizes.now c.runs.
 next_written : (g : _) (c : goal.In_ok-push g) → IsPageMap c.args.cache.now → (runs : List (List Branch)) → map (λ (run : List Branch). length run) runs ≡ c.args.sizes.now
     → WaitFor g.row.D c.args.level (pages c.args.cache.now) (items_of c.args.entries.now) (joined runs)
     → Written g.row.D c.args.level (pages c.args.cache.now) (pages c.write_parent.new.cache) runs (c.runs.place + 1)
-      (drop (c.runs.from + get_or c.args.sizes.now c.runs.place 0) (items_of c.args.entries.now)) (items_of c.push.new.self.items)
+    (drop (c.runs.from + get_or c.args.sizes.now c.runs.place 0) (items_of c.args.entries.now)) (items_of c.push.new.self.items)
 next_written g c sound runs same waits =
     let size = get_or c.args.sizes.now c.runs.place 0 in
     let all = items_of c.args.entries.now in
@@ -91,10 +101,10 @@ next_written g c sound runs same waits =
     part_items (c.runs.from + size - c.runs.from) size c.runs.from c.args.entries.now (omega arith) in
     let below : c.runs.place < length runs = omega (arith, c.runs-test.true, ap length same, length-map runs (λ (run : List Branch). length run)) in
     let more_than = one_run_more g.row.D c.args.level (pages c.args.cache.now) (pages c.runs.cache) (pages c.write_parent.new.cache) runs c.args.sizes.now c.runs.place size left
-        (items_of c.runs.parents.items) parent.reference parent.bounds (c.runs.invariant.written sound runs same waits) same below refl (c.requires.sized c.runs.place 0 c.runs-test.true).0
-        (c.in_ok-parent.ensures.fresh now_sound) (c.in_ok-parent.ensures.others now_sound)
-        (subst (λ (is : List Item). node_in g.row.D (pages c.write_parent.new.cache parent.reference) ≡ Some (record { level = c.args.level; entries = is })) part (c.in_ok-parent.ensures.node now_sound))
-        (c.in_ok-parent.ensures.least ∙ ap (least_box g.row.D) part) in
+    (items_of c.runs.parents.items) parent.reference parent.bounds (c.runs.invariant.written sound runs same waits) same below refl (c.requires.sized c.runs.place 0 c.runs-test.true).0
+    (c.in_ok-parent.ensures.fresh now_sound) (c.in_ok-parent.ensures.others now_sound)
+    (subst (λ (is : List Item). node_in g.row.D (pages c.write_parent.new.cache parent.reference) ≡ Some (record { level = c.args.level; entries = is })) part (c.in_ok-parent.ensures.node now_sound))
+    (c.in_ok-parent.ensures.least ∙ ap (least_box g.row.D) part) in
     subst (λ (is : List Item). Written g.row.D c.args.level (pages c.args.cache.now) (pages c.write_parent.new.cache) runs (c.runs.place + 1) (drop (c.runs.from + size) all) is) (sym seen)
     (subst (λ (is : List Item). Written g.row.D c.args.level (pages c.args.cache.now) (pages c.write_parent.new.cache) runs (c.runs.place + 1) is (items_of c.runs.parents.items ++ item_of parent ∷ []))
     (drop-drop size c.runs.from all) more_than)
