@@ -1,26 +1,25 @@
 -- Nodes written one after the other: what stands above them, what waits below, and the pages of both.
-use Rattle.std.proofs.Common.{◌≡◌, ◌∙◌, ℕ, zero, suc, ◌+◌, ◌-◌, ◌<◌, ◌≤◌, Option, Some, None, List, [], ◌∷◌, ◌++◌, length, map, take, drop, get_or, cond, eqb, refl, sym, ap, subst, inl, inr, arith, length-append}
+use Rattle.std.proofs.Common.{◌≡◌, ◌∙◌, ℕ, suc, ◌+◌, ◌-◌, ◌<◌, ◌≤◌, Some, None, List, [], ◌∷◌, ◌++◌, length, map, take, drop, get_or, refl, sym, ap, subst, arith}
 use Rattle.std.specs.Prelude.{IsSome, IsPermutation}
 use Rattle.std.proofs.lemmas.List.{drop_all, get_or-map, length-map, map-append, take_all, take_more}
 use Rattle.std.proofs.Math.Seq.{drop-append_seam, drop-cons, take-append_seam}
 use Rattle.page_file.specs.Pages.{SameBut}
 use Rattle.box_math.specs.Bounds.{Bounds}
 use Rattle.tree_node.specs.Boxes.{RowHasBoxes, least_box}
-use Rattle.tree_node.specs.Nodes.{Item, NodeContent}
-use Rattle.tree_node.specs.Positions.{total}
+use Rattle.tree_node.specs.Nodes.{Item}
 use Rattle.tree_node.specs.Rows.{item_in, occurs_on, row_of}
 use Rattle.tree_node.specs.Shape.{IsLeastBox}
-use Rattle.tree_node.specs.Trees.{Row, end, more, Branch, object, child, Tree, occurs, occurs_in, row_items, row_length}
+use Rattle.tree_node.specs.Trees.{Branch, object, child, Tree, occurs_in, row_items}
 use Rattle.tree_node.proofs.BoxLemmas.{join_is_least_box}
 use Rattle.tree_node.proofs.PositionLemmas.{total-append}
 use Rattle.tree_node.proofs.RowLemmas.{items-row_of, occurs-row_of}
 use Rattle.tree_node.specs.declared.node.Root.{Root}
 use Rattle.node_page.specs.Parts.{Moves, Part, both, no_page, one_page}
-use Rattle.node_page.specs.Standing.{HasNode, PageMap, RowStands, Stands, node_in}
+use Rattle.node_page.specs.Standing.{HasNode, PageMap, RowStands, node_in}
 use Rattle.node_page.proofs.PartLemmas.{moves_beside, moves_in_turn, moves_same, one_page_moves, staying_moves, there_not_missing}
 use Rattle.node_page.proofs.StandingLemmas.{below_there, page_of_node, row_stays}
 use Rattle.bulk_load.specs.Levels.{LevelWritten, PackedAt, WaitFor, pages_below}
-use Rattle.bulk_load.specs.Packed.{AreParents, Packs, higher, root}
+use Rattle.bulk_load.specs.Packed.{AreParents, higher, root}
 use Rattle.bulk_load.specs.Tiling.{IsTiled, joined}
 use Rattle.bulk_load.proofs.RowWords.{boxes_by_entry, row_back, row_front, row_length-row_of, row_permuted, row_together, stands_by_entry, total-permutation}
 

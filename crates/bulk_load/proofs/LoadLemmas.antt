@@ -1,5 +1,5 @@
 -- A load of objects: what waits at first, and what stands at last.
-use Rattle.std.proofs.Common.{◌≡◌, ℕ, zero, suc, ◌<◌, ◌≤◌, List, [], ◌∷◌, length, map, Result, Ok, Err, refl, ap, sym, arith}
+use Rattle.std.proofs.Common.{◌≡◌, ℕ, suc, ◌<◌, ◌≤◌, List, [], ◌∷◌, length, map, Result, Ok, Err, refl, ap, arith}
 use Rattle.std.specs.Prelude.{IfOk}
 use Rattle.box_math.specs.Bounds.{IsBox, IsDims}
 use Rattle.tree_node.specs.Boxes.{RowHasBoxes, box_at}

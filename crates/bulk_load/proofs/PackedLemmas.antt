@@ -1,5 +1,5 @@
 -- Packed trees: their shape, and their objects.
-use Rattle.std.proofs.Common.{◌≡◌, ◌∙◌, ℕ, zero, suc, ◌+◌, ◌-◌, ◌/◌, ◌*◌, ◌<◌, ◌≤◌, max, List, [], ◌∷◌, ◌++◌, length, map, All, IsPermutation, refl, sym, ap, subst, arith, length-append}
+use Rattle.std.proofs.Common.{◌≡◌, ◌∙◌, ℕ, suc, ◌+◌, ◌-◌, ◌/◌, ◌<◌, ◌≤◌, List, [], ◌∷◌, length, map, All, IsPermutation, refl, sym, ap, subst, arith, length-append}
 use Rattle.std.proofs.lemmas.List.Elements.{All-tail}
 use Rattle.std.proofs.lemmas.List.Sorted.{length_permutation}
 use Rattle.box_math.specs.Bounds.{Bounds, IsDims}
@@ -7,10 +7,10 @@ use Rattle.tree_node.specs.Nodes.{Item}
 use Rattle.tree_node.specs.Positions.{total}
 use Rattle.tree_node.specs.Rows.{item_in, objects_on, row_of}
 use Rattle.tree_node.specs.Shape.{HasShape, IsLeastBox, RowHasShape, least_entries}
-use Rattle.tree_node.specs.Trees.{Row, end, more, Branch, object, child, Tree, RowOnLevel, objects_in, row_length}
+use Rattle.tree_node.specs.Trees.{Row, Branch, object, child, Tree, RowOnLevel, objects_in, row_length}
 use Rattle.tree_node.proofs.ObjectLemmas.{equal_sums_permute}
 use Rattle.tree_node.proofs.PositionLemmas.{total-append}
-use Rattle.bulk_load.specs.Packed.{AreParents, IsPacked, Packs, higher, root, objects_of}
+use Rattle.bulk_load.specs.Packed.{AreParents, Packs, higher, root, objects_of}
 use Rattle.bulk_load.specs.PackedLaws.{PackedHasShape, PackedHoldsObjects}
 use Rattle.bulk_load.specs.Tiling.{IsTiled, joined}
 use Rattle.bulk_load.specs.TilingLaws.{IsFair}

@@ -1,5 +1,5 @@
 -- What packed trees are.
-use Rattle.std.specs.Prelude.{ℕ, ◌≤◌, List, All, IsPermutation, map}
+use Rattle.std.specs.Prelude.{ℕ, ◌≤◌, List, IsPermutation, map}
 use Rattle.box_math.specs.Bounds.{IsDims}
 use Rattle.tree_node.specs.Nodes.{Item}
 use Rattle.tree_node.specs.Shape.{HasShape}

@@ -1,5 +1,5 @@
 -- A page given out, and then written.
-use Rattle.std.proofs.Common.{◌≡◌, ◌∙◌, None, Some, List, ℕ, Option, refl, subst, sym}
+use Rattle.std.proofs.Common.{◌∙◌, None, List, ℕ, Option, refl, subst, sym}
 use Rattle.std.specs.Prelude.{IsSome}
 use Rattle.page_cache.specs.Calls.{changes_and_refuses, changes_in_turn}
 use Rattle.bulk_load.proofs.nodes.write_new.Goals as goal

@@ -1,5 +1,5 @@
 -- The objects wait, and are packed.
-use Rattle.std.proofs.Common.{◌≡◌, ℕ, ◌*◌, ◌^◌, ◌<◌, length, refl, arith, rules}
+use Rattle.std.proofs.Common.{arith}
 use Rattle.std.proofs.lemmas.List.{length-map}
 use Rattle.page_cache.specs.Cache.{pages}
 use Rattle.tree_node.specs.Nodes.{item_of, items_of}

@@ -1,5 +1,5 @@
 -- A level that is put into order, and written.
-use Rattle.std.proofs.Common.{◌≡◌, ◌∙◌, ℕ, ◌+◌, ◌*◌, ◌≤◌, List, length, map, All, IsPermutation, refl, sym, ap, subst, arith, rules}
+use Rattle.std.proofs.Common.{◌∙◌, ℕ, List, length, refl, sym, ap, subst, arith, rules}
 use Rattle.std.proofs.lemmas.List.Sorted.{All-permutation, IsPermutation-map, length_permutation}
 use Rattle.page_cache.specs.Cache.{pages}
 use Rattle.tree_node.specs.Nodes.{Item, item_of, items_of}
