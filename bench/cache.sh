@@ -14,6 +14,10 @@ for crate in $crates; do
     grep -E "^$crate:" "$here/../crates.txt" >>"$work/crates.txt"
 done
 cp "$here/cache_times.rattle" "$work/crates/cache_times/src/main.rt"
+for loop in scene put_all; do
+    mkdir -p "$work/crates/cache_times/proofs/$loop"
+    cp "$here/cache_times_$loop.invariants" "$work/crates/cache_times/proofs/$loop/Invariants.antt"
+done
 echo 'cache_times: page_cache page_file block_device' >>"$work/crates.txt"
 git -C "$work" init -q
 (cd "$work/crates/cache_times" && rt run) >"$work/log" 2>&1 || { cat "$work/log" >&2; exit 1; }
