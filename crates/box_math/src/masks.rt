@@ -13,7 +13,7 @@ use std::simd::prelude::*;
 const LANES: usize = 8;
 
 /// Which of the first `n` boxes, 100 at most, meet the window: bit k of the mask is set exactly where k < n and the box
-/// in place k meets it, as where they only touch.
+/// in place k meets it, also where they only touch.
 ///
 /// The boxes stand in columns, as in a node page: `low[axis][place]` and `high[axis][place]`.
 pub fn meet_mask<const D: usize>(

@@ -16,7 +16,7 @@ fn both_ascend(a: i32, b: i32, c: i32, d: i32) -> bool
 impl<const D: usize> BBox<D> {
     ghost use Rattle.box_math.specs.Bounds.{HoldsPoint, holds_test, Meets, meets_test, Within, within_test};
 
-    /// Whether some point is one of both boxes, as where they only touch.
+    /// Whether some point is one of both boxes, also where they only touch.
     pub fn meets(&self, other: &BBox<D>) -> bool
         ensures meets { IsTrue result ↔ Meets D self.now other.now }
         ensures test { result ≡ meets_test D self.now other.now }

@@ -1,4 +1,5 @@
--- The levels of a packed tree while it is written, as the code sees them: what waits for nodes of a level.
+-- The levels of a packed tree while it is written, as the code sees them: what waits for nodes of a level (our rule,
+-- docs/RULES.md, "Packed load").
 use Rattle.std.specs.Prelude.{◌≡◌, ℕ, suc, ◌≤◌, List, All, map}
 use Rattle.tree_node.specs.Boxes.{RowHasBoxes}
 use Rattle.tree_node.specs.Nodes.{Item}

@@ -1,4 +1,4 @@
--- What a load leaves in the pages.
+-- What a load leaves in the pages (our rule, docs/RULES.md, "Packed load").
 use Rattle.std.specs.Prelude.{◌≡◌, ℕ, List, IsPermutation, map}
 use Rattle.tree_node.specs.Nodes.{Item}
 use Rattle.tree_node.specs.Shape.{HasShape}

@@ -1,4 +1,4 @@
--- What packed trees are.
+-- What packed trees are (our rule, docs/RULES.md, "Packed load").
 use Rattle.std.specs.Prelude.{ℕ, ◌≤◌, List, IsPermutation, map}
 use Rattle.box_math.specs.Bounds.{IsDims}
 use Rattle.tree_node.specs.Nodes.{Item}
@@ -6,7 +6,7 @@ use Rattle.tree_node.specs.Shape.{HasShape}
 use Rattle.tree_node.specs.Trees.{Tree, objects_in}
 use Rattle.bulk_load.specs.Packed.{IsPacked}
 
--- a packed tree has the shape of an R*-tree
+-- a packed tree has the shape of an R-tree
 abbrev pub PackedHasShape : Type 0
 PackedHasShape = (dims most : ℕ) (items : List Item) (t : Tree) → IsDims dims → 4 ≤ most → IsPacked dims most items t → HasShape dims most t
 

@@ -1,4 +1,4 @@
--- What runs are, whatever is tiled.
+-- What runs are, whatever is tiled (our rule, docs/RULES.md, "Packed load").
 use Rattle.std.specs.Prelude.{ℕ, ◌+◌, ◌/◌, ◌<◌, ◌≤◌, List, All, length, IsPermutation}
 use Rattle.box_math.specs.Bounds.{IsDims}
 use Rattle.tree_node.specs.Nodes.{Item}

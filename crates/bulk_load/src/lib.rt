@@ -1,4 +1,4 @@
-//! Packed trees: all objects of a layer made into a tree at once.
+//! Packed trees: all objects of a layer made into a tree at once (docs/RULES.md, "Packed load").
 #![tactic(auto)]
 
 pub mod laws;

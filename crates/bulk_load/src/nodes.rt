@@ -62,7 +62,7 @@ pub(crate) fn write_new<const D: usize, B: BlockDevice, A: Allocator + Copy>(
     Ok(page)
 }
 
-/// Writes a node of these entries, of which there is one, so, and answers the entry for it: its least box, and its
+/// Writes a node of these entries, at least one, in the same way, and answers the entry for it: its least box, and its
 /// page.
 pub(crate) fn write_parent<const D: usize, B: BlockDevice, A: Allocator + Copy>(
     cache: &mut PageCache<B, A>,

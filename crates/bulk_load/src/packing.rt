@@ -29,8 +29,9 @@ use tree_node::see_boxes;
 /// Makes a tree packed from these objects, in pages that were not live: its nodes have at most `m_max` entries, and no
 /// objects make an empty leaf. The gate has to be open. The objects are left in some order.
 ///
-/// A refusal is `Memory`, `Device` or `NoPages` on a sound map. It is untouched where the memory for the order of the
-/// objects was refused, which comes before the first page; the lists of the levels above grow while pages are written.
+/// A refusal says whether a page may have been touched; on a sound map it is `Memory`, `Device` or `NoPages`. The
+/// memory for the order of the objects is taken before the first page; the lists of the levels above grow while pages
+/// are written.
 pub fn load<const D: usize, B: BlockDevice, A: Allocator + Copy, H: Allocator + Copy>(
     alloc: H,
     cache: &mut PageCache<B, A>,

@@ -1,4 +1,4 @@
--- The faults of calls that may want a page of a new number, and of changes that broke off.
+-- The faults of calls that may want a page of a new number, and of changes that broke off (our rule, docs/FORMAT.md, "Identifier tables").
 use Rattle.std.specs.Prelude.{◌≡◌, ◌⊎◌, ℕ, ◌^◌, Result, Ok, Err}
 use Rattle.page_file.specs.Fault.{IsOfDevice}
 use Rattle.page_file.specs.declared.fault.Fault.{Fault}

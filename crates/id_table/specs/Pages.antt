@@ -1,4 +1,4 @@
--- What writes into the pages of a table leave.
+-- What writes into the pages of a table leave (our rule, docs/FORMAT.md, "Identifier tables").
 use Rattle.std.specs.Prelude.{◌≡◌, ◌⊎◌, ℕ, ◌<◌, List, [], ◌∷◌, ◌++◌, Option, Some, None, length, slice_index_or, IsSome, ⊤}
 use Rattle.block_bytes.specs.Numbers.{number_at}
 use Rattle.bucket_page.specs.Layout.{BucketContent, popped}

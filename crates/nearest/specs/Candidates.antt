@@ -1,4 +1,5 @@
--- What waits in a search for the nearest objects, and what is taken first.
+-- What waits in a search for the nearest objects, and what is taken first (best first is our rule, docs/FORMAT.md, "Trees
+-- of pages").
 use Rattle.std.specs.Prelude.{◌≡◌, ◌⊎◌, ℕ, ◌+◌, ◌-◌, ◌^◌, ◌<◌, ◌≤◌, ◌==◌, true, false, List, sum_by, if◌then◌else◌}
 use Rattle.box_math.specs.Bounds.{Bounds}
 use Rattle.tree_node.specs.Nodes.{Item}

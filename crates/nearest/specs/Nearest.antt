@@ -1,4 +1,5 @@
--- The objects nearest to a point (the distance is MINDIST of Roussopoulos, Kelley and Vincent 1995; the order of ties is ours).
+-- The objects nearest to a point (the distance is MINDIST of Roussopoulos, Kelley and Vincent 1995; the order of
+-- ties is our rule, docs/FORMAT.md, "Trees of pages").
 use Rattle.std.specs.Prelude.{ℕ, ◌-◌, Bool, ◌||◌, ◌&&◌, ◌==◌, nat_lt, nat_le, ℤ, List, [], ◌∷◌, length, map, slice_index_or, if◌then◌else◌}
 use Rattle.std.specs.Prelude.{take}
 use Rattle.box_math.specs.Bounds.{Bounds}

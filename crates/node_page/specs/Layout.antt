@@ -37,7 +37,7 @@ low_place place = 16 + 4 * place
 abbrev pub high_place : ℕ → ℕ
 high_place place = 416 + 4 * place
 
--- where its reference stands, behind the columns of all axes
+-- where its reference stands, after the columns of all axes
 abbrev pub reference_place : ℕ → ℕ → ℕ
 reference_place dims place = 16 + 800 * dims + 8 * place
 

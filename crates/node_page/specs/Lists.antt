@@ -1,4 +1,4 @@
--- The lists that a reading of leaves gives.
+-- The lists that a reading of leaves gives (our rule, docs/FORMAT.md, "Trees of pages").
 use Rattle.std.specs.Prelude.{◌≡◌, ◌++◌, List, [], ℕ, map}
 use Rattle.std.specs.declared.vec.Vec.{Vec}
 use Rattle.tree_node.specs.Searches.{counted, nodes_in}

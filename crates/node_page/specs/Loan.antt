@@ -1,4 +1,4 @@
--- What a cache ends as, once a node that was read in a page that it lent is no longer used.
+-- What a cache ends as, once a node that was read in a page that it lent is no longer used (our rule, docs/FORMAT.md, "Trees of pages").
 use Rattle.std.specs.Prelude.{◌≡◌, ◌⊎◌, ◌<◌, ◌≤◌, ℕ, Result, OnOk, OnErr}
 use Rattle.std.specs.Borrow.{Fml, MutBor, RattleType}
 use Rattle.std.specs.Io.BufRead.{Rests}

@@ -1,4 +1,4 @@
--- The laws of what pages spell.
+-- The laws of what pages spell (our format, docs/FORMAT.md, "Node pages").
 use Rattle.std.specs.Prelude.{◌≡◌, ℕ, ◌↔◌, List, Some}
 use Rattle.block_bytes.specs.Forms.{HasOnePage, ReadsNamed}
 use Rattle.block_bytes.specs.Numbers.{AreBytes}

@@ -1,4 +1,4 @@
--- The laws of trees in pages.
+-- The laws of trees in pages (our rule, docs/FORMAT.md, "Trees of pages").
 use Rattle.std.specs.Prelude.{◌≡◌, ℕ, ◌^◌, ◌<◌, ◌≤◌, List, Some, IsSome}
 use Rattle.block_bytes.specs.Numbers.{AreBytes}
 use Rattle.tree_node.specs.Boxes.{RowHasBoxes}

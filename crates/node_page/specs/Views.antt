@@ -1,4 +1,4 @@
--- What callers see of a node that is read in its page.
+-- What callers see of a node that is read in its page (our format, docs/FORMAT.md, "Node pages").
 use Rattle.std.specs.Prelude.{ℕ}
 use Rattle.tree_node.specs.Nodes.{NodeContent}
 use Rattle.node_page.specs.Layout.{items_at}

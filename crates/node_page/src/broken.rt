@@ -1,4 +1,4 @@
-//! Changes of trees that broke off.
+//! Changes of trees and tables that broke off.
 
 use page_file::Fault;
 

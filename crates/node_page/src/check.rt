@@ -36,8 +36,8 @@ pub struct TreeFacts<const D: usize, H: Allocator> {
 /// Checks the tree at a root, each of whose nodes has at most `m_max` entries, and answers what it holds.
 ///
 /// On an honest device it answers so only where a tree of that shape stands at the root, no page of it twice; else it
-/// is `Damaged` with the number of a page. Where such a tree stands, a refusal is `Memory` or `Device`. No page is
-/// read twice, whatever the pages are. Map and gate stay, also after a refusal.
+/// is `Damaged` with the number of a page. Where such a tree stands, a refusal is `Memory` or `Device`. It makes
+/// no more looks than page numbers were given out, whatever the pages are. Map and gate stay, also after a refusal.
 pub fn check_tree<const D: usize, B: BlockDevice, A: Allocator + Copy, H: Allocator + Copy>(
     alloc: H,
     cache: &mut PageCache<B, A>,

@@ -1,4 +1,4 @@
-//! The columns of a node page: lows and highs of each axis, and references behind them.
+//! The columns of a node page: lows and highs of each axis, and references after them.
 
 ghost use Rattle.std.specs.Prelude.{◌≡◌, ℕ, ◌+◌, ◌*◌, ◌^◌, ◌<◌, ◌≤◌, ◌≤ℤ◌, ◌↔◌, pos, IsTrue};
 ghost use Rattle.block_bytes.specs.Numbers.{number_at, signed_at};

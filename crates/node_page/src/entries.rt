@@ -1,4 +1,4 @@
-//! One entry in its place of a node page: a low and a high in the columns of each axis, and a reference behind them.
+//! One entry in its place of a node page: a low and a high in the columns of each axis, and a reference after them.
 
 ghost use Rattle.std.specs.Prelude.{◌≡◌, ◌<◌, ◌↔◌, IsSome, IfSome, IsTrue};
 ghost use Rattle.box_math.specs.Bounds.{IsDims, IsBox, IsOrdered};

@@ -1,4 +1,5 @@
-//! Node pages: nodes of a tree as the bytes of a page (docs/FORMAT.md).
+//! Nodes of trees as pages, read, viewed and written through a cache, and the trees that pages stand for
+//! (docs/FORMAT.md, "Node pages", "Trees of pages").
 #![tactic(auto)]
 
 mod broken;

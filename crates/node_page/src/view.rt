@@ -69,7 +69,7 @@ impl<'a, const D: usize> NodeView<'a, D> {
         entry_at(self.page, place)
     }
 
-    /// Which of the entries meet the window, as where they only touch: bit k of the mask is set exactly where the box
+    /// Which of the entries meet the window, also where they only touch: bit k of the mask is set exactly where the box
     /// of the entry in place k meets it.
     pub fn mask(&self, window: &BBox<D>) -> u128
         ensures met { (place : ℕ) (item : Item) → slice_get (content_in self.now).entries place ≡ Some item

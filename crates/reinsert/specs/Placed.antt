@@ -1,4 +1,5 @@
--- What the code has done where a placing is done below a node: the words of its inner contracts.
+-- What the code has done where a placing is done below a node: the words of its inner contracts (docs/RULES.md,
+-- "Insertion").
 use Rattle.std.specs.Prelude.{◌≡◌, ℕ, zero, suc, ◌+◌, ◌-◌, ◌≤◌, Bool, List, [], ◌∷◌, ◌++◌, map, reverse, ⊤, ◌*◌, Option, Some, None, IsSome}
 use Rattle.std.specs.Option.{option_map}
 use Rattle.tree_node.specs.declared.node.Entry.{Entry}

@@ -31,14 +31,14 @@ use tree_node::{Entry, Root};
 /// Inserts an entry at a level of the tree at that root (docs/RULES.md): on level 0 an object, above it a child, which
 /// refers to a page from 3 to 2^31 - 1. The gate has to be open.
 ///
-/// Where the pages are a sound map and stand for a tree there, and above level 0 for one at the entry's reference, they
-/// stand on `Ok` for a tree that a lawful insertion leads to. Pages outside these trees stay, and those that come in
-/// were not live. The root's level does not fall.
+/// Where the map is sound and the pages stand for a tree at the root, and above level 0 for another at the entry's
+/// reference that shares no page with it, they stand after `Ok` for a tree that a lawful insertion leads to. Pages
+/// outside these trees stay, and those that come in were not live. The root's level does not fall.
 ///
-/// A refusal that is not `touched` leaves the map as it was; `Memory` for the room of what waits is one. Where the
-/// trees have their shape, but that a root may have one entry, a refusal is of memory or of the device, or all page
-/// numbers are given out (`NoPages`). A tree of level 40 takes no entry, since it could grow: its root is `Damaged`,
-/// untouched.
+/// A refusal that is not `touched` leaves the map as it was; the room of what waits is taken before the first write.
+/// Where the trees have their shape, but that a root may have one entry, a refusal is of memory or of the device, or
+/// all page numbers are given out (`NoPages`). A tree of level 40 takes no entry, since it could grow: its root is
+/// `Damaged`, untouched.
 pub fn insert_at<const D: usize, B: BlockDevice, A: Allocator + Copy, H: Allocator>(
     alloc: H,
     cache: &mut PageCache<B, A>,
@@ -69,8 +69,8 @@ pub fn insert_at<const D: usize, B: BlockDevice, A: Allocator + Copy, H: Allocat
     insert_with(cache, root, entry, level, m_max, &mut waiting)
 }
 
-/// Inserts an entry as `insert_at` does, and takes no memory by itself. The `Waiting` serves again afterwards, also
-/// after a refusal.
+/// Inserts an entry as `insert_at` does, and takes no memory but what the cache takes. The `Waiting` serves again
+/// afterwards, also after a refusal.
 pub fn insert_with<const D: usize, B: BlockDevice, A: Allocator + Copy>(
     cache: &mut PageCache<B, A>,
     root: Root,

@@ -20,18 +20,19 @@ pub fn an_insertion_keeps_the_objects()
     ensures { InsertionKeepsObjects }
 {}
 
-/// The shape of a tree stays where a root that is no leaf may have one entry: the nodes' counts of entries and the
-/// least boxes.
+/// A tree of loose shape keeps it: nodes below the root have from the least to the most entries and least boxes, a root
+/// that is no leaf at least one entry.
 pub fn an_insertion_keeps_loose_shape()
     ensures { InsertionKeepsLooseShape }
 {}
 
-/// And so does the shape of an R-tree.
+/// A tree of the shape of an R-tree keeps that shape.
 pub fn an_insertion_keeps_shape()
     ensures { InsertionKeepsShape }
 {}
 
-/// At most one placing, and those of a far set for each level below the root's.
+/// An insertion has at most one placing, and as many more as a far set has entries for each level of the old tree below
+/// its root's.
 pub fn an_insertion_ends()
     ensures { InsertionEnds }
 {}
@@ -41,7 +42,7 @@ pub fn a_placing_keeps_loose_shape()
     ensures { PlacingKeepsLooseShape }
 {}
 
-/// Each node below the root has two entries or more, so pages below 2^31 are used up long before level 40.
+/// No tree of loose shape in pages below 2^31, none of them twice, has a level above 32.
 pub fn shape_bounds_the_level()
     ensures { ShapeBoundsLevel }
 {}

@@ -18,8 +18,9 @@ use page_cache::PageCache;
 use page_file::Fault;
 use std::alloc::Allocator;
 
-/// All pairs of identifiers of an object of each tree whose boxes meet, as where they only touch, by the first and then
-/// by the second. The trees may be one and the same, and their nodes may have different greatest counts of entries.
+/// All pairs of identifiers of an object of each tree whose boxes meet, also where they only touch, by the first and
+/// then by the second. The trees may be one and the same, and their nodes may have different greatest counts of
+/// entries.
 ///
 /// On an honest device, where both trees stand in the pages with the shape of an R-tree, a refusal is `Memory` or
 /// `Device`, and at most two pages are looked at for the pair of roots, and for each other pair of a node of each tree

@@ -16,7 +16,8 @@ use std::alloc::Allocator;
 use tree_node::Entry;
 
 impl<const D: usize> Waiting<D> {
-    /// All the memory that insertions take: a box in which nothing waits yet. A refusal is `Memory`.
+    /// Takes the memory for all that waits in insertions, at once: a box in which nothing waits. A refusal is
+    /// `Memory`.
     pub fn make<H: Allocator>(alloc: H) -> Result<Box<Waiting<D>, H>, Fault>
         ensures { IfErr result (λ f. f ≡ fault.Memory) }
     {
