@@ -13,12 +13,13 @@ use Rattle.tree_node.specs.Trees.{Tree, Row, end, more, object, child, row_items
 use Rattle.tree_node.proofs.RowLemmas.{items-branches_of, occurs-branches_of, occurs_here, same_tree}
 use Rattle.node_page.specs.Layout.{IsReference}
 use Rattle.node_page.specs.Parts.{Moves, no_page}
-use Rattle.node_page.specs.Standing.{PageMap, HasNode, RowStands, Stands}
+use Rattle.node_page.specs.Standing.{PageMap, HasNode, node_in, RowStands, Stands}
 use Rattle.node_page.proofs.PartLemmas.{moves_in_turn, moves_same, none_or_some, one_page_moves, staying_moves}
 use Rattle.node_page.proofs.StandingLemmas.{below_there, node_stays, page_of_node, row_stays}
 use Rattle.reinsert.specs.Children.{Child, child_at, occurs_at}
 use Rattle.reinsert.specs.Inserted.{IsRootOf}
 use Rattle.reinsert.proofs.ChildLemmas.{HasChild, has_child}
+use Rattle.reinsert.proofs.PlaceLemmas.{items_read}
 use Rattle.reinsert.proofs.StandLemmas.{moves_with, rest_same, zero_there}
 
 -- ---- the tree at a root
@@ -125,28 +126,38 @@ pub record NextChild (dims : ℕ) (m m1 : PageMap) (all : Row) (at reference low
   pub stands : Stands dims m1 (record { page = reference; level = lower; row = row })
   pub goes : (m2 : PageMap) → Moves m1 m2 (λ n. occurs_at reference n row) no_page → Moves m m2 (λ n. occurs_before n all (at + 1)) no_page
 
-pub next_child : (dims : ℕ) (m m1 : PageMap) (page level at reference lower : ℕ) (row : Row) (items : List Item) → Stands dims m (record { page = page; level = level; row = row })
-    → Moves m m1 (λ n. occurs_before n row at) no_page → row_items row ≡ items → 0 < level → at < length items → ((d : Item) → reference ≡ (get_or items at d).reference) → lower ≡ level - 1
-    → NextChild dims m m1 row at reference lower
-next_child dims m m1 page level at reference lower row items stands before are high within refers low =
-    let child = has_child dims m level row at high (omega (arith, within, ap length are)) stands.below in
-    let d : Item = record { bounds = record { low = []; high = [] }; reference = 0 } in
-    let is : reference ≡ child.from.page = refers d ∙ ap (λ (xs : List Item). (get_or xs at d).reference) (sym are) ∙ child.reference d in
-    let there = next_stands dims m m1 page level row at stands before child reference is in
-    let step : at + 1 ≡ suc at = omega arith in
-    record {
-      row = child.from.row;
-      stands = subst (λ l. Stands dims m1 (record { page = reference; level = l; row = child.from.row })) (sym low) there;
-      goes = λ m2 went. subst (λ k. Moves m m2 (λ n. occurs_before n row k) no_page) (sym step) (freed_more dims m m1 page level row at stands before child reference is m2 went);
-    }
+-- the node of a tree was read, so many of its entries name children, and the trees of the first ones are freed
+module _ (dims : ℕ) (m m1 : PageMap) (root : Root) (row : Row) (level count at : ℕ) (entries : List (Entry dims)) (stands : Stands dims m (tree_at root row))
+    (read : IsSome (m root.page) → node_in dims (m root.page) ≡ Some (record { level = level; entries = map item_of entries })) (same : level ≡ root.level)
+    (leaf : level ≡ 0 → count ≡ 0) (above : 0 < level → count ≡ length entries) (before : Moves m m1 (λ n. occurs_before n row at) no_page) where
+  are : row_items row ≡ map item_of entries
+  are = items_read dims m root.page root.level level row (map item_of entries) stands.root (read (page_of_node dims (m root.page) _ stands.root))
 
--- all children are freed: of a leaf none
-pub children_freed : (dims : ℕ) (m m1 : PageMap) (level at count : ℕ) (row : Row) (items : List Item) → RowStands dims m level row → row_items row ≡ items
-    → (level ≡ 0 → count ≡ 0) → (0 < level → count ≡ length items) → count ≤ at → Moves m m1 (λ n. occurs_before n row at) no_page → Moves m m1 (λ n. occurs n row) no_page
-children_freed dims m m1 level at count row items h are leaf above over before = ⊎_elim
-    (λ none. moves_same m m1 _ _ _ _ (λ n. let no = occurs_in_leaf dims m row n (subst (λ l. RowStands dims m l row) none h) in omega (arith, no, before_fewer n row at)) (λ n. refl) before)
-    (λ some. moves_same m m1 _ _ _ _ (λ n. before_all n row at (omega (arith, ap length are, above some, over))) (λ n. refl) before)
-    (none_or_some level)
+  many : 0 < root.level → count ≡ length (row_items row)
+  many high = above (omega (arith, high, same)) ∙ sym (length-map entries item_of) ∙ ap length (sym are)
+
+  -- the next child stands, and its pages go too
+  pub next_child : at < count → (below : Root) → ((d : Item) → below.page ≡ (get_or (map item_of entries) at d).reference) → below.level ≡ level - 1 → NextChild dims m m1 row at below.page below.level
+  next_child within below refers low =
+      let high : 0 < root.level = ⊎_elim (λ none. absurd (omega (arith, leaf (same ∙ none), within))) (λ some. some) (none_or_some root.level) in
+      let child = has_child dims m root.level row at high (omega (arith, within, many high)) stands.below in
+      let d : Item = record { bounds = record { low = []; high = [] }; reference = 0 } in
+      let is : below.page ≡ child.from.page = refers d ∙ ap (λ (xs : List Item). (get_or xs at d).reference) (sym are) ∙ child.reference d in
+      let there = next_stands dims m m1 root.page root.level row at stands before child below.page is in
+      let down : root.level - 1 ≡ below.level = omega (arith, low, same) in
+      let step : suc at ≡ at + 1 = omega arith in
+      record {
+        row = child.from.row;
+        stands = subst (λ l. Stands dims m1 (record { page = below.page; level = l; row = child.from.row })) down there;
+        goes = λ m2 went. subst (λ k. Moves m m2 (λ n. occurs_before n row k) no_page) step (freed_more dims m m1 root.page root.level row at stands before child below.page is m2 went);
+      }
+
+  -- all children are freed: of a leaf none
+  pub children_freed : count ≤ at → Moves m m1 (λ n. occurs n row) no_page
+  children_freed over = ⊎_elim
+      (λ none. moves_same m m1 _ _ _ _ (λ n. let no = occurs_in_leaf dims m row n (subst (λ l. RowStands dims m l row) none stands.below) in omega (arith, no, before_fewer n row at)) (λ n. refl) before)
+      (λ some. moves_same m m1 _ _ _ _ (λ n. before_all n row at (omega (arith, many some, over))) (λ n. refl) before)
+      (none_or_some root.level)
 
 -- ---- the root's page
 
