@@ -8,7 +8,7 @@ use crate::free_tree;
 use arrayvec::ArrayVec;
 use block_device::{BlockDevice, FuseDevice, FuseMode, MemoryDevice};
 use box_math::BBox;
-use node_page::{leaf_lists, write_node};
+use node_page::{Broken, leaf_lists, write_node};
 use page_cache::PageCache;
 use page_file::{Fault, create_pages, open_pages};
 use refusing::Refusing;
@@ -33,6 +33,20 @@ fn point(reference: u64, x: i32, y: i32) -> Entry<2> {
     }
 }
 
+// Inserts the points into the empty tree.
+fn insert_line(
+    alloc: Global,
+    cache: &mut PageCache<MemoryDevice, Global>,
+) -> Result<Root, Broken>
+    requires open { gate_of cache.old ≡ Open }
+{
+    let mut now = EMPTY;
+    'points: for &(reference, x, y) in &LINE {
+        now = insert_at(alloc, cache, now, &point(reference, x, y), 0, 4)?;
+    }
+    Ok(now)
+}
+
 // The device of a file with the tree of the five points.
 fn five_points(alloc: Global) -> Result<MemoryDevice, Fault> {
     let file = create_pages(MemoryDevice::new(alloc)).map_err(|(fault, _)| fault)?;
@@ -44,11 +58,7 @@ fn five_points(alloc: Global) -> Result<MemoryDevice, Fault> {
         entries: ArrayVec::new(),
     };
     write_node(&mut cache, 3, &leaf)?;
-    let mut now = EMPTY;
-    'points: for &(reference, x, y) in &LINE {
-        let entry = point(reference, x, y);
-        now = insert_at(alloc, &mut cache, now, &entry, 0, 4).map_err(|b| b.cause)?;
-    }
+    insert_line(alloc, &mut cache).map_err(|b| b.cause)?;
     cache.close().map_err(|(fault, _)| fault)
 }
 

@@ -2,7 +2,7 @@
 use Rattle.std.proofs.Common.{◌≡◌, ◌^◌, ◌<◌, ◌≤◌}
 use Rattle.page_file.specs.declared.gate.Gate.TheVariants.{Open}
 use Rattle.page_cache.specs.Cache.{gate_of}
-use Rattle.condense.proofs.tests.five_points.Given as goal
+use Rattle.condense.proofs.tests.insert_line.Given as goal
 
 abbrev pub invariant-points : goal.invariant-points
-invariant-points g l = (gate_of l.cache ≡ Open) × (l.now.level ≤ 40) × (3 ≤ l.now.page) × (l.now.page < 2 ^ 31)
+invariant-points l = (gate_of l.cache ≡ Open) × (l.now.level ≤ 40) × (3 ≤ l.now.page) × (l.now.page < 2 ^ 31)
