@@ -34,10 +34,7 @@ fn point(reference: u64, x: i32, y: i32) -> Entry<2> {
 }
 
 // Inserts the points into the empty tree.
-fn insert_line(
-    alloc: Global,
-    cache: &mut PageCache<MemoryDevice, Global>,
-) -> Result<Root, Broken>
+fn insert_line(alloc: Global, cache: &mut PageCache<MemoryDevice, Global>) -> Result<Root, Broken>
     requires open { gate_of cache.old ≡ Open }
 {
     let mut now = EMPTY;
@@ -81,7 +78,11 @@ fn five_stand<B: BlockDevice, A: Allocator + Copy>(
     cache: &mut PageCache<B, A>,
 ) -> Result<bool, Fault> {
     let lists = leaf_lists::<2, _, _, _>(alloc, cache, FIVE)?;
-    Ok(lists.len() == 2 && lists[0].as_slice() == [1, 2].as_slice() && lists[1].as_slice() == [3, 4, 5].as_slice())
+    Ok(
+        lists.len() == 2
+            && lists[0].as_slice() == [1, 2].as_slice()
+            && lists[1].as_slice() == [3, 4, 5].as_slice(),
+    )
 }
 
 #[test]

@@ -1,7 +1,7 @@
 -- The goals of `free_tree` that are proved by hand.
-use Rattle.std.proofs.Common.{◌≡◌, ◌<◌, ◌≤◌, Err, None, sym, subst, arith}
+use Rattle.std.proofs.Common.{Err, None, sym, subst, arith}
 use Rattle.page_file.specs.Fault.{IsOfDevice}
-use Rattle.page_cache.specs.Cache.{IsPageMap, pages}
+use Rattle.page_cache.specs.Cache.{pages}
 use Rattle.page_cache.specs.Calls.{asks_changes, changes_in_turn}
 use Rattle.node_page.specs.Broken.{changes_and_breaks}
 use Rattle.node_page.specs.declared.broken.Broken.{Broken}
