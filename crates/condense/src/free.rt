@@ -1,0 +1,52 @@
+//! A tree freed.
+
+ghost use Rattle.std.specs.Prelude.{◌≡◌, ◌⊎◌, ◌≤◌, OnOk, IfErr};
+ghost use Rattle.box_math.specs.Bounds.{IsDims};
+ghost use Rattle.page_file.specs.Fault.{IsDamage, IsOfDevice};
+ghost use Rattle.page_file.specs.declared.gate.Gate.TheVariants.{Open};
+ghost use Rattle.page_cache.specs.Cache.{IsPageMap, gate_of, pages};
+ghost use Rattle.tree_node.specs.Trees.{Tree};
+ghost use Rattle.node_page.specs.Broken.{Alters};
+ghost use Rattle.node_page.specs.Standing.{Stands};
+ghost use Rattle.reinsert.specs.Inserted.{IsRootOf};
+ghost use Rattle.condense.specs.Freed.{Frees};
+
+use crate::children::{child_count, child_of};
+use block_device::BlockDevice;
+use node_page::{Broken, read_node};
+use page_cache::PageCache;
+use std::alloc::Allocator;
+use tree_node::Root;
+
+/// Frees all pages of the tree at that root. The gate has to be open.
+///
+/// Where the pages are a sound map, and stand for a tree there, none of the tree's pages is live after `Ok`, and all
+/// others are as before. A refusal is of memory or of the device then, and the map stays sound; one that is not
+/// `touched` leaves the map as it was. In other pages one may also be damaged.
+pub fn free_tree<const D: usize, B: BlockDevice, A: Allocator + Copy>(
+    cache: &mut PageCache<B, A>,
+    root: Root,
+) -> Result<(), Broken>
+    requires dims { IsDims D }
+    requires open { gate_of cache.old ≡ Open }
+    ensures alters { Alters cache.old cache.new result }
+    ensures freed { IsPageMap cache.old → (t : Tree) → IsRootOf root t → Stands D (pages cache.old) t
+        → OnOk result (Frees (pages cache.old) (pages cache.new) t) }
+    ensures sound { IsPageMap cache.old → (t : Tree) → IsRootOf root t → Stands D (pages cache.old) t
+        → IsPageMap cache.new }
+    ensures faults { IsPageMap cache.old → (t : Tree) → IsRootOf root t → Stands D (pages cache.old) t
+        → 3 ≤ root.page → IfErr result (λ b. IsOfDevice b.cause) }
+    ensures other_faults { IfErr result (λ b. IsOfDevice b.cause ⊎ IsDamage b.cause) }
+{
+    let node = read_node::<D, B, A>(cache, root.page, root.level)?;
+    'children: for at in 0..child_count(&node) {
+        let below = child_of(&node, at);
+        if let Err(broken) = free_tree::<D, B, A>(cache, below) {
+            return Err(Broken::midway(broken.cause));
+        }
+    }
+    match cache.free(root.page) {
+        Ok(()) => Ok(()),
+        Err(fault) => Err(Broken::midway(fault)),
+    }
+}
