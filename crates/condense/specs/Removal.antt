@@ -1,5 +1,5 @@
 -- A lawful removal (Delete and CondenseTree of Guttman 1984; the order of the kept entries, and that each of them is
--- inserted with marks of its own, are our rule, docs/RULES.md).
+-- inserted with marks of its own, are our rule, docs/RULES.md, "Removal").
 use Rattle.std.specs.Prelude.{◌≡◌, ℕ, zero, suc, ◌+◌, ◌-◌, ◌<◌, nat_lt, List, [], ◌∷◌, ◌++◌, take, drop, Some, if◌then◌else◌}
 use Rattle.box_math.specs.Bounds.{Bounds}
 use Rattle.tree_node.specs.Boxes.{least_box}

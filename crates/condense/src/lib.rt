@@ -1,4 +1,4 @@
-//! Objects removed from trees of pages, and whole trees freed.
+//! Whole trees of pages freed, and what a lawful removal of an object is (docs/RULES.md, "Removal").
 #![tactic(auto)]
 
 mod children;
