@@ -10,3 +10,4 @@ pub mod LevelLemmas
 pub mod SizeLemmas
 pub mod CacheLemmas
 pub mod LoadLemmas
+pub mod Examples

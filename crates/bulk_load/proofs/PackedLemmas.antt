@@ -1,5 +1,5 @@
 -- Packed trees: their shape, and their objects.
-use Rattle.std.proofs.Common.{◌≡◌, ◌∙◌, ℕ, suc, ◌+◌, ◌-◌, ◌/◌, ◌<◌, ◌≤◌, List, [], ◌∷◌, length, map, All, IsPermutation, refl, sym, ap, subst, arith, length-append}
+use Rattle.std.proofs.Common.{◌≡◌, ◌∙◌, ℕ, suc, ◌+◌, ◌-◌, ◌/◌, ◌<◌, ◌≤◌, List, [], ◌∷◌, length, All, IsPermutation, refl, sym, ap, subst, arith, length-append}
 use Rattle.std.proofs.lemmas.List.Elements.{All-tail}
 use Rattle.std.proofs.lemmas.List.Sorted.{length_permutation}
 use Rattle.box_math.specs.Bounds.{Bounds, IsDims}
@@ -10,6 +10,7 @@ use Rattle.tree_node.specs.Shape.{HasShape, IsLeastBox, RowHasShape, least_entri
 use Rattle.tree_node.specs.Trees.{Row, Branch, object, child, Tree, RowOnLevel, objects_in, row_length}
 use Rattle.tree_node.proofs.ObjectLemmas.{equal_sums_permute}
 use Rattle.tree_node.proofs.PositionLemmas.{total-append}
+use Rattle.node_page.specs.Checked.{pairs_of}
 use Rattle.bulk_load.specs.Packed.{AreParents, Packs, higher, root, objects_of}
 use Rattle.bulk_load.specs.PackedLaws.{PackedHasShape, PackedHoldsObjects}
 use Rattle.bulk_load.specs.Tiling.{IsTiled, joined}
@@ -120,12 +121,12 @@ objects_packed f dims most _ _ _ (higher level entries runs parents t more_than 
     objects_packed f dims most (suc level) parents t packs ∙ parents_hold f dims runs parents are
     ∙ total-permutation (λ (b : Branch). total f (objects_on b)) entries (joined runs) (holds_on item_in dims most dims entries runs tiled)
 
-objects_are : (items : List Item) → objects_in (row_of (objects_of items)) ≡ map (λ (item : Item). (item.reference, item.bounds)) items
+objects_are : (items : List Item) → objects_in (row_of (objects_of items)) ≡ pairs_of items
 objects_are [] = refl
 objects_are (item ∷ items) = ap (λ (os : List (ℕ × Bounds)). (item.reference, item.bounds) ∷ os) (objects_are items)
 
 pub packed_holds_objects : PackedHoldsObjects
-packed_holds_objects dims most items t packed = equal_sums_permute (map (λ (item : Item). (item.reference, item.bounds)) items) (objects_in t.row)
+packed_holds_objects dims most items t packed = equal_sums_permute (pairs_of items) (objects_in t.row)
     (λ f. ap (total f) (sym (objects_are items)) ∙ objects_total f (objects_of items) ∙ sym (objects_packed f dims most 0 (objects_of items) t packed))
 
 -- what the laws of packed trees are proved by

@@ -1,9 +1,10 @@
 -- What a load leaves in the pages (our rule, docs/RULES.md, "Packed load").
-use Rattle.std.specs.Prelude.{◌≡◌, ℕ, List, IsPermutation, map}
+use Rattle.std.specs.Prelude.{◌≡◌, ℕ, List, IsPermutation}
 use Rattle.tree_node.specs.Nodes.{Item}
 use Rattle.tree_node.specs.Shape.{HasShape}
 use Rattle.tree_node.specs.Trees.{Tree, objects_in, occurs_in}
 use Rattle.tree_node.specs.declared.node.Root.{Root}
+use Rattle.node_page.specs.Checked.{pairs_of}
 use Rattle.node_page.specs.Parts.{Moves, no_page}
 use Rattle.node_page.specs.Standing.{PageMap, Stands}
 use Rattle.bulk_load.specs.Packed.{IsPacked}
@@ -16,5 +17,5 @@ pub record Loads (dims most : ℕ) (was now : PageMap) (items : List Item) (root
   pub packed : IsPacked dims most items tree
   pub stands : Stands dims now tree
   pub shape : HasShape dims most tree
-  pub objects : IsPermutation (map (λ (item : Item). (item.reference, item.bounds)) items) (objects_in tree.row)
+  pub objects : IsPermutation (pairs_of items) (objects_in tree.row)
   pub moves : Moves was now no_page (λ n. occurs_in n tree)

@@ -1,10 +1,8 @@
 //! Nodes of a packed tree: each in a page of its own that was not live.
 
-ghost use Rattle.std.specs.Prelude.{◌≡◌, ◌⊎◌, ◌^◌, ◌<◌, ◌≤◌, All, IfErr, IfOk, None, Some, length};
+ghost use Rattle.std.specs.Prelude.{◌≡◌, ◌^◌, ◌<◌, ◌≤◌, All, IfErr, IfOk, None, Some, length};
 ghost use Rattle.box_math.specs.Bounds.{IsDims};
-ghost use Rattle.page_file.specs.Fault.{IsOfDevice};
 ghost use Rattle.page_file.specs.Pages.{SameBut};
-ghost use Rattle.page_file.specs.declared.fault.Fault.TheVariants as fault;
 ghost use Rattle.page_file.specs.declared.gate.Gate.TheVariants.{Open};
 ghost use Rattle.page_cache.specs.Cache.{IsPageMap, gate_of, pages};
 ghost use Rattle.page_cache.specs.Calls.{Changes};
@@ -12,6 +10,7 @@ ghost use Rattle.tree_node.specs.Boxes.{least_box};
 ghost use Rattle.tree_node.specs.Nodes.{items_of};
 ghost use Rattle.node_page.specs.Layout.{IsReference, IsSpellable};
 ghost use Rattle.node_page.specs.Standing.{node_in};
+ghost use Rattle.node_page.specs.Faults.{IsNoDamage};
 
 use arrayvec::ArrayVec;
 use block_device::BlockDevice;
@@ -54,7 +53,7 @@ pub(crate) fn write_new<const D: usize, B: BlockDevice, A: Allocator + Copy>(
     ensures node { IsPageMap cache.old → IfOk result (λ n. node_in D (pages cache.new n)
         ≡ Some (record { level = level; entries = items_of entries.now })) }
     ensures others { IsPageMap cache.old → IfOk result (λ n. SameBut n (pages cache.old) (pages cache.new)) }
-    ensures faults { IsPageMap cache.old → IfErr result (λ f. IsOfDevice f ⊎ (f ≡ fault.NoPages)) }
+    ensures faults { IsPageMap cache.old → IfErr result (IsNoDamage cache.new) }
 {
     let node = node_of(entries, level);
     let page = cache.allocate()?;
@@ -82,7 +81,7 @@ pub(crate) fn write_parent<const D: usize, B: BlockDevice, A: Allocator + Copy>(
         ≡ Some (record { level = level; entries = items_of entries.now })) }
     ensures others { IsPageMap cache.old
         → IfOk result (λ parent. SameBut parent.reference (pages cache.old) (pages cache.new)) }
-    ensures faults { IsPageMap cache.old → IfErr result (λ f. IsOfDevice f ⊎ (f ≡ fault.NoPages)) }
+    ensures faults { IsPageMap cache.old → IfErr result (IsNoDamage cache.new) }
 {
     let page = write_new(cache, entries, level)?;
     Ok(Entry {

@@ -1,9 +1,8 @@
 //! Packed trees, written level by level into pages that were not live.
 
-ghost use Rattle.std.specs.Prelude.{◌≡◌, ◌⊎◌, ◌+◌, ◌*◌, ◌^◌, ◌<◌, ◌≤◌, ℕ, All, IfErr, IfOk, IsPermutation, List};
+ghost use Rattle.std.specs.Prelude.{◌≡◌, ◌+◌, ◌*◌, ◌^◌, ◌<◌, ◌≤◌, ℕ, All, IfErr, IfOk, IsPermutation, List, []};
 ghost use Rattle.std.specs.Prelude.{length, map};
 ghost use Rattle.box_math.specs.Bounds.{IsDims};
-ghost use Rattle.page_file.specs.Fault.{IsOfDevice};
 ghost use Rattle.page_file.specs.declared.fault.Fault.TheVariants as fault;
 ghost use Rattle.page_file.specs.declared.gate.Gate.TheVariants.{Open};
 ghost use Rattle.page_cache.specs.Cache.{IsPageMap, gate_of, pages};
@@ -13,6 +12,7 @@ ghost use Rattle.tree_node.specs.Positions.{total};
 ghost use Rattle.tree_node.specs.Trees.{Branch};
 ghost use Rattle.node_page.specs.Broken.{Alters};
 ghost use Rattle.node_page.specs.Layout.{IsReference};
+ghost use Rattle.node_page.specs.Faults.{IsNoDamage};
 ghost use Rattle.bulk_load.specs.Levels.{AreSizes, LevelPacked, LevelWritten, PackedAt, WaitFor};
 ghost use Rattle.bulk_load.specs.Loads.{Loads};
 ghost use Rattle.bulk_load.specs.Tiling.{joined};
@@ -29,9 +29,9 @@ use tree_node::see_boxes;
 /// Makes a tree packed from these objects, in pages that were not live: its nodes have at most `m_max` entries, and no
 /// objects make an empty leaf. The gate has to be open. The objects are left in some order.
 ///
-/// A refusal says whether a page may have been touched; on a sound map it is `Memory`, `Device` or `NoPages`. The
-/// memory for the order of the objects is taken before the first page; the lists of the levels above grow while pages
-/// are written.
+/// A refusal says whether a page may have been touched; on a sound map it is `Memory`, `Device` or `NoPages`, the last
+/// only where all page numbers are given out. The memory for the order of the objects and for the list of the leaves is
+/// taken before the first page; the lists of the levels above grow while pages are written.
 pub fn load<const D: usize, B: BlockDevice, A: Allocator + Copy, H: Allocator + Copy>(
     alloc: H,
     cache: &mut PageCache<B, A>,
@@ -46,7 +46,7 @@ pub fn load<const D: usize, B: BlockDevice, A: Allocator + Copy, H: Allocator + 
     ensures loaded { IsPageMap cache.old
         → IfOk result (λ root. Loads D m_max (pages cache.old) (pages cache.new) (items_of objects.old) root) }
     ensures all { IsPermutation objects.old objects.new }
-    ensures faults { IsPageMap cache.old → IfErr result (λ b. IsOfDevice b.cause ⊎ (b.cause ≡ fault.NoPages)) }
+    ensures faults { IsPageMap cache.old → IfErr result (λ b. IsNoDamage cache.new b.cause) }
 {
     see_boxes(objects);
     pack(alloc, cache, objects, 0, m_max)
@@ -72,7 +72,7 @@ fn pack<const D: usize, B: BlockDevice, A: Allocator + Copy, H: Allocator + Copy
         → WaitFor D level (pages cache.old) (items_of entries.old) bs
         → IfOk result (λ root. PackedAt D m_max level (pages cache.old) (pages cache.new) bs root) }
     ensures all { IsPermutation entries.old entries.new }
-    ensures faults { IsPageMap cache.old → IfErr result (λ b. IsOfDevice b.cause ⊎ (b.cause ≡ fault.NoPages)) }
+    ensures faults { IsPageMap cache.old → IfErr result (λ b. IsNoDamage cache.new b.cause) }
 {
     if entries.len() <= usize::from(m_max) {
         return match write_new(cache, entries, level) {
@@ -111,28 +111,39 @@ fn pack_level<const D: usize, B: BlockDevice, A: Allocator + Copy, H: Allocator 
         → IfOk result (λ parents. LevelPacked D m_max level (pages cache.old) (pages cache.new) bs
         (items_of parents.items)) }
     ensures all { IsPermutation entries.old entries.new }
-    ensures faults { IsPageMap cache.old → IfErr result (λ b. IsOfDevice b.cause ⊎ (b.cause ≡ fault.NoPages)) }
+    ensures faults { IsPageMap cache.old → IfErr result (λ b. IsNoDamage cache.new b.cause) }
 {
     let sizes = tile(alloc, entries, m_max)?;
-    match write_level(alloc, cache, entries, sizes.as_slice(), level) {
+    let parents = room_for(alloc, sizes.len())?;
+    match write_level(cache, entries, sizes.as_slice(), level, parents) {
         Ok(parents) => Ok(parents),
         Err(cause) => Err(Broken::midway(cause)),
     }
 }
 
-// Writes the nodes of a level, which take so many of the entries each, and answers an entry for each node.
+// A list with room for so many entries, before a page is touched.
+fn room_for<const D: usize, H: Allocator>(alloc: H, count: usize) -> Result<Vec<Entry<D>, H>, Fault>
+    ensures empty { IfOk result (λ list. list.items ≡ []) }
+    ensures memory { IfErr result (λ f. f ≡ fault.Memory) }
+{
+    Ok(Vec::with_capacity(alloc, count)?)
+}
+
+// Writes the nodes of a level, which take so many of the entries each, and answers an entry for each node in a list
+// that was empty.
 fn write_level<const D: usize, B: BlockDevice, A: Allocator + Copy, H: Allocator>(
-    alloc: H,
     cache: &mut PageCache<B, A>,
     entries: &[Entry<D>],
     sizes: &[usize],
     level: u8,
+    mut parents: Vec<Entry<D>, H>,
 ) -> Result<Vec<Entry<D>, H>, Fault>
     requires dims { IsDims D }
     requires open { gate_of cache.old ≡ Open }
     requires whole { total (λ size. size) sizes.now ≡ length entries.now }
     requires sized { AreSizes sizes.now }
     requires refers { All (λ item. IsReference level item.reference) (items_of entries.now) }
+    requires empty { parents.items ≡ [] }
     ensures changes { Changes cache.old cache.new result }
     ensures sound { IsPageMap cache.old → IsPageMap cache.new }
     ensures count { IfOk result (λ parents. length parents.items ≡ length sizes.now) }
@@ -142,9 +153,8 @@ fn write_level<const D: usize, B: BlockDevice, A: Allocator + Copy, H: Allocator
         → WaitFor D level (pages cache.old) (items_of entries.now) (joined runs)
         → IfOk result (λ parents. LevelWritten D level (pages cache.old) (pages cache.new) runs
         (items_of parents.items)) }
-    ensures faults { IsPageMap cache.old → IfErr result (λ f. IsOfDevice f ⊎ (f ≡ fault.NoPages)) }
+    ensures faults { IsPageMap cache.old → IfErr result (IsNoDamage cache.new) }
 {
-    let mut parents = Vec::with_capacity(alloc, sizes.len())?;
     let mut from = 0;
     'runs: for place in 0..sizes.len() {
         let size = sizes[place];

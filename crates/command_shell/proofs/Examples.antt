@@ -2,11 +2,13 @@
 -- No other proof rests on them. A definition that says another thing than docs/COMMANDS.md is refused here.
 use Rattle.std.proofs.Common.{◌≡◌, ℕ, List, [], ◌∷◌, ◌++◌, Bool, true, refl, sym, ap, ap₂, ◌∙◌, pos, negsuc, Some, None, codes, replicate, map, length, length-append, get_or, arith}
 use Rattle.std.specs.Fmt.{digits}
-use Rattle.plain_table.specs.Commands.Command.{Create, Insert, Window, Reopen}
+use Rattle.plain_table.specs.Commands.Command.{Create, Insert, Get, Count, Range, Nearest, Reopen}
 use Rattle.store_law.specs.States.{Request}
 use Rattle.store_law.specs.States.Request.{BadCommand, Asks}
-use Rattle.plain_table.specs.Step.Answer.{Done, Refused, Boxes}
+use Rattle.plain_table.specs.Step.Answer.{Done, Refused, Boxes, Counted, Distances}
 use Rattle.plain_table.specs.declared.boxes.RawBox.TheVariants.{Two, Three}
+use Rattle.plain_table.specs.declared.boxes.RawPoint.TheVariants as point
+use Rattle.plain_table.specs.declared.queries.RawQuery.TheVariants.{Window, Inside, Around, Point}
 use Rattle.plain_table.specs.declared.refusal.Refusal.TheVariants as refusal
 use Rattle.command_shell.specs.TextCommands.{AreCommands, AsksAlone}
 use Rattle.command_shell.specs.TextCommands.AreCommands.{none, one}
@@ -103,8 +105,35 @@ insert_gives_all_lows_and_then_all_highs = refl
 insert_in_space : meaning_of (codes "insert a 7 1 2 3 4 5 6") ≡ Means (Insert a 7 (Three (pos 1 ∷ pos 2 ∷ pos 3 ∷ []) (pos 4 ∷ pos 5 ∷ pos 6 ∷ [])))
 insert_in_space = refl
 
-window_gives_a_box : meaning_of (codes "window window 1 2 3 4") ≡ Means (Window (codes "window") (Two (pos 1 ∷ pos 2 ∷ []) (pos 3 ∷ pos 4 ∷ [])))
+window_gives_a_box : meaning_of (codes "window window 1 2 3 4") ≡ Means (Range (codes "window") (Window (Two (pos 1 ∷ pos 2 ∷ []) (pos 3 ∷ pos 4 ∷ []))))
 window_gives_a_box = refl
+
+inside_and_around_give_boxes : map meaning_of (codes "inside a 1 2 3 4" ∷ codes "around a 1 2 3 4" ∷ []) ≡ Means (Range a (Inside (Two (pos 1 ∷ pos 2 ∷ []) (pos 3 ∷ pos 4 ∷ [])))) ∷ Means (Range a (Around (Two (pos 1 ∷ pos 2 ∷ []) (pos 3 ∷ pos 4 ∷ [])))) ∷ []
+inside_and_around_give_boxes = refl
+
+point_gives_two_or_three_coordinates : map meaning_of (codes "point a 1 -2" ∷ codes "point a 1 2 3" ∷ []) ≡ Means (Range a (Point (point.Two (pos 1 ∷ negsuc 1 ∷ [])))) ∷ Means (Range a (Point (point.Three (pos 1 ∷ pos 2 ∷ pos 3 ∷ [])))) ∷ []
+point_gives_two_or_three_coordinates = refl
+
+bad_points : map meaning_of (codes "point" ∷ codes "point a" ∷ codes "point a 1" ∷ codes "point a 1 2 3 4" ∷ codes "point a 1 2 3 4 5 6 7" ∷ codes "point a +1 2" ∷ []) ≡ replicate 6 Bad
+bad_points = refl
+
+get_names_a_layer_and_an_identifier : meaning_of (codes "get get 007") ≡ Means (Get (codes "get") 7)
+get_names_a_layer_and_an_identifier = refl
+
+bad_gets : map meaning_of (codes "get" ∷ codes "get a" ∷ codes "get a -1" ∷ codes "get a 1 2" ∷ codes "get a 18446744073709551616" ∷ []) ≡ replicate 5 Bad
+bad_gets = refl
+
+count_names_a_layer : meaning_of (codes " count 0 ") ≡ Means (Count (codes "0"))
+count_names_a_layer = refl
+
+bad_counts : map meaning_of (codes "count" ∷ codes "count a b" ∷ codes "counts a" ∷ []) ≡ replicate 3 Bad
+bad_counts = refl
+
+nearest_gives_a_number_and_a_point : meaning_of (codes "nearest a 3 1 -2") ≡ Means (Nearest a 3 (point.Two (pos 1 ∷ negsuc 1 ∷ [])))
+nearest_gives_a_number_and_a_point = refl
+
+bad_nearests : map meaning_of (codes "nearest a" ∷ codes "nearest a 1" ∷ codes "nearest a 1 2" ∷ codes "nearest a -1 0 0" ∷ codes "nearest a 1 0 0 0 0" ∷ []) ≡ replicate 5 Bad
+bad_nearests = refl
 
 reopen_is_one_word : map meaning_of (codes "reopen" ∷ codes "\t reopen \r" ∷ []) ≡ replicate 2 (Means Reopen)
 reopen_is_one_word = refl
@@ -113,7 +142,7 @@ bad_reopens : map meaning_of (codes "reopen a" ∷ codes "reopen reopen" ∷ cod
 bad_reopens = refl
 
 -- the store refuses it, not the language
-a_low_above_its_high_is_a_box : meaning_of (codes "window a 1 1 0 0") ≡ Means (Window a (Two (pos 1 ∷ pos 1 ∷ []) (pos 0 ∷ pos 0 ∷ [])))
+a_low_above_its_high_is_a_box : meaning_of (codes "window a 1 1 0 0") ≡ Means (Range a (Window (Two (pos 1 ∷ pos 1 ∷ []) (pos 0 ∷ pos 0 ∷ []))))
 a_low_above_its_high_is_a_box = refl
 
 blank_lines_and_comments : map meaning_of ([] ∷ codes " \t\r" ∷ codes "#" ∷ codes "# create a 2 4" ∷ codes " \t#create a 2 4" ∷ codes "##" ∷ []) ≡ replicate 6 Blank
@@ -171,6 +200,14 @@ rows_are_identifier_lows_and_highs : answer_text (Boxes ((1, record { low = negs
     ≡ codes "ok 2\n1 -1 2 3 4\n18446744073709551615 0 0 0 1 1 2147483647\n"
 unfolding digits
 rows_are_identifier_lows_and_highs = refl
+
+a_number_is_one_row : answer_text (Counted 1000) ≡ codes "ok 1\n1000\n"
+unfolding digits
+a_number_is_one_row = refl
+
+distances_have_identifiers : answer_text (Distances ((1, 0) ∷ (18446744073709551615, 55340232195358851075) ∷ [])) ≡ codes "ok 2\n1 0\n18446744073709551615 55340232195358851075\n"
+unfolding digits
+distances_have_identifiers = refl
 
 refusals_have_numbers_and_names : texts_of (Refused refusal.BadName ∷ Refused refusal.NoObject ∷ Refused refusal.BadLine ∷ Refused refusal.NoPages ∷ [])
     ≡ codes "fail 1 BadName\nfail 10 NoObject\nfail 24 BadLine\nfail 25 NoPages\n"

@@ -1,10 +1,12 @@
--- The numbers, coordinates and boxes that words are. Our rule, docs/COMMANDS.md.
+-- The numbers, coordinates, boxes and points that words are. Our rule, docs/COMMANDS.md.
 use Rattle.std.specs.Prelude.{ℕ, ◌^◌, Bool, ◌&&◌, ◌==◌, nat_lt, nat_le, List, [], ◌∷◌, length, drop, if◌then◌else◌, ℤ, pos, neg_ℤ, slice_index, Option, Some, None, option_map, option_and_then}
 use Rattle.std.specs.List.{list_all}
 use Rattle.std.specs.Char.{is_ascii_digit}
 use Rattle.std.specs.Str.Parse.{digits_value}
 use Rattle.plain_table.specs.declared.boxes.RawBox.{RawBox}
 use Rattle.plain_table.specs.declared.boxes.RawBox.TheVariants.{Two, Three}
+use Rattle.plain_table.specs.declared.boxes.RawPoint.{RawPoint}
+use Rattle.plain_table.specs.declared.boxes.RawPoint.TheVariants as point
 
 -- one decimal digit or more, and nothing else
 abbrev pub is_numeral : List ℕ → Bool
@@ -46,3 +48,13 @@ box_from cs = None
 -- the box that all these words are
 abbrev pub box_of : List (List ℕ) → Option RawBox
 box_of ws = option_and_then box_from (coordinates_of ws)
+
+-- the point of two or three coordinates
+abbrev pub point_from : List ℤ → Option RawPoint
+point_from (a ∷ b ∷ []) = Some (point.Two (a ∷ b ∷ []))
+point_from (a ∷ b ∷ c ∷ []) = Some (point.Three (a ∷ b ∷ c ∷ []))
+point_from cs = None
+
+-- the point that all these words are
+abbrev pub point_of : List (List ℕ) → Option RawPoint
+point_of ws = option_and_then point_from (coordinates_of ws)

@@ -1,6 +1,6 @@
 -- What a `Line` says.
 use Rattle.std.specs.Prelude.{Option, Some, None}
-use Rattle.plain_table.specs.Commands.Command.{Create, Insert, Window, Reopen}
+use Rattle.plain_table.specs.Commands.Command.{Create, Insert, Get, Count, Range, Nearest, Reopen}
 use Rattle.command_shell.specs.Meanings.{Meaning}
 use Rattle.command_shell.specs.Meanings.Meaning.{Blank, Bad, Means}
 use Rattle.command_shell.specs.declared.parse.Line.{Line}
@@ -12,7 +12,10 @@ said line.Blank = Blank
 said line.Bad = Bad
 said (line.Create layer dims fanout) = Means (Create layer.now dims fanout)
 said (line.Insert layer id bounds) = Means (Insert layer.now id bounds)
-said (line.Window layer bounds) = Means (Window layer.now bounds)
+said (line.Get layer id) = Means (Get layer.now id)
+said (line.Count layer) = Means (Count layer.now)
+said (line.Range layer query) = Means (Range layer.now query)
+said (line.Nearest layer k point) = Means (Nearest layer.now k point)
 said line.Reopen = Means Reopen
 
 -- the same of a line that may be missing, which is bad

@@ -5,7 +5,7 @@ use Rattle.box_math.specs.Bounds.{Bounds}
 use Rattle.plain_table.specs.Answers.{row_of}
 use Rattle.plain_table.specs.Refusals.{refusal_name, refusal_number}
 use Rattle.plain_table.specs.Step.{Answer}
-use Rattle.plain_table.specs.Step.Answer.{Done, Refused, Boxes}
+use Rattle.plain_table.specs.Step.Answer.{Done, Refused, Boxes, Counted, Distances}
 use Rattle.plain_table.specs.declared.refusal.Refusal.{Refusal}
 use Rattle.plain_table.specs.declared.refusal.Refusal.TheVariants as refusal
 use Rattle.command_shell.specs.Lines.{newline}
@@ -47,11 +47,21 @@ refusal_text r = codes "fail " ++ decimal (refusal_number r) ++ space ∷ refusa
 abbrev pub count_text : ℕ → List ℕ
 count_text n = codes "ok " ++ decimal n ++ newline ∷ []
 
+-- the row of a number
+abbrev pub number_text : ℕ → List ℕ
+number_text n = decimal n ++ newline ∷ []
+
+-- the row of an object and its squared distance
+abbrev pub distance_text : ℕ × ℕ → List ℕ
+distance_text row = decimal row.0 ++ space ∷ decimal row.1 ++ newline ∷ []
+
 -- the text of an answer
 abbrev pub answer_text : Answer → List ℕ
 answer_text Done = codes "ok\n"
 answer_text (Refused r) = refusal_text r
 answer_text (Boxes rows) = count_text (length rows) ++ flat_map row_text rows
+answer_text (Counted n) = count_text 1 ++ number_text n
+answer_text (Distances rows) = count_text (length rows) ++ flat_map distance_text rows
 
 -- the texts of answers, one after the other
 abbrev pub texts_of : List Answer → List ℕ
@@ -61,7 +71,10 @@ texts_of answers = flat_map answer_text answers
 abbrev pub reply_answer : {A : Type 0} → Reply A → Answer
 reply_answer reply.Done = Done
 reply_answer (reply.Refused r) = Refused r
+reply_answer (reply.Object id box) = Boxes (row_of (id, box) ∷ [])
 reply_answer (reply.Boxes rows) = Boxes (map row_of rows.items)
+reply_answer (reply.Count n) = Counted n
+reply_answer (reply.Distances rows) = Distances rows.items
 
 -- what the program says where its store was refused: at its making, or at its closing
 abbrev pub told_refusal : Refusal → List ℕ

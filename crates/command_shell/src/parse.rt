@@ -1,14 +1,14 @@
 //! Lines, and what each of them asks.
 
 ghost use Rattle.std.specs.Prelude.{◌≡◌, ◌<◌, length, Some, IfSome, IfNone};
-ghost use Rattle.command_shell.specs.Meanings.{meaning_of, create_of, insert_of};
-ghost use Rattle.command_shell.specs.Meanings.{window_of, reopen_of, command_of, asked};
-ghost use Rattle.command_shell.specs.Numbers.{coordinates_of, box_of};
+ghost use Rattle.command_shell.specs.Meanings.{meaning_of, create_of, insert_of, get_of, count_of, box_query_of};
+ghost use Rattle.command_shell.specs.Meanings.{point_query_of, nearest_of, reopen_of, command_of, asked};
+ghost use Rattle.command_shell.specs.Numbers.{coordinates_of, box_of, point_of};
 ghost use Rattle.command_shell.specs.Said.{said, said_or_bad};
 
 use crate::words::{Words, coordinate, number};
 use arrayvec::ArrayVec;
-use layer_store::RawBox;
+use layer_store::{RawBox, RawPoint, RawQuery};
 
 /// How many bytes a line may have, without its newline. A longer one is bad.
 pub const MAX_LINE: usize = 4096;
@@ -41,12 +41,34 @@ pub enum Line<'a> {
         /// The object's box.
         bounds: RawBox,
     },
-    /// `window LAYER BOX`: asks for the objects whose boxes meet the window.
-    Window {
+    /// `get LAYER NUM`: asks for an object.
+    Get {
         /// The layer's name.
         layer: &'a [u8],
-        /// The window.
-        bounds: RawBox,
+        /// The object's identifier.
+        id: u64,
+    },
+    /// `count LAYER`: asks how many objects there are.
+    Count {
+        /// The layer's name.
+        layer: &'a [u8],
+    },
+    /// `window LAYER BOX`, `inside LAYER BOX`, `around LAYER BOX` or `point LAYER PT`: asks for the objects whose boxes
+    /// meet the box, are within it or enclose it, or hold the point.
+    Range {
+        /// The layer's name.
+        layer: &'a [u8],
+        /// What is asked of the boxes.
+        query: RawQuery,
+    },
+    /// `nearest LAYER NUM PT`: asks for the objects nearest to a point.
+    Nearest {
+        /// The layer's name.
+        layer: &'a [u8],
+        /// How many objects are asked for.
+        k: u64,
+        /// The point.
+        point: RawPoint,
     },
     /// `reopen`: closes the store and opens it again.
     Reopen,
@@ -80,8 +102,20 @@ fn command<'a>(name: &[u8], words: Words<'a>) -> Option<Line<'a>>
         create(words)
     } else if name == b"insert".as_slice() {
         insert(words)
+    } else if name == b"get".as_slice() {
+        get(words)
+    } else if name == b"count".as_slice() {
+        count(words)
     } else if name == b"window".as_slice() {
         window(words)
+    } else if name == b"inside".as_slice() {
+        inside(words)
+    } else if name == b"around".as_slice() {
+        around(words)
+    } else if name == b"point".as_slice() {
+        point(words)
+    } else if name == b"nearest".as_slice() {
+        nearest(words)
     } else if name == b"reopen".as_slice() {
         reopen(words)
     } else {
@@ -117,13 +151,75 @@ fn insert(mut words: Words<'_>) -> Option<Line<'_>>
     Some(Line::Insert { layer, id, bounds })
 }
 
-// `LAYER BOX`
-fn window(mut words: Words<'_>) -> Option<Line<'_>>
-    ensures { said_or_bad result ≡ asked (window_of words.entry) }
+// `LAYER NUM`
+fn get(mut words: Words<'_>) -> Option<Line<'_>>
+    ensures { said_or_bad result ≡ asked (get_of words.entry) }
 {
     let layer = words.next()?;
-    let bounds = bounds(words)?;
-    Some(Line::Window { layer, bounds })
+    let id = number(words.next()?)?;
+    if words.is_done() {
+        Some(Line::Get { layer, id })
+    } else {
+        None
+    }
+}
+
+// `LAYER`
+fn count(mut words: Words<'_>) -> Option<Line<'_>>
+    ensures { said_or_bad result ≡ asked (count_of words.entry) }
+{
+    let layer = words.next()?;
+    if words.is_done() {
+        Some(Line::Count { layer })
+    } else {
+        None
+    }
+}
+
+// `LAYER BOX`
+fn window(mut words: Words<'_>) -> Option<Line<'_>>
+    ensures { said_or_bad result ≡ asked (box_query_of (λ b. RawQuery.Window b) words.entry) }
+{
+    let layer = words.next()?;
+    let query = RawQuery::Window(bounds(words)?);
+    Some(Line::Range { layer, query })
+}
+
+// `LAYER BOX`
+fn inside(mut words: Words<'_>) -> Option<Line<'_>>
+    ensures { said_or_bad result ≡ asked (box_query_of (λ b. RawQuery.Inside b) words.entry) }
+{
+    let layer = words.next()?;
+    let query = RawQuery::Inside(bounds(words)?);
+    Some(Line::Range { layer, query })
+}
+
+// `LAYER BOX`
+fn around(mut words: Words<'_>) -> Option<Line<'_>>
+    ensures { said_or_bad result ≡ asked (box_query_of (λ b. RawQuery.Around b) words.entry) }
+{
+    let layer = words.next()?;
+    let query = RawQuery::Around(bounds(words)?);
+    Some(Line::Range { layer, query })
+}
+
+// `LAYER PT`
+fn point(mut words: Words<'_>) -> Option<Line<'_>>
+    ensures { said_or_bad result ≡ asked (point_query_of words.entry) }
+{
+    let layer = words.next()?;
+    let query = RawQuery::Point(position(words)?);
+    Some(Line::Range { layer, query })
+}
+
+// `LAYER NUM PT`
+fn nearest(mut words: Words<'_>) -> Option<Line<'_>>
+    ensures { said_or_bad result ≡ asked (nearest_of words.entry) }
+{
+    let layer = words.next()?;
+    let k = number(words.next()?)?;
+    let point = position(words)?;
+    Some(Line::Nearest { layer, k, point })
 }
 
 // No further word.
@@ -144,6 +240,18 @@ fn bounds(words: Words<'_>) -> Option<RawBox>
     match *bounds.as_slice() {
         [a, b, c, d] => Some(RawBox::Two([a, b], [c, d])),
         [a, b, c, d, e, f] => Some(RawBox::Three([a, b, c], [d, e, f])),
+        _ => None,
+    }
+}
+
+// The point that all these words are.
+fn position(words: Words<'_>) -> Option<RawPoint>
+    ensures { result ≡ point_of words.entry }
+{
+    let position = coordinates(words)?;
+    match *position.as_slice() {
+        [a, b] => Some(RawPoint::Two([a, b])),
+        [a, b, c] => Some(RawPoint::Three([a, b, c])),
         _ => None,
     }
 }

@@ -67,6 +67,16 @@ impl ReplyLine {
         self.push_number(detail);
     }
 
+    /// Appends a squared distance.
+    pub fn push_distance(&mut self, distance: u128)
+        requires { length self.old ≤ 60 }
+        ensures text { self.new ≡ self.old ++ space ∷ decimal distance }
+        ensures room { length self.new ≤ length self.old + 41 }
+    {
+        self.push(b" ");
+        self.push(itoa::Buffer::new().format(distance).as_bytes());
+    }
+
     /// Appends the lows of a box, and then its highs.
     pub fn push_box(&mut self, bounds: &AnyBox)
         requires { length self.old ≤ 40 }

@@ -2,7 +2,7 @@
 
 ghost use Rattle.std.specs.Prelude.{◌≡◌, ◌<◌, Some, None, MatchResult, OnErr, IfNone, IfSome, if◌then◌else◌};
 ghost use Rattle.std.specs.Io.KnownBytes.{Keeps};
-ghost use Rattle.plain_table.specs.Answers.{done_answer, boxes_answer};
+ghost use Rattle.plain_table.specs.Answers.{done_answer, box_answer, boxes_answer, count_answer, distances_answer};
 ghost use Rattle.store_law.specs.Sessions.{Takes};
 ghost use Rattle.layer_store.specs.Representation.{Represents};
 ghost use Rattle.command_shell.specs.Answering.{AnswersLine, Replies, reply_answers};
@@ -154,7 +154,10 @@ fn reply_to<D: BlockDevice, A: Allocator + Copy>(
             fanout,
         } => Some(change_reply(store.create(layer, dims, fanout))),
         Line::Insert { layer, id, bounds } => Some(change_reply(store.insert(layer, id, bounds))),
-        Line::Window { layer, bounds } => Some(window_reply(store.window(layer, bounds))),
+        Line::Get { layer, id } => Some(object_reply(id, store.get(layer, id))),
+        Line::Count { layer } => Some(count_reply(store.count(layer))),
+        Line::Range { layer, query } => Some(range_reply(store.range(layer, query))),
+        Line::Nearest { layer, k, point } => Some(distances_reply(store.nearest(layer, k, point))),
         Line::Reopen => Some(change_reply(store.reopen())),
     }
 }
@@ -169,12 +172,42 @@ fn change_reply<A: Allocator>(outcome: Result<(), Refusal>) -> Reply<A>
     }
 }
 
-// The reply that the outcome of a window is.
-fn window_reply<A: Allocator>(outcome: Result<Vec<(u64, AnyBox), A>, Refusal>) -> Reply<A>
+// The reply that the outcome of getting an object is.
+fn object_reply<A: Allocator>(id: u64, outcome: Result<AnyBox, Refusal>) -> Reply<A>
+    ensures { reply_answer result ≡ box_answer id outcome }
+{
+    match outcome {
+        Ok(bounds) => Reply::Object(id, bounds),
+        Err(refusal) => Reply::Refused(refusal),
+    }
+}
+
+// The reply that the outcome of a count is.
+fn count_reply<A: Allocator>(outcome: Result<u64, Refusal>) -> Reply<A>
+    ensures { reply_answer result ≡ count_answer outcome }
+{
+    match outcome {
+        Ok(count) => Reply::Count(count),
+        Err(refusal) => Reply::Refused(refusal),
+    }
+}
+
+// The reply that the outcome of a range query is.
+fn range_reply<A: Allocator>(outcome: Result<Vec<(u64, AnyBox), A>, Refusal>) -> Reply<A>
     ensures { reply_answer result ≡ boxes_answer outcome }
 {
     match outcome {
         Ok(rows) => Reply::Boxes(rows),
+        Err(refusal) => Reply::Refused(refusal),
+    }
+}
+
+// The reply that the outcome of a search for the nearest objects is.
+fn distances_reply<A: Allocator>(outcome: Result<Vec<(u64, u128), A>, Refusal>) -> Reply<A>
+    ensures { reply_answer result ≡ distances_answer outcome }
+{
+    match outcome {
+        Ok(rows) => Reply::Distances(rows),
         Err(refusal) => Reply::Refused(refusal),
     }
 }

@@ -1,9 +1,11 @@
 -- The pages of a tree freed, child by child, and then the root's.
-use Rattle.std.proofs.Common.{◌≡◌, ◌∙◌, ℕ, zero, suc, ◌+◌, ◌-◌, ◌^◌, ◌<◌, ◌≤◌, All, IsSome, Some, None, cond, eqb, List, [], ◌∷◌, length, map, take, get_or, refl, sym, ap, subst, ⊎_elim, arith}
+use Rattle.std.proofs.Common.{Err, false, ◌≡◌, ◌∙◌, ℕ, zero, suc, ◌+◌, ◌-◌, ◌^◌, ◌<◌, ◌≤◌, All, IsSome, Some, None, cond, eqb, List, [], ◌∷◌, length, map, take, get_or, refl, sym, ap, subst, ⊎_elim, arith}
 use Rattle.std.proofs.lemmas.Bool.{cases_eq}
 use Rattle.std.proofs.lemmas.List.{take_all, length-map}
 use Rattle.std.proofs.lemmas.List.Elements.{All-get_or}
 use Rattle.page_file.specs.Pages.{SameBut}
+use Rattle.page_cache.specs.Calls.{AsksUntil, ChangesUntil, asks_in_turn, changes_in_turn}
+use Rattle.page_cache.specs.declared.cache.PageCache.{PageCache}
 use Rattle.tree_node.specs.declared.node.Entry.{Entry}
 use Rattle.tree_node.specs.declared.node.Root.{Root}
 use Rattle.tree_node.specs.Nodes.{Item, item_of}
@@ -11,11 +13,14 @@ use Rattle.tree_node.specs.Positions.{total}
 use Rattle.tree_node.specs.Rows.{branches_of, item_in, occurs_on}
 use Rattle.tree_node.specs.Trees.{Tree, Row, end, more, object, child, row_items, occurs, occurs_in}
 use Rattle.tree_node.proofs.RowLemmas.{items-branches_of, occurs-branches_of, occurs_here, same_tree}
+use Rattle.node_page.specs.Broken.{Alters}
+use Rattle.node_page.specs.declared.broken.Broken.{Broken}
 use Rattle.node_page.specs.Layout.{IsReference}
 use Rattle.node_page.specs.Parts.{Moves, no_page}
 use Rattle.node_page.specs.Standing.{PageMap, HasNode, node_in, RowStands, Stands}
 use Rattle.node_page.proofs.PartLemmas.{moves_in_turn, moves_same, none_or_some, one_page_moves, staying_moves}
 use Rattle.node_page.proofs.StandingLemmas.{below_there, node_stays, page_of_node, row_stays}
+use Rattle.condense.specs.Taken.{tree_at}
 use Rattle.reinsert.specs.Children.{Child, child_at, occurs_at}
 use Rattle.reinsert.specs.Inserted.{IsRootOf}
 use Rattle.reinsert.proofs.ChildLemmas.{HasChild, has_child}
@@ -23,10 +28,6 @@ use Rattle.reinsert.proofs.PlaceLemmas.{items_read}
 use Rattle.reinsert.proofs.StandLemmas.{moves_with, rest_same, zero_there}
 
 -- ---- the tree at a root
-
--- the tree of these entries at a root
-abbrev pub tree_at : Root → Row → Tree
-tree_at root row = record { page = root.page; level = root.level; row = row }
 
 pub stands_there : (dims : ℕ) (m : PageMap) (root : Root) (t : Tree) → IsRootOf root t → Stands dims m t → Stands dims m (tree_at root t.row)
 stands_there dims m root t at stands = subst (Stands dims m) (same_tree t.page root.page t.level root.level t.row t.row at.page at.level refl) stands
@@ -185,3 +186,23 @@ module _ (dims : ℕ) (m m1 : PageMap) (page level : ℕ) (row : Row) (stands : 
       moves_same m m2 _ _ _ _ (λ n. omega arith) (λ n. refl)
       (moves_in_turn m m1 m2 _ _ _ (moves_with m m1 (λ n. occurs n row) no_page own before own_apart own_live)
       (moves_same m1 m2 _ _ _ _ (λ n. omega arith) (λ n. refl) ((one_page_moves m1 m2 page others).2 gone)))
+
+-- ---- a refusal below, where some children may be freed
+
+module _ {D A : Type 0} {m : _} (old mid new : PageCache D A m) (below here : Broken) (freed : ℕ) (cause : here.cause ≡ below.cause) (touched : here.touched ≡ false → (below.touched ≡ false) × (freed ≡ 0))
+    (none : freed ≡ 0 → AsksUntil old mid None) (asked : below.touched ≡ false → AsksUntil mid new (Some below.cause)) where
+  asked_so : here.touched ≡ false → AsksUntil old new (Some here.cause)
+  asked_so untouched =
+      let both = touched untouched in
+      subst (λ f. AsksUntil old new (Some f)) (sym cause) (asks_in_turn old mid new (Some below.cause) (none both.1) (asked both.0))
+
+pub asked_later : {D A : Type 0} {m : _} (old mid new : PageCache D A m) (below here : Broken) (freed : ℕ) → here.cause ≡ below.cause → (here.touched ≡ false → (below.touched ≡ false) × (freed ≡ 0))
+    → (freed ≡ 0 → AsksUntil old mid None) → (below.touched ≡ false → AsksUntil mid new (Some below.cause)) → here.touched ≡ false → AsksUntil old new (Some here.cause)
+asked_later old mid new below here freed cause touched none asked = asked_so old mid new below here freed cause touched none asked
+
+pub broken_later : {D A : Type 0} {m : _} {T : Type 0} (old mid new : PageCache D A m) (below here : Broken) (freed : ℕ) → here.cause ≡ below.cause → (here.touched ≡ false → (below.touched ≡ false) × (freed ≡ 0))
+    → ChangesUntil old mid None → (freed ≡ 0 → AsksUntil old mid None) → ChangesUntil mid new (Some below.cause) → (below.touched ≡ false → AsksUntil mid new (Some below.cause)) → Alters {T = T} old new (Err here)
+broken_later old mid new below here freed cause touched before none change asked = record {
+  changes = subst (λ f. ChangesUntil old new (Some f)) (sym cause) (changes_in_turn old mid new (Some below.cause) before change);
+  untouched = λ untouched. (asked_so old mid new below here freed cause touched none asked untouched).map;
+}

@@ -1,3 +1,14 @@
 -- The files of lemmas.
+pub mod BelowLemmas
+pub mod CutLemmas
+pub mod FillLemmas
 pub mod FreeLemmas
+pub mod KeptLemmas
+pub mod LeadLemmas
+pub mod LowerLemmas
+pub mod ObjectLemmas
+pub mod RemoveLemmas
+pub mod RootLemmas
+pub mod ShapeLemmas
+pub mod TakeLemmas
 mod RemovalExamples

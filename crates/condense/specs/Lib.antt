@@ -1,3 +1,5 @@
 -- The files of definitions.
-pub mod Freed
 pub mod Removal
+pub mod Taken
+pub mod Filled
+pub mod Removed

@@ -1,6 +1,6 @@
 //! The children that a node names.
 
-ghost use Rattle.std.specs.Prelude.{◌≡◌, ◌-◌, ◌<◌, ◌≤◌, slice_index_or, map};
+ghost use Rattle.std.specs.Prelude.{◌≡◌, ◌-◌, ◌^◌, ◌<◌, ◌≤◌, slice_index_or, map};
 ghost use Rattle.arrayvec.specs.ArrayVec.{array_vec_len};
 ghost use Rattle.tree_node.specs.Nodes.{Item, content_of, item_of};
 ghost use Rattle.node_page.specs.Layout.{IsSpellable};
@@ -27,6 +27,7 @@ pub(crate) fn child_of<const D: usize>(node: &Node<D>, at: usize) -> Root
     ensures level { result.level ≡ node.now.level - 1 }
     ensures page { (d : Item) → result.page ≡ (slice_index_or (map item_of node.now.entries.items) at d).reference }
     ensures low { 3 ≤ result.page }
+    ensures small { result.page < 2 ^ 31 }
 {
     Root {
         page: node.entries[at].reference as u32,

@@ -1,15 +1,16 @@
 //! A tree freed.
 
-ghost use Rattle.std.specs.Prelude.{◌≡◌, ◌⊎◌, ◌≤◌, OnOk, IfErr};
+ghost use Rattle.std.specs.Prelude.{◌≡◌, ◌⊎◌, ◌≤◌, Some, false, OnOk, IfErr};
 ghost use Rattle.box_math.specs.Bounds.{IsDims};
 ghost use Rattle.page_file.specs.Fault.{IsDamage, IsOfDevice};
 ghost use Rattle.page_file.specs.declared.gate.Gate.TheVariants.{Open};
 ghost use Rattle.page_cache.specs.Cache.{IsPageMap, gate_of, pages};
-ghost use Rattle.tree_node.specs.Trees.{Tree};
+ghost use Rattle.page_cache.specs.Calls.{AsksUntil};
+ghost use Rattle.tree_node.specs.Trees.{Tree, occurs_in};
 ghost use Rattle.node_page.specs.Broken.{Alters};
+ghost use Rattle.node_page.specs.Parts.{Moves, no_page};
 ghost use Rattle.node_page.specs.Standing.{Stands};
 ghost use Rattle.reinsert.specs.Inserted.{IsRootOf};
-ghost use Rattle.condense.specs.Freed.{Frees};
 
 use crate::children::{child_count, child_of};
 use block_device::BlockDevice;
@@ -21,8 +22,8 @@ use tree_node::Root;
 /// Frees all pages of the tree at that root. The gate has to be open.
 ///
 /// Where the pages are a sound map, and stand for a tree there, none of the tree's pages is live after `Ok`, and all
-/// others are as before. A refusal is of memory or of the device then, and the map stays sound; one that is not
-/// `touched` leaves the map as it was. In other pages one may also be damaged.
+/// others are as before. A refusal is of memory or of the device then, and the map stays sound. One that is not
+/// `touched` came before the first page was freed: pages were only asked for. In other pages one may also be damaged.
 pub fn free_tree<const D: usize, B: BlockDevice, A: Allocator + Copy>(
     cache: &mut PageCache<B, A>,
     root: Root,
@@ -30,8 +31,9 @@ pub fn free_tree<const D: usize, B: BlockDevice, A: Allocator + Copy>(
     requires dims { IsDims D }
     requires open { gate_of cache.old ≡ Open }
     ensures alters { Alters cache.old cache.new result }
+    ensures asked { IfErr result (λ b. b.touched ≡ false → AsksUntil cache.old cache.new (Some b.cause)) }
     ensures freed { IsPageMap cache.old → (t : Tree) → IsRootOf root t → Stands D (pages cache.old) t
-        → OnOk result (Frees (pages cache.old) (pages cache.new) t) }
+        → OnOk result (Moves (pages cache.old) (pages cache.new) (λ n. occurs_in n t) no_page) }
     ensures sound { IsPageMap cache.old → (t : Tree) → IsRootOf root t → Stands D (pages cache.old) t
         → IsPageMap cache.new }
     ensures faults { IsPageMap cache.old → (t : Tree) → IsRootOf root t → Stands D (pages cache.old) t
@@ -42,11 +44,22 @@ pub fn free_tree<const D: usize, B: BlockDevice, A: Allocator + Copy>(
     'children: for at in 0..child_count(&node) {
         let below = child_of(&node, at);
         if let Err(broken) = free_tree::<D, B, A>(cache, below) {
-            return Err(Broken::midway(broken.cause));
+            return Err(broken_after(broken, at));
         }
     }
     match cache.free(root.page) {
         Ok(()) => Ok(()),
         Err(fault) => Err(Broken::midway(fault)),
+    }
+}
+
+// What broke off below a node of which so many children are freed.
+fn broken_after(broken: Broken, freed: usize) -> Broken
+    ensures cause { result.cause ≡ broken.cause }
+    ensures touched { result.touched ≡ false → (broken.touched ≡ false) × (freed ≡ 0) }
+{
+    Broken {
+        cause: broken.cause,
+        touched: broken.touched || freed > 0,
     }
 }

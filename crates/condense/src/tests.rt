@@ -1,18 +1,19 @@
-//! Tests of trees freed: which pages are free then, and refused growths and failed calls of the device.
+//! Tests of trees freed and of objects removed: which pages are free then, what the leaves hold, and refused growths
+//! and failed calls of the device.
 
 ghost use Rattle.std.specs.Prelude.{◌≡◌, ◌^◌, ◌<◌, ◌≤◌, IfOk};
 ghost use Rattle.page_cache.specs.Cache.{gate_of};
 ghost use Rattle.page_file.specs.declared.gate.Gate.TheVariants.{Open};
 
-use crate::free_tree;
+use crate::{Kept, free_tree, remove, remove_with};
 use arrayvec::ArrayVec;
 use block_device::{BlockDevice, FuseDevice, FuseMode, MemoryDevice};
 use box_math::BBox;
-use node_page::{Broken, leaf_lists, write_node};
+use node_page::{Broken, leaf_lists, read_node, write_node};
 use page_cache::PageCache;
 use page_file::{Fault, create_pages, open_pages};
 use refusing::Refusing;
-use reinsert::insert_at;
+use reinsert::{Waiting, insert_at};
 use std::alloc::{Allocator, Global};
 use std::test::Fail;
 use tree_node::{Entry, Node, Root};
@@ -123,6 +124,110 @@ fn a_failed_call_of_the_device_is_answered(rt: HostRuntime) -> Result<(), Fail> 
         match free_tree::<2, _, _>(&mut cache, FIVE) {
             Ok(()) => {
                 assert!(rt; untouched > 0);
+                return Ok(());
+            }
+            Err(broken) => {
+                assert!(rt; broken.cause == Fault::Device);
+                if !broken.touched {
+                    untouched = untouched.wrapping_add(1);
+                    assert!(rt; five_stand(rt.alloc(), &mut cache)?);
+                }
+            }
+        }
+    }
+    Err(Fail::from("each time some call failed"))
+}
+
+// The box of a point on the line.
+fn at(x: i32) -> BBox<2> {
+    BBox::try_new([x, 0], [x, 0]).unwrap_or_default()
+}
+
+#[test]
+fn a_leaf_of_one_entry_leaves_and_the_root_gives_way(rt: HostRuntime) -> Result<(), Fail> {
+    let mut cache = open_cache(rt.alloc(), five_points(rt.alloc())?)?;
+    let after = remove(rt.alloc(), &mut cache, FIVE, 1, &at(0), 4)?;
+    assert!(rt; after.level == 0);
+    let lists = leaf_lists::<2, _, _, _>(rt.alloc(), &mut cache, after)?;
+    assert!(rt; lists.len() == 1 && lists[0].as_slice() == [3, 4, 5, 2].as_slice());
+    assert!(rt; cache.free_pages(rt.alloc())?.len() == 2);
+    Ok(())
+}
+
+#[test]
+fn the_box_above_a_leaf_that_stays_is_made_least(rt: HostRuntime) -> Result<(), Fail> {
+    let mut cache = open_cache(rt.alloc(), five_points(rt.alloc())?)?;
+    let after = remove(rt.alloc(), &mut cache, FIVE, 5, &at(10), 4)?;
+    assert!(rt; after == FIVE);
+    let lists = leaf_lists::<2, _, _, _>(rt.alloc(), &mut cache, after)?;
+    assert!(rt; lists.len() == 2 && lists[1].as_slice() == [3, 4].as_slice());
+    let root: Node<2> = read_node(&mut cache, after.page, after.level)?;
+    assert!(rt; root.entries.len() == 2 && root.entries[1].bounds.high() == [3, 0]);
+    Ok(())
+}
+
+#[test]
+fn an_object_that_is_not_there_changes_nothing(rt: HostRuntime) -> Result<(), Fail> {
+    let mut cache = open_cache(rt.alloc(), five_points(rt.alloc())?)?;
+    let absent = Err(Broken {
+        cause: Fault::Damaged(5),
+        touched: false,
+    });
+    assert!(rt; remove(rt.alloc(), &mut cache, FIVE, 9, &at(0), 4) == absent);
+    assert!(rt; remove(rt.alloc(), &mut cache, FIVE, 1, &at(1), 4) == absent);
+    assert!(rt; five_stand(rt.alloc(), &mut cache)?);
+    Ok(())
+}
+
+#[test]
+fn the_room_serves_one_removal_after_the_other(rt: HostRuntime) -> Result<(), Fail> {
+    let mut cache = open_cache(rt.alloc(), five_points(rt.alloc())?)?;
+    let mut waiting = Waiting::make(rt.alloc())?;
+    let mut kept = Kept::make(rt.alloc())?;
+    let first = remove_with(&mut cache, FIVE, 1, &at(0), 4, &mut waiting, &mut kept)?;
+    let second = remove_with(&mut cache, first, 4, &at(3), 4, &mut waiting, &mut kept)?;
+    let lists = leaf_lists::<2, _, _, _>(rt.alloc(), &mut cache, second)?;
+    assert!(rt; lists.len() == 1 && lists[0].as_slice() == [3, 5, 2].as_slice());
+    Ok(())
+}
+
+#[test]
+fn a_refused_growth_of_a_removal_is_answered(rt: HostRuntime) -> Result<(), Fail> {
+    let heap = Refusing::new(rt.alloc());
+    let mut untouched = 0u64;
+    for k in 0..100 {
+        let mut cache = open_cache(&heap, five_points(rt.alloc())?)?;
+        heap.refuse_from(k);
+        let answer = remove(&heap, &mut cache, FIVE, 1, &at(0), 4);
+        let refused = heap.relent();
+        match answer {
+            Ok(after) => {
+                assert!(rt; !refused && untouched > 1 && after.level == 0);
+                return Ok(());
+            }
+            Err(broken) => {
+                assert!(rt; refused && broken.cause == Fault::Memory);
+                if !broken.touched {
+                    untouched = untouched.wrapping_add(1);
+                    assert!(rt; five_stand(rt.alloc(), &mut cache)?);
+                }
+            }
+        }
+    }
+    Err(Fail::from("each time some growth was refused"))
+}
+
+#[test]
+fn a_failed_call_of_the_device_in_a_removal_is_answered(rt: HostRuntime) -> Result<(), Fail> {
+    let mut untouched = 0u64;
+    for passes in 0..100 {
+        let fuse = FuseDevice::new(five_points(rt.alloc())?, passes, FuseMode::Once);
+        let Ok(mut cache) = open_cache(rt.alloc(), fuse) else {
+            continue;
+        };
+        match remove(rt.alloc(), &mut cache, FIVE, 1, &at(0), 4) {
+            Ok(after) => {
+                assert!(rt; untouched > 0 && after.level == 0);
                 return Ok(());
             }
             Err(broken) => {

@@ -3,6 +3,8 @@ pub mod TableLemmas
 pub mod DirectoryLemmas
 pub mod Results
 pub mod BucketLemmas
+pub mod CheckLemmas
+pub mod CheckedLemmas
 pub mod WalkLemmas
 pub mod GetLemmas
 pub mod MakingLemmas

@@ -1,11 +1,11 @@
 //! An object added.
 
-ghost use Rattle.std.specs.Prelude.{◌≡◌, ◌≤◌, ◌<◌, List, ℕ, [], ◌∷◌, Some, false, length, IfErr, OnOk};
+ghost use Rattle.std.specs.Prelude.{◌≡◌, ◌≤◌, ◌<◌, ◌⊎◌, List, ℕ, [], ◌∷◌, Some, false, length, IfErr, OnOk};
 ghost use Rattle.std.specs.FinMap as map;
 ghost use Rattle.block_bytes.specs.Numbers.{number_at};
 ghost use Rattle.box_math.specs.Bounds.{IsDims};
 ghost use Rattle.bucket_page.specs.Layout.{BucketContent, bucket_at, pushed};
-ghost use Rattle.page_file.specs.Fault.{IsOfDevice};
+ghost use Rattle.page_file.specs.Fault.{IsDamage, IsOfDevice};
 ghost use Rattle.page_file.specs.Pages.{SameBut};
 ghost use Rattle.page_file.specs.declared.gate.Gate.TheVariants.{Open};
 ghost use Rattle.page_cache.specs.Cache.{IsHonest, IsLive, IsPageMap, gate_of, next_of, pages};
@@ -49,6 +49,7 @@ pub fn add<const D: usize, B: BlockDevice, A: Allocator + Copy>(
         → OnOk result (Adds D (pages cache.old) (pages cache.new) t id bounds.now) }
     ensures faults { IsPageMap cache.old → (t : IdTable) → t.page ≡ directory → IdsStand D (pages cache.old) t
         → IfErr result (λ b. IsOfPages (next_of cache.old) b.cause) }
+    ensures other_faults { IfErr result (λ b. IsOfPages (next_of cache.old) b.cause ⊎ IsDamage b.cause) }
 {
     let class = class_of(id);
     let first = read_link::<D, B, A>(cache, directory, class)?;
@@ -77,6 +78,7 @@ fn put_in<const D: usize, B: BlockDevice, A: Allocator + Copy>(
         → SameBut number (pages cache.old) (pages cache.new) }
     ensures sound { IsPageMap cache.old → IsLive cache.old number → IsPageMap cache.new }
     ensures faults { IsHonest cache.old → IsLive cache.old number → IfErr result IsOfDevice }
+    ensures other_faults { IfErr result (λ f. IsOfDevice f ⊎ IsDamage f) }
 {
     let mut bytes = page;
     push_entry(&mut bytes, &(id, *bounds));
@@ -102,6 +104,7 @@ fn put_alone<const D: usize, B: BlockDevice, A: Allocator + Copy>(
         ((id, bounds.now) ∷ []) page) }
     ensures faults { IsPageMap cache.old → IsLive cache.old directory
         → IfErr result (λ f. IsOfPages (next_of cache.old) f) }
+    ensures other_faults { IfErr result (λ f. IsOfPages (next_of cache.old) f ⊎ IsDamage f) }
 {
     let mut entries = ArrayVec::new();
     entries.push((id, *bounds));
@@ -130,6 +133,7 @@ pub(crate) fn put_before<const D: usize, B: BlockDevice, A: Allocator + Copy>(
         bucket.now.entries.items page) }
     ensures faults { IsPageMap cache.old → IsLive cache.old directory
         → IfErr result (λ f. IsOfPages (next_of cache.old) f) }
+    ensures other_faults { IfErr result (λ f. IsOfPages (next_of cache.old) f ⊎ IsDamage f) }
 {
     let number = cache.allocate()?;
     write_bucket(cache, number, bucket)?;

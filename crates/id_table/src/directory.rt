@@ -1,11 +1,11 @@
 //! The directory page: the first page of each chain.
 
-ghost use Rattle.std.specs.Prelude.{◌≡◌, ◌<◌, ◌⊎◌, ◌↔◌, List, ℕ, Some, IsTrue, IfOk, IfErr, OnOk};
+ghost use Rattle.std.specs.Prelude.{◌≡◌, ◌<◌, ◌≤◌, ◌+◌, ◌⊎◌, ◌↔◌, List, ℕ, Some, IsTrue, IfOk, IfErr, OnOk};
 ghost use Rattle.box_math.specs.Bounds.{IsDims};
 ghost use Rattle.page_file.specs.Fault.{IsDamage, IsOfDevice};
 ghost use Rattle.page_file.specs.Pages.{SameBut};
 ghost use Rattle.page_file.specs.declared.gate.Gate.TheVariants.{Open};
-ghost use Rattle.page_cache.specs.Cache.{IsHonest, IsLive, IsPageMap, gate_of, next_of, pages};
+ghost use Rattle.page_cache.specs.Cache.{IsHonest, IsLive, IsPageMap, gate_of, given, looks_of, next_of, pages};
 ghost use Rattle.page_cache.specs.Calls.{Asks, Changes};
 ghost use Rattle.id_table.specs.Table.{IsDirectory, class_of, link_at};
 ghost use Rattle.id_table.specs.Pages.{NewDirectory, SetsLink};
@@ -88,6 +88,9 @@ pub(crate) fn copy_page<B: BlockDevice, A: Allocator + Copy>(
     ensures asks { Asks cache.old cache.new result }
     ensures bytes { IsHonest cache.old → IsLive cache.old number
         → IfOk result (λ bytes. pages cache.old number ≡ Some bytes) }
+    ensures given_bytes { IsHonest cache.old → IfOk result (λ bytes. given cache.old number ≡ Some bytes) }
+    ensures given_faults { IsHonest cache.old → 2 ≤ number → number < next_of cache.old → IfErr result IsOfDevice }
+    ensures looks { looks_of cache.new ≤ looks_of cache.old + 1 }
     ensures faults { IsHonest cache.old → IsLive cache.old number → IfErr result IsOfDevice }
     ensures other_faults { IfErr result (λ f. IsOfDevice f ⊎ IsDamage f) }
 {

@@ -1,7 +1,8 @@
 //! Many objects added.
 
-ghost use Rattle.std.specs.Prelude.{◌≡◌, IfErr, OnOk};
+ghost use Rattle.std.specs.Prelude.{◌≡◌, ◌⊎◌, false, IfErr, OnOk};
 ghost use Rattle.box_math.specs.Bounds.{IsDims};
+ghost use Rattle.page_file.specs.Fault.{IsDamage};
 ghost use Rattle.page_file.specs.declared.gate.Gate.TheVariants.{Open};
 ghost use Rattle.page_cache.specs.Cache.{IsPageMap, gate_of, next_of, pages};
 ghost use Rattle.node_page.specs.Broken.{Alters};
@@ -21,7 +22,7 @@ use std::alloc::Allocator;
 /// page is looked at in a row, so that a small cache serves. The gate has to be open.
 ///
 /// With a sound map, where the pages stand for a table at that directory, a refusal is `Memory` or `Device`, or
-/// `NoPages` where all page numbers were given out.
+/// `NoPages` where all page numbers were given out. It is untouched where the first object was refused so.
 pub fn fill<const D: usize, B: BlockDevice, A: Allocator + Copy>(
     cache: &mut PageCache<B, A>,
     directory: u32,
@@ -37,12 +38,25 @@ pub fn fill<const D: usize, B: BlockDevice, A: Allocator + Copy>(
         → OnOk result (Fills D (pages cache.old) (pages cache.new) t objects.now) }
     ensures faults { IsPageMap cache.old → (t : IdTable) → t.page ≡ directory → IdsStand D (pages cache.old) t
         → AreNew (objects_of t) objects.now → IfErr result (λ b. IsOfPages (next_of cache.new) b.cause) }
+    ensures other_faults { IfErr result (λ b. IsOfPages (next_of cache.new) b.cause ⊎ IsDamage b.cause) }
 {
+    let mut begun = false;
     for object in objects {
         match add(cache, directory, object.0, &object.1) {
-            Ok(()) => {}
-            Err(broken) => return Err(Broken::midway(broken.cause)),
+            Ok(()) => begun = true,
+            Err(broken) => return Err(broken_after(begun, broken)),
         }
     }
     Ok(())
+}
+
+// A change that broke off, as that of a longer one that had begun before it or not.
+fn broken_after(begun: bool, broken: Broken) -> Broken
+    ensures cause { result.cause ≡ broken.cause }
+    ensures untouched { result.touched ≡ false → (begun ≡ false) × (broken.touched ≡ false) }
+{
+    if begun {
+        return Broken::midway(broken.cause);
+    }
+    broken
 }

@@ -1,9 +1,9 @@
 //! Tables given up.
 
-ghost use Rattle.std.specs.Prelude.{◌≡◌, ◌<◌, ◌≤◌, List, ℕ, Some, None, length, IfErr, IfOk, OnOk};
+ghost use Rattle.std.specs.Prelude.{◌≡◌, ◌<◌, ◌≤◌, ◌⊎◌, List, ℕ, Some, None, length, IfErr, IfOk, OnOk};
 ghost use Rattle.box_math.specs.Bounds.{IsDims};
 ghost use Rattle.bucket_page.specs.Layout.{BucketContent};
-ghost use Rattle.page_file.specs.Fault.{IsOfDevice};
+ghost use Rattle.page_file.specs.Fault.{IsDamage, IsOfDevice};
 ghost use Rattle.page_file.specs.Pages.{SameBut};
 ghost use Rattle.page_file.specs.declared.gate.Gate.TheVariants.{Open};
 ghost use Rattle.page_cache.specs.Cache.{IsHonest, IsLive, IsPageMap, gate_of, next_of, pages};
@@ -39,6 +39,7 @@ pub fn free_all<const D: usize, B: BlockDevice, A: Allocator + Copy>(
     ensures next { next_of cache.new ≡ next_of cache.old }
     ensures faults { IsPageMap cache.old → (t : IdTable) → t.page ≡ directory → IdsStand D (pages cache.old) t
         → IfErr result (λ b. IsOfDevice b.cause) }
+    ensures other_faults { IfErr result (λ b. IsOfDevice b.cause ⊎ IsDamage b.cause) }
 {
     let bytes = copy_page(cache, directory)?;
     if !is_directory::<D>(&bytes) {
@@ -64,6 +65,7 @@ fn free_pages<const D: usize, B: BlockDevice, A: Allocator + Copy>(
     ensures next { next_of cache.new ≡ next_of cache.old }
     ensures faults { IsPageMap cache.old → (t : IdTable) → t.page ≡ directory → IdsStand D (pages cache.old) t
         → pages cache.old directory ≡ Some bytes.now → IfErr result IsOfDevice }
+    ensures other_faults { IfErr result (λ f. IsOfDevice f ⊎ IsDamage f) }
 {
     cache.free(directory)?;
     for class in 0..1000 {
@@ -88,6 +90,7 @@ fn free_chain<const D: usize, B: BlockDevice, A: Allocator + Copy>(
     ensures next { next_of cache.new ≡ next_of cache.old }
     ensures faults { IsPageMap cache.old → (chain : List Bucket) → ChainStands D (pages cache.old) first chain
         → ((n : ℕ) → occurs_in_chain n chain ≤ 1) → length chain < next_of cache.old → IfErr result IsOfDevice }
+    ensures other_faults { IfErr result (λ f. IsOfDevice f ⊎ IsDamage f) }
 {
     let mut number = first;
     for freed in 0..cache.next_number() {
@@ -116,6 +119,7 @@ fn free_bucket<const D: usize, B: BlockDevice, A: Allocator + Copy>(
     ensures next { next_of cache.new ≡ next_of cache.old }
     ensures faults { IsPageMap cache.old → (c : BucketContent) → bucket_in D (pages cache.old number) ≡ Some c
         → 2 < number → IfErr result IsOfDevice }
+    ensures other_faults { IfErr result (λ f. IsOfDevice f ⊎ IsDamage f) }
 {
     let next = next_after::<D, B, A>(cache, number)?;
     cache.free(number)?;
@@ -134,6 +138,7 @@ fn next_after<const D: usize, B: BlockDevice, A: Allocator + Copy>(
         → IfOk result (λ next. next ≡ c.next) }
     ensures there { IsHonest cache.old → (c : BucketContent) → bucket_in D (pages cache.old number) ≡ Some c
         → IfErr result IsOfDevice }
+    ensures other_faults { IfErr result (λ f. IsOfDevice f ⊎ IsDamage f) }
 {
     let page = cache.page(number)?;
     if !has_bucket_head::<D>(page) {

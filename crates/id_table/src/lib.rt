@@ -5,6 +5,7 @@
 mod adding;
 mod broken;
 mod bucket;
+mod check;
 mod directory;
 mod filling;
 mod freeing;
@@ -15,6 +16,7 @@ mod search;
 mod tests;
 
 pub use adding::add;
+pub use check::{TableFacts, check_table};
 pub use filling::fill;
 pub use freeing::free_all;
 pub use making::make;

@@ -1,7 +1,8 @@
 //! Tables made.
 
-ghost use Rattle.std.specs.Prelude.{◌≡◌, ◌≤◌, ◌<◌, IfOk, IfErr};
+ghost use Rattle.std.specs.Prelude.{◌≡◌, ◌≤◌, ◌<◌, ◌⊎◌, IfOk, IfErr};
 ghost use Rattle.box_math.specs.Bounds.{IsDims};
+ghost use Rattle.page_file.specs.Fault.{IsDamage};
 ghost use Rattle.page_file.specs.declared.gate.Gate.TheVariants.{Open};
 ghost use Rattle.page_cache.specs.Cache.{IsPageMap, gate_of, next_of, pages};
 ghost use Rattle.page_cache.specs.Calls.{Changes};
@@ -31,6 +32,7 @@ pub fn make<const D: usize, B: BlockDevice, A: Allocator + Copy>(
         → IfOk result (λ directory. Makes D (pages cache.old) (pages cache.new) directory) }
     ensures number { IfOk result (λ directory. (3 ≤ directory) × (directory < next_of cache.new)) }
     ensures faults { IsPageMap cache.old → IfErr result (λ b. IsOfPages (next_of cache.old) b.cause) }
+    ensures other_faults { IfErr result (λ b. IsOfPages (next_of cache.old) b.cause ⊎ IsDamage b.cause) }
 {
     match make_page::<D, B, A>(cache) {
         Ok(directory) => Ok(directory),
@@ -50,6 +52,7 @@ fn make_page<const D: usize, B: BlockDevice, A: Allocator + Copy>(
         → IfOk result (λ directory. Makes D (pages cache.old) (pages cache.new) directory) }
     ensures number { IfOk result (λ directory. (3 ≤ directory) × (directory < next_of cache.new)) }
     ensures faults { IsPageMap cache.old → IfErr result (λ f. IsOfPages (next_of cache.old) f) }
+    ensures other_faults { IfErr result (λ f. IsOfPages (next_of cache.old) f ⊎ IsDamage f) }
 {
     let directory = cache.allocate()?;
     let mut bytes = zero_block();

@@ -46,6 +46,7 @@ pub fn remove<const D: usize, B: BlockDevice, A: Allocator + Copy>(
         → OnOk result (Removes D (pages cache.old) (pages cache.new) t id) }
     ensures faults { IsPageMap cache.old → (t : IdTable) → t.page ≡ directory → IdsStand D (pages cache.old) t
         → map.contains_key (objects_of t) id ≡ true → IfErr result (λ b. IsOfDevice b.cause) }
+    ensures other_faults { IfErr result (λ b. IsOfDevice b.cause ⊎ IsDamage b.cause) }
 {
     let class = class_of(id);
     let first = read_link::<D, B, A>(cache, directory, class)?;
@@ -122,6 +123,7 @@ fn put_at<const D: usize, B: BlockDevice, A: Allocator + Copy>(
         → SameBut number (pages cache.old) (pages cache.new) }
     ensures sound { IsPageMap cache.old → IsLive cache.old number → IsPageMap cache.new }
     ensures faults { IsHonest cache.old → IsLive cache.old number → IfErr result (λ b. IsOfDevice b.cause) }
+    ensures other_faults { IfErr result (λ b. IsOfDevice b.cause ⊎ IsDamage b.cause) }
 {
     let mut bytes = copy_page(cache, number)?;
     set_entry(&mut bytes, place, object);
@@ -147,6 +149,7 @@ fn put_less<const D: usize, B: BlockDevice, A: Allocator + Copy>(
         → ¬ (directory ≡ first) → IsPageMap cache.new }
     ensures faults { IsPageMap cache.old → IsLive cache.old first → IsLive cache.old directory
         → ¬ (directory ≡ first) → ¬ (first ≡ 2) → IfErr result IsOfDevice }
+    ensures other_faults { IfErr result (λ f. IsOfDevice f ⊎ IsDamage f) }
 {
     if 1 < count_at(&page) {
         let mut less = page;

@@ -14,7 +14,7 @@ use Rattle.store_law.specs.States.StoreState.{Alive}
 -- what a table in memory does is lawful
 pub memory_is_lawful : (rose spent : Type 0) (t u : Table) (c : Command) (a : Answer) → AnsweredInMemory t c a u → LawfulFrom rose spent t c a (Alive u)
 memory_is_lawful rose spent t u c a (inl h) = the_tables_reply_is_lawful rose spent t u c a h.0 h.1
-memory_is_lawful rose spent t u c a (inr h) = want_of_memory_is_lawful rose spent t u c a h.0 h.1
+memory_is_lawful rose spent t u c a (inr h) = want_of_memory_is_lawful rose spent t u c a h.0 h.1 h.2
 
 -- its refusals are its own
 pub a_table_in_memory_blames_no_device : (t u : Table) (c : Command) (r : Refusal) → AnsweredInMemory t c (Refused r) u → blames_device r ≡ false

@@ -10,7 +10,7 @@ use Rattle.page_file.specs.declared.fault.Fault.{Fault}
 use Rattle.page_file.specs.declared.fault.Fault.TheVariants as fault
 use Rattle.page_file.specs.declared.file.PageFile.{PageFile}
 use Rattle.page_file.specs.declared.gate.Gate.TheVariants.{Shut}
-use Rattle.plain_table.specs.Commands.{Command}
+use Rattle.plain_table.specs.Commands.{Command, MayGiveUp}
 use Rattle.plain_table.specs.Commands.Command.{Reopen}
 use Rattle.list_table.specs.InMemory.{AnsweredInMemory}
 use Rattle.store_law.specs.Lawful.{blames_device, IsEnd, IsFault, IsSpent, Lawful, LawfulFrom, MayWrite}
@@ -344,8 +344,8 @@ refused_closing blocks f (inr full) = inr (ap as_refusal full.0, full.1)
 pub done_lawful : (rose spent : Type 0) (t u : Table) → u ≡ t → LawfulFrom rose spent t Reopen Done (Alive u)
 done_lawful rose spent t u e = inl (refl, ap Alive e)
 
-pub gave_up_lawful : (rose spent : Type 0) (t u : Table) (c : Command) (r : Refusal) → IsFault rose (spent × MayWrite t c) r → u ≡ t → LawfulFrom rose spent t c (Refused r) (Alive u)
-gave_up_lawful rose spent t u c r is e = inr (inl (is, ap Alive e))
+pub gave_up_lawful : (rose spent : Type 0) (t u : Table) (c : Command) (r : Refusal) → MayGiveUp c → IsFault rose (spent × MayWrite t c) r → u ≡ t → LawfulFrom rose spent t c (Refused r) (Alive u)
+gave_up_lawful rose spent t u c r may is e = inr (inl (is, may, ap Alive e))
 
 pub died_lawful : (rose spent : Type 0) (t : Table) (r : Refusal) → IsEnd rose r → LawfulFrom rose spent t Reopen (Refused r) Dead
 died_lawful rose spent t r is = inr (inr (is, inl refl, refl))

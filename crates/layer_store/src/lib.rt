@@ -9,5 +9,5 @@ pub mod laws;
 mod store;
 mod stored_table;
 
-pub use plain_table::{AnyBox, RawBox, RawPoint, Refusal};
+pub use plain_table::{AnyBox, RawBox, RawPoint, RawQuery, Refusal};
 pub use store::{Store, create_store, open_store};

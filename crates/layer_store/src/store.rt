@@ -3,8 +3,8 @@
 ghost use Rattle.std.specs.Prelude.{◌≡◌, ◌⊎◌, ◌≤◌, ◌+◌, ◌^◌, ◌∷◌, length};
 ghost use Rattle.std.specs.Prelude.{Ok, Err, IsOk, IsErrOf, IfOk, IfErr, OnErr, OnOk};
 ghost use Rattle.block_device.specs.Device.{LeavesOnly, Only};
-ghost use Rattle.plain_table.specs.Answers.{done_answer, boxes_answer};
-ghost use Rattle.plain_table.specs.Commands.Command.{Create, Insert, Window, Reopen};
+ghost use Rattle.plain_table.specs.Answers.{done_answer, box_answer, boxes_answer, count_answer, distances_answer};
+ghost use Rattle.plain_table.specs.Commands.Command.{Create, Insert, Get, Count, Range, Nearest, Reopen};
 ghost use Rattle.store_law.specs.Sessions.{Takes, LawfulStep, SessionState};
 ghost use Rattle.store_law.specs.Stops.{tables_left};
 ghost use Rattle.store_law.specs.States.StoreState.{Alive, Dead};
@@ -20,7 +20,7 @@ mod start;
 use crate::faults::as_refusal;
 use crate::stored_table::StoredTable;
 use block_device::BlockDevice;
-use plain_table::{AnyBox, RawBox, Refusal};
+use plain_table::{AnyBox, RawBox, RawPoint, RawQuery, Refusal};
 pub use start::{create_store, open_store};
 use std::alloc::{Allocator, Global};
 
@@ -80,14 +80,14 @@ impl<D: BlockDevice, A: Allocator + Copy> Store<D, A> {
         self.stored.insert(layer, id, bounds)
     }
 
-    /// The objects of a layer whose boxes meet the window (boxes that touch meet), ascending by identifier.
+    /// The box of the object with that identifier.
     ///
-    /// Refused, in this order, by BadName, NoLayer, WrongDims and BadBox.
-    pub fn window(&mut self, layer: &[u8], bounds: RawBox) -> Result<Vec<(u64, AnyBox), A>, Refusal>
+    /// Refused, in this order, by BadName, NoLayer and NoObject.
+    pub fn get(&mut self, layer: &[u8], id: u64) -> Result<AnyBox, Refusal>
         ensures step { Takes Represents self.old self.new
-            (λ s s'. LawfulStep s (Asks (Window layer.now bounds)) (boxes_answer result) s') }
+            (λ s s'. LawfulStep s (Asks (Get layer.now id)) (box_answer id result) s') }
         ensures in_memory { Takes IsInState self.old self.new
-            (λ s s'. AnswersInMemory s (Window layer.now bounds) (boxes_answer result) s') }
+            (λ s s'. AnswersInMemory s (Get layer.now id) (box_answer id result) s') }
         ensures device { device_in self.new ≡ device_in self.old }
         ensures still_settled { IsSettled self.old → IsSettled self.new }
         ensures cause { HasRefusalCause (D.faults (device_in self.old)) (D.faults (device_in self.new)) result }
@@ -95,7 +95,127 @@ impl<D: BlockDevice, A: Allocator + Copy> Store<D, A> {
         if self.failed {
             return Err(FAILED);
         }
-        self.stored.table.window(layer, bounds)
+        self.stored.table.get(layer, id)
+    }
+
+    /// How many objects a layer has. It takes no memory.
+    ///
+    /// Refused, in this order, by BadName and NoLayer.
+    pub fn count(&mut self, layer: &[u8]) -> Result<u64, Refusal>
+        ensures step { Takes Represents self.old self.new
+            (λ s s'. LawfulStep s (Asks (Count layer.now)) (count_answer result) s') }
+        ensures in_memory { Takes IsInState self.old self.new
+            (λ s s'. AnswersInMemory s (Count layer.now) (count_answer result) s') }
+        ensures device { device_in self.new ≡ device_in self.old }
+        ensures still_settled { IsSettled self.old → IsSettled self.new }
+        ensures cause { HasRefusalCause (D.faults (device_in self.old)) (D.faults (device_in self.new)) result }
+    {
+        if self.failed {
+            return Err(FAILED);
+        }
+        self.stored.table.count(layer)
+    }
+
+    /// The objects of a layer that the query seeks, ascending by identifier.
+    ///
+    /// Refused, in this order, by BadName, NoLayer, WrongDims and BadBox.
+    pub fn range(&mut self, layer: &[u8], query: RawQuery) -> Result<Vec<(u64, AnyBox), A>, Refusal>
+        ensures step { Takes Represents self.old self.new
+            (λ s s'. LawfulStep s (Asks (Range layer.now query)) (boxes_answer result) s') }
+        ensures in_memory { Takes IsInState self.old self.new
+            (λ s s'. AnswersInMemory s (Range layer.now query) (boxes_answer result) s') }
+        ensures device { device_in self.new ≡ device_in self.old }
+        ensures still_settled { IsSettled self.old → IsSettled self.new }
+        ensures cause { HasRefusalCause (D.faults (device_in self.old)) (D.faults (device_in self.new)) result }
+    {
+        if self.failed {
+            return Err(FAILED);
+        }
+        self.stored.table.range(layer, query)
+    }
+
+    /// The k objects of a layer that are nearest to the point, or all of fewer: identifiers with squared distances, by
+    /// distance, and of equal distances by identifier. So many are 1 to 1,000,000.
+    ///
+    /// Refused, in this order, by BadName, NoLayer, WrongDims and BadCount.
+    pub fn nearest(
+        &mut self,
+        layer: &[u8],
+        k: u64,
+        point: RawPoint,
+    ) -> Result<Vec<(u64, u128), A>, Refusal>
+        ensures step { Takes Represents self.old self.new
+            (λ s s'. LawfulStep s (Asks (Nearest layer.now k point)) (distances_answer result) s') }
+        ensures in_memory { Takes IsInState self.old self.new
+            (λ s s'. AnswersInMemory s (Nearest layer.now k point) (distances_answer result) s') }
+        ensures device { device_in self.new ≡ device_in self.old }
+        ensures still_settled { IsSettled self.old → IsSettled self.new }
+        ensures cause { HasRefusalCause (D.faults (device_in self.old)) (D.faults (device_in self.new)) result }
+    {
+        if self.failed {
+            return Err(FAILED);
+        }
+        self.stored.table.nearest(layer, k, point)
+    }
+
+    /// The objects of a layer whose boxes meet the window (boxes that touch meet), ascending by identifier.
+    ///
+    /// Refused, in this order, by BadName, NoLayer, WrongDims and BadBox.
+    pub fn window(&mut self, layer: &[u8], bounds: RawBox) -> Result<Vec<(u64, AnyBox), A>, Refusal>
+        ensures step { Takes Represents self.old self.new
+            (λ s s'. LawfulStep s (Asks (Range layer.now (RawQuery.Window bounds))) (boxes_answer result) s') }
+        ensures in_memory { Takes IsInState self.old self.new
+            (λ s s'. AnswersInMemory s (Range layer.now (RawQuery.Window bounds)) (boxes_answer result) s') }
+        ensures device { device_in self.new ≡ device_in self.old }
+        ensures still_settled { IsSettled self.old → IsSettled self.new }
+        ensures cause { HasRefusalCause (D.faults (device_in self.old)) (D.faults (device_in self.new)) result }
+    {
+        self.range(layer, RawQuery::Window(bounds))
+    }
+
+    /// The objects of a layer whose boxes lie within the window, ascending by identifier.
+    ///
+    /// Refused, in this order, by BadName, NoLayer, WrongDims and BadBox.
+    pub fn inside(&mut self, layer: &[u8], bounds: RawBox) -> Result<Vec<(u64, AnyBox), A>, Refusal>
+        ensures step { Takes Represents self.old self.new
+            (λ s s'. LawfulStep s (Asks (Range layer.now (RawQuery.Inside bounds))) (boxes_answer result) s') }
+        ensures in_memory { Takes IsInState self.old self.new
+            (λ s s'. AnswersInMemory s (Range layer.now (RawQuery.Inside bounds)) (boxes_answer result) s') }
+        ensures device { device_in self.new ≡ device_in self.old }
+        ensures still_settled { IsSettled self.old → IsSettled self.new }
+        ensures cause { HasRefusalCause (D.faults (device_in self.old)) (D.faults (device_in self.new)) result }
+    {
+        self.range(layer, RawQuery::Inside(bounds))
+    }
+
+    /// The objects of a layer whose boxes enclose the box, ascending by identifier.
+    ///
+    /// Refused, in this order, by BadName, NoLayer, WrongDims and BadBox.
+    pub fn around(&mut self, layer: &[u8], bounds: RawBox) -> Result<Vec<(u64, AnyBox), A>, Refusal>
+        ensures step { Takes Represents self.old self.new
+            (λ s s'. LawfulStep s (Asks (Range layer.now (RawQuery.Around bounds))) (boxes_answer result) s') }
+        ensures in_memory { Takes IsInState self.old self.new
+            (λ s s'. AnswersInMemory s (Range layer.now (RawQuery.Around bounds)) (boxes_answer result) s') }
+        ensures device { device_in self.new ≡ device_in self.old }
+        ensures still_settled { IsSettled self.old → IsSettled self.new }
+        ensures cause { HasRefusalCause (D.faults (device_in self.old)) (D.faults (device_in self.new)) result }
+    {
+        self.range(layer, RawQuery::Around(bounds))
+    }
+
+    /// The objects of a layer whose boxes hold the point, ascending by identifier.
+    ///
+    /// Refused, in this order, by BadName, NoLayer and WrongDims.
+    pub fn point(&mut self, layer: &[u8], point: RawPoint) -> Result<Vec<(u64, AnyBox), A>, Refusal>
+        ensures step { Takes Represents self.old self.new
+            (λ s s'. LawfulStep s (Asks (Range layer.now (RawQuery.Point point))) (boxes_answer result) s') }
+        ensures in_memory { Takes IsInState self.old self.new
+            (λ s s'. AnswersInMemory s (Range layer.now (RawQuery.Point point)) (boxes_answer result) s') }
+        ensures device { device_in self.new ≡ device_in self.old }
+        ensures still_settled { IsSettled self.old → IsSettled self.new }
+        ensures cause { HasRefusalCause (D.faults (device_in self.old)) (D.faults (device_in self.new)) result }
+    {
+        self.range(layer, RawQuery::Point(point))
     }
 
     /// Closes the table into the file, and reads it from there again. The blocks are then an image of the table.

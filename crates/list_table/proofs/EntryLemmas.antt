@@ -6,7 +6,7 @@ use Rattle.std.specs.Cmp.{IsTotalOrder}
 use Rattle.std.specs.declared.cmp.Ordering.{Ordering}
 use Rattle.std.specs.declared.cmp.Ordering.TheVariants.{Less, Equal, Greater}
 use Rattle.std.specs.List.{insert, AllWithin}
-use Rattle.std.specs.FinMap.{find, put, is_sorted, from_sorted, contains_key, insert as map_insert, entries_sorted, entries-insert, entries-from_sorted, get-from_sorted, same_entries_map, empty, empty_of_len, len-entries, entries}
+use Rattle.std.specs.FinMap.{find, put, is_sorted, from_sorted, contains_key, get, insert as map_insert, entries_sorted, entries-insert, entries-from_sorted, get-from_sorted, same_entries_map, empty, empty_of_len, len-entries, entries}
 use Rattle.std.specs.FinMap.Entries.{below_all, by_order}
 use Rattle.std.proofs.lemmas.List.{get_or_default}
 use Rattle.list_table.specs.Entries.{IsEntryAt, BelongsAt, IsSearched}
@@ -111,6 +111,13 @@ module _ {K X : Type 0} (R : K → K → Ordering) where
   pub found_key : (es : List (K × X)) (k : K) (r : Result ℕ ℕ) → IsTrue (is_sorted R es) → IsSearched R es k r → is_ok r ≡ contains_key (from_sorted {R = R} es) k
   found_key es k (Ok i) h s = sym (ap is_some (get-from_sorted R es k (yes h)) ∙ found_some es k i s)
   found_key es k (Err i) h s = sym (ap is_some (get-from_sorted R es k (yes h) ∙ s.absent))
+
+  -- the value of the entry that was read where the key stands, and none where it belongs
+  pub found_value : (es : List (K × X)) (k : K) (i : ℕ) (e : K × X) → IsTrue (is_sorted R es) → IsEntryAt R es k i → e ≡ slice_index_or es i e → get (from_sorted {R = R} es) k ≡ Some e.1
+  found_value es k i e h s is = get-from_sorted R es k (yes h) ∙ s.found e ∙ ap (λ (x : K × X). Some x.1) (sym is)
+
+  pub absent_value : (es : List (K × X)) (k : K) (i : ℕ) → IsTrue (is_sorted R es) → BelongsAt R es k i → get (from_sorted {R = R} es) k ≡ None
+  absent_value es k i h s = get-from_sorted R es k (yes h) ∙ s.absent
 
   -- an entry more where a new key belongs
   pub inserted_in_order : IsTotalOrder R → (es : List (K × X)) (k : K) (v : X) (i : ℕ) → IsTrue (is_sorted R es) → BelongsAt R es k i → IsTrue (is_sorted R (insert es i (k, v)))

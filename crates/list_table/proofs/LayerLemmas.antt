@@ -1,21 +1,25 @@
 -- What a layer in memory answers and becomes, as the table's layer does.
-use Rattle.std.proofs.Common.{◌≡◌, ℕ, List, [], ◌∷◌, Bool, true, cond, filter, map, None, refl, sym, ap, subst, ◌∙◌, ◌==◌, eq-eqb}
+use Rattle.std.proofs.Common.{◌≡◌, ℕ, List, [], ◌∷◌, Bool, true, cond, filter, map, take, None, refl, sym, ap, subst, ◌∙◌, ◌==◌, eq-eqb}
 use Rattle.std.specs.Prelude.{Result, Ok, Err, is_ok, IsTrue}
 use Rattle.std.specs.List.{insert}
 use Rattle.std.specs.Cmp.{nat_cmp_total}
 use Rattle.std.specs.Ordering.{nat_cmp}
 use Rattle.std.specs.FinMap.{from_sorted, is_sorted, insert as map_insert}
-use Rattle.box_math.specs.Bounds.{Bounds, ordered_test, meets_test}
+use Rattle.box_math.specs.Bounds.{Bounds}
 use Rattle.plain_table.specs.Answers.{row_of}
-use Rattle.plain_table.specs.Boxes.{dims_of, given_bounds}
+use Rattle.plain_table.specs.Boxes.{dims_of, given_bounds, given_point, point_dims}
 use Rattle.list_table.specs.Entries.{BelongsAt}
 use Rattle.list_table.specs.InMemory.{layer_of}
 use Rattle.list_table.specs.Objects.{axes_of, entries_of, object_checks}
-use Rattle.plain_table.specs.Step.{first_refusal, box_refusals, object_refusals, window_rows}
+use Rattle.plain_table.specs.Step.{first_refusal, nearest_refusals, nearest_rows, object_refusals, query_refusals, range_rows}
+use Rattle.plain_table.specs.Nearest.{by_distance, is_count}
 use Rattle.plain_table.specs.Table.{with_object}
 use Rattle.plain_table.specs.declared.boxes.AnyBox.{AnyBox}
 use Rattle.plain_table.specs.declared.boxes.AnyBox.TheVariants as any
 use Rattle.plain_table.specs.declared.boxes.RawBox.{RawBox}
+use Rattle.plain_table.specs.declared.boxes.RawPoint.{RawPoint}
+use Rattle.plain_table.specs.declared.queries.RawQuery.{RawQuery}
+use Rattle.plain_table.specs.Queries.{is_sought}
 use Rattle.list_table.specs.declared.layer.ListedLayer.{ListedLayer}
 use Rattle.list_table.specs.declared.objects.ListedObjects.{ListedObjects}
 use Rattle.list_table.proofs.EntryLemmas.{inserted_in_order, inserted_map, entries_in_order}
@@ -50,9 +54,18 @@ module _ {A : Type 0} (l : ListedLayer A) (raw : RawBox) (es : List (ℕ × Boun
       let more = ap from_sorted new ∙ inserted_map nat_cmp nat_cmp_total es id b i in_order at ∙ (λ j. map_insert (from_sorted {R = nat_cmp} (sym kept j)) id (is j)) in
       (not_wrong id full h, λ j. record { dims = (axes' ∙ sym axes) j; fanout = l.fanout; objects = more j })
 
-  -- rows were found
-  pub shows : (window : Bounds) (found : List (ℕ × Bounds)) (rows : List (ℕ × AnyBox)) → ordered_test (dims_of raw) (given_bounds raw).low (given_bounds raw).high ≡ true → window ≡ given_bounds raw → found ≡ filter (λ row. meets_test (dims_of raw) row.1 window) es → map row_of rows ≡ found → (first_refusal (box_refusals (layer_of l) raw []) ≡ None) × (map row_of rows ≡ window_rows (layer_of l) (given_bounds raw))
-  shows window found rows ordered is filtered shown =
-      let right : (dims_of raw == axes_of l.objects) ≡ true = eq-eqb _ _ (sym axes) in
-      let all = sym (entries_in_order nat_cmp (entries_of l.objects) l.ascending ∙ kept) in
-      (rw (right, ordered) refl, shown ∙ filtered ∙ (λ j. filter (λ row. meets_test (sym axes j) row.1 (is j)) (all j)))
+-- rows were found
+pub shows : {A : Type 0} (l : ListedLayer A) (dims : ℕ) (query : RawQuery) (seek : Bounds → Bool) (es found : List (ℕ × Bounds)) (rows : List (ℕ × AnyBox)) → axes_of l.objects ≡ dims → entries_of l.objects ≡ es
+    → first_refusal (query_refusals dims query) ≡ None → ((b : Bounds) → seek b ≡ is_sought dims query b) → found ≡ filter (λ row. seek row.1) es → map row_of rows ≡ found
+    → (first_refusal (query_refusals (layer_of l).dims query) ≡ None) × (map row_of rows ≡ range_rows (layer_of l) query)
+shows l dims query seek es found rows axes kept passes same filtered shown =
+    let all = sym (entries_in_order nat_cmp (entries_of l.objects) l.ascending ∙ kept) in
+    (ap (λ n. first_refusal (query_refusals n query)) axes ∙ passes, shown ∙ filtered ∙ (λ j. filter (λ row. same row.1 j) es) ∙ (λ j. filter (λ row. is_sought (sym axes j) query row.1) (all j)))
+
+-- the nearest were found
+pub nears : {A : Type 0} (l : ListedLayer A) (point : RawPoint) (k : ℕ) (es : List (ℕ × Bounds)) (rows : List (ℕ × ℕ)) → axes_of l.objects ≡ point_dims point → entries_of l.objects ≡ es → is_count k ≡ true
+    → rows ≡ take k (by_distance (point_dims point) (given_point point) es) → (first_refusal (nearest_refusals (layer_of l).dims k point) ≡ None) × (rows ≡ nearest_rows (layer_of l) k point)
+nears l point k es rows axes kept counts are =
+    let right : (point_dims point == axes_of l.objects) ≡ true = eq-eqb _ _ (sym axes) in
+    let all = sym (entries_in_order nat_cmp (entries_of l.objects) l.ascending ∙ kept) in
+    (rw (right, counts) refl, are ∙ (λ j. take k (by_distance (sym axes j) (given_point point) (all j))))

@@ -2,5 +2,6 @@
 pub mod EntryLemmas
 pub mod LayerLemmas
 pub mod ListLemmas
+pub mod OrderLemmas
 pub mod SearchLemmas
 pub mod TableLemmas

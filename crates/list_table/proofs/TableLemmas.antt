@@ -11,7 +11,7 @@ use Rattle.std.proofs.lemmas.List.Edits.{length-insert}
 use Rattle.std.proofs.Math.Seq.{map-set_same}
 use Rattle.std.proofs.lemmas.List.Sums.{sum_by-insert, sum_by-set}
 use Rattle.box_math.specs.Bounds.{Bounds}
-use Rattle.plain_table.specs.Commands.{Command}
+use Rattle.plain_table.specs.Commands.{Command, MayGiveUp}
 use Rattle.list_table.specs.Entries.{IsEntryAt, BelongsAt, IsSearched}
 use Rattle.list_table.specs.InMemory.{entry_of, layer_of}
 use Rattle.list_table.specs.InMemory.{AnsweredInMemory}
@@ -33,8 +33,8 @@ pub answered : (t u : Table) (c : Command) (a : Answer) → refusal_of t c ≡ N
 answered t u c a h e f = inl (e ∙ sym (ap (λ o. refused_or o (answer_of t c)) h), f ∙ sym (ap (λ o. kept_or o t (changed t c)) h))
 
 -- want of memory
-pub without_memory : (t u : Table) (c : Command) → u ≡ t → AnsweredInMemory t c (Refused refusal.Memory) u
-without_memory t u c e = inr (refl, e)
+pub without_memory : (t u : Table) (c : Command) → MayGiveUp c → u ≡ t → AnsweredInMemory t c (Refused refusal.Memory) u
+without_memory t u c may e = inr (refl, may, e)
 
 -- the objects of a list of entries, counted
 counted_in : (es : List (List ℕ × Layer)) → IsTrue (is_sorted (slice_cmp nat_cmp) es) → object_count (from_sorted {R = slice_cmp nat_cmp} es) ≡ sum_by (λ (l : Layer). len l.objects) (map (λ (e : List ℕ × Layer). e.1) es)

@@ -1,7 +1,7 @@
 -- What a table in memory answers, and the layers that its lists hold: `ListedLayer` is the struct, and `Layer` the table's.
 use Rattle.std.specs.Prelude.{ℕ, ◌≡◌, ◌⊎◌, List, Option, Some}
 use Rattle.std.specs.FinMap.{from_sorted}
-use Rattle.plain_table.specs.Commands.{Command}
+use Rattle.plain_table.specs.Commands.{Command, MayGiveUp}
 use Rattle.plain_table.specs.Step.{Answer, after, reply_of}
 use Rattle.plain_table.specs.Step.Answer.{Refused}
 use Rattle.plain_table.specs.Table.{Layer, Table}
@@ -12,7 +12,7 @@ use Rattle.list_table.specs.declared.layer.ListedLayer.{ListedLayer}
 
 -- the plain table's answer and table, or want of memory and the same table: what a table in memory does
 abbrev pub AnsweredInMemory : Table → Command → Answer → Table → Type 0
-AnsweredInMemory t c a new = ((a ≡ reply_of t c) × (new ≡ after t c)) ⊎ ((a ≡ Refused refusal.Memory) × (new ≡ t))
+AnsweredInMemory t c a new = ((a ≡ reply_of t c) × (new ≡ after t c)) ⊎ ((a ≡ Refused refusal.Memory) × MayGiveUp c × (new ≡ t))
 
 -- the layer that a listed one is
 abbrev pub layer_of : {A : Type 0} → ListedLayer A → Layer

@@ -15,7 +15,7 @@ use Rattle.list_table.specs.declared.layer.ListedLayer.{ListedLayer}
 -- a command that was refused changed nothing
 pub a_refusal_changes_nothing : (t u : Table) (c : Command) (r : Refusal) → AnsweredInMemory t c (Refused r) u → u ≡ t
 a_refusal_changes_nothing t u c r (inl h) = h.1 ∙ a_refused_command_changes_nothing t c r (sym h.0)
-a_refusal_changes_nothing t u c r (inr h) = h.1
+a_refusal_changes_nothing t u c r (inr h) = h.2
 
 -- the layers of a list are the entries of its table
 pub listed_are_entries : {A : Type 0} (layers : List (ListedLayer A)) (count : ℕ) → IsListed layers count → entries (table_from layers) ≡ map entry_of layers

@@ -7,13 +7,13 @@ ghost use Rattle.std.specs.Ordering.{nat_cmp};
 ghost use Rattle.plain_table.specs.Answers.{row_of};
 ghost use Rattle.plain_table.specs.Boxes.{given_bounds};
 ghost use Rattle.list_table.specs.Objects.{entries_of};
-ghost use Rattle.plain_table.specs.Step.{first_refusal, box_refusals, object_refusals, window_rows};
+ghost use Rattle.plain_table.specs.Step.{first_refusal, nearest_refusals, nearest_rows};
+ghost use Rattle.plain_table.specs.Step.{object_refusals, query_refusals, range_rows};
 ghost use Rattle.plain_table.specs.Table.{is_dims, is_fanout, is_layer_name, with_object};
 
-use crate::objects::{ListedObjects, admit, meeting, three_axes, two_axes};
+use crate::objects::{ListedObjects, admit, nearest, sought, three_axes, two_axes};
 use arrayvec::ArrayVec;
-use box_math::BBox;
-use plain_table::{AnyBox, MOST_NAME_BYTES, RawBox, Refusal};
+use plain_table::{AnyBox, MOST_NAME_BYTES, RawBox, RawPoint, RawQuery, Refusal, is_count};
 use std::alloc::Allocator;
 
 /// A layer in memory. Its name and fanout are good, and its objects ascend by identifier.
@@ -86,28 +86,45 @@ impl<A: Allocator + Copy> ListedLayer<A> {
         }
     }
 
-    /// The objects whose boxes meet the window, ascending by identifier; or a refusal as the table's, or for want of
-    /// memory.
-    pub fn window(&self, alloc: A, bounds: RawBox) -> Result<Vec<(u64, AnyBox), A>, Refusal>
+    /// The objects that the query seeks, ascending by identifier; or a refusal as the table's, or for want of memory.
+    pub fn range(&self, alloc: A, query: RawQuery) -> Result<Vec<(u64, AnyBox), A>, Refusal>
         ensures { MatchResult result
-            (λ rows. (first_refusal (box_refusals (layer_of self.now) bounds []) ≡ None)
-            × (each row_of rows.items ≡ window_rows (layer_of self.now) (given_bounds bounds)))
-            (λ e. IsRefusalOrMemory (first_refusal (box_refusals (layer_of self.now) bounds [])) e) }
+            (λ rows. (first_refusal (query_refusals (layer_of self.now).dims query) ≡ None)
+            × (each row_of rows.items ≡ range_rows (layer_of self.now) query))
+            (λ e. IsRefusalOrMemory (first_refusal (query_refusals (layer_of self.now).dims query)) e) }
     {
-        match (&self.objects, bounds) {
-            (ListedObjects::Two(objects), RawBox::Two(low, high)) => {
-                let Some(window) = BBox::try_new(low, high) else {
-                    return Err(Refusal::BadBox);
-                };
-                let rows = meeting(alloc, objects, &window)?;
+        match &self.objects {
+            ListedObjects::Two(objects) => {
+                let rows = sought(alloc, objects, &query.two_axes()?)?;
                 Ok(two_axes(alloc, &rows)?)
             }
-            (ListedObjects::Three(objects), RawBox::Three(low, high)) => {
-                let Some(window) = BBox::try_new(low, high) else {
-                    return Err(Refusal::BadBox);
-                };
-                let rows = meeting(alloc, objects, &window)?;
+            ListedObjects::Three(objects) => {
+                let rows = sought(alloc, objects, &query.three_axes()?)?;
                 Ok(three_axes(alloc, &rows)?)
+            }
+        }
+    }
+
+    /// The k objects nearest to the point, or all of fewer: identifiers with squared distances, by distance, and of
+    /// equal distances by identifier; or a refusal as the table's, or for want of memory.
+    pub fn nearest(&self, alloc: A, k: u64, point: RawPoint) -> Result<Vec<(u64, u128), A>, Refusal>
+        ensures { MatchResult result
+            (λ rows. (first_refusal (nearest_refusals (layer_of self.now).dims k point) ≡ None)
+            × (rows.items ≡ nearest_rows (layer_of self.now) k point))
+            (λ e. IsRefusalOrMemory (first_refusal (nearest_refusals (layer_of self.now).dims k point)) e) }
+    {
+        match (&self.objects, point) {
+            (ListedObjects::Two(objects), RawPoint::Two(point)) => {
+                if !is_count(k) {
+                    return Err(Refusal::BadCount);
+                }
+                Ok(nearest(alloc, objects, k, &point)?)
+            }
+            (ListedObjects::Three(objects), RawPoint::Three(point)) => {
+                if !is_count(k) {
+                    return Err(Refusal::BadCount);
+                }
+                Ok(nearest(alloc, objects, k, &point)?)
             }
             _ => Err(Refusal::WrongDims),
         }

@@ -1,16 +1,20 @@
-//! The objects of one layer in a list, ascending by identifier. An identifier is found by halving the list; a window
-//! looks at one object after the other.
+//! The objects of one layer in a list, ascending by identifier. An identifier is found by halving the list; a range
+//! query looks at one object after the other.
 
-ghost use Rattle.std.specs.Prelude.{◌≡◌, IsTrue, IfOk, MatchResult, None, Some, filter, map as each};
+ghost use Rattle.std.specs.Prelude.{◌≡◌, ◌≤◌, IsTrue, IfOk, MatchResult, None, Some, filter, length, not, take};
+ghost use Rattle.std.specs.Prelude.{map as each};
+ghost use Rattle.std.specs.List.{prefix_len};
 ghost use Rattle.std.specs.FinMap.{is_sorted};
 ghost use Rattle.std.specs.Ordering.{nat_cmp};
-ghost use Rattle.box_math.specs.Bounds.{IsDims, meets_test};
+ghost use Rattle.box_math.specs.Bounds.{IsDims};
 ghost use Rattle.list_table.specs.Entries.{IsSearched, BelongsAt};
 ghost use Rattle.list_table.specs.Objects.{object_checks};
+ghost use Rattle.plain_table.specs.Nearest.{by_distance, comes_first};
+ghost use Rattle.plain_table.specs.Queries.{seeks};
 ghost use Rattle.plain_table.specs.Step.{first_refusal};
 
 use box_math::BBox;
-use plain_table::{AnyBox, Refusal};
+use plain_table::{AnyBox, Query, Refusal};
 use std::alloc::{AllocError, Allocator};
 use std::cmp::Ordering;
 
@@ -24,7 +28,10 @@ pub enum ListedObjects<A: Allocator> {
 }
 
 impl<A: Allocator> ListedObjects<A> {
-    ghost use Rattle.std.specs.Prelude.{length};
+    ghost use Rattle.std.specs.Prelude.{length, option_map};
+    ghost use Rattle.std.specs.FinMap.{from_sorted};
+    ghost use Rattle.std.specs.FinMap as map;
+    ghost use Rattle.plain_table.specs.Boxes.{bounds_of};
     ghost use Rattle.list_table.specs.Objects.{axes_of, entries_of};
 
     /// How many axes they have.
@@ -44,6 +51,23 @@ impl<A: Allocator> ListedObjects<A> {
         match self {
             ListedObjects::Two(objects) => objects.len(),
             ListedObjects::Three(objects) => objects.len(),
+        }
+    }
+
+    /// The box of the object with this identifier.
+    pub fn get(&self, id: u64) -> Option<AnyBox>
+        requires { IsTrue (is_sorted nat_cmp (entries_of self.now)) }
+        ensures { option_map bounds_of result ≡ map.get (from_sorted {R = nat_cmp} (entries_of self.now)) id }
+    {
+        match self {
+            ListedObjects::Two(objects) => match search(objects, id) {
+                Ok(place) => Some(AnyBox::Two(objects[place].1)),
+                Err(_) => None,
+            },
+            ListedObjects::Three(objects) => match search(objects, id) {
+                Ok(place) => Some(AnyBox::Three(objects[place].1)),
+                Err(_) => None,
+            },
         }
     }
 }
@@ -97,22 +121,61 @@ fn search<const D: usize>(objects: &[(u64, BBox<D>)], id: u64) -> Result<usize, 
     Err(low)
 }
 
-/// The objects whose boxes meet the window, in their order. It fails only for want of memory.
-pub fn meeting<const D: usize, A: Allocator + Copy>(
+/// The objects that the query seeks, in their order. It fails only for want of memory.
+pub fn sought<const D: usize, A: Allocator + Copy>(
     alloc: A,
     objects: &[(u64, BBox<D>)],
-    window: &BBox<D>,
+    query: &Query<D>,
 ) -> Result<Vec<(u64, BBox<D>), A>, AllocError>
     requires { IsDims D }
-    ensures { IfOk result (λ rows. rows.items ≡ filter (λ row. meets_test D row.1 window.now) objects.now) }
+    ensures { IfOk result (λ rows. rows.items ≡ filter (λ row. seeks query.now row.1) objects.now) }
 {
     let mut rows = Vec::new(alloc);
     for object in objects {
-        if object.1.meets(window) {
+        if query.seeks(&object.1) {
             rows.push(*object)?;
         }
     }
     Ok(rows)
+}
+
+/// The k objects nearest to the point, or all of fewer: identifiers with squared distances, by distance, and of equal
+/// distances by identifier. It fails only for want of memory.
+pub fn nearest<const D: usize, A: Allocator + Copy>(
+    alloc: A,
+    objects: &[(u64, BBox<D>)],
+    k: u64,
+    point: &[i32; D],
+) -> Result<Vec<(u64, u128), A>, AllocError>
+    requires { IsDims D }
+    ensures { IfOk result (λ rows. rows.items ≡ take k (by_distance D point.now objects.now)) }
+{
+    let mut rows = Vec::new(alloc);
+    for seen in 0..objects.len() {
+        let object = &objects[objects.len() - 1 - seen];
+        let row = (object.0, object.1.point_dist2(point));
+        let place = place_of(&rows, row);
+        rows.insert(place, row)?;
+    }
+    rows.truncate(k as usize);
+    Ok(rows)
+}
+
+// How many of the rows come before this one.
+fn place_of(rows: &[(u64, u128)], row: (u64, u128)) -> usize
+    ensures count { result ≡ prefix_len (λ other. not (comes_first row other)) rows.now }
+    ensures bound { result ≤ length rows.now }
+{
+    rows.iter()
+        .take_while(|other| !comes_first(row, **other))
+        .count()
+}
+
+// Whether a row comes before another: the nearer object does, and of equal distances the lesser identifier.
+fn comes_first(row: (u64, u128), other: (u64, u128)) -> bool
+    ensures { result ≡ comes_first row other }
+{
+    row.1 < other.1 || row.1 == other.1 && row.0 <= other.0
 }
 
 /// Rows with two axes, as rows of either dimension.

@@ -4,8 +4,8 @@ ghost use Rattle.std.specs.Prelude.{◌≡◌, IsTrue, nat_le, map as each};
 ghost use Rattle.std.specs.Cmp.Lexicographic.{slice_cmp};
 ghost use Rattle.std.specs.FinMap.{is_sorted, empty};
 ghost use Rattle.std.specs.Ordering.{nat_cmp};
-ghost use Rattle.plain_table.specs.Answers.{done_answer, boxes_answer};
-ghost use Rattle.plain_table.specs.Commands.Command.{Create, Insert, Window};
+ghost use Rattle.plain_table.specs.Answers.{done_answer, box_answer, boxes_answer, count_answer, distances_answer};
+ghost use Rattle.plain_table.specs.Commands.Command.{Create, Insert, Get, Count, Range, Nearest};
 ghost use Rattle.list_table.specs.Entries.{IsSearched};
 ghost use Rattle.list_table.specs.InMemory.{entry_of};
 ghost use Rattle.list_table.specs.InMemory.{AnsweredInMemory};
@@ -14,7 +14,8 @@ ghost use Rattle.plain_table.specs.Table.{most_objects, object_count};
 
 use crate::layer::ListedLayer;
 use plain_table::{
-    AnyBox, MOST_LAYERS, MOST_OBJECTS, RawBox, Refusal, is_dims, is_fanout, is_layer_name,
+    AnyBox, MOST_LAYERS, MOST_OBJECTS, RawBox, RawPoint, RawQuery, Refusal, is_dims, is_fanout,
+    is_layer_name,
 };
 use std::alloc::Allocator;
 use std::cmp::Ordering;
@@ -125,11 +126,11 @@ impl<A: Allocator + Copy> ListTable<A> {
         }
     }
 
-    /// The objects of a layer whose boxes meet the window (boxes that touch meet), ascending by identifier.
+    /// The box of the object with that identifier.
     ///
-    /// Refused, in this order, by BadName, NoLayer, WrongDims and BadBox.
-    pub fn window(&self, name: &[u8], bounds: RawBox) -> Result<Vec<(u64, AnyBox), A>, Refusal>
-        ensures { AnsweredInMemory self.now (Window name.now bounds) (boxes_answer result) self.now }
+    /// Refused, in this order, by BadName, NoLayer and NoObject.
+    pub fn get(&self, name: &[u8], id: u64) -> Result<AnyBox, Refusal>
+        ensures { AnsweredInMemory self.now (Get name.now id) (box_answer id result) self.now }
     {
         if !is_layer_name(name) {
             return Err(Refusal::BadName);
@@ -137,7 +138,58 @@ impl<A: Allocator + Copy> ListTable<A> {
         let Ok(place) = search(&self.layers, name) else {
             return Err(Refusal::NoLayer);
         };
-        self.layers[place].window(self.alloc, bounds)
+        self.layers[place].objects.get(id).ok_or(Refusal::NoObject)
+    }
+
+    /// How many objects a layer has. It takes no memory.
+    ///
+    /// Refused, in this order, by BadName and NoLayer.
+    pub fn count(&self, name: &[u8]) -> Result<u64, Refusal>
+        ensures { AnsweredInMemory self.now (Count name.now) (count_answer result) self.now }
+    {
+        if !is_layer_name(name) {
+            return Err(Refusal::BadName);
+        }
+        let Ok(place) = search(&self.layers, name) else {
+            return Err(Refusal::NoLayer);
+        };
+        Ok(self.layers[place].objects.count() as u64)
+    }
+
+    /// The objects of a layer that the query seeks, ascending by identifier.
+    ///
+    /// Refused, in this order, by BadName, NoLayer, WrongDims and BadBox.
+    pub fn range(&self, name: &[u8], query: RawQuery) -> Result<Vec<(u64, AnyBox), A>, Refusal>
+        ensures { AnsweredInMemory self.now (Range name.now query) (boxes_answer result) self.now }
+    {
+        if !is_layer_name(name) {
+            return Err(Refusal::BadName);
+        }
+        let Ok(place) = search(&self.layers, name) else {
+            return Err(Refusal::NoLayer);
+        };
+        self.layers[place].range(self.alloc, query)
+    }
+
+    /// The k objects of a layer that are nearest to the point, or all of fewer: identifiers with squared distances, by
+    /// distance, and of equal distances by identifier.
+    ///
+    /// Refused, in this order, by BadName, NoLayer, WrongDims and BadCount.
+    pub fn nearest(
+        &self,
+        name: &[u8],
+        k: u64,
+        point: RawPoint,
+    ) -> Result<Vec<(u64, u128), A>, Refusal>
+        ensures { AnsweredInMemory self.now (Nearest name.now k point) (distances_answer result) self.now }
+    {
+        if !is_layer_name(name) {
+            return Err(Refusal::BadName);
+        }
+        let Ok(place) = search(&self.layers, name) else {
+            return Err(Refusal::NoLayer);
+        };
+        self.layers[place].nearest(self.alloc, k, point)
     }
 }
 

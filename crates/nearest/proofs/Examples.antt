@@ -3,13 +3,13 @@ use Rattle.std.proofs.Common.{◌≡◌, ℕ, true, false, ℤ, pos, negsuc, Lis
 use Rattle.box_math.specs.Bounds.{Bounds}
 use Rattle.tree_node.specs.Searches.{admitted, counted}
 use Rattle.tree_node.specs.Trees.{Row, end, more, object, child, Tree}
-use Rattle.nearest.specs.Nearest.{comes_first, in_order, is_searched, nearest_rows}
+use Rattle.nearest.specs.Nearest.{comes_first, nearest_first, is_searched, nearest_rows}
 
 -- the nearer comes first, and of equal distances the lesser identifier
 of_two : (comes_first (9, 24) (4, 25) ≡ true) × (comes_first (4, 25) (9, 25) ≡ true) × (comes_first (9, 25) (4, 25) ≡ false)
 of_two = (refl, refl, refl)
 
-of_three : in_order ((9, 25) ∷ (4, 25) ∷ (1, 24) ∷ []) ≡ (1, 24) ∷ (4, 25) ∷ (9, 25) ∷ []
+of_three : nearest_first ((9, 25) ∷ (4, 25) ∷ (1, 24) ∷ []) ≡ (1, 24) ∷ (4, 25) ∷ (9, 25) ∷ []
 of_three = refl
 
 -- a point on a row, and a box from one point of it to another

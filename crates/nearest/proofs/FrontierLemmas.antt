@@ -15,8 +15,8 @@ use Rattle.tree_node.specs.Trees.{Row, end, more, object, child, row_items}
 use Rattle.node_page.specs.Standing.{PageMap, RowStands, StandsAt}
 use Rattle.nearest.specs.declared.candidate.Candidate.{Candidate}
 use Rattle.nearest.specs.Candidates.{Leads, candidate_at}
-use Rattle.nearest.specs.Nearest.{comes_first, in_order}
-use Rattle.nearest.proofs.OrderLemmas.{Ascends, Ascends-append, Ascends-in_order, Ascends-push, Heads, Heads-append, Heads-in_order, listed, listed-append, listed-in_order, nearer_first, one_order, same_row, same_row-is}
+use Rattle.nearest.specs.Nearest.{comes_first, nearest_first}
+use Rattle.nearest.proofs.OrderLemmas.{Ascends, Ascends-append, Ascends-nearest_first, Ascends-push, Heads, Heads-append, Heads-nearest_first, listed, listed-append, listed-nearest_first, nearer_first, one_order, same_row, same_row-is}
 
 -- ---- what waits
 
@@ -295,24 +295,24 @@ none_admitted far within r (p ∷ ps) outside after =
 
 module _ {dims : ℕ} {m : PageMap} {far : Bounds → ℕ} {whole : Row} {pending : List Pending} {last : ℕ} {rows : List (ℕ × ℕ)} {looks looks_now : ℕ} (f : Front dims m far whole pending last rows looks looks_now) where
   -- the objects in order are those answered, and those below what waits
-  in_order_is : in_order (near_in far whole) ≡ rows ++ in_order (under_all far pending)
-  in_order_is =
-      one_order (in_order (near_in far whole)) (rows ++ in_order (under_all far pending)) (Ascends-in_order (near_in far whole))
-      (Ascends-append rows (in_order (under_all far pending)) f.ascends (Ascends-in_order (under_all far pending)) (λ r there. Heads-in_order r (under_all far pending) (heads_under_all far last r pending (f.after r there) f.apart)))
+  nearest_first_is : nearest_first (near_in far whole) ≡ rows ++ nearest_first (under_all far pending)
+  nearest_first_is =
+      one_order (nearest_first (near_in far whole)) (rows ++ nearest_first (under_all far pending)) (Ascends-nearest_first (near_in far whole))
+      (Ascends-append rows (nearest_first (under_all far pending)) f.ascends (Ascends-nearest_first (under_all far pending)) (λ r there. Heads-nearest_first r (under_all far pending) (heads_under_all far last r pending (f.after r there) f.apart)))
       (λ z.
-      let a = listed-in_order z (near_in far whole) in
-      let b = listed-append z rows (in_order (under_all far pending)) in
-      let c = listed-in_order z (under_all far pending) in
+      let a = listed-nearest_first z (near_in far whole) in
+      let b = listed-append z rows (nearest_first (under_all far pending)) in
+      let c = listed-nearest_first z (under_all far pending) in
       let d = under_all_listed far z pending in
       let e = f.all z in
       omega arith)
 
   -- so many were answered
-  pub answered : (k : ℕ) → length rows ≡ k → rows ≡ take k (in_order (near_in far whole))
-  answered k many = sym (ap (take k) in_order_is ∙ take_at rows (in_order (under_all far pending)) k many)
+  pub answered : (k : ℕ) → length rows ≡ k → rows ≡ take k (nearest_first (near_in far whole))
+  answered k many = sym (ap (take k) nearest_first_is ∙ take_at rows (nearest_first (under_all far pending)) k many)
 
   -- nothing waits, and no more were answered
-  pub all_answered : (k : ℕ) → pending ≡ [] → length rows ≤ k → rows ≡ take k (in_order (near_in far whole))
+  pub all_answered : (k : ℕ) → pending ≡ [] → length rows ≤ k → rows ≡ take k (nearest_first (near_in far whole))
   all_answered k none few =
-      let same : in_order (near_in far whole) ≡ rows = in_order_is ∙ ap (λ (ps : List Pending). rows ++ in_order (under_all far ps)) none ∙ append-nil rows in
+      let same : nearest_first (near_in far whole) ≡ rows = nearest_first_is ∙ ap (λ (ps : List Pending). rows ++ nearest_first (under_all far ps)) none ∙ append-nil rows in
       sym (ap (take k) same ∙ take_all k rows few)

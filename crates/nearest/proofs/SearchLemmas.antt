@@ -26,7 +26,7 @@ use Rattle.tree_node.proofs.SearchLemmas.{admitted_are_reached}
 use Rattle.node_page.proofs.StandingLemmas.{same_content}
 use Rattle.nearest.specs.declared.candidate.Candidate.{Candidate}
 use Rattle.nearest.specs.Candidates.{Leads, candidate_at}
-use Rattle.nearest.specs.Nearest.{in_order, is_searched, nearest_rows}
+use Rattle.nearest.specs.Nearest.{nearest_first, is_searched, nearest_rows}
 use Rattle.nearest.proofs.FrontierLemmas.{Front, Pending, object_waits, node_waits, IsAfter, admitted_of, all_after, all_answered, all_least, answered, branches, branches_candidates, candidate_for, front_begins, front_reordered, near_in, node_opened, none_admitted, object_taken}
 use Rattle.nearest.proofs.OrderLemmas.{Ascends, listed, listed-append}
 use Rattle.nearest.proofs.ShapeLemmas.{near_in_is, nested_root}
@@ -195,10 +195,10 @@ pub record IsAnswer (dims k : ℕ) (point : List ℤ) (t : Tree) (rows : List (�
   pub rows_are : rows ≡ nearest_rows dims k point t
   pub looks_are : looks_now ≡ counted looks (admitted (is_searched dims k point (nearest_rows dims k point t)) t)
 
-answer_of : (dims k most : ℕ) (point : List ℤ) (t : Tree) (rows : List (ℕ × ℕ)) (looks looks_now : ℕ) → HasLooseShape dims most t → rows ≡ take k (in_order (near_in (far_from dims point) t.row))
+answer_of : (dims k most : ℕ) (point : List ℤ) (t : Tree) (rows : List (ℕ × ℕ)) (looks looks_now : ℕ) → HasLooseShape dims most t → rows ≡ take k (nearest_first (near_in (far_from dims point) t.row))
     → looks_now ≡ counted looks (1 + reached (is_searched dims k point rows) t.row) → IsAnswer dims k point t rows looks looks_now
 answer_of dims k most point t rows looks looks_now shape is looked =
-    let same : rows ≡ nearest_rows dims k point t = is ∙ ap (λ (xs : List (ℕ × ℕ)). take k (in_order xs)) (near_in_is dims point t.row) in
+    let same : rows ≡ nearest_rows dims k point t = is ∙ ap (λ (xs : List (ℕ × ℕ)). take k (nearest_first xs)) (near_in_is dims point t.row) in
     let nodes = admitted_are_reached dims most t (is_searched dims k point (nearest_rows dims k point t)) shape (searched_guards dims k point (nearest_rows dims k point t)) in
     record {
       rows_are = same;

@@ -12,14 +12,14 @@ abbrev pub comes_first : ℕ × ℕ → ℕ × ℕ → Bool
 comes_first a b = nat_lt a.1 b.1 || (a.1 == b.1 && nat_le a.0 b.0)
 
 -- some objects in order and one more, in its place
-abbrev pub put_in_order : ℕ × ℕ → List (ℕ × ℕ) → List (ℕ × ℕ)
-put_in_order x [] = x ∷ []
-put_in_order x (y ∷ ys) = if comes_first x y then x ∷ y ∷ ys else y ∷ put_in_order x ys
+abbrev pub put_nearest_first : ℕ × ℕ → List (ℕ × ℕ) → List (ℕ × ℕ)
+put_nearest_first x [] = x ∷ []
+put_nearest_first x (y ∷ ys) = if comes_first x y then x ∷ y ∷ ys else y ∷ put_nearest_first x ys
 
 -- the objects in order
-abbrev pub in_order : List (ℕ × ℕ) → List (ℕ × ℕ)
-in_order [] = []
-in_order (x ∷ xs) = put_in_order x (in_order xs)
+abbrev pub nearest_first : List (ℕ × ℕ) → List (ℕ × ℕ)
+nearest_first [] = []
+nearest_first (x ∷ xs) = put_nearest_first x (nearest_first xs)
 
 -- the identifiers of some objects, each with the squared distance of its box from the point
 abbrev pub with_distances : ℕ → List ℤ → List (ℕ × Bounds) → List (ℕ × ℕ)
@@ -27,7 +27,7 @@ with_distances dims point objects = map (λ object. (object.0, point_dist2_of di
 
 -- the k objects of a tree that are nearest to the point, or all of fewer, in order
 abbrev pub nearest_rows : ℕ → ℕ → List ℤ → Tree → List (ℕ × ℕ)
-nearest_rows dims k point t = take k (in_order (with_distances dims point (objects_in t.row)))
+nearest_rows dims k point t = take k (nearest_first (with_distances dims point (objects_in t.row)))
 
 -- whether a search for the k nearest, which has these answers, looks into a node with this box: where the box is no farther
 -- than the kth answer, and where there are fewer than k

@@ -9,6 +9,7 @@ pub mod Parts
 pub mod Changes
 pub mod Lists
 pub mod Broken
+pub mod Faults
 pub mod Loan
 pub mod Views
 pub mod Visits

@@ -14,7 +14,7 @@ ghost use Rattle.tree_node.specs.Nodes.{NodeContent, content_of};
 ghost use Rattle.node_page.specs.Layout.{IsSpellable};
 ghost use Rattle.node_page.specs.Standing.{node_in};
 
-use crate::page::{decode, encode};
+use crate::page::{decode, decode_into, encode};
 use block_bytes::zero_block;
 use block_device::BlockDevice;
 use page_cache::PageCache;
@@ -58,6 +58,35 @@ pub fn read_node<const D: usize, B: BlockDevice, A: Allocator + Copy>(
     match decode(cache.page(page)?, level) {
         Some(node) => Ok(node),
         None => Err(Fault::Damaged(page)),
+    }
+}
+
+/// Reads the node of that level at a page as `read_node` does, into a node that may be any after a refusal.
+#[tactic(auto, using(page_cache::specs::Calls::ends_so))]
+pub fn read_into<const D: usize, B: BlockDevice, A: Allocator + Copy>(
+    cache: &mut PageCache<B, A>,
+    page: u32,
+    level: u8,
+    node: &mut Node<D>,
+) -> Result<(), Fault>
+    requires { IsDims D }
+    ensures asks { Asks cache.old cache.new result }
+    ensures node { IsHonest cache.old → IsLive cache.old page
+        → OnOk result (node_in D (pages cache.old page) ≡ Some (content_of node.new)) }
+    ensures level { OnOk result (node.new.level ≡ level) }
+    ensures spellable { OnOk result (IsSpellable (content_of node.new)) }
+    ensures boxes { OnOk result (All (λ item. IsBox D item.bounds) (content_of node.new).entries) }
+    ensures looks { OnOk result (looks_of cache.new ≡ one_more (looks_of cache.old)) }
+    ensures refused_looks { OnErr result
+        ((looks_of cache.new ≡ looks_of cache.old) ⊎ (looks_of cache.new ≡ one_more (looks_of cache.old))) }
+    ensures there { IsHonest cache.old → (c : NodeContent) → node_in D (pages cache.old page) ≡ Some c
+        → c.level ≡ level → IfErr result IsOfDevice }
+    ensures other_faults { IfErr result (λ f. IsOfDevice f ⊎ IsDamage f) }
+{
+    if decode_into(cache.page(page)?, level, node) {
+        Ok(())
+    } else {
+        Err(Fault::Damaged(page))
     }
 }
 

@@ -1,6 +1,6 @@
 //! A node as the bytes of a page.
 
-ghost use Rattle.std.specs.Prelude.{◌≡◌, ◌≢◌, ℕ, Some, All, length, IfSome, IfNone};
+ghost use Rattle.std.specs.Prelude.{◌≡◌, ◌≢◌, ℕ, Some, All, false, length, IfSome, IfNone, IsTrue};
 ghost use Rattle.block_bytes.specs.Numbers.{number_at};
 ghost use Rattle.box_math.specs.Bounds.{IsDims, IsBox};
 ghost use Rattle.tree_node.specs.Nodes.{NodeContent, content_of};
@@ -8,6 +8,7 @@ ghost use Rattle.node_page.specs.Layout.{node_at, IsSpellable, IsNamed};
 
 use crate::entries::{read_entry, write_entry};
 use crate::head::{count_at, has_node_head, write_head};
+use crate::view::NodeView;
 use arrayvec::ArrayVec;
 use tree_node::Node;
 
@@ -34,6 +35,27 @@ pub fn decode<const D: usize>(page: &[u8; 4096], level: u8) -> Option<Node<D>>
         }
     }
     Some(Node { level, entries })
+}
+
+/// Makes the node the one of that level that the page spells, or answers `false` where it spells none, as `decode`
+/// tells; the node may then be any. Nothing is copied but the entries.
+pub fn decode_into<const D: usize>(page: &[u8; 4096], level: u8, node: &mut Node<D>) -> bool
+    requires { IsDims D }
+    ensures spelled { IsTrue result → node_at D page.now ≡ Some (content_of node.new) }
+    ensures level { IsTrue result → node.new.level ≡ level }
+    ensures spellable { IsTrue result → IsSpellable (content_of node.new) }
+    ensures boxes { IsTrue result → All (λ item. IsBox D item.bounds) (content_of node.new).entries }
+    ensures none { result ≡ false → (c : NodeContent) → node_at D page.now ≡ Some c → c.level ≢ level }
+{
+    let Some(view) = NodeView::of(page, level) else {
+        return false;
+    };
+    node.level = level;
+    node.entries.clear();
+    for place in 0..view.len() {
+        node.entries.push(view.entry(place));
+    }
+    true
 }
 
 /// Makes the page the one that spells the node, with zeros in all bytes that it does not name. The node has at most

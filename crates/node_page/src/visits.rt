@@ -1,4 +1,4 @@
-//! The pages that a walk over a tree has come to.
+//! The pages that a walk over pages has come to.
 
 ghost use Rattle.std.specs.Prelude.{◌≡◌, ◌⊎◌, ◌++◌, ◌∷◌, [], ◌+◌, ◌<◌, ◌≤◌, IfErr, IfOk, OnErr, OnOk, length};
 ghost use Rattle.page_file.specs.declared.fault.Fault.TheVariants as fault;
@@ -9,15 +9,17 @@ use std::alloc::Allocator;
 
 /// The pages visited so far, none of them twice, in their order, and a mark for each page number.
 #[derive(Drop)]
-pub(crate) struct Visits<H: Allocator> {
-    pages: Vec<u32, H>,
-    marks: Vec<bool, H>,
+pub struct Visits<H: Allocator> {
+    /// The pages in the order in which they were visited.
+    pub pages: Vec<u32, H>,
+    /// Whether the page of each number was visited.
+    pub marks: Vec<bool, H>,
     ghost marked: { AreMarked pages.items marks.items },
 }
 
 impl<H: Allocator + Copy> Visits<H> {
     /// No page yet, of those with numbers below `next`.
-    pub(crate) fn new(alloc: H, next: u32) -> Result<Visits<H>, Fault>
+    pub fn new(alloc: H, next: u32) -> Result<Visits<H>, Fault>
         ensures none { IfOk result (λ visits. visits.pages.items ≡ []) }
         ensures marks { IfOk result (λ visits. length visits.marks.items ≡ next) }
         ensures memory { IfErr result (λ f. f ≡ fault.Memory) }
@@ -28,7 +30,7 @@ impl<H: Allocator + Copy> Visits<H> {
     }
 
     /// Visits a page. One that was visited before is `Damaged`, and so is a number that is not below `next`.
-    pub(crate) fn visit(&mut self, page: u32) -> Result<(), Fault>
+    pub fn visit(&mut self, page: u32) -> Result<(), Fault>
         ensures added { OnOk result (self.new.pages.items ≡ self.old.pages.items ++ page ∷ []) }
         ensures marks { length self.new.marks.items ≡ length self.old.marks.items }
         ensures unchanged { OnErr result (self.new.pages.items ≡ self.old.pages.items) }
@@ -46,7 +48,7 @@ impl<H: Allocator + Copy> Visits<H> {
     }
 
     /// The pages in the order in which they were visited.
-    pub(crate) fn into_pages(self) -> Vec<u32, H>
+    pub fn into_pages(self) -> Vec<u32, H>
         ensures { result ≡ self.pages }
     {
         let Visits { pages, marks: _ } = self;

@@ -6,14 +6,17 @@ use Rattle.std.specs.Cmp.Lexicographic.{slice_cmp, nat_list_cmp_total}
 use Rattle.std.specs.Ordering.{nat_cmp}
 use Rattle.std.specs.FinMap.{put, is_sorted, from_sorted, empty, empty_of_len, get, contains_key, len, insert, same_entries_map, entries-insert, entries-from_sorted, get-from_sorted, len-entries}
 use Rattle.std.specs.declared.cmp.Ordering.{Ordering}
-use Rattle.box_math.specs.Bounds.{Bounds, ordered_test, meets_test}
-use Rattle.plain_table.specs.Commands.Command.{Create, Insert, Window, Reopen}
+use Rattle.box_math.specs.Bounds.{Bounds, holds_test, meets_test, ordered_test, within_test}
+use Rattle.plain_table.specs.Commands.Command.{Create, Insert, Get, Count, Range, Nearest, Reopen}
 use Rattle.plain_table.specs.Refusals.{refusal_number, refusal_name}
 use Rattle.plain_table.specs.Step.{reply_of, after}
-use Rattle.plain_table.specs.Step.Answer.{Done, Refused, Boxes}
+use Rattle.plain_table.specs.Step.Answer.{Done, Refused, Boxes, Counted, Distances}
 use Rattle.plain_table.specs.Table.{Table, Layer, is_layer_name, is_dims, is_fanout, object_count}
 use Rattle.plain_table.specs.declared.boxes.RawBox.{RawBox}
 use Rattle.plain_table.specs.declared.boxes.RawBox.TheVariants.{Two, Three}
+use Rattle.plain_table.specs.declared.boxes.RawPoint.TheVariants as point
+use Rattle.plain_table.specs.declared.queries.RawQuery.{RawQuery}
+use Rattle.plain_table.specs.declared.queries.RawQuery.TheVariants.{Window, Inside, Around, Point}
 use Rattle.plain_table.specs.declared.refusal.Refusal.{Refusal}
 use Rattle.plain_table.specs.declared.refusal.Refusal.TheVariants as refusal
 
@@ -215,49 +218,140 @@ an_object_beside_one_less : (t : Table) → get t a ≡ Some (layer 2 4 squares)
 unfolding ordered_test
 an_object_beside_one_less t there room = rw (there, room, get-from_sorted nat_cmp squares 3 tt) refl
 
+-- ---- get
+
+pub get_shows_the_object : reply_of (table touching) (Get a 2) ≡ Boxes ((2, bounds (at 1 1) (at 2 2)) ∷ [])
+get_shows_the_object = rw (touching_at, get-from_sorted nat_cmp squares 2 tt) refl
+
+get_of_an_identifier_that_is_not_there : reply_of (table touching) (Get a 3) ≡ Refused refusal.NoObject
+get_of_an_identifier_that_is_not_there = rw (touching_at, get-from_sorted nat_cmp squares 3 tt) refl
+
+get_of_no_layer : reply_of (table touching) (Get (codes "q") 2) ≡ Refused refusal.NoLayer
+get_of_no_layer = rw (get-from_sorted (slice_cmp nat_cmp) touching (codes "q") tt) refl
+
+get_of_no_name : (t : Table) (id : ℕ) → reply_of t (Get (codes "A") id) ≡ Refused refusal.BadName
+get_of_no_name t id = refl
+
+-- the object of another layer is not shown
+get_looks_into_its_layer_alone : reply_of (table ((a, layer 2 4 []) ∷ (codes "b", layer 2 4 squares) ∷ [])) (Get a 2) ≡ Refused refusal.NoObject
+get_looks_into_its_layer_alone = rw (get-from_sorted (slice_cmp nat_cmp) ((a, layer 2 4 []) ∷ (codes "b", layer 2 4 squares) ∷ []) a tt, get-from_sorted {X = Bounds} nat_cmp [] 2 tt) refl
+
+-- ---- count
+
+pub count_of_two_objects : reply_of (table touching) (Count a) ≡ Counted 2
+count_of_two_objects = rw (touching_at, len_of nat_cmp squares tt) refl
+
+count_of_an_empty_layer : reply_of (table empty_layer) (Count a) ≡ Counted 0
+count_of_an_empty_layer = rw (empty_at, len_of {X = Bounds} nat_cmp [] tt) refl
+
+count_of_no_layer : reply_of (table touching) (Count (codes "q")) ≡ Refused refusal.NoLayer
+count_of_no_layer = rw (get-from_sorted (slice_cmp nat_cmp) touching (codes "q") tt) refl
+
+count_of_no_name : (t : Table) → reply_of t (Count (codes "A")) ≡ Refused refusal.BadName
+count_of_no_name t = refl
+
 -- ---- window
 
-window_on_all_of_an_empty_layer : reply_of (table empty_layer) (Window a (Two (lowest ∷ lowest ∷ []) (highest ∷ highest ∷ []))) ≡ Boxes []
+window_on_all_of_an_empty_layer : reply_of (table empty_layer) (Range a (Window (Two (lowest ∷ lowest ∷ []) (highest ∷ highest ∷ [])))) ≡ Boxes []
 unfolding meets_test ordered_test
 window_on_all_of_an_empty_layer = rw (empty_at, entries-from_sorted {X = Bounds} nat_cmp [] tt) refl
 
-pub squares_that_touch_are_both_found : reply_of (table touching) (Window a (Two (at 1 1) (at 1 1))) ≡ Boxes squares
+pub squares_that_touch_are_both_found : reply_of (table touching) (Range a (Window (Two (at 1 1) (at 1 1)))) ≡ Boxes squares
 unfolding meets_test ordered_test
 squares_that_touch_are_both_found = rw (touching_at, entries-from_sorted nat_cmp squares tt) refl
 
-the_second_square_alone_is_found : reply_of (table touching) (Window a (Two (at 2 2) (at 9 9))) ≡ Boxes ((2, bounds (at 1 1) (at 2 2)) ∷ [])
+the_second_square_alone_is_found : reply_of (table touching) (Range a (Window (Two (at 2 2) (at 9 9)))) ≡ Boxes ((2, bounds (at 1 1) (at 2 2)) ∷ [])
 unfolding meets_test ordered_test
 the_second_square_alone_is_found = rw (touching_at, entries-from_sorted nat_cmp squares tt) refl
 
 -- it meets the second square on the first axis alone
-a_window_beside_both_finds_none : reply_of (table touching) (Window a (Two (at 2 0) (at 2 0))) ≡ Boxes []
+a_window_beside_both_finds_none : reply_of (table touching) (Range a (Window (Two (at 2 0) (at 2 0)))) ≡ Boxes []
 unfolding meets_test ordered_test
 a_window_beside_both_finds_none = rw (touching_at, entries-from_sorted nat_cmp squares tt) refl
 
 abbrev extremes : List (ℕ × Bounds)
 extremes = (1, bounds (lowest ∷ lowest ∷ lowest ∷ []) (highest ∷ highest ∷ highest ∷ [])) ∷ (2, bounds (highest ∷ highest ∷ highest ∷ []) (highest ∷ highest ∷ highest ∷ [])) ∷ []
 
-the_first_corner_of_space : reply_of (table ((a, layer 3 4 extremes) ∷ [])) (Window a (Three (lowest ∷ lowest ∷ lowest ∷ []) (lowest ∷ lowest ∷ lowest ∷ []))) ≡ Boxes ((1, bounds (lowest ∷ lowest ∷ lowest ∷ []) (highest ∷ highest ∷ highest ∷ [])) ∷ [])
+the_first_corner_of_space : reply_of (table ((a, layer 3 4 extremes) ∷ [])) (Range a (Window (Three (lowest ∷ lowest ∷ lowest ∷ []) (lowest ∷ lowest ∷ lowest ∷ [])))) ≡ Boxes ((1, bounds (lowest ∷ lowest ∷ lowest ∷ []) (highest ∷ highest ∷ highest ∷ [])) ∷ [])
 unfolding meets_test ordered_test
 the_first_corner_of_space = rw (get-from_sorted (slice_cmp nat_cmp) ((a, layer 3 4 extremes) ∷ []) a tt, entries-from_sorted nat_cmp extremes tt) refl
 
-the_last_corner_of_space : reply_of (table ((a, layer 3 4 extremes) ∷ [])) (Window a (Three (highest ∷ highest ∷ highest ∷ []) (highest ∷ highest ∷ highest ∷ []))) ≡ Boxes extremes
+the_last_corner_of_space : reply_of (table ((a, layer 3 4 extremes) ∷ [])) (Range a (Window (Three (highest ∷ highest ∷ highest ∷ []) (highest ∷ highest ∷ highest ∷ [])))) ≡ Boxes extremes
 unfolding meets_test ordered_test
 the_last_corner_of_space = rw (get-from_sorted (slice_cmp nat_cmp) ((a, layer 3 4 extremes) ∷ []) a tt, entries-from_sorted nat_cmp extremes tt) refl
 
-window_on_no_layer : reply_of (table touching) (Window (codes "q") (Two (at 0 0) (at 1 1))) ≡ Refused refusal.NoLayer
+window_on_no_layer : reply_of (table touching) (Range (codes "q") (Window (Two (at 0 0) (at 1 1)))) ≡ Refused refusal.NoLayer
 window_on_no_layer = rw (get-from_sorted (slice_cmp nat_cmp) touching (codes "q") tt) refl
 
-window_wrong_dims_before_bad_box : reply_of (table touching) (Window a (Three (in_space 1 1 1) (in_space 0 0 0))) ≡ Refused refusal.WrongDims
+window_wrong_dims_before_bad_box : reply_of (table touching) (Range a (Window (Three (in_space 1 1 1) (in_space 0 0 0)))) ≡ Refused refusal.WrongDims
 window_wrong_dims_before_bad_box = rw touching_at refl
 
-window_of_a_low_above_its_high : reply_of (table touching) (Window a (Two (at 1 0) (at 0 0))) ≡ Refused refusal.BadBox
+window_of_a_low_above_its_high : reply_of (table touching) (Range a (Window (Two (at 1 0) (at 0 0)))) ≡ Refused refusal.BadBox
 unfolding ordered_test
 window_of_a_low_above_its_high = rw touching_at refl
 
-pub window_changes_nothing : after (table touching) (Window a (Two (at 1 1) (at 1 1))) ≡ table touching
+pub window_changes_nothing : after (table touching) (Range a (Window (Two (at 1 1) (at 1 1)))) ≡ table touching
 unfolding ordered_test
 window_changes_nothing = rw touching_at refl
+
+-- ---- inside, around and point
+
+the_first_square_alone_is_inside : reply_of (table touching) (Range a (Inside (Two (at 0 0) (at 1 1)))) ≡ Boxes ((1, bounds (at 0 0) (at 1 1)) ∷ [])
+unfolding within_test ordered_test
+the_first_square_alone_is_inside = rw (touching_at, entries-from_sorted nat_cmp squares tt) refl
+
+-- a window finds both
+no_square_is_inside_a_lesser_one : reply_of (table touching) (Range a (Inside (Two (at 1 1) (at 1 1)))) ≡ Boxes []
+unfolding within_test ordered_test
+no_square_is_inside_a_lesser_one = rw (touching_at, entries-from_sorted nat_cmp squares tt) refl
+
+the_second_square_alone_is_around : reply_of (table touching) (Range a (Around (Two (at 1 1) (at 2 2)))) ≡ Boxes ((2, bounds (at 1 1) (at 2 2)) ∷ [])
+unfolding within_test ordered_test
+the_second_square_alone_is_around = rw (touching_at, entries-from_sorted nat_cmp squares tt) refl
+
+-- all is inside of it
+no_square_is_around_a_greater_one : reply_of (table touching) (Range a (Around (Two (at 0 0) (at 2 2)))) ≡ Boxes []
+unfolding within_test ordered_test
+no_square_is_around_a_greater_one = rw (touching_at, entries-from_sorted nat_cmp squares tt) refl
+
+both_squares_hold_the_point_where_they_touch : reply_of (table touching) (Range a (Point (point.Two (at 1 1)))) ≡ Boxes squares
+unfolding holds_test
+both_squares_hold_the_point_where_they_touch = rw (touching_at, entries-from_sorted nat_cmp squares tt) refl
+
+the_second_square_alone_holds_its_corner : reply_of (table touching) (Range a (Point (point.Two (at 1 2)))) ≡ Boxes ((2, bounds (at 1 1) (at 2 2)) ∷ [])
+unfolding holds_test
+the_second_square_alone_holds_its_corner = rw (touching_at, entries-from_sorted nat_cmp squares tt) refl
+
+a_point_in_space_is_of_wrong_dims : reply_of (table touching) (Range a (Point (point.Three (in_space 1 1 1)))) ≡ Refused refusal.WrongDims
+a_point_in_space_is_of_wrong_dims = rw touching_at refl
+
+inside_a_low_above_its_high : reply_of (table touching) (Range a (Inside (Two (at 1 0) (at 0 0)))) ≡ Refused refusal.BadBox
+unfolding ordered_test
+inside_a_low_above_its_high = rw touching_at refl
+
+around_in_no_layer : reply_of (table touching) (Range (codes "q") (Around (Two (at 1 0) (at 0 0)))) ≡ Refused refusal.NoLayer
+around_in_no_layer = rw (get-from_sorted (slice_cmp nat_cmp) touching (codes "q") tt) refl
+
+a_query_changes_nothing : (query : RawQuery) → after (table empty_layer) (Range (codes "A") query) ≡ table empty_layer
+a_query_changes_nothing query = refl
+
+-- ---- nearest
+
+-- both hold the point, so the lesser identifier is first
+of_equal_distances_the_lesser_identifier_is_first : reply_of (table touching) (Nearest a 1 (point.Two (at 1 1))) ≡ Distances ((1, 0) ∷ [])
+of_equal_distances_the_lesser_identifier_is_first = rw (touching_at, entries-from_sorted nat_cmp squares tt) refl
+
+the_nearer_object_is_first : reply_of (table touching) (Nearest a 1000000 (point.Two (at 5 2))) ≡ Distances ((2, 9) ∷ (1, 17) ∷ [])
+the_nearer_object_is_first = rw (touching_at, entries-from_sorted nat_cmp squares tt) refl
+
+nearest_of_none : reply_of (table touching) (Nearest a 0 (point.Two (at 1 1))) ≡ Refused refusal.BadCount
+nearest_of_none = rw touching_at refl
+
+nearest_of_too_many : reply_of (table touching) (Nearest a 1000001 (point.Two (at 1 1))) ≡ Refused refusal.BadCount
+nearest_of_too_many = rw touching_at refl
+
+wrong_dims_before_bad_count : reply_of (table touching) (Nearest a 0 (point.Three (in_space 1 1 1))) ≡ Refused refusal.WrongDims
+wrong_dims_before_bad_count = rw touching_at refl
 
 -- ---- reopen
 

@@ -1,15 +1,17 @@
 -- Which refusal of a command comes first.
 use Rattle.std.proofs.Common.{◌≡◌, ℕ, ◌<◌, ◌≤◌, ◌+◌, List, [], ◌∷◌, Bool, true, false, not, cond, Some, None, refl, sym, ap, ◌∙◌, arith}
-use Rattle.std.specs.Prelude.{nat_le, ◌==◌}
+use Rattle.std.specs.Prelude.{Option, is_some, nat_le, unwrap_or, ◌==◌}
 use Rattle.std.proofs.lemmas.Bool.Decides.{nat_tests}
 use Rattle.std.specs.Cmp.{nat_cmp_total}
 use Rattle.std.specs.FinMap.{contains_key, get, len, len-insert}
 use Rattle.box_math.specs.Bounds.{Bounds}
 use Rattle.plain_table.specs.Boxes.{dims_of, given_bounds, is_ordered}
-use Rattle.plain_table.specs.Commands.Command.{Create, Insert, Window}
-use Rattle.plain_table.specs.Step.{first_refusal, box_refusals, object_refusals, refusal_of}
-use Rattle.plain_table.specs.Table.{Table, Layer, is_layer_name, is_dims, is_fanout, object_count, most_layers, most_objects, with_object}
+use Rattle.plain_table.specs.Commands.Command.{Create, Insert, Get, Count, Range, Nearest}
+use Rattle.plain_table.specs.Step.{first_refusal, missing_refusals, nearest_refusals, object_refusals, query_refusals, refusal_of}
+use Rattle.plain_table.specs.Table.{Table, Layer, is_layer_name, is_dims, is_fanout, object_count, most_layers, layer_at, most_objects, no_layer, with_object}
 use Rattle.plain_table.specs.declared.boxes.RawBox.{RawBox}
+use Rattle.plain_table.specs.declared.boxes.RawPoint.{RawPoint}
+use Rattle.plain_table.specs.declared.queries.RawQuery.{RawQuery}
 use Rattle.plain_table.specs.declared.refusal.Refusal.{Refusal}
 use Rattle.plain_table.specs.declared.refusal.Refusal.TheVariants as refusal
 
@@ -35,11 +37,32 @@ module _ (t : Table) (name : List ℕ) (named : is_layer_name name ≡ true) whe
   pub insert_refusal : (id : ℕ) (box : RawBox) (l : Layer) (full : Bool) → get t name ≡ Some l → full ≡ nat_le most_objects (object_count t) → refusal_of t (Insert name id box) ≡ first_refusal (object_refusals l id box full)
   insert_refusal id box l full g e = rw (named, g, ← e) refl
 
-  pub window_missing : (box : RawBox) → contains_key t name ≡ false → refusal_of t (Window name box) ≡ Some refusal.NoLayer
-  window_missing box h = rw (named, h) refl
+  pub get_missing : (id : ℕ) → contains_key t name ≡ false → refusal_of t (Get name id) ≡ Some refusal.NoLayer
+  get_missing id h = rw (named, h) refl
 
-  pub window_refusal : (box : RawBox) (l : Layer) → get t name ≡ Some l → refusal_of t (Window name box) ≡ first_refusal (box_refusals l box [])
-  window_refusal box l g = rw (named, g) refl
+  pub get_refusal : (id : ℕ) (l : Layer) → get t name ≡ Some l → refusal_of t (Get name id) ≡ first_refusal (missing_refusals l id)
+  get_refusal id l g = rw (named, g) refl
+
+  pub count_missing : contains_key t name ≡ false → refusal_of t (Count name) ≡ Some refusal.NoLayer
+  count_missing h = rw (named, h) refl
+
+  pub count_passes : (l : Layer) → get t name ≡ Some l → refusal_of t (Count name) ≡ None
+  count_passes l g = rw (named, g) refl
+
+  pub range_missing : (query : RawQuery) → contains_key t name ≡ false → refusal_of t (Range name query) ≡ Some refusal.NoLayer
+  range_missing query h = rw (named, h) refl
+
+  pub range_refusal : (query : RawQuery) (l : Layer) → get t name ≡ Some l → refusal_of t (Range name query) ≡ first_refusal (query_refusals l.dims query)
+  range_refusal query l g =
+      let there : contains_key t name ≡ true = ap is_some g in
+      let first : refusal_of t (Range name query) ≡ first_refusal (query_refusals (layer_at t name).dims query) = rw (named, there) refl in
+      first ∙ ap (λ (o : Option Layer). first_refusal (query_refusals (unwrap_or o no_layer).dims query)) g
+
+  pub nearest_missing : (k : ℕ) (point : RawPoint) → contains_key t name ≡ false → refusal_of t (Nearest name k point) ≡ Some refusal.NoLayer
+  nearest_missing k point h = rw (named, h) refl
+
+  pub nearest_refusal : (k : ℕ) (point : RawPoint) (l : Layer) → get t name ≡ Some l → refusal_of t (Nearest name k point) ≡ first_refusal (nearest_refusals l.dims k point)
+  nearest_refusal k point l g = rw (named, g) refl
 
 -- an object that is not refused is new, and there is room for it
 pub object_passes : (l : Layer) (id : ℕ) (box : RawBox) (full : Bool) → first_refusal (object_refusals l id box full) ≡ None → (contains_key l.objects id ≡ false) × (full ≡ false)

@@ -1,9 +1,9 @@
 -- The answers that the results of a store's calls are.
-use Rattle.std.specs.Prelude.{ℕ, Result, Ok, Err, Vec, map}
+use Rattle.std.specs.Prelude.{ℕ, [], ◌∷◌, Result, Ok, Err, Vec, map}
 use Rattle.box_math.specs.Bounds.{Bounds}
 use Rattle.plain_table.specs.Boxes.{bounds_of}
 use Rattle.plain_table.specs.Step.{Answer}
-use Rattle.plain_table.specs.Step.Answer.{Done, Refused, Boxes}
+use Rattle.plain_table.specs.Step.Answer.{Done, Refused, Boxes, Counted, Distances}
 use Rattle.plain_table.specs.declared.boxes.AnyBox.{AnyBox}
 use Rattle.plain_table.specs.declared.refusal.Refusal.{Refusal}
 
@@ -16,7 +16,22 @@ done_answer (Err r) = Refused r
 abbrev pub row_of : ℕ × AnyBox → ℕ × Bounds
 row_of row = (row.0, bounds_of row.1)
 
--- the answer that the result of a window is
+-- the answer that the box of an object is, got by its identifier
+abbrev pub box_answer : ℕ → Result AnyBox Refusal → Answer
+box_answer id (Ok box) = Boxes (row_of (id, box) ∷ [])
+box_answer id (Err r) = Refused r
+
+-- the answer that a count of objects is
+abbrev pub count_answer : Result ℕ Refusal → Answer
+count_answer (Ok count) = Counted count
+count_answer (Err r) = Refused r
+
+-- the answer that the result of a range query is
 abbrev pub boxes_answer : {A : Type 0} → Result (Vec (ℕ × AnyBox) A) Refusal → Answer
 boxes_answer (Ok rows) = Boxes (map row_of rows.items)
 boxes_answer (Err r) = Refused r
+
+-- the answer that the nearest objects are
+abbrev pub distances_answer : {A : Type 0} → Result (Vec (ℕ × ℕ) A) Refusal → Answer
+distances_answer (Ok rows) = Distances rows.items
+distances_answer (Err r) = Refused r

@@ -1,8 +1,10 @@
--- The boxes that commands give and answers show, as lows and highs. Our rule, docs/COMMANDS.md.
-use Rattle.std.specs.Prelude.{ℕ, Bool}
+-- The boxes and points that commands give, and the boxes that answers show, as lists of coordinates. Our rule, docs/COMMANDS.md.
+use Rattle.std.specs.Prelude.{ℕ, ℤ, Bool, List}
 use Rattle.box_math.specs.Bounds.{Bounds, ordered_test}
 use Rattle.plain_table.specs.declared.boxes.RawBox.{RawBox}
 use Rattle.plain_table.specs.declared.boxes.RawBox.TheVariants as raw
+use Rattle.plain_table.specs.declared.boxes.RawPoint.{RawPoint}
+use Rattle.plain_table.specs.declared.boxes.RawPoint.TheVariants as point
 use Rattle.plain_table.specs.declared.boxes.AnyBox.{AnyBox}
 use Rattle.plain_table.specs.declared.boxes.AnyBox.TheVariants as any
 
@@ -19,6 +21,16 @@ given_bounds (raw.Three low high) = record { low = low; high = high }
 -- whether each low is at most its high
 abbrev pub is_ordered : ℕ → Bounds → Bool
 is_ordered dims b = ordered_test dims b.low b.high
+
+-- how many axes a point has
+abbrev pub point_dims : RawPoint → ℕ
+point_dims (point.Two p) = 2
+point_dims (point.Three p) = 3
+
+-- its coordinates
+abbrev pub given_point : RawPoint → List ℤ
+given_point (point.Two p) = p
+given_point (point.Three p) = p
 
 -- a box is its lows and highs, whatever its dimension
 abbrev pub bounds_of : AnyBox → Bounds

@@ -1,10 +1,21 @@
 -- What a store is asked. Our rule, docs/COMMANDS.md.
 use Rattle.std.specs.Prelude.{ℕ, List}
 use Rattle.plain_table.specs.declared.boxes.RawBox.{RawBox}
+use Rattle.plain_table.specs.declared.boxes.RawPoint.{RawPoint}
+use Rattle.plain_table.specs.declared.queries.RawQuery.{RawQuery}
 
--- a command with its words read: names as bytes, numbers, and boxes as they were given
+-- a command with its words read: names as bytes, numbers, and boxes and points as they were given
 pub data Command : Type 0 where
   Create : List ℕ → ℕ → ℕ → Command
   Insert : List ℕ → ℕ → RawBox → Command
-  Window : List ℕ → RawBox → Command
+  Get : List ℕ → ℕ → Command
+  Count : List ℕ → Command
+  Range : List ℕ → RawQuery → Command
+  Nearest : List ℕ → ℕ → RawPoint → Command
   Reopen : Command
+
+-- A command that may give up: answered by a fault of memory, of the device or of page numbers in the place of what the
+-- table answers. A count takes nothing that could be refused.
+abbrev pub MayGiveUp : Command → Type 0
+MayGiveUp (Count name) = ⊥
+MayGiveUp c = Unit {0}

@@ -4,6 +4,8 @@ pub mod Refusals
 pub mod Table
 pub mod Codes
 pub mod Commands
+pub mod Queries
+pub mod Nearest
 pub mod Step
 pub mod Answers
 pub mod Laws

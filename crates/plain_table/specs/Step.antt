@@ -1,12 +1,17 @@
 -- What a command answers and what it changes, on the plain table. Our rule, docs/COMMANDS.md.
-use Rattle.std.specs.Prelude.{ℕ, Bool, not, ◌==◌, nat_le, List, [], ◌∷◌, if◌then◌else◌, Option, Some, None, filter}
+use Rattle.std.specs.Prelude.{ℕ, Bool, not, ◌==◌, nat_le, List, [], ◌∷◌, if◌then◌else◌, Option, Some, None, filter, take, unwrap_or}
 use Rattle.std.specs.FinMap as map
-use Rattle.box_math.specs.Bounds.{Bounds, meets_test}
-use Rattle.plain_table.specs.Boxes.{dims_of, given_bounds, is_ordered}
+use Rattle.box_math.specs.Bounds.{Bounds}
+use Rattle.plain_table.specs.Boxes.{dims_of, given_bounds, given_point, is_ordered, point_dims}
 use Rattle.plain_table.specs.Commands.{Command}
+use Rattle.plain_table.specs.Commands.Command.{Create, Insert, Get, Count, Range, Nearest, Reopen}
+use Rattle.plain_table.specs.Nearest.{by_distance, is_count}
+use Rattle.plain_table.specs.Queries.{is_sought}
+use Rattle.plain_table.specs.Table.{Table, Layer, is_layer_name, is_dims, is_fanout, most_layers, most_objects, object_count, layer_at, no_box, with_object}
 use Rattle.plain_table.specs.declared.boxes.RawBox.{RawBox}
-use Rattle.plain_table.specs.Commands.Command.{Create, Insert, Window, Reopen}
-use Rattle.plain_table.specs.Table.{Table, Layer, is_layer_name, is_dims, is_fanout, most_layers, most_objects, object_count, layer_at, with_object}
+use Rattle.plain_table.specs.declared.boxes.RawPoint.{RawPoint}
+use Rattle.plain_table.specs.declared.queries.RawQuery.{RawQuery}
+use Rattle.plain_table.specs.declared.queries.RawQuery.TheVariants as query
 use Rattle.plain_table.specs.declared.refusal.Refusal.{Refusal}
 use Rattle.plain_table.specs.declared.refusal.Refusal.TheVariants as refusal
 
@@ -15,6 +20,8 @@ pub data Answer : Type 0 where
   Done : Answer
   Refused : Refusal → Answer
   Boxes : List (ℕ × Bounds) → Answer
+  Counted : ℕ → Answer
+  Distances : List (ℕ × ℕ) → Answer
 
 -- the first refusal whose condition holds
 abbrev pub first_refusal : List (Bool × Refusal) → Option Refusal
@@ -26,12 +33,31 @@ abbrev pub layer_refusals : Table → List ℕ → List (Bool × Refusal) → Li
 layer_refusals t name more = (not (is_layer_name name), refusal.BadName) ∷ (not (map.contains_key t name), refusal.NoLayer) ∷ more
 
 -- a box of another dimension than the layer, or one with a low above its high, before further refusals
-abbrev pub box_refusals : Layer → RawBox → List (Bool × Refusal) → List (Bool × Refusal)
-box_refusals layer box more = (not (dims_of box == layer.dims), refusal.WrongDims) ∷ (not (is_ordered (dims_of box) (given_bounds box)), refusal.BadBox) ∷ more
+abbrev pub box_refusals : ℕ → RawBox → List (Bool × Refusal) → List (Bool × Refusal)
+box_refusals dims box more = (not (dims_of box == dims), refusal.WrongDims) ∷ (not (is_ordered (dims_of box) (given_bounds box)), refusal.BadBox) ∷ more
+
+-- a point of another dimension than the layer, before further refusals
+abbrev pub point_refusals : ℕ → RawPoint → List (Bool × Refusal) → List (Bool × Refusal)
+point_refusals dims point more = (not (point_dims point == dims), refusal.WrongDims) ∷ more
 
 -- an object whose box is refused, that is there, or for which there is no room
 abbrev pub object_refusals : Layer → ℕ → RawBox → Bool → List (Bool × Refusal)
-object_refusals layer id box is_full = box_refusals layer box ((map.contains_key layer.objects id, refusal.Duplicate) ∷ (is_full, refusal.TooManyObjects) ∷ [])
+object_refusals layer id box is_full = box_refusals layer.dims box ((map.contains_key layer.objects id, refusal.Duplicate) ∷ (is_full, refusal.TooManyObjects) ∷ [])
+
+-- an object that is not there
+abbrev pub missing_refusals : Layer → ℕ → List (Bool × Refusal)
+missing_refusals layer id = (not (map.contains_key layer.objects id), refusal.NoObject) ∷ []
+
+-- a query whose box or point is refused
+abbrev pub query_refusals : ℕ → RawQuery → List (Bool × Refusal)
+query_refusals dims (query.Window window) = box_refusals dims window []
+query_refusals dims (query.Inside window) = box_refusals dims window []
+query_refusals dims (query.Around inner) = box_refusals dims inner []
+query_refusals dims (query.Point point) = point_refusals dims point []
+
+-- so many nearest objects to a point that is refused, or a number of them that may not be asked for
+abbrev pub nearest_refusals : ℕ → ℕ → RawPoint → List (Bool × Refusal)
+nearest_refusals dims k point = point_refusals dims point ((not (is_count k), refusal.BadCount) ∷ [])
 
 -- the refusals of a command, in the order in which they are tried
 abbrev pub refusals_of : Table → Command → List (Bool × Refusal)
@@ -39,7 +65,10 @@ refusals_of t (Create name dims fanout) =
     (not (is_layer_name name), refusal.BadName) ∷ (not (is_dims dims), refusal.BadDims) ∷ (not (is_fanout fanout), refusal.BadFanout)
     ∷ (map.contains_key t name, refusal.LayerExists) ∷ (nat_le most_layers (map.len t), refusal.TooManyLayers) ∷ []
 refusals_of t (Insert name id box) = layer_refusals t name (object_refusals (layer_at t name) id box (nat_le most_objects (object_count t)))
-refusals_of t (Window name box) = layer_refusals t name (box_refusals (layer_at t name) box [])
+refusals_of t (Get name id) = layer_refusals t name (missing_refusals (layer_at t name) id)
+refusals_of t (Count name) = layer_refusals t name []
+refusals_of t (Range name query) = layer_refusals t name (query_refusals (layer_at t name).dims query)
+refusals_of t (Nearest name k point) = layer_refusals t name (nearest_refusals (layer_at t name).dims k point)
 refusals_of t Reopen = []
 
 -- the refusal of a command, if there is one
@@ -50,18 +79,29 @@ refusal_of t c = first_refusal (refusals_of t c)
 abbrev pub changed : Table → Command → Table
 changed t (Create name dims fanout) = map.insert t name (record { dims = dims; fanout = fanout; objects = map.empty })
 changed t (Insert name id box) = map.insert t name (with_object (layer_at t name) id (given_bounds box))
-changed t (Window name box) = t
-changed t Reopen = t
+changed t c = t
 
--- the objects of a layer whose boxes meet the window, ascending by identifier
-abbrev pub window_rows : Layer → Bounds → List (ℕ × Bounds)
-window_rows layer window = filter (λ row. meets_test layer.dims row.1 window) (map.entries layer.objects)
+-- the object of that identifier, with its box
+abbrev pub object_row : Layer → ℕ → ℕ × Bounds
+object_row layer id = (id, unwrap_or (map.get layer.objects id) no_box)
+
+-- the objects of a layer that a query seeks, ascending by identifier
+abbrev pub range_rows : Layer → RawQuery → List (ℕ × Bounds)
+range_rows layer query = filter (λ row. is_sought layer.dims query row.1) (map.entries layer.objects)
+
+-- the k objects of a layer that are nearest to a point, or all of fewer: identifiers with squared distances, by distance, and of
+-- equal distances by identifier
+abbrev pub nearest_rows : Layer → ℕ → RawPoint → List (ℕ × ℕ)
+nearest_rows layer k point = take k (by_distance layer.dims (given_point point) (map.entries layer.objects))
 
 -- the answer to a command that was not refused
 abbrev pub answer_of : Table → Command → Answer
 answer_of t (Create name dims fanout) = Done
 answer_of t (Insert name id box) = Done
-answer_of t (Window name box) = Boxes (window_rows (layer_at t name) (given_bounds box))
+answer_of t (Get name id) = Boxes (object_row (layer_at t name) id ∷ [])
+answer_of t (Count name) = Counted (map.len (layer_at t name).objects)
+answer_of t (Range name query) = Boxes (range_rows (layer_at t name) query)
+answer_of t (Nearest name k point) = Distances (nearest_rows (layer_at t name) k point)
 answer_of t Reopen = Done
 
 -- the refusal, if there is one, and else the answer

@@ -1,5 +1,5 @@
 -- The plain table: layers by name, and in each its objects by identifier. Our rule, docs/COMMANDS.md.
-use Rattle.std.specs.Prelude.{ℕ, ◌^◌, Bool, ◌&&◌, ◌||◌, ◌==◌, nat_le, List, length, slice_index, unwrap_or, sum_by}
+use Rattle.std.specs.Prelude.{ℕ, ◌^◌, Bool, ◌&&◌, ◌||◌, ◌==◌, nat_le, List, [], length, slice_index, unwrap_or, sum_by}
 use Rattle.std.specs.List.{list_all}
 use Rattle.std.specs.Ordering.{nat_cmp}
 use Rattle.std.specs.Cmp.Lexicographic.{slice_cmp}
@@ -60,6 +60,10 @@ no_layer = record { dims = 0; fanout = 0; objects = map.empty }
 -- the layer of that name
 abbrev pub layer_at : Table → List ℕ → Layer
 layer_at t name = unwrap_or (map.get t name) no_layer
+
+-- what is taken for the box of an object where there is none of that identifier
+abbrev pub no_box : Bounds
+no_box = record { low = []; high = [] }
 
 -- the layer with an object more, or with another box for it
 abbrev pub with_object : Layer → ℕ → Bounds → Layer

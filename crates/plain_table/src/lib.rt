@@ -4,9 +4,11 @@
 mod boxes;
 mod limits;
 mod names;
+mod queries;
 mod refusal;
 
 pub use boxes::{AnyBox, RawBox, RawPoint};
-pub use limits::{MOST_LAYERS, MOST_NAME_BYTES, MOST_OBJECTS};
+pub use limits::{MOST_LAYERS, MOST_NAME_BYTES, MOST_NEAREST, MOST_OBJECTS};
 pub use names::{is_dims, is_fanout, is_layer_name};
+pub use queries::{Query, RawQuery, is_count};
 pub use refusal::Refusal;

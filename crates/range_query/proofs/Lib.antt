@@ -4,3 +4,4 @@ pub mod EntryLemmas
 pub mod FoundLemmas
 pub mod EndLemmas
 pub mod DescentLemmas
+pub mod Examples

@@ -7,7 +7,7 @@ ghost use Rattle.page_cache.specs.Cache.{IsPageMap, gate_of, pages};
 ghost use Rattle.page_cache.specs.Calls.{Changes};
 ghost use Rattle.tree_node.specs.Nodes.{item_of};
 ghost use Rattle.node_page.specs.Layout.{IsReference};
-ghost use Rattle.reinsert.specs.Faults.{IsChangeFault, IsNoDamage};
+ghost use Rattle.node_page.specs.Faults.{IsChangeFault, IsNoDamage};
 ghost use Rattle.reinsert.specs.Placed.{ComesIn};
 
 use arrayvec::ArrayVec;

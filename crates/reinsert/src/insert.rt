@@ -11,7 +11,7 @@ ghost use Rattle.tree_node.specs.Shape.{HasLooseShape};
 ghost use Rattle.tree_node.specs.Trees.{Branch, Tree};
 ghost use Rattle.node_page.specs.Broken.{Alters, before};
 ghost use Rattle.node_page.specs.Layout.{IsReference};
-ghost use Rattle.reinsert.specs.Faults.{IsChangeFault, IsNoDamage};
+ghost use Rattle.node_page.specs.Faults.{IsChangeFault, IsNoDamage};
 ghost use Rattle.reinsert.specs.Inserted.{CanInsert, InsertsTo, IsAt, IsRootFrom, StepsTo};
 ghost use Rattle.reinsert.specs.Kept.{EntryHasShape, StateHasShape};
 ghost use Rattle.reinsert.specs.Placed.{measure_of};

@@ -2,7 +2,7 @@
 
 ghost use Rattle.std.specs.Prelude.{◌≡◌, ◌^◌, ◌+◌, ◌<◌, ◌≤◌, ◌++◌, ◌∷◌, [], Some, true, false, ℕ, List, All, length};
 ghost use Rattle.std.specs.Prelude.{map};
-ghost use Rattle.std.specs.Prelude.{◌⊎◌, slice_index_or, IfOk, IfErr, IfSome};
+ghost use Rattle.std.specs.Prelude.{◌⊎◌, slice_index_or, IfOk, IfErr, IfSome, OnOk};
 ghost use Rattle.arrayvec.specs.ArrayVec.{array_vec_len};
 ghost use Rattle.box_math.specs.Bounds.{IsDims};
 ghost use Rattle.page_file.specs.Fault.{IsDamage, IsOfDevice};
@@ -16,17 +16,18 @@ ghost use Rattle.tree_node.specs.Trees.{Row, Branch};
 ghost use Rattle.node_page.specs.Broken.{Alters};
 ghost use Rattle.node_page.specs.Layout.{IsReference};
 ghost use Rattle.node_page.specs.Standing.{node_in};
-ghost use Rattle.reinsert.specs.Faults.{IsChangeFault, IsNoDamage};
+ghost use Rattle.node_page.specs.Faults.{IsChangeFault, IsNoDamage};
 ghost use Rattle.reinsert.specs.Placed.{CanPlace, CanSettle, HasFewEntries, PlacesTo, SettlesTo};
 ghost use Rattle.reinsert.specs.Placed.{items_after, measure_of};
 
 use crate::settle::settle;
 use crate::settled::Settled;
 use crate::waiting::Waiting;
+use arrayvec::ArrayVec;
 use block_device::BlockDevice;
 use box_math::BBox;
 use choose_subtree::choose;
-use node_page::{Broken, read_node};
+use node_page::{Broken, read_into};
 use page_cache::PageCache;
 use page_file::Fault;
 use std::alloc::Allocator;
@@ -60,9 +61,13 @@ pub(crate) fn place<const D: usize, B: BlockDevice, A: Allocator + Copy>(
         IfErr result (λ b. IsNoDamage cache.new b.cause) }
     ensures other_faults { IfErr result (λ b. IsChangeFault b.cause) }
 {
-    let node = read_fitting(cache, at, m_max)?;
+    let mut node = Node {
+        level: at.level,
+        entries: ArrayVec::new(),
+    };
+    read_fitting(cache, at, m_max, &mut node)?;
     if at.level == target {
-        return put_here(cache, at.page, node, entry, top, m_max, waiting);
+        return put_here(cache, at.page, &mut node, entry, top, m_max, waiting);
     }
     let (place_of_child, page) = child_for(&node, &entry.bounds);
     let below = Root {
@@ -73,7 +78,7 @@ pub(crate) fn place<const D: usize, B: BlockDevice, A: Allocator + Copy>(
     put_above(
         cache,
         at.page,
-        node,
+        &mut node,
         place_of_child,
         lower,
         top,
@@ -87,25 +92,26 @@ fn read_fitting<const D: usize, B: BlockDevice, A: Allocator + Copy>(
     cache: &mut PageCache<B, A>,
     at: Root,
     m_max: usize,
-) -> Result<Node<D>, Fault>
+    node: &mut Node<D>,
+) -> Result<(), Fault>
     requires dims { IsDims D }
     ensures asks { Asks cache.old cache.new result }
     ensures node { IsHonest cache.old → IsLive cache.old at.page
-        → IfOk result (λ node. node_in D (pages cache.old at.page) ≡ Some (content_of node)) }
+        → OnOk result (node_in D (pages cache.old at.page) ≡ Some (content_of node.new)) }
     ensures faults { IsHonest cache.old → (c : NodeContent) → node_in D (pages cache.old at.page) ≡ Some c
         → c.level ≡ at.level → length c.entries ≤ m_max
         → IfErr result IsOfDevice }
-    ensures level { IfOk result (λ node. node.level ≡ at.level) }
-    ensures few { IfOk result (λ node. array_vec_len node.entries ≤ m_max) }
-    ensures some { IfOk result (λ node. 0 < at.level → 0 < array_vec_len node.entries) }
-    ensures refers { IfOk result (λ node. All (λ e. IsReference at.level e.reference) node.entries.items) }
+    ensures level { OnOk result (node.new.level ≡ at.level) }
+    ensures few { OnOk result (array_vec_len node.new.entries ≤ m_max) }
+    ensures some { OnOk result (0 < at.level → 0 < array_vec_len node.new.entries) }
+    ensures refers { OnOk result (All (λ e. IsReference at.level e.reference) node.new.entries.items) }
     ensures other_faults { IfErr result (λ f. IsOfDevice f ⊎ IsDamage f) }
 {
-    let node = read_node::<D, B, A>(cache, at.page, at.level)?;
+    read_into(cache, at.page, at.level, node)?;
     if node.entries.len() > m_max {
         return Err(Fault::Damaged(at.page));
     }
-    Ok(node)
+    Ok(())
 }
 
 // The place of the child that a new box goes to, and the child's page.
@@ -126,7 +132,7 @@ fn child_for<const D: usize>(node: &Node<D>, bounds: &BBox<D>) -> (usize, u32)
 fn put_here<const D: usize, B: BlockDevice, A: Allocator + Copy>(
     cache: &mut PageCache<B, A>,
     page: u32,
-    mut node: Node<D>,
+    node: &mut Node<D>,
     entry: &Entry<D>,
     top: u8,
     m_max: usize,
@@ -135,18 +141,18 @@ fn put_here<const D: usize, B: BlockDevice, A: Allocator + Copy>(
     requires dims { IsDims D }
     requires open { gate_of cache.old ≡ Open }
     requires most { (4 ≤ m_max) × (m_max ≤ 100) }
-    requires top { (node.level ≤ top) × (top ≤ 40) }
-    requires few { array_vec_len node.entries ≤ m_max }
-    requires refers { All (λ e. IsReference node.level e.reference) node.entries.items }
-    requires refers_too { IsReference node.level entry.now.reference }
+    requires top { (node.old.level ≤ top) × (top ≤ 40) }
+    requires few { array_vec_len node.old.entries ≤ m_max }
+    requires refers { All (λ e. IsReference node.old.level e.reference) node.old.entries.items }
+    requires refers_too { IsReference node.old.level entry.now.reference }
     ensures alters { Alters cache.old cache.new result }
     ensures measure { measure_of waiting.new ≤ measure_of waiting.old }
-    ensures beside { IfOk result (λ s. IfSome s.beside (λ e. IsReference (node.entry.level + 1) e.reference)) }
+    ensures beside { IfOk result (λ s. IfSome s.beside (λ e. IsReference (node.old.level + 1) e.reference)) }
     ensures settled { IsPageMap cache.old → (branches : List Branch)
-        → map item_in branches ≡ map item_of node.entry.entries.items ++ item_of entry.now ∷ []
-        → CanSettle D (pages cache.old) page node.entry.level branches →
+        → map item_in branches ≡ map item_of node.old.entries.items ++ item_of entry.now ∷ []
+        → CanSettle D (pages cache.old) page node.old.level branches →
         IfOk result (λ s. IsPageMap cache.new
-        × SettlesTo D m_max top node.entry.level waiting.old.called branches (pages cache.old) (pages cache.new)
+        × SettlesTo D m_max top node.old.level waiting.old.called branches (pages cache.old) (pages cache.new)
         page s waiting.old.waits.items waiting.new.waits.items waiting.new.called) }
     ensures touched { IfErr result (λ b. b.touched ≡ true) }
     ensures faults { IsPageMap cache.old → IsLive cache.old page → IfErr result (λ b. IsNoDamage cache.new b.cause) }
@@ -163,7 +169,7 @@ fn put_here<const D: usize, B: BlockDevice, A: Allocator + Copy>(
 fn put_above<const D: usize, B: BlockDevice, A: Allocator + Copy>(
     cache: &mut PageCache<B, A>,
     page: u32,
-    node: Node<D>,
+    node: &mut Node<D>,
     at: usize,
     lower: Settled<D>,
     top: u8,
@@ -173,19 +179,19 @@ fn put_above<const D: usize, B: BlockDevice, A: Allocator + Copy>(
     requires dims { IsDims D }
     requires open { gate_of cache.old ≡ Open }
     requires most { (4 ≤ m_max) × (m_max ≤ 100) }
-    requires top { (node.level ≤ top) × (top ≤ 40) }
-    requires within { at < array_vec_len node.entries }
-    requires few { array_vec_len node.entries ≤ m_max }
-    requires refers { All (λ e. IsReference node.level e.reference) node.entries.items }
-    requires beside { IfSome lower.beside (λ e. IsReference node.level e.reference) }
+    requires top { (node.old.level ≤ top) × (top ≤ 40) }
+    requires within { at < array_vec_len node.old.entries }
+    requires few { array_vec_len node.old.entries ≤ m_max }
+    requires refers { All (λ e. IsReference node.old.level e.reference) node.old.entries.items }
+    requires beside { IfSome lower.beside (λ e. IsReference node.old.level e.reference) }
     ensures alters { Alters cache.old cache.new result }
     ensures measure { measure_of waiting.new ≤ measure_of waiting.old }
-    ensures beside { IfOk result (λ s. IfSome s.beside (λ e. IsReference (node.entry.level + 1) e.reference)) }
+    ensures beside { IfOk result (λ s. IfSome s.beside (λ e. IsReference (node.old.level + 1) e.reference)) }
     ensures settled { IsPageMap cache.old → (branches : List Branch)
-        → map item_in branches ≡ items_after D node.entry.entries.items at lower.entry
-        → CanSettle D (pages cache.old) page node.entry.level branches →
+        → map item_in branches ≡ items_after D node.old.entries.items at lower.entry
+        → CanSettle D (pages cache.old) page node.old.level branches →
         IfOk result (λ s. IsPageMap cache.new
-        × SettlesTo D m_max top node.entry.level waiting.old.called branches (pages cache.old) (pages cache.new)
+        × SettlesTo D m_max top node.old.level waiting.old.called branches (pages cache.old) (pages cache.new)
         page s waiting.old.waits.items waiting.new.waits.items waiting.new.called) }
     ensures touched { IfErr result (λ b. b.touched ≡ true) }
     ensures faults { IsPageMap cache.old → IsLive cache.old page → IfErr result (λ b. IsNoDamage cache.new b.cause) }
@@ -201,7 +207,7 @@ fn put_above<const D: usize, B: BlockDevice, A: Allocator + Copy>(
 fn settle_above<const D: usize, B: BlockDevice, A: Allocator + Copy>(
     cache: &mut PageCache<B, A>,
     page: u32,
-    mut node: Node<D>,
+    node: &mut Node<D>,
     at: usize,
     lower: Settled<D>,
     top: u8,
@@ -211,19 +217,19 @@ fn settle_above<const D: usize, B: BlockDevice, A: Allocator + Copy>(
     requires dims { IsDims D }
     requires open { gate_of cache.old ≡ Open }
     requires most { (4 ≤ m_max) × (m_max ≤ 100) }
-    requires top { (node.level ≤ top) × (top ≤ 40) }
-    requires within { at < array_vec_len node.entries }
-    requires few { array_vec_len node.entries ≤ m_max }
-    requires refers { All (λ e. IsReference node.level e.reference) node.entries.items }
-    requires beside { IfSome lower.beside (λ e. IsReference node.level e.reference) }
+    requires top { (node.old.level ≤ top) × (top ≤ 40) }
+    requires within { at < array_vec_len node.old.entries }
+    requires few { array_vec_len node.old.entries ≤ m_max }
+    requires refers { All (λ e. IsReference node.old.level e.reference) node.old.entries.items }
+    requires beside { IfSome lower.beside (λ e. IsReference node.old.level e.reference) }
     ensures changes { Changes cache.old cache.new result }
     ensures measure { measure_of waiting.new ≤ measure_of waiting.old }
-    ensures beside { IfOk result (λ s. IfSome s.beside (λ e. IsReference (node.entry.level + 1) e.reference)) }
+    ensures beside { IfOk result (λ s. IfSome s.beside (λ e. IsReference (node.old.level + 1) e.reference)) }
     ensures settled { IsPageMap cache.old → (branches : List Branch)
-        → map item_in branches ≡ items_after D node.entry.entries.items at lower.entry
-        → CanSettle D (pages cache.old) page node.entry.level branches →
+        → map item_in branches ≡ items_after D node.old.entries.items at lower.entry
+        → CanSettle D (pages cache.old) page node.old.level branches →
         IfOk result (λ s. IsPageMap cache.new
-        × SettlesTo D m_max top node.entry.level waiting.old.called branches (pages cache.old) (pages cache.new)
+        × SettlesTo D m_max top node.old.level waiting.old.called branches (pages cache.old) (pages cache.new)
         page s waiting.old.waits.items waiting.new.waits.items waiting.new.called) }
     ensures faults { IsPageMap cache.old → IsLive cache.old page → IfErr result (IsNoDamage cache.new) }
     ensures other_faults { IfErr result IsChangeFault }

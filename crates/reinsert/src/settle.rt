@@ -13,7 +13,7 @@ ghost use Rattle.tree_node.specs.Trees.{Branch};
 ghost use Rattle.node_page.specs.Layout.{IsReference, IsSpellable};
 ghost use Rattle.reinsert.specs.Called.{is_called};
 ghost use Rattle.reinsert.specs.Far;
-ghost use Rattle.reinsert.specs.Faults.{IsChangeFault, IsNoDamage};
+ghost use Rattle.node_page.specs.Faults.{IsChangeFault, IsNoDamage};
 ghost use Rattle.reinsert.specs.Placed.{CanSettle, SettlesTo, SplitsOff, measure_of};
 ghost use Rattle.reinsert.specs.declared.waiting.Wait.{Wait};
 
@@ -41,7 +41,7 @@ fn far_count(m_max: usize) -> usize
 pub(crate) fn settle<const D: usize, B: BlockDevice, A: Allocator + Copy>(
     cache: &mut PageCache<B, A>,
     page: u32,
-    node: Node<D>,
+    node: &Node<D>,
     top: u8,
     m_max: usize,
     waiting: &mut Waiting<D>,
@@ -49,18 +49,18 @@ pub(crate) fn settle<const D: usize, B: BlockDevice, A: Allocator + Copy>(
     requires dims { IsDims D }
     requires open { gate_of cache.old ≡ Open }
     requires most { (4 ≤ m_max) × (m_max ≤ 100) }
-    requires top { (node.level ≤ top) × (top ≤ 40) }
-    requires some { 0 < array_vec_len node.entries }
-    requires few { array_vec_len node.entries ≤ m_max + 1 }
-    requires refers { All (λ e. IsReference node.level e.reference) node.entries.items }
+    requires top { (node.now.level ≤ top) × (top ≤ 40) }
+    requires some { 0 < array_vec_len node.now.entries }
+    requires few { array_vec_len node.now.entries ≤ m_max + 1 }
+    requires refers { All (λ e. IsReference node.now.level e.reference) node.now.entries.items }
     ensures changes { Changes cache.old cache.new result }
     ensures measure { measure_of waiting.new ≤ measure_of waiting.old }
-    ensures beside { IfOk result (λ s. IfSome s.beside (λ e. IsReference (node.entry.level + 1) e.reference)) }
+    ensures beside { IfOk result (λ s. IfSome s.beside (λ e. IsReference (node.now.level + 1) e.reference)) }
     ensures settled { IsPageMap cache.old → (branches : List Branch)
-        → map item_in branches ≡ map item_of node.entry.entries.items
-        → CanSettle D (pages cache.old) page node.entry.level branches →
+        → map item_in branches ≡ map item_of node.now.entries.items
+        → CanSettle D (pages cache.old) page node.now.level branches →
         IfOk result (λ s. IsPageMap cache.new
-        × SettlesTo D m_max top node.entry.level waiting.old.called branches (pages cache.old) (pages cache.new)
+        × SettlesTo D m_max top node.now.level waiting.old.called branches (pages cache.old) (pages cache.new)
         page s waiting.old.waits.items waiting.new.waits.items waiting.new.called) }
     ensures faults { IsPageMap cache.old → IsLive cache.old page → IfErr result (IsNoDamage cache.new) }
     ensures other_faults { IfErr result IsChangeFault }
@@ -78,28 +78,28 @@ pub(crate) fn settle<const D: usize, B: BlockDevice, A: Allocator + Copy>(
 fn write_fitting<const D: usize, B: BlockDevice, A: Allocator + Copy>(
     cache: &mut PageCache<B, A>,
     page: u32,
-    node: Node<D>,
+    node: &Node<D>,
 ) -> Result<Settled<D>, Fault>
     requires dims { IsDims D }
     requires open { gate_of cache.old ≡ Open }
-    requires some { 0 < array_vec_len node.entries }
-    requires few { array_vec_len node.entries ≤ 100 }
-    requires refers { All (λ e. IsReference node.level e.reference) node.entries.items }
+    requires some { 0 < array_vec_len node.now.entries }
+    requires few { array_vec_len node.now.entries ≤ 100 }
+    requires refers { All (λ e. IsReference node.now.level e.reference) node.now.entries.items }
     ensures changes { Changes cache.old cache.new result }
     ensures alone { IfOk result (λ s. s.beside ≡ None) }
     ensures settled { IsPageMap cache.old
         → (most top : ℕ) (called : List Bool) (waits : List (Wait D)) (branches : List Branch)
-        → array_vec_len node.entry.entries ≤ most
-        → map item_in branches ≡ map item_of node.entry.entries.items
-        → CanSettle D (pages cache.old) page node.entry.level branches →
+        → array_vec_len node.now.entries ≤ most
+        → map item_in branches ≡ map item_of node.now.entries.items
+        → CanSettle D (pages cache.old) page node.now.level branches →
         IfOk result (λ s. IsPageMap cache.new
-        × SettlesTo D most top node.entry.level called branches (pages cache.old) (pages cache.new) page s waits
+        × SettlesTo D most top node.now.level called branches (pages cache.old) (pages cache.new) page s waits
         waits called) }
     ensures faults { IsPageMap cache.old → IsLive cache.old page → IfErr result (IsNoDamage cache.new) }
     ensures other_faults { IfErr result IsChangeFault }
 {
     let bounds = least(node.entries.as_slice());
-    write_node(cache, page, &node)?;
+    write_node(cache, page, node)?;
     Ok(Settled {
         bounds,
         beside: None,
@@ -110,31 +110,31 @@ fn write_fitting<const D: usize, B: BlockDevice, A: Allocator + Copy>(
 fn take_out_far<const D: usize, B: BlockDevice, A: Allocator + Copy>(
     cache: &mut PageCache<B, A>,
     page: u32,
-    node: Node<D>,
+    node: &Node<D>,
     m_max: usize,
     waiting: &mut Waiting<D>,
 ) -> Result<Settled<D>, Fault>
     requires dims { IsDims D }
     requires open { gate_of cache.old ≡ Open }
     requires most { (4 ≤ m_max) × (m_max ≤ 100) }
-    requires level { node.level < 41 }
-    requires many { array_vec_len node.entries ≡ m_max + 1 }
-    requires refers { All (λ e. IsReference node.level e.reference) node.entries.items }
-    requires first { is_called waiting.old.called node.level ≡ false }
+    requires level { node.now.level < 41 }
+    requires many { array_vec_len node.now.entries ≡ m_max + 1 }
+    requires refers { All (λ e. IsReference node.now.level e.reference) node.now.entries.items }
+    requires first { is_called waiting.old.called node.now.level ≡ false }
     ensures changes { Changes cache.old cache.new result }
     ensures measure { measure_of waiting.new ≤ measure_of waiting.old }
     ensures alone { IfOk result (λ s. s.beside ≡ None) }
-    ensures settled { IsPageMap cache.old → (top : ℕ) (branches : List Branch) → node.entry.level < top
-        → map item_in branches ≡ map item_of node.entry.entries.items
-        → CanSettle D (pages cache.old) page node.entry.level branches →
+    ensures settled { IsPageMap cache.old → (top : ℕ) (branches : List Branch) → node.now.level < top
+        → map item_in branches ≡ map item_of node.now.entries.items
+        → CanSettle D (pages cache.old) page node.now.level branches →
         IfOk result (λ s. IsPageMap cache.new
-        × SettlesTo D m_max top node.entry.level waiting.old.called branches (pages cache.old) (pages cache.new)
+        × SettlesTo D m_max top node.now.level waiting.old.called branches (pages cache.old) (pages cache.new)
         page s waiting.old.waits.items waiting.new.waits.items waiting.new.called) }
     ensures faults { IsPageMap cache.old → IsLive cache.old page → IfErr result (IsNoDamage cache.new) }
     ensures other_faults { IfErr result IsChangeFault }
 {
-    let Node { level, entries } = node;
-    let (near, far) = farthest(&entries, far_count(m_max));
+    let level = node.level;
+    let (near, far) = farthest(&node.entries, far_count(m_max));
     let bounds = least(near.as_slice());
     waiting.wait_again(&far, level);
     let rest = Node {
@@ -152,32 +152,32 @@ fn take_out_far<const D: usize, B: BlockDevice, A: Allocator + Copy>(
 fn split_off<const D: usize, B: BlockDevice, A: Allocator + Copy>(
     cache: &mut PageCache<B, A>,
     page: u32,
-    node: Node<D>,
+    node: &Node<D>,
     m_max: usize,
     waiting: &mut Waiting<D>,
 ) -> Result<Settled<D>, Fault>
     requires dims { IsDims D }
     requires open { gate_of cache.old ≡ Open }
     requires most { (4 ≤ m_max) × (m_max ≤ 100) }
-    requires level { node.level < 41 }
-    requires many { array_vec_len node.entries ≡ m_max + 1 }
-    requires refers { All (λ e. IsReference node.level e.reference) node.entries.items }
+    requires level { node.now.level < 41 }
+    requires many { array_vec_len node.now.entries ≡ m_max + 1 }
+    requires refers { All (λ e. IsReference node.now.level e.reference) node.now.entries.items }
     ensures changes { Changes cache.old cache.new result }
     ensures measure { measure_of waiting.new ≤ measure_of waiting.old }
-    ensures beside { IfOk result (λ s. IfSome s.beside (λ e. IsReference (node.entry.level + 1) e.reference)) }
+    ensures beside { IfOk result (λ s. IfSome s.beside (λ e. IsReference (node.now.level + 1) e.reference)) }
     ensures settled { IsPageMap cache.old → (top : ℕ) (branches : List Branch)
-        → (node.entry.level < top → is_called waiting.old.called node.entry.level ≡ true)
-        → map item_in branches ≡ map item_of node.entry.entries.items
-        → CanSettle D (pages cache.old) page node.entry.level branches →
+        → (node.now.level < top → is_called waiting.old.called node.now.level ≡ true)
+        → map item_in branches ≡ map item_of node.now.entries.items
+        → CanSettle D (pages cache.old) page node.now.level branches →
         IfOk result (λ s. IsPageMap cache.new
-        × SettlesTo D m_max top node.entry.level waiting.old.called branches (pages cache.old) (pages cache.new)
+        × SettlesTo D m_max top node.now.level waiting.old.called branches (pages cache.old) (pages cache.new)
         page s waiting.old.waits.items waiting.new.waits.items waiting.new.called) }
     ensures faults { IsPageMap cache.old → IsLive cache.old page → IfErr result (IsNoDamage cache.new) }
     ensures other_faults { IfErr result IsChangeFault }
 {
-    let Node { level, entries } = node;
+    let level = node.level;
     waiting.call(level);
-    let (first, second) = split(&entries, m_max);
+    let (first, second) = split(&node.entries, m_max);
     let bounds = least(first.as_slice());
     let other = least(second.as_slice());
     let first = Node {

@@ -1,8 +1,8 @@
 -- Candidates: sums of their margins, the least of them, and the boxes of an order one entry on.
-use Rattle.std.proofs.Common.{◌≡◌, ℕ, suc, ◌+◌, ◌-◌, ◌*◌, ◌<◌, ◌≤◌, List, [], ◌∷◌, ◌++◌, length, get_or, take, drop, refl, ap, arith, subst, sym, ◌∙◌, add-one, inl, inr, drop-cons, length-take-le, append-nil, length-append}
+use Rattle.std.proofs.Common.{◌≡◌, ℕ, suc, ◌+◌, ◌*◌, ◌<◌, ◌≤◌, List, [], ◌∷◌, ◌++◌, length, get_or, set, take, drop, refl, ap, arith, subst, sym, ◌∙◌, add-one, inl, inr, drop-cons, length-take-le, append-nil}
 use Rattle.std.proofs.lemmas.Bool.{cases_eq}
-use Rattle.std.proofs.lemmas.List.{length-drop, drop_all, get_or_default}
-use Rattle.std.proofs.lemmas.Grind.{take_at_read, common_steps}
+use Rattle.std.proofs.lemmas.List.{length-drop, drop_all, get_or_default, get_or-set_same, get_or-set_other}
+use Rattle.std.proofs.lemmas.Grind.{take_at_read}
 use Rattle.std.specs.List.{All}
 use Rattle.std.proofs.lemmas.List.Elements.{All-take, All-drop}
 use Rattle.box_math.specs.Bounds.{Bounds, join_of}
@@ -65,38 +65,29 @@ back_box-more dims items order i within below =
 pub all_below : (items : List Item) (order : List ℕ) (n : ℕ) → length items ≡ n → ((k : ℕ) → k < length order → get_or order k 0 < n) → Below items order
 all_below items order n e h = λ k d l. let same = get_or_default order k d 0 l in omega (arith, same, e, h k l)
 
-pub fronts_none : (dims : ℕ) (items : List Item) (order : List ℕ) → AreFronts dims items order []
-fronts_none dims items order = λ size d some few. absurd (omega arith)
+pub fronts_none : (dims : ℕ) (items : List Item) (order : List ℕ) (boxes : List Bounds) → AreFronts dims items order 0 boxes
+fronts_none dims items order boxes = λ size d some few. absurd (omega arith)
 
-pub fronts_push : (dims : ℕ) (items : List Item) (order : List ℕ) (xs : List Bounds) (n : ℕ) (b : Bounds) → length xs ≡ n → AreFronts dims items order xs → b ≡ front_box dims items order (n + 1) → AreFronts dims items order (xs ++ b ∷ [])
-fronts_push dims items order xs n b e all is =
+pub fronts_set : (dims : ℕ) (items : List Item) (order : List ℕ) (k : ℕ) (boxes : List Bounds) (b : Bounds) → k + 1 < length boxes → AreFronts dims items order k boxes → b ≡ front_box dims items order (k + 1)
+    → AreFronts dims items order (k + 1) (set boxes (k + 1) b)
+fronts_set dims items order k boxes b within all is =
     λ size d some few.
-    elim (cases_eq size (n + 1)) [
-      | inl z ↦ (let last : get_or (xs ++ b ∷ []) (size - 1) d ≡ b = grind (arith, common_steps) in last ∙ is ∙ ap (front_box dims items order) (sym z))
-      | inr o ↦ (let within : size ≤ length xs = omega (arith, length-append xs (b ∷ [])) in let early : get_or (xs ++ b ∷ []) (size - 1) d ≡ get_or xs (size - 1) d = grind (arith, common_steps) in early ∙ all size d some within)
+    elim (cases_eq size (k + 1)) [
+      | inl z ↦ subst (λ s. get_or (set boxes (k + 1) b) s d ≡ front_box dims items order s) (sym z) (get_or-set_same boxes (k + 1) b d within ∙ is)
+      | inr o ↦ get_or-set_other boxes (k + 1) size b d o ∙ all size d some (omega arith)
     ]
 
--- the boxes of the last 1, 2 and more of n entries, as far as they are there
-abbrev pub BacksSoFar : ℕ → List Item → List ℕ → ℕ → List Bounds → Type 0
-BacksSoFar dims items order n boxes = (k : ℕ) (d : Bounds) → k < length boxes → get_or boxes k d ≡ back_box dims items order (n - 1 - k)
+pub backs_none : (dims : ℕ) (items : List Item) (order : List ℕ) (n : ℕ) (boxes : List Bounds) → AreBacks dims items order n n boxes
+backs_none dims items order n boxes = λ size d l u. absurd (omega arith)
 
-pub backs_none : (dims : ℕ) (items : List Item) (order : List ℕ) (n : ℕ) → BacksSoFar dims items order n []
-backs_none dims items order n = λ k d l. absurd (omega arith)
-
-pub backs_push : (dims : ℕ) (items : List Item) (order : List ℕ) (n : ℕ) (xs : List Bounds) (i : ℕ) (b : Bounds) → length xs ≡ i → BacksSoFar dims items order n xs → b ≡ back_box dims items order (n - 1 - i) → BacksSoFar dims items order n (xs ++ b ∷ [])
-backs_push dims items order n xs i b e all is =
-    λ k d l.
-    elim (cases_eq k i) [
-      | inl z ↦ (let last : get_or (xs ++ b ∷ []) k d ≡ b = grind (arith, common_steps) in last ∙ is ∙ ap (λ j. back_box dims items order (n - 1 - j)) (sym z))
-      | inr o ↦ (let within : k < length xs = omega (arith, length-append xs (b ∷ [])) in let early : get_or (xs ++ b ∷ []) k d ≡ get_or xs k d = grind (arith, common_steps) in early ∙ all k d within)
+pub backs_set : (dims : ℕ) (items : List Item) (order : List ℕ) (k n : ℕ) (boxes : List Bounds) (b : Bounds) → k < length boxes → AreBacks dims items order (k + 1) n boxes → b ≡ back_box dims items order k
+    → AreBacks dims items order k n (set boxes k b)
+backs_set dims items order k n boxes b within all is =
+    λ size d low high.
+    elim (cases_eq size k) [
+      | inl z ↦ subst (λ s. get_or (set boxes k b) s d ≡ back_box dims items order s) (sym z) (get_or-set_same boxes k b d within ∙ is)
+      | inr o ↦ get_or-set_other boxes k size b d o ∙ all size d (omega arith) high
     ]
-
-pub backs_all : (dims : ℕ) (items : List Item) (order : List ℕ) (n : ℕ) (boxes : List Bounds) → length boxes ≡ n → BacksSoFar dims items order n boxes → AreBacks dims items order boxes
-backs_all dims items order n boxes e all =
-    λ size d l.
-    let k = length boxes - 1 - size in
-    let back : n - 1 - k ≡ size = omega arith in
-    all k d (omega arith) ∙ ap (back_box dims items order) back
 
 -- ---- margins
 

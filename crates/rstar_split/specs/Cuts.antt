@@ -88,13 +88,13 @@ pub record Splits (dims most : ℕ) (items : List Item) (first second : List ℕ
 
 -- ---- what the code knows of an order
 
--- the boxes of the first 1, 2 and more entries of an order
-abbrev pub AreFronts : ℕ → List Item → List ℕ → List Bounds → Type 0
-AreFronts dims items order boxes = (size : ℕ) (d : Bounds) → 0 < size → size ≤ length boxes → slice_index_or boxes (size - 1) d ≡ front_box dims items order size
+-- the boxes of the first 1, 2 and more entries of an order up to so many, at these sizes
+abbrev pub AreFronts : ℕ → List Item → List ℕ → ℕ → List Bounds → Type 0
+AreFronts dims items order most boxes = (size : ℕ) (d : Bounds) → 0 < size → size ≤ most → slice_index_or boxes size d ≡ front_box dims items order size
 
--- the boxes of the last 1, 2 and more
-abbrev pub AreBacks : ℕ → List Item → List ℕ → List Bounds → Type 0
-AreBacks dims items order boxes = (size : ℕ) (d : Bounds) → size < length boxes → slice_index_or boxes (length boxes - 1 - size) d ≡ back_box dims items order size
+-- the boxes of those of n entries that come after the first so many and more, at these sizes
+abbrev pub AreBacks : ℕ → List Item → List ℕ → ℕ → ℕ → List Bounds → Type 0
+AreBacks dims items order least n boxes = (size : ℕ) (d : Bounds) → least ≤ size → size < n → slice_index_or boxes size d ≡ back_box dims items order size
 
 -- what decides between candidates, as a cut has it
 abbrev pub numbers_of : Cut → List ℕ

@@ -1,6 +1,6 @@
 //! The candidates of an order and the least of them.
 
-ghost use Rattle.std.specs.Prelude.{◌≡◌, ℕ, ◌+◌, ◌-◌, ◌*◌, ◌^◌, ◌<◌, ◌≤◌, ◌↔◌, List, length, IsTrue};
+ghost use Rattle.std.specs.Prelude.{◌≡◌, ℕ, ◌+◌, ◌-◌, ◌*◌, ◌^◌, ◌<◌, ◌≤◌, ◌↔◌, List, IsTrue};
 ghost use Rattle.box_math.specs.Bounds.{IsDims};
 ghost use Rattle.tree_node.specs.Nodes.{Item};
 ghost use Rattle.tree_node.specs.Keys.{AtMost};
@@ -11,21 +11,24 @@ use crate::sorting::Bound;
 use box_math::BBox;
 
 /// The sum of the margins over the candidates of an order.
-pub(crate) fn margins<const D: usize>(fronts: &[BBox<D>], backs: &[BBox<D>], m: usize) -> u64
+pub(crate) fn margins<const D: usize>(
+    fronts: &[BBox<D>; 101],
+    backs: &[BBox<D>; 101],
+    n: usize,
+    m: usize,
+) -> u64
     requires dims { IsDims D }
-    requires few { length fronts.now ≤ 101 }
+    requires few { n ≤ 101 }
     requires some { 0 < m }
-    requires enough { 2 * m ≤ length fronts.now }
-    requires same { length backs.now ≡ length fronts.now }
-    ensures value { (items : List Item) (order : List ℕ) → AreFronts D items order fronts.now
-        → AreBacks D items order backs.now →
-        result ≡ margins_of D items order m (cuts_of (length fronts.now) m) }
+    requires enough { 2 * m ≤ n }
+    ensures value { (items : List Item) (order : List ℕ) → AreFronts D items order (n - m) fronts.now
+        → AreBacks D items order m n backs.now →
+        result ≡ margins_of D items order m (cuts_of n m) }
     ensures bound { result < 2 ^ 42 }
 {
     let mut sum = 0;
-    for k in 0..fronts.len() + 1 - 2 * m {
-        let size = m + k;
-        sum += fronts[size - 1].margin() + backs[backs.len() - 1 - size].margin();
+    for k in 0..n + 1 - 2 * m {
+        sum += fronts[m + k].margin() + backs[m + k].margin();
     }
     sum
 }
@@ -57,19 +60,22 @@ pub(crate) fn at_most(a: &Cut, b: &Cut) -> bool
 }
 
 // The cut after so many entries.
-fn cut_at<const D: usize>(fronts: &[BBox<D>], backs: &[BBox<D>], bound: Bound, size: usize) -> Cut
+fn cut_at<const D: usize>(
+    fronts: &[BBox<D>; 101],
+    backs: &[BBox<D>; 101],
+    bound: Bound,
+    size: usize,
+) -> Cut
     requires dims { IsDims D }
-    requires same { length backs.now ≡ length fronts.now }
-    requires first { 0 < size }
-    requires second { size < length fronts.now }
+    requires within { (0 < size) × (size ≤ 100) }
     ensures bound { result.bound ≡ bound }
     ensures size { result.size ≡ size }
-    ensures key { (items : List Item) (order : List ℕ) → AreFronts D items order fronts.now
-        → AreBacks D items order backs.now →
+    ensures key { (items : List Item) (order : List ℕ) (least most n : ℕ) → AreFronts D items order most fronts.now
+        → AreBacks D items order least n backs.now → least ≤ size → size ≤ most → size < n →
         numbers_of result ≡ order_key D items order bound size }
 {
-    let front = fronts[size - 1];
-    let back = backs[backs.len() - 1 - size];
+    let front = fronts[size];
+    let back = backs[size];
     Cut {
         overlap: front.overlap(&back),
         volumes: front.volume() + back.volume(),
@@ -78,26 +84,25 @@ fn cut_at<const D: usize>(fronts: &[BBox<D>], backs: &[BBox<D>], bound: Bound, s
     }
 }
 
-/// The least candidate of an order.
+/// The least candidate of an order of n entries.
 pub(crate) fn best_cut<const D: usize>(
-    fronts: &[BBox<D>],
-    backs: &[BBox<D>],
+    fronts: &[BBox<D>; 101],
+    backs: &[BBox<D>; 101],
+    n: usize,
     m: usize,
     bound: Bound,
 ) -> Cut
     requires dims { IsDims D }
-    requires few { length fronts.now ≤ 101 }
+    requires few { n ≤ 101 }
     requires some { 0 < m }
-    requires enough { 2 * m ≤ length fronts.now }
-    requires same { length backs.now ≡ length fronts.now }
+    requires enough { 2 * m ≤ n }
     ensures bound { result.bound ≡ bound }
-    ensures least { (items : List Item) (order : List ℕ) → AreFronts D items order fronts.now
-        → AreBacks D items order backs.now →
-        IsLeastCut D items order (length fronts.now) m bound (length fronts.now + 1 - m) result.size
-        (numbers_of result) }
+    ensures least { (items : List Item) (order : List ℕ) → AreFronts D items order (n - m) fronts.now
+        → AreBacks D items order m n backs.now →
+        IsLeastCut D items order n m bound (n + 1 - m) result.size (numbers_of result) }
 {
     let mut best = cut_at(fronts, backs, bound, m);
-    for size in m + 1..fronts.len() + 1 - m {
+    for size in m + 1..n + 1 - m {
         let cut = cut_at(fronts, backs, bound, size);
         if !at_most(&best, &cut) {
             best = cut;

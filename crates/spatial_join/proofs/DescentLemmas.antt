@@ -19,27 +19,12 @@ use Rattle.tree_node.specs.Trees.{Row, end, more, object, child, objects_in, row
 use Rattle.tree_node.proofs.PositionLemmas.{total-append}
 use Rattle.tree_node.proofs.RowLemmas.{all_dropped, entry_item, items_from, row_drop, row_drop_more, row_tail}
 use Rattle.node_page.specs.Standing.{PageMap, RowStands, StandsAt}
-use Rattle.node_page.proofs.StandingLemmas.{node_stays, row_stays}
-use Rattle.spatial_join.specs.Pairs.{Adds, meeting}
+use Rattle.node_page.proofs.LeafLemmas.{dropped_stands, stands_on}
+use Rattle.spatial_join.specs.Pairs.{GainsPairs, meeting}
 use Rattle.spatial_join.specs.Opening.{Encloses, HasRow, opened, opened_level}
 use Rattle.spatial_join.proofs.MaskLemmas.{Tells}
 use Rattle.spatial_join.proofs.OpeningLemmas.{fewer_pairs, objects_opened, only, opened_encloses, opened_stands}
 use Rattle.spatial_join.proofs.PairLemmas.{heads_apart, meeting_sum, meeting_sum-left, meeting_sum-none, meeting_sum-right, pairs_below, pairs_below-left, pairs_below-right, row_head}
-
--- ---- trees in pages
-
-dropped_stands : (dims : ℕ) (m : PageMap) (level n : ℕ) (row : Row) → RowStands dims m level row → RowStands dims m level (row_drop n row)
-dropped_stands dims m level zero row h = h
-dropped_stands dims m level (suc n) end h = h
-dropped_stands dims m level (suc n) (more (object bounds id) rest) h = dropped_stands dims m level n rest h.1
-dropped_stands dims m level (suc n) (more (child bounds page below) rest) h = dropped_stands dims m level n rest h.3
-
--- a tree stands where its pages are the same
-pub stands_on : (dims : ℕ) (old new : PageMap) (page level : ℕ) (row : Row) → ((n : ℕ) → new n ≡ old n) → StandsAt dims old page level row → StandsAt dims new page level row
-stands_on dims old new page level row same at = record {
-  node = node_stays dims old new page level row (same page) at.node;
-  below = row_stays dims old new level row (λ n there. same n) at.below;
-}
 
 -- ---- entries from a place on
 
@@ -218,7 +203,7 @@ module _ {B A : Type 0} {m : _} where
 
     -- all is done
     pub all_added : (i : ℕ) → Progress dims old now left right (left_from dims i) (nodes_from dims i) pairs pairs_now → length left.entries ≤ i → IsHonest old → (s t : Row) → HasRow dims (pages old) left s → HasRow dims (pages old) right t
-        → Encloses dims s → Encloses dims t → Adds dims s t pairs pairs_now
+        → Encloses dims s → Encloses dims t → GainsPairs dims s t pairs pairs_now
     all_added i so_far past h s t first second e e' f =
         let done = all_dropped i s (omega (arith, ap length first.items, past)) in
         let none : meeting_sum dims f (row_drop i s) t ≡ 0 = ap (λ (r : Row). meeting_sum dims f r t) done in
@@ -309,7 +294,7 @@ module _ {B A : Type 0} {m : _} where
 
           pub went_below : meets_test dims x.bounds y.bounds ≡ true → (next : PageCache B A m) (pairs_next : List (ℕ × ℕ)) → AsksUntil two next None
               → looks_of one ≤ looks_of now + 1 → looks_of two ≤ looks_of one + 1
-              → (IsHonest two → (s t : Row) → HasRow dims (pages two) opening s → HasRow dims (pages two) opening' t → Encloses dims s → Encloses dims t → Adds dims s t pairs_now pairs_next)
+              → (IsHonest two → (s t : Row) → HasRow dims (pages two) opening s → HasRow dims (pages two) opening' t → Encloses dims s → Encloses dims t → GainsPairs dims s t pairs_now pairs_next)
               → (IsHonest two → (s t : Row) → HasRow dims (pages two) opening s → HasRow dims (pages two) opening' t → looks_of next ≤ looks_of two + 2 * pairs_below dims s t)
               → Progress dims old next left right (left_beside dims i (j + 1)) (nodes_beside dims i (j + 1)) pairs pairs_next
           went_below meets next pairs_next asks'' looks looks' adds looked = record {

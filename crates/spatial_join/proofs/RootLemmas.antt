@@ -4,8 +4,7 @@ use Rattle.std.specs.List.Sorted.{IsSorted}
 use Rattle.std.proofs.lemmas.Bool.Decides.{nat_tests}
 use Rattle.std.proofs.lemmas.List.{append-nil}
 use Rattle.std.proofs.lemmas.List.Sorted.{IsPermutation-trans}
-use Rattle.box_math.specs.Bounds.{Bounds, Within, join_of}
-use Rattle.box_math.proofs.BoxLaws.{Within-refl, Within-trans, join_of-encloses}
+use Rattle.box_math.specs.Bounds.{Bounds}
 use Rattle.page_cache.specs.Cache.{IsHonest, pages}
 use Rattle.page_cache.specs.Calls.{AsksUntil, asks_in_turn}
 use Rattle.page_cache.specs.declared.cache.PageCache.{PageCache}
@@ -16,11 +15,12 @@ use Rattle.tree_node.specs.Positions.{total}
 use Rattle.tree_node.specs.Shape.{RowHasShape, RowWithin}
 use Rattle.tree_node.specs.Trees.{Row, Tree, end, more, object, child, objects_in, row_items}
 use Rattle.tree_node.specs.declared.node.Root.{Root}
+use Rattle.tree_node.proofs.BoxLemmas.{all_within, begins_within}
 use Rattle.tree_node.proofs.JoinLemmas.{pairs_append}
 use Rattle.tree_node.proofs.PositionLemmas.{total-none}
 use Rattle.node_page.specs.Rooted.{IsTreeAt}
 use Rattle.node_page.specs.Standing.{PageMap, RowStands, StandsAt}
-use Rattle.spatial_join.specs.Pairs.{Adds, IsJoinAnswer, meeting, meeting_below, pair_cmp}
+use Rattle.spatial_join.specs.Pairs.{GainsPairs, IsJoinAnswer, meeting, meeting_below, pair_cmp}
 use Rattle.spatial_join.specs.Opening.{Encloses, HasRow, alone, node_box, opened_level, opened_root}
 use Rattle.spatial_join.proofs.DescentLemmas.{still_stands}
 use Rattle.spatial_join.proofs.OpeningLemmas.{only_stands}
@@ -54,18 +54,6 @@ root_row dims m other page level row c at level_is same = record {
 
 some_same : (a b : Bounds) → ◌≡◌ {A = Option Bounds} (Some a) (Some b) → a ≡ b
 some_same a b e = cc
-
-begins_within : (dims : ℕ) (b : Bounds) (row : Row) → Within dims b (box_round dims b (row_items row))
-begins_within dims b end = Within-refl dims b
-begins_within dims b (more (object bounds id) rest) = Within-trans dims b (join_of dims b bounds) _ (join_of-encloses dims b bounds).0 (begins_within dims (join_of dims b bounds) rest)
-begins_within dims b (more (child bounds page below) rest) = Within-trans dims b (join_of dims b bounds) _ (join_of-encloses dims b bounds).0 (begins_within dims (join_of dims b bounds) rest)
-
-all_within : (dims : ℕ) (b : Bounds) (row : Row) → RowWithin dims row (box_round dims b (row_items row))
-all_within dims b end = tt
-all_within dims b (more (object bounds id) rest) =
-    (Within-trans dims bounds (join_of dims b bounds) _ (join_of-encloses dims b bounds).1 (begins_within dims (join_of dims b bounds) rest), all_within dims (join_of dims b bounds) rest)
-all_within dims b (more (child bounds page below) rest) =
-    (Within-trans dims bounds (join_of dims b bounds) _ (join_of-encloses dims b bounds).1 (begins_within dims (join_of dims b bounds) rest), all_within dims (join_of dims b bounds) rest)
 
 box_encloses : (dims : ℕ) (row : Row) (b : Bounds) → node_box dims (row_items row) ≡ Some b → RowWithin dims row b
 unfolding least_box
@@ -104,7 +92,7 @@ root_objects dims other page level row =
 
 -- ---- the answer
 
-pub answers : (dims : ℕ) (s t : Tree) (l o p q : ℕ) (old added sorted : List (ℕ × ℕ)) → old ≡ [] → Adds dims (opened_root dims l o p s.row) (opened_root dims o l q t.row) old added → IsPermutation added sorted → IsSorted pair_cmp sorted → IsJoinAnswer dims s t sorted
+pub answers : (dims : ℕ) (s t : Tree) (l o p q : ℕ) (old added sorted : List (ℕ × ℕ)) → old ≡ [] → GainsPairs dims (opened_root dims l o p s.row) (opened_root dims o l q t.row) old added → IsPermutation added sorted → IsSorted pair_cmp sorted → IsJoinAnswer dims s t sorted
 answers dims s t l o p q old added sorted empty adds moved ordered =
     let same : (f : ℕ × ℕ → ℕ) → total f (meeting_below dims s.row t.row) ≡ total f added =
     λ f.

@@ -32,5 +32,5 @@ pub record IsJoinAnswer (dims : ℕ) (s t : Tree) (pairs : List (ℕ × ℕ)) : 
   pub order : IsSorted pair_cmp pairs
 
 -- the pairs below two nodes are added: each sum over the pairs rises by that over theirs
-abbrev pub Adds : ℕ → Row → Row → List (ℕ × ℕ) → List (ℕ × ℕ) → Type 0
-Adds dims s t old now = (f : ℕ × ℕ → ℕ) → total f now ≡ total f old + total f (meeting_below dims s t)
+abbrev pub GainsPairs : ℕ → Row → Row → List (ℕ × ℕ) → List (ℕ × ℕ) → Type 0
+GainsPairs dims s t old now = (f : ℕ × ℕ → ℕ) → total f now ≡ total f old + total f (meeting_below dims s t)

@@ -9,7 +9,7 @@ ghost use Rattle.tree_node.specs.Joins.{boxes_below, meeting_pairs};
 ghost use Rattle.tree_node.specs.Nodes.{content_of};
 ghost use Rattle.tree_node.specs.Trees.{Row};
 ghost use Rattle.spatial_join.specs.Opening.{Encloses, HasPages, HasRow};
-ghost use Rattle.spatial_join.specs.Pairs.{Adds};
+ghost use Rattle.spatial_join.specs.Pairs.{GainsPairs};
 
 use crate::columns::{columns_of, next_place};
 use crate::opening::open;
@@ -35,7 +35,7 @@ pub(crate) fn add_pairs<const D: usize, B: BlockDevice, A: Allocator + Copy, H: 
     ensures asks { Asks cache.old cache.new result }
     ensures pairs { IsHonest cache.old → (s t : Row) → HasRow D (pages cache.old) (content_of left.now) s
         → HasRow D (pages cache.old) (content_of right.now) t → Encloses D s → Encloses D t
-        → OnOk result (Adds D s t pairs.old.items pairs.new.items) }
+        → OnOk result (GainsPairs D s t pairs.old.items pairs.new.items) }
     ensures looks { IsHonest cache.old → (s t : Row) → HasRow D (pages cache.old) (content_of left.now) s
         → HasRow D (pages cache.old) (content_of right.now) t
         → OnOk result (looks_of cache.new

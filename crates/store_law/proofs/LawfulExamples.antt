@@ -5,8 +5,8 @@ use Rattle.std.specs.Cmp.Lexicographic.{slice_cmp}
 use Rattle.std.specs.Ordering.{nat_cmp}
 use Rattle.std.specs.FinMap.{entries, entries-from_sorted}
 use Rattle.block_device.specs.Device.{HasRisen}
-use Rattle.plain_table.specs.Commands.{Command}
-use Rattle.plain_table.specs.Commands.Command.{Create, Window, Reopen}
+use Rattle.plain_table.specs.Commands.{Command, MayGiveUp}
+use Rattle.plain_table.specs.Commands.Command.{Create, Count, Range, Reopen}
 use Rattle.store_law.specs.Sessions.{SessionState, LawfulAnswer, LawfulStep, Session}
 use Rattle.store_law.specs.States.{StoreState, Request}
 use Rattle.store_law.specs.Stops.{Stops, after_request}
@@ -16,11 +16,12 @@ use Rattle.store_law.specs.States.StoreState.{Alive, Dead}
 use Rattle.plain_table.specs.Laws.{a_refused_command_changes_nothing}
 use Rattle.store_law.specs.Laws.{a_bad_line_is_lawful}
 use Rattle.plain_table.specs.Step.{Answer}
-use Rattle.plain_table.specs.Step.Answer.{Done, Refused}
+use Rattle.plain_table.specs.Step.Answer.{Done, Refused, Counted}
 use Rattle.plain_table.specs.Table.{Table, Layer}
 use Rattle.plain_table.specs.declared.boxes.RawBox.TheVariants.{Two}
+use Rattle.plain_table.specs.declared.queries.RawQuery.TheVariants.{Window}
 use Rattle.plain_table.specs.declared.refusal.Refusal.TheVariants as refusal
-use Rattle.plain_table.proofs.Examples.{a, at, table, touching, empty_layer, squares_that_touch_are_both_found, window_changes_nothing, create_is_done, create_makes_an_empty_layer, create_of_a_layer_that_is_there, a_refused_create_changes_nothing}
+use Rattle.plain_table.proofs.Examples.{a, at, table, touching, empty_layer, count_of_two_objects, squares_that_touch_are_both_found, window_changes_nothing, create_is_done, create_makes_an_empty_layer, create_of_a_layer_that_is_there, a_refused_create_changes_nothing}
 
 -- ---- the steps
 
@@ -107,12 +108,23 @@ a_reopen_is_done t = inl (refl, refl)
 
 -- ---- want of memory
 
-memory_may_be_wanting : (t : Table) (c : Command) → LawfulAnswer (live t 0 3) (Asks c) (Refused refusal.Memory) (live t 0 3)
-memory_may_be_wanting t c = inr (inl (tt, refl))
+memory_may_be_wanting : (t : Table) (c : Command) → MayGiveUp c → LawfulAnswer (live t 0 3) (Asks c) (Refused refusal.Memory) (live t 0 3)
+memory_may_be_wanting t c may = inr (inl (tt, may, refl))
+
+a_count_wants_no_memory : (s' : SessionState) → LawfulAnswer (live (table touching) 0 3) (Asks (Count a)) (Refused refusal.Memory) s' → ⊥
+a_count_wants_no_memory s' (inl h) = let no = h.0 ∙ count_of_two_objects in absurd (cc)
+a_count_wants_no_memory s' (inr (inl h)) = h.1
+a_count_wants_no_memory s' (inr (inr h)) = absurd h.0
+
+-- another number of objects
+a_count_is_exact : (s' : SessionState) (n : ℕ) → LawfulAnswer (live (table touching) 0 3) (Asks (Count a)) (Counted n) s' → n ≡ 2
+a_count_is_exact s' n (inl h) = let same = h.0 ∙ count_of_two_objects in cc
+a_count_is_exact s' n (inr (inl h)) = absurd h.0
+a_count_is_exact s' n (inr (inr h)) = absurd h.0
 
 want_of_memory_changes_nothing : (t : Table) (c : Command) (s' : SessionState) → LawfulAnswer (live t 0 3) (Asks c) (Refused refusal.Memory) s' → s'.state ≡ Alive t
 want_of_memory_changes_nothing t c s' (inl h) = h.1 ∙ ap Alive (a_refused_command_changes_nothing t c refusal.Memory (sym h.0))
-want_of_memory_changes_nothing t c s' (inr (inl h)) = h.1
+want_of_memory_changes_nothing t c s' (inr (inl h)) = h.2
 want_of_memory_changes_nothing t c s' (inr (inr h)) = absurd h.0
 
 -- the table of a live store, and no layer where it is dead
@@ -129,7 +141,7 @@ want_of_memory_makes_no_layer s' is h = made_is_another (ap table_of (sym is ∙
 -- ---- faults of the device
 
 a_device_may_fail : LawfulAnswer (live none 0 3) create (Refused refusal.Device) (live none 1 3)
-a_device_may_fail = inr (inl (inl (omega arith), refl))
+a_device_may_fail = inr (inl (inl (omega arith), tt, refl))
 
 a_device_that_did_not_fail_is_not_blamed : (s' : SessionState) → s'.faults ≡ 5 → LawfulAnswer (live none 5 3) create (Refused refusal.Device) s' → ⊥
 a_device_that_did_not_fail_is_not_blamed s' same (inl h) = let no = h.0 ∙ create_is_done in absurd (cc)
@@ -142,10 +154,10 @@ a_device_that_did_not_fail_is_not_blamed s' same (inr (inr h)) = absurd h.0
 
 -- the count of faults is held at the greatest u64
 the_greatest_count_rises : LawfulAnswer (live none 18446744073709551615 3) create (Refused refusal.Device) (live none 18446744073709551615 3)
-the_greatest_count_rises = inr (inl (inr (omega arith), refl))
+the_greatest_count_rises = inr (inl (inr (omega arith), tt, refl))
 
 the_count_below_it_rises_to_it : LawfulAnswer (live none 18446744073709551614 3) create (Refused refusal.Device) (live none 18446744073709551615 3)
-the_count_below_it_rises_to_it = inr (inl (inl (omega arith), refl))
+the_count_below_it_rises_to_it = inr (inl (inl (omega arith), tt, refl))
 
 the_count_below_it_does_not_stay : (s' : SessionState) → s'.faults ≡ 18446744073709551614 → LawfulAnswer (live none 18446744073709551614 3) create (Refused refusal.Device) s' → ⊥
 the_count_below_it_does_not_stay s' same (inl h) = let no = h.0 ∙ create_is_done in absurd (cc)
@@ -159,9 +171,9 @@ the_count_below_it_does_not_stay s' same (inr (inr h)) = absurd h.0
 -- ---- want of page numbers
 
 page_numbers_may_be_wanting : LawfulAnswer (live none 0 2147483648) create (Refused refusal.NoPages) (live none 0 2147483648)
-page_numbers_may_be_wanting = inr (inl ((refl, inr (λ e. made_is_another (sym create_makes_an_empty_layer ∙ e))), refl))
+page_numbers_may_be_wanting = inr (inl ((refl, inr (λ e. made_is_another (sym create_makes_an_empty_layer ∙ e))), tt, refl))
 
-a_window_wants_no_page_number : (s' : SessionState) → LawfulAnswer (live (table touching) 0 2147483648) (Asks (Window a (Two (at 1 1) (at 1 1)))) (Refused refusal.NoPages) s' → ⊥
+a_window_wants_no_page_number : (s' : SessionState) → LawfulAnswer (live (table touching) 0 2147483648) (Asks (Range a (Window (Two (at 1 1) (at 1 1))))) (Refused refusal.NoPages) s' → ⊥
 a_window_wants_no_page_number s' (inl h) = let no = h.0 ∙ squares_that_touch_are_both_found in absurd (cc)
 a_window_wants_no_page_number s' (inr (inl h)) = elim h.0.1 [ inl e ↦ absurd (cc) | inr changes ↦ changes window_changes_nothing ]
 a_window_wants_no_page_number s' (inr (inr h)) = absurd h.0
@@ -203,7 +215,7 @@ a_refused_create_ends_no_store s' (inl h) = let no = h.0 ∙ create_of_a_layer_t
 a_refused_create_ends_no_store s' (inr (inl h)) = h.0
 a_refused_create_ends_no_store s' (inr (inr h)) = elim h.1 [ inl e ↦ absurd (cc) | inr changes ↦ changes a_refused_create_changes_nothing ]
 
-a_window_ends_no_store : (s' : SessionState) → LawfulAnswer (live (table touching) 0 3) (Asks (Window a (Two (at 1 1) (at 1 1)))) (Refused (refusal.StoreFailed 16)) s' → ⊥
+a_window_ends_no_store : (s' : SessionState) → LawfulAnswer (live (table touching) 0 3) (Asks (Range a (Window (Two (at 1 1) (at 1 1))))) (Refused (refusal.StoreFailed 16)) s' → ⊥
 a_window_ends_no_store s' (inl h) = let no = h.0 ∙ squares_that_touch_are_both_found in absurd (cc)
 a_window_ends_no_store s' (inr (inl h)) = h.0
 a_window_ends_no_store s' (inr (inr h)) = elim h.1 [ inl e ↦ absurd (cc) | inr changes ↦ changes window_changes_nothing ]

@@ -1,7 +1,7 @@
 -- What a request may be answered, and in which state it may leave a store.
 -- A store answers as the plain table does; only want of memory, a fault of the device or want of page numbers may refuse a command instead. Our rule, docs/COMMANDS.md.
 use Rattle.std.specs.Prelude.{ℕ, ◌≡◌, ◌^◌, ◌⊎◌, Bool, true, false, ◌==◌}
-use Rattle.plain_table.specs.Commands.{Command}
+use Rattle.plain_table.specs.Commands.{Command, MayGiveUp}
 use Rattle.plain_table.specs.Commands.Command.{Reopen}
 use Rattle.plain_table.specs.Table.{Table}
 use Rattle.plain_table.specs.Step.{Answer, reply_of, after}
@@ -47,9 +47,9 @@ RefusedBy P a = ⊥
 abbrev pub Answered : Table → Command → Answer → StoreState → Type 0
 Answered t c a new = (a ≡ reply_of t c) × (new ≡ Alive (after t c))
 
--- a fault, and the table is as it was; page numbers are wanting only where some are asked for
+-- a fault of a command that may give up, and the table is as it was; page numbers are wanting only where some are asked for
 abbrev pub GaveUp : Type 0 → Type 0 → Table → Command → Answer → StoreState → Type 0
-GaveUp rose spent t c a new = RefusedBy (IsFault rose (spent × MayWrite t c)) a × (new ≡ Alive t)
+GaveUp rose spent t c a new = RefusedBy (IsFault rose (spent × MayWrite t c)) a × MayGiveUp c × (new ≡ Alive t)
 
 -- a fault half way through a reopening or a change of the table: the store is dead
 abbrev pub Died : Type 0 → Table → Command → Answer → StoreState → Type 0

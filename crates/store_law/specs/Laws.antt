@@ -1,12 +1,13 @@
 -- What follows from the law of a store.
 use Rattle.std.proofs.Common.{◌≡◌, ◌∙◌, ℕ, ◌≤◌, ◌++◌, List, [], ◌∷◌, Bool, true, false, not, ◌&&◌, cond, Some, inl, inr, refl, sym, ap, subst, arith}
 use Rattle.std.specs.List.{list_all}
-use Rattle.plain_table.specs.Commands.{Command}
-use Rattle.plain_table.specs.Commands.Command.{Create, Insert, Window, Reopen}
+use Rattle.plain_table.specs.Commands.{Command, MayGiveUp}
+use Rattle.plain_table.specs.Commands.Command.{Create, Insert, Get, Count, Range, Nearest, Reopen}
 use Rattle.plain_table.specs.Laws.{the_refusal_of_a_reply}
 use Rattle.plain_table.specs.Step.{Answer, after, first_refusal, refusals_of, reply_of}
 use Rattle.plain_table.specs.Step.Answer.{Refused}
 use Rattle.plain_table.specs.Table.{Table}
+use Rattle.plain_table.specs.declared.queries.RawQuery.TheVariants as query
 use Rattle.plain_table.specs.declared.refusal.Refusal.{Refusal}
 use Rattle.plain_table.specs.declared.refusal.Refusal.TheVariants as refusal
 use Rattle.store_law.specs.Lawful.{IsFault, Lawful, LawfulFrom, MayWrite, RefusedBy, blames_device}
@@ -26,9 +27,9 @@ a_bad_line_is_lawful s = record { answer = (refl, refl); stops = refl; faults = 
 pub the_tables_reply_is_lawful : (rose spent : Type 0) (t u : Table) (c : Command) (a : Answer) → a ≡ reply_of t c → u ≡ after t c → LawfulFrom rose spent t c a (Alive u)
 the_tables_reply_is_lawful rose spent t u c a e f = inl (e, ap Alive f)
 
--- and to want memory and leave the table as it was
-pub want_of_memory_is_lawful : (rose spent : Type 0) (t u : Table) (c : Command) (a : Answer) → a ≡ Refused refusal.Memory → u ≡ t → LawfulFrom rose spent t c a (Alive u)
-want_of_memory_is_lawful rose spent t u c a e f = inr (inl (subst (RefusedBy (IsFault rose (spent × MayWrite t c))) (sym e) tt, ap Alive f))
+-- and to want memory for a command that may give up, and leave the table as it was
+pub want_of_memory_is_lawful : (rose spent : Type 0) (t u : Table) (c : Command) (a : Answer) → a ≡ Refused refusal.Memory → MayGiveUp c → u ≡ t → LawfulFrom rose spent t c a (Alive u)
+want_of_memory_is_lawful rose spent t u c a e may f = inr (inl (subst (RefusedBy (IsFault rose (spent × MayWrite t c))) (sym e) tt, may, ap Alive f))
 
 -- ---- the table's own refusals blame no device
 
@@ -49,7 +50,13 @@ first_blames_none (c ∷ cs) r none e = case c.0 (blames_device c.1) refl none e
 no_check_blames : (t : Table) (c : Command) → none_blames_device (refusals_of t c) ≡ true
 no_check_blames t (Create name dims fanout) = refl
 no_check_blames t (Insert name id box) = refl
-no_check_blames t (Window name box) = refl
+no_check_blames t (Get name id) = refl
+no_check_blames t (Count name) = refl
+no_check_blames t (Range name (query.Window window)) = refl
+no_check_blames t (Range name (query.Inside window)) = refl
+no_check_blames t (Range name (query.Around inner)) = refl
+no_check_blames t (Range name (query.Point point)) = refl
+no_check_blames t (Nearest name k point) = refl
 no_check_blames t Reopen = refl
 
 pub no_reply_of_the_table_blames_the_device : (t : Table) (c : Command) (r : Refusal) → reply_of t c ≡ Refused r → blames_device r ≡ false
@@ -91,7 +98,10 @@ same_beginning : (state : StoreState) (old : Stops) (r : Request) (a : Answer) �
 same_beginning state old BadCommand a = refl
 same_beginning (Alive t) old (Asks (Create name dims fanout)) a = refl
 same_beginning (Alive t) old (Asks (Insert name id box)) a = refl
-same_beginning (Alive t) old (Asks (Window name box)) a = refl
+same_beginning (Alive t) old (Asks (Get name id)) a = refl
+same_beginning (Alive t) old (Asks (Count name)) a = refl
+same_beginning (Alive t) old (Asks (Range name query)) a = refl
+same_beginning (Alive t) old (Asks (Nearest name k point)) a = refl
 same_beginning (Alive t) old (Asks Reopen) a = refl
 same_beginning Dead old (Asks c) a = refl
 

@@ -1,8 +1,8 @@
-//! Changes made on a store and on the plain list side by side, and whether the two answer alike.
+//! Changes and questions to a store and to the plain list side by side, and whether the two answer alike.
 
 use crate::fixture::{PLANE, SPACE, plane};
 use block_device::BlockDevice;
-use layer_store::{AnyBox, RawBox, Refusal, Store};
+use layer_store::{AnyBox, RawBox, RawPoint, RawQuery, Refusal, Store};
 use list_table::ListTable;
 use std::alloc::{Allocator, Global};
 
@@ -51,24 +51,52 @@ pub fn change_table(table: &mut ListTable<Global>, change: Change) -> Result<(),
     }
 }
 
-/// Whether the store answers a window on a layer as the plain list does.
+/// A question on the layer of a name by its place.
+#[derive(Clone, Copy, Debug)]
+pub enum Question {
+    /// The box of an object.
+    Get(usize, u64),
+    /// How many objects there are.
+    Count(usize),
+    /// The objects that a query seeks.
+    Range(usize, RawQuery),
+    /// So many objects nearest to a point.
+    Nearest(usize, u64, RawPoint),
+}
+
+/// Whether the store answers a question as the plain list does.
 pub fn answers_alike<D: BlockDevice, A: Allocator + Copy + Drop>(
     store: &mut Store<D, A>,
     table: &ListTable<Global>,
-    place: usize,
-    window: RawBox,
+    question: Question,
 ) -> bool {
-    match (
-        store.window(name(place), window),
-        table.window(name(place), window),
-    ) {
-        (Ok(rows), Ok(wanted)) => are_same_rows(&rows, &wanted),
-        (Err(refusal), Err(wanted)) => refusal == wanted,
-        _ => false,
+    match question {
+        Question::Get(place, id) => store.get(name(place), id) == table.get(name(place), id),
+        Question::Count(place) => store.count(name(place)) == table.count(name(place)),
+        Question::Range(place, query) => match (
+            store.range(name(place), query),
+            table.range(name(place), query),
+        ) {
+            (Ok(rows), Ok(wanted)) => are_same_rows(&rows, &wanted),
+            (Err(refusal), Err(wanted)) => refusal == wanted,
+            _ => false,
+        },
+        Question::Nearest(place, k, point) => match (
+            store.nearest(name(place), k, point),
+            table.nearest(name(place), k, point),
+        ) {
+            (Ok(rows), Ok(wanted)) => are_same_distances(&rows, &wanted),
+            (Err(refusal), Err(wanted)) => refusal == wanted,
+            _ => false,
+        },
     }
 }
 
 fn are_same_rows(rows: &[(u64, AnyBox)], wanted: &[(u64, AnyBox)]) -> bool {
+    rows == wanted
+}
+
+fn are_same_distances(rows: &[(u64, u128)], wanted: &[(u64, u128)]) -> bool {
     rows == wanted
 }
 
@@ -79,7 +107,8 @@ pub fn represents_table<D: BlockDevice, A: Allocator + Copy + Drop>(
 ) -> bool {
     for place in 0..8 {
         for window in [PLANE, SPACE] {
-            if !answers_alike(store, table, place, window) {
+            let everything = RawQuery::Window(window);
+            if !answers_alike(store, table, Question::Range(place, everything)) {
                 return false;
             }
         }

@@ -4,7 +4,7 @@ use crate::fixture::{
     CACHE, PLANE, SPACE, are_rows, device_of, is_row, new_store, opened_again, plane, step,
 };
 use block_device::{BlockDevice, MemoryDevice};
-use layer_store::{RawBox, Refusal, Store};
+use layer_store::{RawBox, RawPoint, Refusal, Store};
 use std::test::Fail;
 
 // Whether layer `b` has 1000 objects, of which three meet a window.
@@ -15,7 +15,12 @@ fn has_a_thousand(store: &mut Store<MemoryDevice>) -> Result<bool, Refusal> {
         (11, [11, 22, 12, 23]),
         (12, [12, 24, 13, 25]),
     ];
-    Ok(are_rows(&rows, &wanted) && store.window(b"b", PLANE)?.len() == 1000)
+    let nearest = store.nearest(b"b", 2, RawPoint::Two([0, 0]))?;
+    Ok(
+        are_rows(&rows, &wanted)
+            && store.count(b"b")? == 1000
+            && nearest.as_slice() == [(1, 5), (2, 20)].as_slice(),
+    )
 }
 
 #[test]

@@ -111,6 +111,19 @@ fn a_window_refused_memory_answers_that(rt: HostRuntime) -> Result<(), Fail> {
     Ok(())
 }
 
+#[test]
+fn a_count_and_an_object_take_no_memory(rt: HostRuntime) -> Result<(), Fail> {
+    let heap = Refusing::new(rt.alloc());
+    let mut store = scene(&heap, &heap)?;
+    heap.refuse_from(0);
+    let count = store.count(b"a");
+    let bounds = store.get(b"c", u64::MAX);
+    assert!(rt; !heap.relent());
+    assert_eq!(rt; count, Ok(101));
+    assert!(rt; bounds.is_ok());
+    Ok(())
+}
+
 // The store has failed: each command says so, and its device, which comes back with a closing, has the table.
 fn check_failed(
     rt: &impl Abort,
@@ -123,6 +136,8 @@ fn check_failed(
     assert_eq!(rt; store.create(b"a", 9, 9), Err(failed));
     assert_eq!(rt; change_store(&mut store, point(1)), Err(failed));
     assert_eq!(rt; store.window(b"a", PLANE).err(), Some(failed));
+    assert_eq!(rt; store.count(b"a"), Err(failed));
+    assert_eq!(rt; store.get(b"a", 1), Err(failed));
     assert_eq!(rt; store.reopen(), Err(failed));
     let (refusal, device) = closed(store);
     assert_eq!(rt; refusal, Some(failed));

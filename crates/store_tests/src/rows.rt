@@ -1,13 +1,13 @@
 //! Boxes that touch, and what stays and what is written when a store is closed.
 
-use crate::changes::{answers_alike, represents_table};
+use crate::changes::{Question, answers_alike, represents_table};
 use crate::fixture::{
     CACHE, SPACE, are_rows, are_same_blocks, copy_of, device_of, new_store, opened, opened_again,
     patch, plane, put,
 };
 use crate::images::image;
 use block_device::{BlockDevice, MemoryDevice};
-use layer_store::{RawBox, Refusal, Store};
+use layer_store::{RawBox, RawPoint, RawQuery, Refusal, Store};
 use list_table::ListTable;
 use std::alloc::Global;
 use std::test::Fail;
@@ -39,7 +39,22 @@ fn answers(store: &mut Store<MemoryDevice>) -> Result<bool, Refusal> {
     Ok(
         are_rows(&touching, &[(1, FIRST), (2, SECOND)])
             && are_rows(&first, &[(1, FIRST)])
-            && are_rows(&second, &[(2, SECOND)]),
+            && are_rows(&second, &[(2, SECOND)])
+            && tells_them_apart(store)?,
+    )
+}
+
+// The same by the other questions.
+fn tells_them_apart(store: &mut Store<MemoryDevice>) -> Result<bool, Refusal> {
+    let touching = store.point(b"a", RawPoint::Two([1, 1]))?;
+    let first = store.inside(b"a", plane(FIRST))?;
+    let second = store.around(b"a", plane(SECOND))?;
+    let shown = store.get(b"a", 2)?;
+    Ok(
+        are_rows(&touching, &[(1, FIRST), (2, SECOND)])
+            && are_rows(&first, &[(1, FIRST)])
+            && are_rows(&second, &[(2, SECOND)])
+            && are_rows(&[(2, shown)], &[(2, SECOND)]),
     )
 }
 
@@ -50,7 +65,13 @@ fn comparisons_say_no(rt: HostRuntime) -> Result<(), Fail> {
     assert!(rt; !represents_table(&mut store, &table));
     // `b` is unknown to the store, and of two axes in the table
     table.create(b"b", 2, 4)?;
-    assert!(rt; !answers_alike(&mut store, &table, 1, SPACE));
+    for question in [
+        Question::Range(1, RawQuery::Window(SPACE)),
+        Question::Count(1),
+        Question::Get(1, 1),
+    ] {
+        assert!(rt; !answers_alike(&mut store, &table, question));
+    }
     let rows = store.window(b"a", POINT)?;
     assert!(rt; !are_rows(&rows, &[(1, FIRST)]));
     assert!(rt; !are_rows(&rows, &[(1, FIRST), (2, FAR)]));
@@ -85,6 +106,7 @@ fn boxes_that_touch_meet_before_and_after_a_closing(rt: HostRuntime) -> Result<(
     assert!(rt; answers(&mut store)?, "after a closing without a change");
     assert_eq!(rt; store.insert(b"a", 2, plane(FAR)), Err(Refusal::Duplicate));
     assert_eq!(rt; store.create(b"a", 3, 5), Err(Refusal::LayerExists));
+    assert_eq!(rt; store.count(b"a"), Ok(2));
     Ok(())
 }
 
@@ -143,10 +165,13 @@ fn a_table_in_a_list_answers_by_itself(rt: HostRuntime) -> Result<(), Fail> {
     let mut table = ListTable::new(rt.alloc());
     table.create(b"c", 3, 100)?;
     table.insert(b"c", u64::MAX, RawBox::Three([i32::MIN; 3], [i32::MAX; 3]))?;
-    let rows = table.window(b"c", RawBox::Three([i32::MIN; 3], [i32::MIN; 3]))?;
+    let corner = RawPoint::Three([i32::MIN; 3]);
+    let rows = table.range(b"c", RawQuery::Point(corner))?;
     assert_eq!(rt; rows.len(), 1);
     assert_eq!(rt; rows.first().map(|row| row.0), Some(u64::MAX));
-    assert_eq!(rt; table.window(b"c", POINT).is_err(), true);
+    assert_eq!(rt; table.range(b"c", RawQuery::Window(POINT)).is_err(), true);
+    assert_eq!(rt; table.count(b"c"), Ok(1));
+    assert_eq!(rt; table.get(b"c", 1), Err(Refusal::NoObject));
     assert_eq!(rt; table.insert(b"c", 1, POINT), Err(Refusal::WrongDims));
     assert_eq!(rt; table.layers().len(), 1);
     Ok(())

@@ -2,10 +2,12 @@
 
 ghost use Rattle.std.specs.Prelude.{◌<◌};
 
-use crate::changes::{Change, answers_alike, change_store, change_table, represents_table};
+use crate::changes::{
+    Change, Question, answers_alike, change_store, change_table, represents_table,
+};
 use crate::fixture::{CACHE, new_store, opened_again};
 use block_device::MemoryDevice;
-use layer_store::{RawBox, Store};
+use layer_store::{RawBox, RawPoint, RawQuery, Store};
 use list_table::ListTable;
 use std::alloc::Global;
 use std::test::Fail;
@@ -66,6 +68,27 @@ impl Dice {
         self.bounds(dims)
     }
 
+    // A point that fits that layer, and seldom does not.
+    fn point_at(&mut self, place: usize) -> RawPoint {
+        match self.bounds_at(place) {
+            RawBox::Two(low, _) => RawPoint::Two(low),
+            RawBox::Three(low, _) => RawPoint::Three(low),
+        }
+    }
+
+    fn question(&mut self) -> Question {
+        let place = self.place();
+        match self.below(7) {
+            0 => Question::Get(place, u64::from(self.below(400))),
+            1 => Question::Count(place),
+            2 => Question::Range(place, RawQuery::Inside(self.bounds_at(place))),
+            3 => Question::Range(place, RawQuery::Around(self.bounds_at(place))),
+            4 => Question::Range(place, RawQuery::Point(self.point_at(place))),
+            5 => Question::Nearest(place, u64::from(self.below(12)), self.point_at(place)),
+            _ => Question::Range(place, RawQuery::Window(self.bounds_at(place))),
+        }
+    }
+
     fn change(&mut self) -> Change {
         let place = self.place();
         if self.below(8) == 0 {
@@ -89,9 +112,8 @@ fn is_alike(
     table: &mut ListTable<Global>,
 ) -> bool {
     if dice.below(3) == 0 {
-        let place = dice.place();
-        let window = dice.bounds_at(place);
-        answers_alike(store, table, place, window)
+        let question = dice.question();
+        answers_alike(store, table, question)
     } else {
         let change = dice.change();
         change_store(store, change) == change_table(table, change)

@@ -15,12 +15,12 @@ round_is_box dims b end box boxes = box
 round_is_box dims b (more (object bounds id) rest) box boxes = round_is_box dims (join_of dims b bounds) rest (IsBox-join_of dims b bounds box boxes.0) boxes.1
 round_is_box dims b (more (child bounds page below) rest) box boxes = round_is_box dims (join_of dims b bounds) rest (IsBox-join_of dims b bounds box boxes.0) boxes.2
 
-begins_within : (dims : ℕ) (b : Bounds) (row : Row) → Within dims b (box_round dims b (row_items row))
+pub begins_within : (dims : ℕ) (b : Bounds) (row : Row) → Within dims b (box_round dims b (row_items row))
 begins_within dims b end = Within-refl dims b
 begins_within dims b (more (object bounds id) rest) = Within-trans dims b (join_of dims b bounds) _ (join_of-encloses dims b bounds).0 (begins_within dims (join_of dims b bounds) rest)
 begins_within dims b (more (child bounds page below) rest) = Within-trans dims b (join_of dims b bounds) _ (join_of-encloses dims b bounds).0 (begins_within dims (join_of dims b bounds) rest)
 
-all_within : (dims : ℕ) (b : Bounds) (row : Row) → RowWithin dims row (box_round dims b (row_items row))
+pub all_within : (dims : ℕ) (b : Bounds) (row : Row) → RowWithin dims row (box_round dims b (row_items row))
 all_within dims b end = tt
 all_within dims b (more (object bounds id) rest) =
     (Within-trans dims bounds (join_of dims b bounds) _ (join_of-encloses dims b bounds).1 (begins_within dims (join_of dims b bounds) rest), all_within dims (join_of dims b bounds) rest)

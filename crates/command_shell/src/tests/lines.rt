@@ -1,7 +1,7 @@
 //! What lines mean.
 
 use crate::{Line, MAX_LINE, parse_line};
-use layer_store::RawBox;
+use layer_store::{RawBox, RawPoint, RawQuery};
 use std::test::Fail;
 
 const CREATE: Line<'static> = Line::Create {
@@ -10,79 +10,132 @@ const CREATE: Line<'static> = Line::Create {
     fanout: 4,
 };
 
+const GOOD: [(&[u8], Line<'static>); 17] = [
+    (b"create a 2 4", CREATE),
+    (b" \t\rcreate\ta  0002 4\t \r", CREATE),
+    (
+        b"create \xff#\0 18446744073709551615 0",
+        Line::Create {
+            layer: b"\xff#\0",
+            dims: u64::MAX,
+            fanout: 0,
+        },
+    ),
+    (
+        b"insert a 18446744073709551615 -2147483648 -0 2147483647 00",
+        Line::Insert {
+            layer: b"a",
+            id: u64::MAX,
+            bounds: RawBox::Two([i32::MIN, 0], [i32::MAX, 0]),
+        },
+    ),
+    (
+        b"window window 1 2 3 -4 -5 -6",
+        Line::Range {
+            layer: b"window",
+            query: RawQuery::Window(RawBox::Three([1, 2, 3], [-4, -5, -6])),
+        },
+    ),
+    (
+        b"inside a 1 2 3 4",
+        Line::Range {
+            layer: b"a",
+            query: RawQuery::Inside(RawBox::Two([1, 2], [3, 4])),
+        },
+    ),
+    (
+        b"around a 1 2 3 4",
+        Line::Range {
+            layer: b"a",
+            query: RawQuery::Around(RawBox::Two([1, 2], [3, 4])),
+        },
+    ),
+    (
+        b"point a 1 -2",
+        Line::Range {
+            layer: b"a",
+            query: RawQuery::Point(RawPoint::Two([1, -2])),
+        },
+    ),
+    (
+        b"point a 1 2 3",
+        Line::Range {
+            layer: b"a",
+            query: RawQuery::Point(RawPoint::Three([1, 2, 3])),
+        },
+    ),
+    (b"get a 007", Line::Get { layer: b"a", id: 7 }),
+    (b"count count", Line::Count { layer: b"count" }),
+    (
+        b"nearest a 3 1 -2",
+        Line::Nearest {
+            layer: b"a",
+            k: 3,
+            point: RawPoint::Two([1, -2]),
+        },
+    ),
+    (b"\treopen \r", Line::Reopen),
+    (b"", Line::Blank),
+    (b" \t\r", Line::Blank),
+    (b"#", Line::Blank),
+    (b"  #create a 2 4", Line::Blank),
+];
+
 #[test]
 fn reads_good_lines(rt: HostRuntime) -> Result<(), Fail> {
-    let lines = [
-        (b"create a 2 4".as_slice(), CREATE),
-        (b" \t\rcreate\ta  0002 4\t \r".as_slice(), CREATE),
-        (
-            b"create \xff#\0 18446744073709551615 0".as_slice(),
-            Line::Create {
-                layer: b"\xff#\0",
-                dims: u64::MAX,
-                fanout: 0,
-            },
-        ),
-        (
-            b"insert a 18446744073709551615 -2147483648 -0 2147483647 00".as_slice(),
-            Line::Insert {
-                layer: b"a",
-                id: u64::MAX,
-                bounds: RawBox::Two([i32::MIN, 0], [i32::MAX, 0]),
-            },
-        ),
-        (
-            b"window window 1 2 3 -4 -5 -6".as_slice(),
-            Line::Window {
-                layer: b"window",
-                bounds: RawBox::Three([1, 2, 3], [-4, -5, -6]),
-            },
-        ),
-        (b"\treopen \r".as_slice(), Line::Reopen),
-        (b"".as_slice(), Line::Blank),
-        (b" \t\r".as_slice(), Line::Blank),
-        (b"#".as_slice(), Line::Blank),
-        (b"  #create a 2 4".as_slice(), Line::Blank),
-    ];
-    for (text, line) in lines {
+    for (text, line) in GOOD {
         assert_eq!(rt; parse_line(text), line);
     }
     Ok(())
 }
 
+const BAD: [&[u8]; 41] = [
+    b"create",
+    b"create a 2",
+    b"create a 2 4 4",
+    b"create a 2 +4",
+    b"create a 2 -4",
+    b"create a 2\0 4",
+    b"create a\x0b2 4",
+    b"CREATE a 2 4",
+    b"creat a 2 4",
+    b"creates a 2 4",
+    b"insert a 18446744073709551616 0 0 0 0",
+    b"insert a 99999999999999999999999 0 0 0 0",
+    b"insert a 1 0 0 0",
+    b"insert a 1 0 0 0 2147483648",
+    b"insert a 1 -2147483649 0 0 0",
+    b"insert a 1 0 0 0 +5",
+    b"insert a 1 0 0 0 -",
+    b"insert a 1 0 0 0 --1",
+    b"insert a 1 0 0 0 0.0",
+    b"window a",
+    b"window a 0 0 0 1 1",
+    b"window a 0 0 0 0 1 1 1",
+    b"window a 0 0 0 0 # a comment",
+    b"inside a 0 0",
+    b"around a 0 0 0",
+    b"point a",
+    b"point a 0",
+    b"point a 0 0 0 0",
+    b"get a",
+    b"get a 1 2",
+    b"get a -1",
+    b"count",
+    b"count a b",
+    b"nearest a 3",
+    b"nearest a 3 0",
+    b"nearest a -3 0 0",
+    b"load a 1",
+    b"reopen a",
+    b"REOPEN",
+    b"\xff\xfe",
+    b"\0",
+];
+
 #[test]
 fn refuses_bad_lines(rt: HostRuntime) -> Result<(), Fail> {
-    let lines = [
-        b"create".as_slice(),
-        b"create a 2".as_slice(),
-        b"create a 2 4 4".as_slice(),
-        b"create a 2 +4".as_slice(),
-        b"create a 2 -4".as_slice(),
-        b"create a 2\0 4".as_slice(),
-        b"create a\x0b2 4".as_slice(),
-        b"CREATE a 2 4".as_slice(),
-        b"creat a 2 4".as_slice(),
-        b"creates a 2 4".as_slice(),
-        b"insert a 18446744073709551616 0 0 0 0".as_slice(),
-        b"insert a 99999999999999999999999 0 0 0 0".as_slice(),
-        b"insert a 1 0 0 0".as_slice(),
-        b"insert a 1 0 0 0 2147483648".as_slice(),
-        b"insert a 1 -2147483649 0 0 0".as_slice(),
-        b"insert a 1 0 0 0 +5".as_slice(),
-        b"insert a 1 0 0 0 -".as_slice(),
-        b"insert a 1 0 0 0 --1".as_slice(),
-        b"insert a 1 0 0 0 0.0".as_slice(),
-        b"window a".as_slice(),
-        b"window a 0 0 0 1 1".as_slice(),
-        b"window a 0 0 0 0 1 1 1".as_slice(),
-        b"window a 0 0 0 0 # a comment".as_slice(),
-        b"load a 1".as_slice(),
-        b"reopen a".as_slice(),
-        b"REOPEN".as_slice(),
-        b"\xff\xfe".as_slice(),
-        b"\0".as_slice(),
-    ];
-    for text in lines {
+    for text in BAD {
         assert_eq!(rt; parse_line(text), Line::Bad);
     }
     Ok(())

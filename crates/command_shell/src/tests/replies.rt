@@ -37,10 +37,16 @@ const REFUSALS: [(Refusal, &[u8]); 25] = [
     (Refusal::NoPages, b"fail 25 NoPages\n"),
 ];
 
+// Whether the reply's text is this one.
+fn is_written(alloc: Global, reply: &Reply, text: &[u8]) -> bool {
+    let mut written = Vec::new(alloc);
+    write_reply(reply, &mut written).is_ok() && written.as_slice() == text
+}
+
 #[test]
 fn writes_each_refusal(rt: HostRuntime) -> Result<(), Fail> {
     for (refusal, text) in REFUSALS {
-        let reply: Reply<Global> = Reply::Refused(refusal);
+        let reply: Reply = Reply::Refused(refusal);
         let mut written = Vec::new(rt.alloc());
         assert!(rt; write_reply(&reply, &mut written).is_ok());
         assert_eq!(rt; written.as_slice(), text);
@@ -53,24 +59,32 @@ fn writes_rows(rt: HostRuntime) -> Result<(), Fail> {
     let mut rows = Vec::new(rt.alloc());
     if let Some(bounds) = BBox::try_new([-1, 2], [3, 4]) {
         rows.push((0, AnyBox::Two(bounds)))?;
+        let reply: Reply = Reply::Object(7, AnyBox::Two(bounds));
+        assert!(rt; is_written(rt.alloc(), &reply, b"ok 1\n7 -1 2 3 4\n"));
     }
     if let Some(bounds) = BBox::try_new([i32::MIN; 3], [i32::MAX, 0, i32::MIN]) {
         rows.push((u64::MAX, AnyBox::Three(bounds)))?;
     }
-    let replies = [
-        (Reply::Done, b"ok\n".as_slice()),
-        (Reply::Boxes(Vec::new(rt.alloc())), b"ok 0\n".as_slice()),
-        (
-            Reply::Boxes(rows),
-            b"ok 2\n0 -1 2 3 4\n\
-              18446744073709551615 -2147483648 -2147483648 -2147483648 2147483647 0 -2147483648\n"
-                .as_slice(),
-        ),
-    ];
-    for (reply, text) in replies {
-        let mut written = Vec::new(rt.alloc());
-        assert!(rt; write_reply(&reply, &mut written).is_ok());
-        assert_eq!(rt; written.as_slice(), text);
-    }
+    let text = b"ok 2\n0 -1 2 3 4\n\
+          18446744073709551615 -2147483648 -2147483648 -2147483648 2147483647 0 -2147483648\n";
+    assert!(rt; is_written(rt.alloc(), &Reply::Boxes(rows), text));
+    let none: Reply = Reply::Boxes(Vec::new(rt.alloc()));
+    assert!(rt; is_written(rt.alloc(), &none, b"ok 0\n"));
+    Ok(())
+}
+
+#[test]
+fn writes_numbers(rt: HostRuntime) -> Result<(), Fail> {
+    let done: Reply = Reply::Done;
+    assert!(rt; is_written(rt.alloc(), &done, b"ok\n"));
+    let least: Reply = Reply::Count(0);
+    assert!(rt; is_written(rt.alloc(), &least, b"ok 1\n0\n"));
+    let most: Reply = Reply::Count(u64::MAX);
+    assert!(rt; is_written(rt.alloc(), &most, b"ok 1\n18446744073709551615\n"));
+    let mut distances = Vec::new(rt.alloc());
+    distances.push((1, 0))?;
+    distances.push((u64::MAX, 55_340_232_195_358_851_075))?;
+    let text = b"ok 2\n1 0\n18446744073709551615 55340232195358851075\n";
+    assert!(rt; is_written(rt.alloc(), &Reply::Distances(distances), text));
     Ok(())
 }

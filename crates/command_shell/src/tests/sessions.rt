@@ -7,7 +7,7 @@ use refusing::Refusing;
 use std::test::Fail;
 
 // Each line and its reply. Layers `a` and `b` have two axes, `c` has three.
-const ROWS: [(&[u8], &[u8]); 39] = [
+const ROWS: [(&[u8], &[u8]); 76] = [
     (b"# the first run", b""),
     (b"create a 2 4", b"ok\n"),
     (b"insert a 1 0 0 10 10", b"ok\n"),
@@ -21,6 +21,8 @@ const ROWS: [(&[u8], &[u8]); 39] = [
         b"window b -2147483648 -2147483648 2147483647 2147483647",
         b"ok 0\n",
     ),
+    (b"count b", b"ok 1\n0\n"),
+    (b"nearest b 3 0 0", b"ok 0\n"),
     (b"# extremes", b""),
     (b"create c 3 4", b"ok\n"),
     (
@@ -36,17 +38,61 @@ const ROWS: [(&[u8], &[u8]); 39] = [
         b"ok 1\n1 -2147483648 -2147483648 -2147483648 2147483647 2147483647 2147483647\n",
     ),
     (
+        b"point c -2147483648 -2147483648 -2147483648",
+        b"ok 1\n1 -2147483648 -2147483648 -2147483648 2147483647 2147483647 2147483647\n",
+    ),
+    (
         b"window c 2147483647 2147483647 2147483647 2147483647 2147483647 2147483647\r",
         b"ok 2\n1 -2147483648 -2147483648 -2147483648 2147483647 2147483647 2147483647\n\
           2 2147483647 2147483647 2147483647 2147483647 2147483647 2147483647\n",
     ),
+    (
+        b"nearest c 2 -2147483648 -2147483648 -2147483648",
+        b"ok 2\n1 0\n2 55340232195358851075\n",
+    ),
+    (b"# equal distances", b""),
+    (b"create n 2 4", b"ok\n"),
+    (b"insert n 9 5 0 5 0", b"ok\n"),
+    (b"insert n 4 0 5 0 5", b"ok\n"),
+    (b"insert n 7 -5 0 -5 0", b"ok\n"),
+    (b"insert n 2 0 -5 0 -5", b"ok\n"),
+    (b"insert n 5 3 4 3 4", b"ok\n"),
+    (b"nearest n 3 0 0", b"ok 3\n2 25\n4 25\n5 25\n"),
+    (
+        b"nearest n 1000000 3 3",
+        b"ok 5\n5 1\n4 13\n9 13\n2 73\n7 73\n",
+    ),
+    (b"nearest n 0 0 0", b"fail 14 BadCount\n"),
+    (b"nearest n 1000001 0 0", b"fail 14 BadCount\n"),
+    (b"nearest n 0 0 0 0", b"fail 8 WrongDims\n"),
+    (b"nearest q 0 0 0", b"fail 3 NoLayer\n"),
     (b"# touching", b""),
     (b"insert b 2 1 1 2 2", b"ok\n"),
     (b"insert b 1 0 0 1 1", b"ok\n"),
     (b"window b 1 1 1 1", b"ok 2\n1 0 0 1 1\n2 1 1 2 2\n"),
     (b"window b 2 0 2 0", b"ok 0\n"),
+    (b"point b 1 1", b"ok 2\n1 0 0 1 1\n2 1 1 2 2\n"),
+    (b"point b 2 0", b"ok 0\n"),
+    (b"inside b 0 0 1 1", b"ok 1\n1 0 0 1 1\n"),
+    (b"inside b 1 1 1 1", b"ok 0\n"),
+    (b"around b 1 1 2 2", b"ok 1\n2 1 1 2 2\n"),
+    (b"around b 0 0 2 2", b"ok 0\n"),
+    (b"get b 2", b"ok 1\n2 1 1 2 2\n"),
+    (b"count b", b"ok 1\n2\n"),
     (b"# refusals", b""),
     (b"insert b 1 5 5 6 6", b"fail 9 Duplicate\n"),
+    (b"get b 1", b"ok 1\n1 0 0 1 1\n"),
+    (b"count b", b"ok 1\n2\n"),
+    (b"get b 99", b"fail 10 NoObject\n"),
+    (b"get a 99", b"fail 10 NoObject\n"),
+    (b"get q 1", b"fail 3 NoLayer\n"),
+    (b"get B 1", b"fail 1 BadName\n"),
+    (b"count q", b"fail 3 NoLayer\n"),
+    (b"count _", b"fail 1 BadName\n"),
+    (b"point b 0 0 0", b"fail 8 WrongDims\n"),
+    (b"point q 0 0", b"fail 3 NoLayer\n"),
+    (b"inside b 1 1 1 0 0 0", b"fail 8 WrongDims\n"),
+    (b"around b 1 0 0 0", b"fail 7 BadBox\n"),
     (b"insert b 3 1 0 0 0", b"fail 7 BadBox\n"),
     (b"create A 2 4", b"fail 1 BadName\n"),
     (b"create abcdefghijklmnopqrstuvwxy 2 4", b"fail 1 BadName\n"),
@@ -152,6 +198,11 @@ fn gives_up_where_memory_is_refused(rt: HostRuntime) -> Result<(), Fail> {
             b"window a 0 0 9 9".as_slice(),
             b"ok 1\n1 0 0 9 9\n".as_slice(),
         ),
+        (b"point a 9 9".as_slice(), b"ok 1\n1 0 0 9 9\n".as_slice()),
+        (
+            b"nearest a 1 9 9".as_slice(),
+            b"ok 1\n1 0 0 9 9\n".as_slice(),
+        ),
     ];
     for (line, before) in lines {
         for k in 0..100u32 {
@@ -172,6 +223,26 @@ fn gives_up_where_memory_is_refused(rt: HostRuntime) -> Result<(), Fail> {
             run(&mut store, &mut input, &mut output);
             assert_eq!(rt; output.as_slice(), before);
         }
+    }
+    Ok(())
+}
+
+// A line of 4096 bytes is read.
+#[test]
+fn answers_a_count_filled_up_with_blanks(rt: HostRuntime) -> Result<(), Fail> {
+    let mut store = new_store(rt.alloc())?;
+    store.create(b"a", 2, 4)?;
+    let mut line = Vec::from_slice(rt.alloc(), b"count a")?;
+    for reply in [b"ok 1\n0\n".as_slice(), b"fail 24 BadLine\n".as_slice()] {
+        for _ in line.len()..4096 {
+            line.push(b' ')?;
+        }
+        let mut input = line.as_slice();
+        let mut output = Vec::new(rt.alloc());
+        let end = run(&mut store, &mut input, &mut output);
+        assert_eq!(rt; end, RunEnd::Finished);
+        assert_eq!(rt; output.as_slice(), reply);
+        line.push(b' ')?;
     }
     Ok(())
 }

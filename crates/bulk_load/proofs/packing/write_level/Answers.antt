@@ -1,9 +1,7 @@
 -- One node more.
-use Rattle.std.proofs.Common.{◌≡◌, ◌⊎◌, ◌∙◌, ◌+◌, ◌-◌, ◌<◌, None, Some, List, [], ◌∷◌, ◌++◌, length, map, take, drop, get_or, All, refl, sym, ap, subst, arith, rules, length-append, length-drop}
+use Rattle.std.proofs.Common.{◌≡◌, ◌∙◌, ◌+◌, ◌-◌, ◌<◌, None, Some, List, [], ◌∷◌, ◌++◌, length, map, take, drop, get_or, All, refl, sym, ap, subst, arith, rules, length-append, length-drop}
 use Rattle.std.proofs.lemmas.List.{drop-drop, length-map, length-take-le, map-append}
 use Rattle.std.proofs.lemmas.List.Elements.{All-append, All-cons, All-nil}
-use Rattle.page_file.specs.Fault.{IsOfDevice}
-use Rattle.page_file.specs.declared.fault.Fault.{Fault}
 use Rattle.page_file.specs.declared.fault.Fault.TheVariants as fault
 use Rattle.page_cache.specs.Cache.{IsPageMap, pages}
 use Rattle.page_cache.specs.Calls.{changes_and_refuses, changes_in_turn, no_call_changes}
@@ -14,6 +12,7 @@ use Rattle.tree_node.specs.declared.node.Entry.{Entry}
 use Rattle.node_page.specs.Layout.{IsReference}
 use Rattle.node_page.specs.Standing.{node_in}
 use Rattle.node_page.proofs.NodeLemmas.{at_error}
+use Rattle.node_page.specs.Faults.{IsNoDamage}
 use Rattle.bulk_load.specs.Levels.{WaitFor}
 use Rattle.bulk_load.specs.Tiling.{joined}
 use Rattle.bulk_load.proofs.CacheLemmas.{no_memory_changes}
@@ -26,10 +25,10 @@ runs-init g c = record {
   changes = no_call_changes c.args.cache.now;
   sound = λ map. map;
   here = refl;
-  count = ap length c.in_ok-parents.ensures.items;
-  refers = subst (λ (is : List Item). All (λ item. IsReference (c.args.level + 1) item.reference) is) (sym (ap items_of c.in_ok-parents.ensures.items)) (All-nil (λ (item : Item). IsReference (c.args.level + 1) item.reference));
+  count = ap length c.requires.empty;
+  refers = subst (λ (is : List Item). All (λ item. IsReference (c.args.level + 1) item.reference) is) (sym (ap items_of c.requires.empty)) (All-nil (λ (item : Item). IsReference (c.args.level + 1) item.reference));
   written = λ map runs same waits. subst (λ (is : List Item). Written g.row.D c.args.level (pages c.args.cache.now) (pages c.args.cache.now) runs 0 (items_of c.args.entries.now) is)
-      (sym (ap items_of c.in_ok-parents.ensures.items)) (first_run g.row.D c.args.level (pages c.args.cache.now) runs (items_of c.args.entries.now) waits);
+      (sym (ap items_of c.requires.empty)) (first_run g.row.D c.args.level (pages c.args.cache.now) runs (items_of c.args.entries.now) waits);
 }
 
 pub overflow_add-from : goal.overflow_add-from
@@ -63,15 +62,15 @@ write_parent-requires g c =
     )
 
 pub returns-in_err-parent-clause-changes : goal.returns-in_err-parent-clause-changes
-returns-in_err-parent-clause-changes g c = changes_and_refuses c.args.cache.now c.runs.cache c.write_parent.new.cache c.in_err-parent.field-0.0 c.from_residual-in_err-parent.result
-    c.from_residual-in_err-parent.ensures.1 c.runs.invariant.changes c.in_err-parent.ensures.changes
+returns-in_err-parent-clause-changes g c = changes_and_refuses c.args.cache.now c.runs.cache c.write_parent.new.cache c.in_err-parent.field-0.0 c.from_residual.result
+    c.from_residual.ensures.1 c.runs.invariant.changes c.in_err-parent.ensures.changes
 
 pub returns-in_err-parent-clause-sound : goal.returns-in_err-parent-clause-sound
 returns-in_err-parent-clause-sound g c = λ map. c.write_parent.ensures.sound (c.runs.invariant.sound map)
 
 pub returns-in_err-parent-clause-faults : goal.returns-in_err-parent-clause-faults
-returns-in_err-parent-clause-faults g c = λ map. at_error c.from_residual-in_err-parent.result c.in_err-parent.field-0.0 (λ (f : Fault). IsOfDevice f ⊎ (f ≡ fault.NoPages))
-    c.from_residual-in_err-parent.ensures.1 (c.in_err-parent.ensures.faults (c.runs.invariant.sound map))
+returns-in_err-parent-clause-faults g c = λ map. at_error c.from_residual.result c.in_err-parent.field-0.0 (IsNoDamage c.write_parent.new.cache)
+    c.from_residual.ensures.1 (c.in_err-parent.ensures.faults (c.runs.invariant.sound map))
 
 pub returns-in_err-push-clause-changes : goal.returns-in_err-push-clause-changes
 returns-in_err-push-clause-changes g c = changes_and_refuses c.args.cache.now c.write_parent.new.cache c.write_parent.new.cache fault.Memory c.from_residual-in_err-push.result

@@ -1,7 +1,7 @@
 -- The goals of `reply_to` that are proved by hand.
 use Rattle.std.proofs.Common.{ap}
-use Rattle.plain_table.specs.Answers.{done_answer, boxes_answer}
-use Rattle.plain_table.specs.Commands.Command.{Create, Insert, Window, Reopen}
+use Rattle.plain_table.specs.Answers.{done_answer, box_answer, boxes_answer, count_answer, distances_answer}
+use Rattle.plain_table.specs.Commands.Command.{Create, Insert, Get, Count, Range, Nearest, Reopen}
 use Rattle.command_shell.specs.Said.{said}
 use Rattle.command_shell.proofs.AnswerLemmas.{replied, replied_bad, replied_blank}
 use Rattle.command_shell.proofs.session.reply_to.Goals as goal
@@ -18,8 +18,17 @@ returns-in-Create g c = replied _ (Create c.in-Create.layer.now c.in-Create.dims
 pub returns-in-Insert : goal.returns-in-Insert
 returns-in-Insert g c = replied _ (Insert c.in-Insert.layer.now c.in-Insert.id c.in-Insert.bounds) (done_answer c.insert.result) _ (ap said c.in-Insert.is) c.change_reply-in-Insert.ensures c.insert.ensures.step
 
-pub returns-in-Window : goal.returns-in-Window
-returns-in-Window g c = replied _ (Window c.in-Window.layer.now c.in-Window.bounds) (boxes_answer c.window.result) _ (ap said c.in-Window.is) c.window_reply.ensures c.window.ensures.step
+pub returns-in-Get : goal.returns-in-Get
+returns-in-Get g c = replied _ (Get c.in-Get.layer.now c.in-Get.id) (box_answer c.in-Get.id c.get.result) _ (ap said c.in-Get.is) c.object_reply.ensures c.get.ensures.step
+
+pub returns-in-Count : goal.returns-in-Count
+returns-in-Count g c = replied _ (Count c.in-Count.layer.now) (count_answer c.count.result) _ (ap said c.in-Count.is) c.count_reply.ensures c.count.ensures.step
+
+pub returns-in-Range : goal.returns-in-Range
+returns-in-Range g c = replied _ (Range c.in-Range.layer.now c.in-Range.query) (boxes_answer c.range.result) _ (ap said c.in-Range.is) c.range_reply.ensures c.range.ensures.step
+
+pub returns-in-Nearest : goal.returns-in-Nearest
+returns-in-Nearest g c = replied _ (Nearest c.in-Nearest.layer.now c.in-Nearest.k c.in-Nearest.point) (distances_answer c.nearest.result) _ (ap said c.in-Nearest.is) c.distances_reply.ensures c.nearest.ensures.step
 
 pub returns-in-Reopen : goal.returns-in-Reopen
 returns-in-Reopen g c = replied _ Reopen (done_answer c.reopen.result) _ (ap said c.in-Reopen.is) c.change_reply-in-Reopen.ensures c.reopen.ensures.step

@@ -10,3 +10,7 @@ overflow_cast-result g c =
 pub returns-clause-low : goal.returns-clause-low
 returns-clause-low g c =
     (child_pages c.args.node.now.level c.args.node.now.entries.items c.deref.result.now c.args.at c.index-deref-at.result c.requires.spellable.refers c.deref.ensures.0 (search rules) c.requires.above).0
+
+pub returns-clause-small : goal.returns-clause-small
+returns-clause-small g c =
+    (child_pages c.args.node.now.level c.args.node.now.entries.items c.deref.result.now c.args.at c.index-deref-at.result c.requires.spellable.refers c.deref.ensures.0 (search rules) c.requires.above).1

@@ -7,7 +7,7 @@ use Rattle.node_page.specs.Standing.{PageMap}
 use Rattle.reinsert.proofs.SettledLemmas.{is_some_from}
 use Rattle.page_cache.specs.Calls.{changes_and_refuses}
 use Rattle.node_page.proofs.NodeLemmas.{at_error}
-use Rattle.reinsert.specs.Faults.{IsNoDamage, IsChangeFault}
+use Rattle.node_page.specs.Faults.{IsNoDamage, IsChangeFault}
 use Rattle.reinsert.proofs.FaultLemmas.{spent, one_more}
 use Rattle.reinsert.proofs.grow.grow.Goals as goal
 

@@ -7,7 +7,7 @@ use Rattle.node_page.specs.Standing.{PageMap}
 use Rattle.node_page.specs.declared.broken.Broken.{Broken}
 use Rattle.reinsert.specs.declared.waiting.Wait.{Wait}
 use Rattle.reinsert.specs.Called.{none_called}
-use Rattle.reinsert.specs.Faults.{IsNoDamage, IsChangeFault}
+use Rattle.node_page.specs.Faults.{IsNoDamage, IsChangeFault}
 use Rattle.reinsert.specs.Inserted.{IsAt}
 use Rattle.reinsert.specs.Insertion.{at_first}
 use Rattle.reinsert.specs.Placing.{State}

@@ -5,7 +5,7 @@ use Rattle.page_cache.specs.Calls.{changes_in_turn}
 use Rattle.node_page.specs.Broken.{changes_and_breaks, made_alters}
 use Rattle.node_page.specs.Standing.{PageMap}
 use Rattle.node_page.specs.declared.broken.Broken.{Broken}
-use Rattle.reinsert.specs.Faults.{IsNoDamage, IsChangeFault}
+use Rattle.node_page.specs.Faults.{IsNoDamage, IsChangeFault}
 use Rattle.reinsert.proofs.BrokenLemmas.{at_broken}
 use Rattle.reinsert.proofs.InsertLemmas.{first_alone, first_beside}
 use Rattle.reinsert.proofs.StateLemmas.{first_can, low_root}

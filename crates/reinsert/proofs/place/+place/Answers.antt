@@ -13,7 +13,7 @@ use Rattle.node_page.specs.Layout.{IsReference}
 use Rattle.node_page.specs.Standing.{PageMap}
 use Rattle.node_page.specs.declared.broken.Broken.{Broken}
 use Rattle.node_page.proofs.StandingLemmas.{page_of_node}
-use Rattle.reinsert.specs.Faults.{IsNoDamage, IsChangeFault}
+use Rattle.node_page.specs.Faults.{IsNoDamage, IsChangeFault}
 use Rattle.reinsert.specs.Placed.{CanSettle, SettlesTo}
 use Rattle.reinsert.proofs.BrokenLemmas.{at_broken, changes_and_alters}
 use Rattle.reinsert.proofs.PlaceLemmas.{few_can, few_items, here_ok, items_read, live_after, over_ok}
@@ -22,10 +22,10 @@ use Rattle.reinsert.proofs.place.+place.Goals as goal
 
 pub put_here-requires : goal.put_here-requires
 put_here-requires g t c =
-    let level = c.in_ok-node.ensures.level in
-    let refers : All (λ (e : Entry g.row.D). IsReference c.in_ok-node.node.level e.reference) c.in_ok-node.node.entries.items =
-    subst (λ l. All (λ (e : Entry g.row.D). IsReference l e.reference) c.in_ok-node.node.entries.items) (sym level) c.in_ok-node.ensures.refers in
-    let too : IsReference c.in_ok-node.node.level c.args.entry.now.reference = subst (λ l. IsReference l c.args.entry.now.reference) (sym (level ∙ c.if-at-target.true)) c.requires.refers in (
+    let level = c.in_ok-read_fitting.ensures.level in
+    let refers : All (λ (e : Entry g.row.D). IsReference c.read_fitting.new.node.level e.reference) c.read_fitting.new.node.entries.items =
+    subst (λ l. All (λ (e : Entry g.row.D). IsReference l e.reference) c.read_fitting.new.node.entries.items) (sym level) c.in_ok-read_fitting.ensures.refers in
+    let too : IsReference c.read_fitting.new.node.level c.args.entry.now.reference = subst (λ l. IsReference l c.args.entry.now.reference) (sym (level ∙ c.if-at-target.true)) c.requires.refers in (
       search rules,
       (
         search rules,
@@ -36,10 +36,10 @@ put_here-requires g t c =
             (
               c.requires.dims,
               (
-                c.in_ok-node.ensures.asks.gate.gate ∙ c.requires.open,
+                c.in_ok-read_fitting.ensures.asks.gate.gate ∙ c.requires.open,
                 (
                   c.requires.most,
-                  ((omega (arith, level, c.requires.levels), omega (arith, c.requires.levels)), (c.in_ok-node.ensures.few, (refers, too))),
+                  ((omega (arith, level, c.requires.levels), omega (arith, c.requires.levels)), (c.in_ok-read_fitting.ensures.few, (refers, too))),
                 ),
               ),
             ),
@@ -50,7 +50,7 @@ put_here-requires g t c =
 
 pub returns-then-at-target-clause-beside : goal.returns-then-at-target-clause-beside
 returns-then-at-target-clause-beside g t c =
-    subst (λ l. IfOk c.put_here.result (λ s. IfSome s.beside (λ (e : Entry g.row.D). IsReference (l + 1) e.reference))) c.in_ok-node.ensures.level c.put_here.ensures.beside
+    subst (λ l. IfOk c.put_here.result (λ s. IfSome s.beside (λ (e : Entry g.row.D). IsReference (l + 1) e.reference))) c.in_ok-read_fitting.ensures.level c.put_here.ensures.beside
 
 pub returns-then-at-target-clause-placed : goal.returns-then-at-target-clause-placed
 returns-then-at-target-clause-placed g t c = λ h row branch item can.
@@ -58,25 +58,25 @@ returns-then-at-target-clause-placed g t c = λ h row branch item can.
     let m : PageMap = pages c.args.cache.now in
     let m0 : PageMap = pages c.read_fitting.new.cache in
     let m' : PageMap = pages c.put_here.new.cache in
-    let level = c.in_ok-node.ensures.level in
-    let entries = c.in_ok-node.node.entries.items in
+    let level = c.in_ok-read_fitting.ensures.level in
+    let entries = c.read_fitting.new.node.entries.items in
     let page = c.args.at.page in
-    let read = items_read D m page c.args.at.level c.in_ok-node.node.level row (map item_of entries) can.there (c.in_ok-node.ensures.node h.honest (page_of_node D (m page) _ can.there)) in
+    let read = items_read D m page c.args.at.level c.read_fitting.new.node.level row (map item_of entries) can.there (c.in_ok-read_fitting.ensures.node h.honest (page_of_node D (m page) _ can.there)) in
     here_ok c.put_here.result (IsPageMap c.put_here.new.cache) c.args.m_max c.args.top c.args.at.level c.args.target c.args.waiting.now.called branch row m m0 m' page c.args.waiting.now.waits.items _ _
-    (c.in_ok-node.ensures.asks.map.pages_stay h.honest) can c.if-at-target.true
+    (c.in_ok-read_fitting.ensures.asks.map.pages_stay h.honest) can c.if-at-target.true
     (λ branches are settle.
     subst (λ l. IfOk c.put_here.result (λ s. IsPageMap c.put_here.new.cache × SettlesTo D c.args.m_max c.args.top l c.args.waiting.now.called branches m0 m' page s c.args.waiting.now.waits.items c.put_here.new.waiting.waits.items c.put_here.new.waiting.called)) level
-    (c.put_here.ensures.settled (c.in_ok-node.ensures.asks.map.sound.0 h) branches
+    (c.put_here.ensures.settled (c.in_ok-read_fitting.ensures.asks.map.sound.0 h) branches
     (are ∙ ap (λ (es : List Item). es ++ item_in branch ∷ []) read ∙ ap (λ (x : Item). map item_of entries ++ x ∷ []) item)
     (subst (λ l. CanSettle D m0 page l branches) (sym level) settle)))
 
 pub put_above-requires : goal.put_above-requires
 put_above-requires g t c =
-    let level = c.in_ok-node.ensures.level in
-    let refers : All (λ (e : Entry g.row.D). IsReference c.in_ok-node.node.level e.reference) c.in_ok-node.node.entries.items =
-    subst (λ l. All (λ (e : Entry g.row.D). IsReference l e.reference) c.in_ok-node.node.entries.items) (sym level) c.in_ok-node.ensures.refers in
-    let up : c.args.at.level - 1 + 1 ≡ c.in_ok-node.node.level = omega (arith, level, c.requires.levels, c.if-at-target.false) in
-    let beside : IfSome c.in_ok-lower.lower.beside (λ (e : Entry g.row.D). IsReference c.in_ok-node.node.level e.reference) =
+    let level = c.in_ok-read_fitting.ensures.level in
+    let refers : All (λ (e : Entry g.row.D). IsReference c.read_fitting.new.node.level e.reference) c.read_fitting.new.node.entries.items =
+    subst (λ l. All (λ (e : Entry g.row.D). IsReference l e.reference) c.read_fitting.new.node.entries.items) (sym level) c.in_ok-read_fitting.ensures.refers in
+    let up : c.args.at.level - 1 + 1 ≡ c.read_fitting.new.node.level = omega (arith, level, c.requires.levels, c.if-at-target.false) in
+    let beside : IfSome c.in_ok-lower.lower.beside (λ (e : Entry g.row.D). IsReference c.read_fitting.new.node.level e.reference) =
     subst (λ l. IfSome c.in_ok-lower.lower.beside (λ (e : Entry g.row.D). IsReference l e.reference)) up c.in_ok-lower.ensures.beside in (
       search rules,
       (
@@ -86,10 +86,10 @@ put_above-requires g t c =
           (
             c.requires.dims,
             (
-              c.in_ok-lower.ensures.alters.changes.gate.gate ∙ c.in_ok-node.ensures.asks.gate.gate ∙ c.requires.open,
+              c.in_ok-lower.ensures.alters.changes.gate.gate ∙ c.in_ok-read_fitting.ensures.asks.gate.gate ∙ c.requires.open,
               (
                 c.requires.most,
-                ((omega (arith, level, c.requires.levels), omega (arith, c.requires.levels)), (c.child_for-place_of_child.ensures.within, (c.in_ok-node.ensures.few, (refers, beside)))),
+                ((omega (arith, level, c.requires.levels), omega (arith, c.requires.levels)), (c.child_for-place_of_child.ensures.within, (c.in_ok-read_fitting.ensures.few, (refers, beside)))),
               ),
             ),
           ),
@@ -99,7 +99,7 @@ put_above-requires g t c =
 
 pub returns-clause-beside : goal.returns-clause-beside
 returns-clause-beside g t c =
-    subst (λ l. IfOk c.put_above.result (λ s. IfSome s.beside (λ (e : Entry g.row.D). IsReference (l + 1) e.reference))) c.in_ok-node.ensures.level c.put_above.ensures.beside
+    subst (λ l. IfOk c.put_above.result (λ s. IfSome s.beside (λ (e : Entry g.row.D). IsReference (l + 1) e.reference))) c.in_ok-read_fitting.ensures.level c.put_above.ensures.beside
 
 pub returns-clause-placed : goal.returns-clause-placed
 returns-clause-placed g t c = λ h row branch item can.
@@ -108,45 +108,45 @@ returns-clause-placed g t c = λ h row branch item can.
     let m0 : PageMap = pages c.read_fitting.new.cache in
     let m1 : PageMap = pages c.place.new.cache in
     let m' : PageMap = pages c.put_above.new.cache in
-    let level = c.in_ok-node.ensures.level in
-    let entries = c.in_ok-node.node.entries.items in
+    let level = c.in_ok-read_fitting.ensures.level in
+    let entries = c.read_fitting.new.node.entries.items in
     let page = c.args.at.page in
     let at = c.child_for-place_of_child.result.0 in
-    let read = items_read D m page c.args.at.level c.in_ok-node.node.level row (map item_of entries) can.there (c.in_ok-node.ensures.node h.honest (page_of_node D (m page) _ can.there)) in
+    let read = items_read D m page c.args.at.level c.read_fitting.new.node.level row (map item_of entries) can.there (c.in_ok-read_fitting.ensures.node h.honest (page_of_node D (m page) _ can.there)) in
     let chosen : IsChosenChild D c.args.at.level (map item_of entries) (item_in branch).bounds at =
     subst (λ (x : Item). IsChosenChild D c.args.at.level (map item_of entries) x.bounds at) (sym item)
     (subst (λ l. IsChosenChild D l (map item_of entries) c.args.entry.now.bounds at) level c.child_for-place_of_child.ensures.chosen) in
     over_ok c.put_above.result (IsPageMap c.put_above.new.cache) (IsPageMap c.place.new.cache) c.args.m_max c.args.top c.args.at.level c.args.target at c.child_for-place_of_child.result.1
     c.args.waiting.now.called c.place.new.waiting.called branch row m m0 m1 m' page c.in_ok-lower.lower c.args.waiting.now.waits.items c.place.new.waiting.waits.items _ _ entries c.args.entry.now
-    (c.in_ok-node.ensures.asks.map.pages_stay h.honest) can (omega (arith, c.requires.levels, c.if-at-target.false)) read chosen (c.child_for-place_of_child.ensures.page (item_of c.args.entry.now))
-    (λ below could. c.in_ok-lower.ensures.placed (c.in_ok-node.ensures.asks.map.sound.0 h) below branch item could)
+    (c.in_ok-read_fitting.ensures.asks.map.pages_stay h.honest) can (omega (arith, c.requires.levels, c.if-at-target.false)) read chosen (c.child_for-place_of_child.ensures.page (item_of c.args.entry.now))
+    (λ below could. c.in_ok-lower.ensures.placed (c.in_ok-read_fitting.ensures.asks.map.sound.0 h) below branch item could)
     (λ sound branches are settle.
     subst (λ l. IfOk c.put_above.result (λ s. IsPageMap c.put_above.new.cache × SettlesTo D c.args.m_max c.args.top l c.place.new.waiting.called branches m1 m' page s c.place.new.waiting.waits.items c.put_above.new.waiting.waits.items c.put_above.new.waiting.called)) level
     (c.put_above.ensures.settled sound branches are (subst (λ l. CanSettle D m1 page l branches) (sym level) settle)))
 
-pub returns-in_err-node-clause-faults : goal.returns-in_err-node-clause-faults
-returns-in_err-node-clause-faults g t c = λ h row branch item can few.
-    at_broken c.from_residual.result (record { cause = c.in_err-node.field-0.0; touched = false }) (λ (b : Broken). IsNoDamage c.read_fitting.new.cache b.cause) c.from_residual.ensures.1
-    (inl (c.in_err-node.ensures.faults h.honest (record { level = c.args.at.level; entries = row_items row }) can.there refl (few_items g.row.D c.args.m_max row few)))
+pub returns-in_err-read_fitting-clause-faults : goal.returns-in_err-read_fitting-clause-faults
+returns-in_err-read_fitting-clause-faults g t c = λ h row branch item can few.
+    at_broken c.from_residual.result (record { cause = c.in_err-read_fitting.field-0.0; touched = false }) (λ (b : Broken). IsNoDamage c.read_fitting.new.cache b.cause) c.from_residual.ensures.1
+    (inl (c.in_err-read_fitting.ensures.faults h.honest (record { level = c.args.at.level; entries = row_items row }) can.there refl (few_items g.row.D c.args.m_max row few)))
 
 pub returns-then-at-target-clause-faults : goal.returns-then-at-target-clause-faults
 returns-then-at-target-clause-faults g t c = λ h row branch item can few.
     let m : PageMap = pages c.args.cache.now in
-    let same = c.in_ok-node.ensures.asks.map.pages_stay h.honest c.args.at.page in
-    c.put_here.ensures.faults (c.in_ok-node.ensures.asks.map.sound.0 h) (subst IsSome (sym same) (page_of_node g.row.D (m c.args.at.page) _ can.there))
+    let same = c.in_ok-read_fitting.ensures.asks.map.pages_stay h.honest c.args.at.page in
+    c.put_here.ensures.faults (c.in_ok-read_fitting.ensures.asks.map.sound.0 h) (subst IsSome (sym same) (page_of_node g.row.D (m c.args.at.page) _ can.there))
 
 pub returns-in_err-lower-clause-faults : goal.returns-in_err-lower-clause-faults
 returns-in_err-lower-clause-faults g t c = λ h row branch item can few.
     let D = g.row.D in
     let m : PageMap = pages c.args.cache.now in
     let m0 : PageMap = pages c.read_fitting.new.cache in
-    let entries = c.in_ok-node.node.entries.items in
+    let entries = c.read_fitting.new.node.entries.items in
     let page = c.args.at.page in
-    let read = items_read D m page c.args.at.level c.in_ok-node.node.level row (map item_of entries) can.there (c.in_ok-node.ensures.node h.honest (page_of_node D (m page) _ can.there)) in
+    let read = items_read D m page c.args.at.level c.read_fitting.new.node.level row (map item_of entries) can.there (c.in_ok-read_fitting.ensures.node h.honest (page_of_node D (m page) _ can.there)) in
     let low = few_can c.args.m_max c.args.at.level c.args.target c.child_for-place_of_child.result.0 c.child_for-place_of_child.result.1 branch row m m0 page entries c.args.entry.now
-    (c.in_ok-node.ensures.asks.map.pages_stay h.honest) can (omega (arith, c.requires.levels, c.if-at-target.false)) read c.child_for-place_of_child.ensures.chosen.within (c.child_for-place_of_child.ensures.page (item_of c.args.entry.now)) few in
+    (c.in_ok-read_fitting.ensures.asks.map.pages_stay h.honest) can (omega (arith, c.requires.levels, c.if-at-target.false)) read c.child_for-place_of_child.ensures.chosen.within (c.child_for-place_of_child.ensures.page (item_of c.args.entry.now)) few in
     at_broken c.from_residual-in_err-lower.result c.in_err-lower.field-0.0 (λ (b : Broken). IsNoDamage c.place.new.cache b.cause) c.from_residual-in_err-lower.ensures.1
-    (c.in_err-lower.ensures.faults (c.in_ok-node.ensures.asks.map.sound.0 h) low.0 branch item low.1 low.2)
+    (c.in_err-lower.ensures.faults (c.in_ok-read_fitting.ensures.asks.map.sound.0 h) low.0 branch item low.1 low.2)
 
 pub returns-clause-faults : goal.returns-clause-faults
 returns-clause-faults g t c = λ h row branch item can few.
@@ -154,22 +154,22 @@ returns-clause-faults g t c = λ h row branch item can few.
     let m : PageMap = pages c.args.cache.now in
     let m0 : PageMap = pages c.read_fitting.new.cache in
     let m1 : PageMap = pages c.place.new.cache in
-    let entries = c.in_ok-node.node.entries.items in
+    let entries = c.read_fitting.new.node.entries.items in
     let page = c.args.at.page in
-    let read = items_read D m page c.args.at.level c.in_ok-node.node.level row (map item_of entries) can.there (c.in_ok-node.ensures.node h.honest (page_of_node D (m page) _ can.there)) in
+    let read = items_read D m page c.args.at.level c.read_fitting.new.node.level row (map item_of entries) can.there (c.in_ok-read_fitting.ensures.node h.honest (page_of_node D (m page) _ can.there)) in
     let live = live_after (IsPageMap c.place.new.cache) c.args.m_max c.args.top c.args.at.level c.args.target c.child_for-place_of_child.result.0 c.child_for-place_of_child.result.1
     c.args.waiting.now.called c.place.new.waiting.called branch row m m0 m1 page c.in_ok-lower.lower c.args.waiting.now.waits.items c.place.new.waiting.waits.items entries c.args.entry.now
-    (c.in_ok-node.ensures.asks.map.pages_stay h.honest) can (omega (arith, c.requires.levels, c.if-at-target.false)) read c.child_for-place_of_child.ensures.chosen.within (c.child_for-place_of_child.ensures.page (item_of c.args.entry.now))
-    (λ below could. c.in_ok-lower.ensures.placed (c.in_ok-node.ensures.asks.map.sound.0 h) below branch item could) in
+    (c.in_ok-read_fitting.ensures.asks.map.pages_stay h.honest) can (omega (arith, c.requires.levels, c.if-at-target.false)) read c.child_for-place_of_child.ensures.chosen.within (c.child_for-place_of_child.ensures.page (item_of c.args.entry.now))
+    (λ below could. c.in_ok-lower.ensures.placed (c.in_ok-read_fitting.ensures.asks.map.sound.0 h) below branch item could) in
     c.put_above.ensures.faults live.0 live.1
 
-pub returns-in_err-node-clause-alters : goal.returns-in_err-node-clause-alters
-returns-in_err-node-clause-alters g t c =
-    alters_so c.args.cache.now c.read_fitting.new.cache (before c.in_err-node.field-0.0) c.from_residual.result c.from_residual.ensures.1
-    (asks_changes c.args.cache.now c.read_fitting.new.cache (Some c.in_err-node.field-0.0) c.in_err-node.ensures.asks) (λ untouched. c.in_err-node.ensures.asks.map)
+pub returns-in_err-read_fitting-clause-alters : goal.returns-in_err-read_fitting-clause-alters
+returns-in_err-read_fitting-clause-alters g t c =
+    alters_so c.args.cache.now c.read_fitting.new.cache (before c.in_err-read_fitting.field-0.0) c.from_residual.result c.from_residual.ensures.1
+    (asks_changes c.args.cache.now c.read_fitting.new.cache (Some c.in_err-read_fitting.field-0.0) c.in_err-read_fitting.ensures.asks) (λ untouched. c.in_err-read_fitting.ensures.asks.map)
 
 pub returns-then-at-target-clause-alters : goal.returns-then-at-target-clause-alters
-returns-then-at-target-clause-alters g t c = asks_and_alters c.args.cache.now c.read_fitting.new.cache c.put_here.new.cache c.put_here.result c.in_ok-node.ensures.asks c.put_here.ensures.alters
+returns-then-at-target-clause-alters g t c = asks_and_alters c.args.cache.now c.read_fitting.new.cache c.put_here.new.cache c.put_here.result c.in_ok-read_fitting.ensures.asks c.put_here.ensures.alters
 
 pub returns-in_err-lower-clause-alters : goal.returns-in_err-lower-clause-alters
 returns-in_err-lower-clause-alters g t c =
@@ -177,7 +177,7 @@ returns-in_err-lower-clause-alters g t c =
     let mid = c.read_fitting.new.cache in
     let new = c.place.new.cache in
     let broken = c.in_err-lower.field-0.0 in
-    let asks = c.in_ok-node.ensures.asks in
+    let asks = c.in_ok-read_fitting.ensures.asks in
     alters_so old new broken c.from_residual-in_err-lower.result c.from_residual-in_err-lower.ensures.1
     (changes_in_turn old mid new (Some broken.cause) (asks_changes old mid None asks) c.in_err-lower.ensures.alters.changes)
     (λ untouched. the_map_is_kept_in_turn old mid new asks.gate.honest.0 asks.map (c.in_err-lower.ensures.alters.untouched untouched))
@@ -188,11 +188,11 @@ returns-clause-alters g t c =
     let mid = c.read_fitting.new.cache in
     let low = c.place.new.cache in
     changes_and_alters old low c.put_above.new.cache c.put_above.result
-    (changes_in_turn old mid low None (asks_changes old mid None c.in_ok-node.ensures.asks) c.in_ok-lower.ensures.alters.changes) c.put_above.ensures.alters c.put_above.ensures.touched
+    (changes_in_turn old mid low None (asks_changes old mid None c.in_ok-read_fitting.ensures.asks) c.in_ok-lower.ensures.alters.changes) c.put_above.ensures.alters c.put_above.ensures.touched
 
-pub returns-in_err-node-clause-other_faults : goal.returns-in_err-node-clause-other_faults
-returns-in_err-node-clause-other_faults g t c =
-    at_broken c.from_residual.result (before c.in_err-node.field-0.0) (λ (b : Broken). IsChangeFault b.cause) c.from_residual.ensures.1 (one_more _ _ _ c.in_err-node.ensures.other_faults)
+pub returns-in_err-read_fitting-clause-other_faults : goal.returns-in_err-read_fitting-clause-other_faults
+returns-in_err-read_fitting-clause-other_faults g t c =
+    at_broken c.from_residual.result (before c.in_err-read_fitting.field-0.0) (λ (b : Broken). IsChangeFault b.cause) c.from_residual.ensures.1 (one_more _ _ _ c.in_err-read_fitting.ensures.other_faults)
 
 pub returns-in_err-lower-clause-other_faults : goal.returns-in_err-lower-clause-other_faults
 returns-in_err-lower-clause-other_faults g t c =

@@ -1,7 +1,7 @@
 -- The goals of `put_above` that are proved by hand.
 use Rattle.std.proofs.Common.{Err, sym, subst}
 use Rattle.node_page.specs.declared.broken.Broken.{Broken}
-use Rattle.reinsert.specs.Faults.{IsNoDamage, IsChangeFault}
+use Rattle.node_page.specs.Faults.{IsNoDamage, IsChangeFault}
 use Rattle.reinsert.proofs.BrokenLemmas.{breaks_midway}
 use Rattle.reinsert.proofs.place.put_above.Goals as goal
 

@@ -11,11 +11,11 @@ use Rattle.reinsert.proofs.place.settle_above.Goals as goal
 
 pub settle-requires : goal.settle-requires
 settle-requires g c =
-    let level : c.match-beside.node.level ≡ c.args.node.level = elim c.match-beside.branch [ in-Some w ↦ ap (λ (x : Node g.row.D). x.level) w.node-is | in_default w ↦ ap (λ (x : Node g.row.D). x.level) w.node-is ] in
-    let new : Above c.args.node.level c.args.node.entries.items c.args.at c.args.lower c.match-beside.node.entries.items = elim c.match-beside.branch [
-      | in-Some w ↦ above_some c.args.node.level c.args.node.entries.items c.deref_mut.result.now c.args.at c.args.lower c.index-deref_mut-at.result c.requires.within c.deref_mut.ensures.value c.requires.refers c.requires.beside
+    let level : c.match-beside.node.level ≡ c.args.node.now.level = elim c.match-beside.branch [ in-Some w ↦ ap (λ (x : Node g.row.D). x.level) w.node-is | in_default w ↦ ap (λ (x : Node g.row.D). x.level) w.node-is ] in
+    let new : Above c.args.node.now.level c.args.node.now.entries.items c.args.at c.args.lower c.match-beside.node.entries.items = elim c.match-beside.branch [
+      | in-Some w ↦ above_some c.args.node.now.level c.args.node.now.entries.items c.deref_mut.result.now c.args.at c.args.lower c.index-deref_mut-at.result c.requires.within c.deref_mut.ensures.value c.requires.refers c.requires.beside
           _ _ _ refl w.in-Some.is (ap (λ (x : Node g.row.D). x.entries.items) w.node-is ∙ w.push.ensures.items)
-      | in_default w ↦ above_none c.args.node.level c.args.node.entries.items c.deref_mut.result.now c.args.at c.args.lower c.index-deref_mut-at.result c.requires.within c.deref_mut.ensures.value c.requires.refers c.requires.beside
+      | in_default w ↦ above_none c.args.node.now.level c.args.node.now.entries.items c.deref_mut.result.now c.args.at c.args.lower c.index-deref_mut-at.result c.requires.within c.deref_mut.ensures.value c.requires.refers c.requires.beside
           _ w.in_default.not-Some (ap (λ (x : Node g.row.D). x.entries.items) w.node-is)
     ] in (
       search rules,
@@ -42,16 +42,16 @@ settle-requires g c =
 
 pub returns-clause-beside : goal.returns-clause-beside
 returns-clause-beside g c =
-    let level : c.match-beside.node.level ≡ c.args.node.level = elim c.match-beside.branch [ in-Some w ↦ ap (λ (x : Node g.row.D). x.level) w.node-is | in_default w ↦ ap (λ (x : Node g.row.D). x.level) w.node-is ] in
+    let level : c.match-beside.node.level ≡ c.args.node.now.level = elim c.match-beside.branch [ in-Some w ↦ ap (λ (x : Node g.row.D). x.level) w.node-is | in_default w ↦ ap (λ (x : Node g.row.D). x.level) w.node-is ] in
     subst (λ l. IfOk c.settle.result (λ s. IfSome s.beside (λ (e : Entry g.row.D). IsReference (l + 1) e.reference))) level c.settle.ensures.beside
 
 pub returns-clause-settled : goal.returns-clause-settled
 returns-clause-settled g c = λ h branches are can.
-    let level : c.match-beside.node.level ≡ c.args.node.level = elim c.match-beside.branch [ in-Some w ↦ ap (λ (x : Node g.row.D). x.level) w.node-is | in_default w ↦ ap (λ (x : Node g.row.D). x.level) w.node-is ] in
-    let new : Above c.args.node.level c.args.node.entries.items c.args.at c.args.lower c.match-beside.node.entries.items = elim c.match-beside.branch [
-      | in-Some w ↦ above_some c.args.node.level c.args.node.entries.items c.deref_mut.result.now c.args.at c.args.lower c.index-deref_mut-at.result c.requires.within c.deref_mut.ensures.value c.requires.refers c.requires.beside
+    let level : c.match-beside.node.level ≡ c.args.node.now.level = elim c.match-beside.branch [ in-Some w ↦ ap (λ (x : Node g.row.D). x.level) w.node-is | in_default w ↦ ap (λ (x : Node g.row.D). x.level) w.node-is ] in
+    let new : Above c.args.node.now.level c.args.node.now.entries.items c.args.at c.args.lower c.match-beside.node.entries.items = elim c.match-beside.branch [
+      | in-Some w ↦ above_some c.args.node.now.level c.args.node.now.entries.items c.deref_mut.result.now c.args.at c.args.lower c.index-deref_mut-at.result c.requires.within c.deref_mut.ensures.value c.requires.refers c.requires.beside
           _ _ _ refl w.in-Some.is (ap (λ (x : Node g.row.D). x.entries.items) w.node-is ∙ w.push.ensures.items)
-      | in_default w ↦ above_none c.args.node.level c.args.node.entries.items c.deref_mut.result.now c.args.at c.args.lower c.index-deref_mut-at.result c.requires.within c.deref_mut.ensures.value c.requires.refers c.requires.beside
+      | in_default w ↦ above_none c.args.node.now.level c.args.node.now.entries.items c.deref_mut.result.now c.args.at c.args.lower c.index-deref_mut-at.result c.requires.within c.deref_mut.ensures.value c.requires.refers c.requires.beside
           _ w.in_default.not-Some (ap (λ (x : Node g.row.D). x.entries.items) w.node-is)
     ] in
     subst (λ l. IfOk c.settle.result (λ s. IsPageMap c.settle.new.cache

@@ -5,7 +5,7 @@ use Rattle.tree_node.specs.Nodes.{Item, item_of}
 use Rattle.tree_node.specs.declared.node.Entry.{Entry}
 use Rattle.reinsert.proofs.SettledLemmas.{All-part, spellable_of, split_settled}
 use Rattle.node_page.proofs.NodeLemmas.{at_error}
-use Rattle.reinsert.specs.Faults.{IsChangeFault}
+use Rattle.node_page.specs.Faults.{IsChangeFault}
 use Rattle.reinsert.proofs.settle.split_off.Goals as goal
 
 pub write_both-requires : goal.write_both-requires
@@ -16,10 +16,10 @@ write_both-requires g c = (
     (
       c.requires.open,
       (
-        spellable_of c.args.node.level c.split-first.result.0.items (omega (arith, c.split-first.ensures.whole, c.split-first.ensures.full, c.requires.most)) (omega (arith, c.split-first.ensures.full))
-            (All-part c.args.node.level c.args.node.entries.items c.split-first.result.0.items _ c.split-first.ensures.divided.first_is c.requires.refers),
-        spellable_of c.args.node.level c.split-first.result.1.items (omega (arith, c.split-first.ensures.whole, c.split-first.ensures.full, c.requires.most)) (omega (arith, c.split-first.ensures.full))
-            (All-part c.args.node.level c.args.node.entries.items c.split-first.result.1.items _ c.split-first.ensures.divided.second_is c.requires.refers),
+        spellable_of c.args.node.now.level c.split-first.result.0.items (omega (arith, c.split-first.ensures.whole, c.split-first.ensures.full, c.requires.most)) (omega (arith, c.split-first.ensures.full))
+            (All-part c.args.node.now.level c.args.node.now.entries.items c.split-first.result.0.items _ c.split-first.ensures.divided.first_is c.requires.refers),
+        spellable_of c.args.node.now.level c.split-first.result.1.items (omega (arith, c.split-first.ensures.whole, c.split-first.ensures.full, c.requires.most)) (omega (arith, c.split-first.ensures.full))
+            (All-part c.args.node.now.level c.args.node.now.entries.items c.split-first.result.1.items _ c.split-first.ensures.divided.second_is c.requires.refers),
       ),
     ),
   ),
@@ -36,7 +36,7 @@ returns-clause-settled g c = λ h top branches held are can.
     ∙ ap (λ r. let i : Item = record { bounds = least_box g.row.D (map item_of second); reference = r } in i) c.from.ensures in
     let written = c.in_ok-number.ensures.written h can.live in (
       written.0,
-      split_settled c.args.m_max top c.args.node.level c.args.waiting.now.called branches c.args.node.entries.items _ _ c.args.page _ _ _ _ are can
+      split_settled c.args.m_max top c.args.node.now.level c.args.waiting.now.called branches c.args.node.now.entries.items _ _ c.args.page _ _ _ _ are can
           c.in_ok-number.number (record { bounds = c.least-other.result; reference = c.from.result }) first second c.split-first.ensures.divided
           c.requires.many held
           (c.least-bounds.ensures ∙ ap (λ (es : List (Entry g.row.D)). least_box g.row.D (map item_of es)) c.as_slice.ensures.value) refl item

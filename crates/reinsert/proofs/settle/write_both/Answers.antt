@@ -6,7 +6,7 @@ use Rattle.tree_node.specs.Nodes.{content_of}
 use Rattle.node_page.specs.Standing.{PageMap}
 use Rattle.node_page.proofs.NodeLemmas.{at_error}
 use Rattle.node_page.proofs.PartLemmas.{there_not_missing}
-use Rattle.reinsert.specs.Faults.{IsNoDamage, IsChangeFault}
+use Rattle.node_page.specs.Faults.{IsNoDamage, IsChangeFault}
 use Rattle.reinsert.proofs.FaultLemmas.{spent, one_more}
 use Rattle.reinsert.proofs.SettledLemmas.{is_some_from, splits_off}
 use Rattle.reinsert.proofs.settle.write_both.Goals as goal

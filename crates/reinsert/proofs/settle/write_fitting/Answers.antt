@@ -6,19 +6,19 @@ use Rattle.tree_node.specs.declared.node.Entry.{Entry}
 use Rattle.reinsert.proofs.SettledLemmas.{fits_settled, spellable_of}
 use Rattle.node_page.proofs.NodeLemmas.{at_error}
 use Rattle.reinsert.proofs.FaultLemmas.{one_more}
-use Rattle.reinsert.specs.Faults.{IsChangeFault}
+use Rattle.node_page.specs.Faults.{IsChangeFault}
 use Rattle.reinsert.proofs.settle.write_fitting.Goals as goal
 
 pub write_node-requires : goal.write_node-requires
 write_node-requires g c = (
   search rules,
-  (c.requires.dims, (c.requires.open, spellable_of c.args.node.level c.args.node.entries.items c.requires.few c.requires.some c.requires.refers)),
+  (c.requires.dims, (c.requires.open, spellable_of c.args.node.now.level c.args.node.now.entries.items c.requires.few c.requires.some c.requires.refers)),
 )
 
 pub returns-clause-settled : goal.returns-clause-settled
 returns-clause-settled g c = λ h most top called waits branches few are can. (
   c.write_node.ensures.sound h can.live,
-  fits_settled most top c.args.node.level called branches c.args.node.entries.items _ _ c.args.page _ _ _ _ are can few
+  fits_settled most top c.args.node.now.level called branches c.args.node.now.entries.items _ _ c.args.page _ _ _ _ are can few
       (c.least-bounds.ensures ∙ ap (λ (es : List (Entry g.row.D)). least_box g.row.D (map item_of es)) c.as_slice.ensures.value) refl refl refl
       (c.in_ok-write_node.ensures.written h.honest can.live) (c.write_node.ensures.others h.honest can.live),
 )

@@ -12,22 +12,15 @@ use Rattle.rstar_split.proofs.SortLaws.{length-order_of, below-order_of}
 use Rattle.rstar_split.proofs.SplitParts.{divided_whole}
 use Rattle.rstar_split.proofs.groups.split.Goals as goal
 
-pub split_at-requires : goal.split_at-requires
-split_at-requires g c =
-    let all = c.as_slice-all.result.now in
-    let best = c.best_axis-best.result in
-    let whole = ap length (c.as_slice.ensures.value ∙ c.best_axis-best.ensures.axis.places) ∙ length-order_of (items_of all) best.number best.cut.bound in
-    omega (arith, whole, c.best_axis-best.ensures.axis.second_full)
-
 pub picked-requires : goal.picked-requires
 picked-requires g c =
     let all = c.as_slice-all.result.now in
     let best = c.best_axis-best.result in
     let long = length-map all item_of in
     let P : ℕ → Type 0 = λ p. p < length (items_of all) in
-    let is = c.as_slice.ensures.value ∙ c.best_axis-best.ensures.axis.places in
-    let good : All P c.as_slice.result.now = subst (All P) (sym is) (below-order_of (items_of all) best.number best.cut.bound) in
-    let front : All P c.split_at.result.0.now = subst (All P) (sym c.split_at.ensures.front) (All-take P best.cut.size c.as_slice.result.now good) in
+    let is = c.best_axis-best.ensures.order in
+    let good : All P c.best_axis-best.new.places = subst (All P) (sym is) (below-order_of (items_of all) best.number best.cut.bound) in
+    let front : All P c.split_at.result.0.now = subst (All P) (sym c.split_at.ensures.front) (All-take P best.cut.size c.best_axis-best.new.places good) in
     let few : length c.split_at.result.0.now ≤ 101 = omega (arith, c.split_at.ensures.front_len, c.best_axis-best.ensures.axis.second_full, long, ap length c.as_slice-all.ensures.value, c.requires.count, c.requires.most) in
     (search rules, (search rules, (few, λ k h. omega (arith, front k 0 h, long))))
 
@@ -37,10 +30,10 @@ picked-requires-2 g c =
     let best = c.best_axis-best.result in
     let long = length-map all item_of in
     let P : ℕ → Type 0 = λ p. p < length (items_of all) in
-    let is = c.as_slice.ensures.value ∙ c.best_axis-best.ensures.axis.places in
+    let is = c.best_axis-best.ensures.order in
     let whole = ap length is ∙ length-order_of (items_of all) best.number best.cut.bound in
-    let good : All P c.as_slice.result.now = subst (All P) (sym is) (below-order_of (items_of all) best.number best.cut.bound) in
-    let back : All P c.split_at.result.1.now = subst (All P) (sym c.split_at.ensures.back) (All-drop P best.cut.size c.as_slice.result.now good) in
+    let good : All P c.best_axis-best.new.places = subst (All P) (sym is) (below-order_of (items_of all) best.number best.cut.bound) in
+    let back : All P c.split_at.result.1.now = subst (All P) (sym c.split_at.ensures.back) (All-drop P best.cut.size c.best_axis-best.new.places good) in
     let few : length c.split_at.result.1.now ≤ 101 = omega (arith, c.split_at.ensures.back_len, whole, long, ap length c.as_slice-all.ensures.value, c.requires.count, c.requires.most) in
     (search rules, (search rules, (few, λ k h. omega (arith, back k 0 h, long))))
 
@@ -58,7 +51,7 @@ returns-clause-divided g c =
     let axis = c.best_axis-best.ensures.axis in
     let m : c.max-m.result ≡ least_entries most = search rules in
     let o : List ℕ = order_of (items_of es) number bound in
-    let places : c.as_slice.result.now ≡ o = c.as_slice.ensures.value ∙ axis.places ∙ ap (λ xs. order_of (items_of xs) number bound) is in
+    let places : c.best_axis-best.new.places ≡ o = c.best_axis-best.ensures.order ∙ ap (λ xs. order_of (items_of xs) number bound) is in
     let AxisLeast : List (Entry D) → ℕ → Type 0 = λ xs n. IsFirstLeast D (λ a. axis_margin D (items_of xs) n a ∷ []) number in
     let Least : List (Entry D) → ℕ → Type 0 = λ xs n. (b : Bound) (s : ℕ) → n ≤ s → s + n ≤ length (items_of xs) → AtMost (cut_key D (items_of xs) number bound best.cut.size) (cut_key D (items_of xs) number b s) in
     let same = ap (λ xs. length (items_of xs)) is in
@@ -82,21 +75,3 @@ returns-clause-divided g c =
 
 pub returns-clause-all : goal.returns-clause-all
 returns-clause-all g c = divided_whole g.row.D c.args.m_max _ _ _ (returns-clause-divided g c)
-
-pub returns-clause-whole : goal.returns-clause-whole
-returns-clause-whole g c =
-    let all = c.as_slice-all.result.now in
-    let best = c.best_axis-best.result in
-    let whole = ap length (c.as_slice.ensures.value ∙ c.best_axis-best.ensures.axis.places) ∙ length-order_of (items_of all) best.number best.cut.bound in
-    omega (arith, whole, length-map all item_of, ap length c.as_slice-all.ensures.value, c.split_at.ensures.front_len, c.split_at.ensures.back_len, c.picked.ensures.count, c.picked-2.ensures.count, c.requires.count, c.best_axis-best.ensures.axis.second_full)
-
-pub returns-clause-full : goal.returns-clause-full
-returns-clause-full g c =
-    let all = c.as_slice-all.result.now in
-    let best = c.best_axis-best.result in
-    let m : c.max-m.result ≡ least_entries c.args.m_max = search rules in
-    let whole = ap length (c.as_slice.ensures.value ∙ c.best_axis-best.ensures.axis.places) ∙ length-order_of (items_of all) best.number best.cut.bound in
-    let axis = c.best_axis-best.ensures.axis in (
-      omega (arith, m, c.split_at.ensures.front_len, c.picked.ensures.count, axis.first_full),
-      omega (arith, m, whole, c.split_at.ensures.back_len, c.picked-2.ensures.count, axis.second_full),
-    )

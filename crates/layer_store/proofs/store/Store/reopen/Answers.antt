@@ -47,7 +47,7 @@ returns-in-Err-clause-step g c =
     let rests = left_rests old.file stops.now there.now in
     subst (λ (now : AfterStop). Leaves c.settle.new.self.file (record { now = now; since = stops.since; so_far = old.table ∷ stops.so_far })) (sym (closing_refused old.table stops.now c.in-Err.fault c.as_refusal.result c.as_refusal.ensures))
     (closing_leaves old.file c.settle.new.self.file old.table stops (Perhaps (old.table ∷ ts)) (settled.stops ts sound rests) there (settled.rests ts sound rests) (λ u is. is)))
-    (λ sound. gave_up_lawful (HasRisen before now) (IsSpent (next_of c.settle.new.self.file)) c.args.self.now.stored.table c.settle.new.self.table Reopen c.as_refusal.result
+    (λ sound. gave_up_lawful (HasRisen before now) (IsSpent (next_of c.settle.new.self.file)) c.args.self.now.stored.table c.settle.new.self.table Reopen c.as_refusal.result tt
     (subst (IsFault (HasRisen before now) (IsSpent (next_of c.settle.new.self.file) × MayWrite c.args.self.now.stored.table Reopen)) (sym c.as_refusal.ensures)
     (fault_of_command before now (IsSpent (next_of c.settle.new.self.file) × MayWrite c.args.self.now.stored.table Reopen) c.in-Err.fault (settled.faults sound.map) (risen_of before now c.in-Err.fault settled.cause.refused) (λ is. (settled.no_pages (ap Err is), inl refl))))
     settled.table)

@@ -1,0 +1,152 @@
+-- The child that an object is looked for in, while the ones before it lacked it.
+use Rattle.std.proofs.Common.{Result, Ok, Err, IfOk, IfErr, IfSome, IsNone, Option, None, ◌≡◌, ◌∙◌, ℕ, zero, suc, ◌+◌, ◌-◌, ◌<◌, ◌≤◌, IsSome, Some, List, [], length, map, get_or, refl, sym, ap, subst, arith}
+use Rattle.std.specs.List.{Contains}
+use Rattle.std.proofs.lemmas.List.{get_or-map, length-map}
+use Rattle.box_math.specs.Bounds.{Bounds, Within}
+use Rattle.tree_node.specs.declared.node.Entry.{Entry}
+use Rattle.tree_node.specs.declared.node.Node.{Node}
+use Rattle.tree_node.specs.declared.node.Root.{Root}
+use Rattle.tree_node.specs.Nodes.{Item, item_of}
+use Rattle.tree_node.specs.Trees.{Row, objects_in, row_items}
+use Rattle.tree_node.proofs.RowLemmas.{all_dropped, row_drop}
+use Rattle.node_page.specs.Standing.{PageMap, HasNode, RowStands, Stands, node_in}
+use Rattle.node_page.proofs.PartLemmas.{moves_from}
+use Rattle.node_page.proofs.StandingLemmas.{node_stays, page_of_node, row_stays}
+use Rattle.reinsert.specs.Children.{Child, child_at, occurs_at}
+use Rattle.reinsert.specs.Placed.{Held}
+use Rattle.reinsert.proofs.ChildLemmas.{HasChild, has_child}
+use Rattle.reinsert.proofs.PlaceLemmas.{items_read}
+use Rattle.condense.specs.Taken.{HasTaken, IsTakenFrom, LeadsTo, TookBelow, tree_at}
+use Rattle.condense.proofs.LeadLemmas.{child_contains, leads_later, leaf_lacks, leaf_taken}
+
+-- the child in a place stands, in pages that are as they were
+pub record IsBelow (dims : ℕ) (m m0 : PageMap) (at : Root) (row : Row) (entries : List Item) (place : ℕ) (below : Root) : Type 0 where
+  pub are : row_items row ≡ entries
+  pub h : HasChild dims m at.level row place
+  pub level : below.level ≡ at.level - 1
+  pub stands : Stands dims m0 (tree_at below h.from.row)
+
+pub is_below : {dims : ℕ} (m m0 : PageMap) (at : Root) (row : Row) (level : ℕ) (entries : List (Entry dims)) (place : ℕ) (below : Root) → Stands dims m (tree_at at row) → ((n : ℕ) → m0 n ≡ m n)
+    → (IsSome (m at.page) → node_in dims (m at.page) ≡ Some (record { level = level; entries = map item_of entries })) → level ≡ at.level → ¬ (at.level ≡ 0) → place < length entries
+    → ((d : Item) → below.page ≡ (get_or (map item_of entries) place d).reference) → below.level ≡ level - 1 → IsBelow dims m m0 at row (map item_of entries) place below
+is_below {dims} m m0 at row level entries place below stands same read is high within refers low =
+    let are = items_read dims m at.page at.level level row (map item_of entries) stands.root (read (page_of_node dims (m at.page) _ stands.root)) in
+    let h = has_child dims m at.level row place (omega (arith, high)) (omega (arith, within, length-map entries (item_of {D = dims}), ap length are)) stands.below in
+    let d : Item = record { bounds = record { low = []; high = [] }; reference = 0 } in
+    let page : below.page ≡ h.from.page = refers d ∙ ap (λ (xs : List Item). (get_or xs place d).reference) (sym are) ∙ h.reference d in
+    let down : at.level - 1 ≡ below.level = omega (arith, low, is) in
+    let whole : Stands dims m0 (record { page = h.from.page; level = at.level - 1; row = h.from.row }) = record {
+      root = node_stays dims m m0 h.from.page (at.level - 1) h.from.row (same h.from.page) h.node;
+      below = row_stays dims m m0 (at.level - 1) h.from.row (λ n p. same n) h.stands;
+      distinct = λ n. omega (arith, h.fewer n, stands.distinct n);
+    } in
+    record {
+      are = are;
+      h = h;
+      level = sym down;
+      stands = subst (λ l. Stands dims m0 (record { page = below.page; level = l; row = h.from.row })) down
+          (subst (λ n. Stands dims m0 (record { page = n; level = at.level - 1; row = h.from.row })) (sym page) whole);
+    }
+
+module _ (dims most : ℕ) (m m0 : PageMap) (at : Root) (row : Row) (entries : List Item) (place : ℕ) (below : Root) (b : IsBelow dims m m0 at row entries place below) (id : ℕ) (bounds : Bounds) where
+  -- what was taken out below the child was taken out below the node
+  pub took_below : (m1 : PageMap) (level : ℕ) (held0 held held1 : List Held) (lower : List Item) → Stands dims m (tree_at at row) → ((n : ℕ) → m0 n ≡ m n) → level ≡ at.level → held0 ≡ held
+      → HasTaken dims most m0 m1 below.level id bounds b.h.from.row held0 held1 lower → TookBelow dims most m m1 at.page level id bounds row place held held1 entries lower
+  took_below m1 level held0 held held1 lower stands same is before done =
+      let l : below.level ≡ level - 1 = omega (arith, b.level, is) in
+      let here : HasTaken dims most m0 m1 (level - 1) id bounds b.h.from.row held held1 lower =
+      subst (λ hs. HasTaken dims most m0 m1 (level - 1) id bounds b.h.from.row hs held1 lower) before (subst (λ k. HasTaken dims most m0 m1 k id bounds b.h.from.row held0 held1 lower) l done) in
+      record {
+        stands = subst (λ k. Stands dims m (record { page = at.page; level = k; row = row })) (sym is) stands;
+        are = b.are;
+        from = b.h.from;
+        there = b.h.there;
+        taken = record {
+          out = here.out;
+          takes_out = here.takes_out;
+          below = here.below;
+          kept = here.kept;
+          moves = moves_from m m0 m1 _ _ same here.moves;
+          entries = here.entries;
+          holds = here.holds;
+        };
+      }
+
+  -- what the child has the node has
+  pub below_contained : ¬ Contains (objects_in row) (id, bounds) → ¬ Contains (objects_in b.h.from.row) (id, bounds)
+  below_contained lacks has = lacks (child_contains dims most id bounds row place b.h.from b.h.there has)
+
+  -- where it lacks the object, or its box does not enclose the object's, the object is later
+  pub later_than : ¬ (Within dims bounds (get_or entries place (record { bounds = bounds; reference = 0 })).bounds × LeadsTo dims id bounds b.h.from.row)
+      → LeadsTo dims id bounds (row_drop place row) → LeadsTo dims id bounds (row_drop (place + 1) row)
+  later_than none leads =
+      let d : Item = record { bounds = bounds; reference = 0 } in
+      let step : suc place ≡ place + 1 = omega arith in
+      subst (λ k. LeadsTo dims id bounds (row_drop k row)) step
+      (leads_later dims most id bounds row place b.h.from d b.h.there (subst (λ (xs : List Item). ¬ (Within dims bounds (get_or xs place d).bounds × LeadsTo dims id bounds b.h.from.row)) (sym b.are) none) leads)
+
+-- ---- a leaf
+
+leaf_read : {dims : ℕ} (m : PageMap) (at : Root) (row : Row) (level : ℕ) (entries : List (Entry dims)) → Stands dims m (tree_at at row)
+    → (IsSome (m at.page) → node_in dims (m at.page) ≡ Some (record { level = level; entries = map item_of entries })) → row_items row ≡ map item_of entries
+leaf_read {dims} m at row level entries stands read = items_read dims m at.page at.level level row (map item_of entries) stands.root (read (page_of_node dims (m at.page) _ stands.root))
+
+pub taken_here : {D : ℕ} (o : Option (Node D)) (X : Type 0) (most : ℕ) (m m' : PageMap) (at : Root) (id : ℕ) (bounds : Bounds) (row : Row) (held : List Held) (level : ℕ) (entries : List (Entry D)) → X → at.level ≡ 0 → Stands D m (tree_at at row) → ((n : ℕ) → m' n ≡ m n)
+    → (IsSome (m at.page) → node_in D (m at.page) ≡ Some (record { level = level; entries = map item_of entries })) → IfSome o (λ n. IsTakenFrom id bounds (map item_of entries) (map item_of n.entries.items))
+    → IfSome o (λ n. X × HasTaken D most m m' at.level id bounds row held held (map item_of n.entries.items))
+taken_here None X most m m' at id bounds row held level entries x low stands same read taken = tt
+taken_here {D} (Some n) X most m m' at id bounds row held level entries x low stands same read taken =
+    let below : RowStands D m 0 row = subst (λ l. RowStands D m l row) low stands.below in (
+      x,
+      subst (λ l. HasTaken D most m m' l id bounds row held held (map item_of n.entries.items)) (sym low)
+          (leaf_taken D most id bounds m m' row held held (map item_of entries) (map item_of n.entries.items) below same (leaf_read m at row level entries stands read) refl taken),
+    )
+
+pub found_leaf : {D : ℕ} (o : Option (Node D)) (most : ℕ) (m : PageMap) (at : Root) (id : ℕ) (bounds : Bounds) (row : Row) (level : ℕ) (entries : List (Entry D)) → at.level ≡ 0 → Stands D m (tree_at at row)
+    → (IsSome (m at.page) → node_in D (m at.page) ≡ Some (record { level = level; entries = map item_of entries }))
+    → (IsNone o → (k : ℕ) (d : Item) → k < length entries → ¬ (get_or (map item_of entries) k d ≡ record { bounds = bounds; reference = id })) → LeadsTo D id bounds row → ¬ (o ≡ None)
+found_leaf (Some n) most m at id bounds row level entries low stands read none leads is = absurd (cc)
+found_leaf {D} None most m at id bounds row level entries low stands read none leads is =
+    let are = leaf_read m at row level entries stands read in
+    let below : RowStands D m 0 row = subst (λ l. RowStands D m l row) low stands.below in
+    leaf_lacks D most id bounds m row below
+    (λ k d within found. none refl k d (omega (arith, within, ap length are, length-map entries (item_of {D = D}))) (ap (λ (xs : List Item). get_or xs k d) (sym are) ∙ found)) leads
+
+-- ---- a child whose box does not enclose the object's
+
+pub passed_by : {dims : ℕ} (most : ℕ) (m : PageMap) (at : Root) (row : Row) (level : ℕ) (entries now : List (Entry dims)) (place : ℕ) (e : Entry dims) (id : ℕ) (bounds : Bounds) → Stands dims m (tree_at at row)
+    → (IsSome (m at.page) → node_in dims (m at.page) ≡ Some (record { level = level; entries = map item_of entries })) → ¬ (at.level ≡ 0) → place < length entries → now ≡ entries → e ≡ get_or now place e → ¬ Within dims bounds e.bounds
+    → LeadsTo dims id bounds (row_drop place row) → LeadsTo dims id bounds (row_drop (place + 1) row)
+passed_by {dims} most m at row level entries now place e id bounds stands read high within is here out leads =
+    let are = leaf_read m at row level entries stands read in
+    let count : length (row_items row) ≡ length entries = ap length are ∙ length-map entries (item_of {D = dims}) in
+    let h = has_child dims m at.level row place (omega (arith, high)) (omega (arith, within, count)) stands.below in
+    let d : Item = record { bounds = bounds; reference = 0 } in
+    let this : get_or entries place e ≡ e = sym (here ∙ ap (λ xs. get_or xs place e) is) in
+    let item : get_or (row_items row) place d ≡ item_of e = ap (λ (xs : List Item). get_or xs place d) are ∙ get_or-map item_of entries place e d within ∙ ap item_of this in
+    let step : suc place ≡ place + 1 = omega arith in
+    subst (λ k. LeadsTo dims id bounds (row_drop k row)) step
+    (leads_later dims most id bounds row place h.from d h.there (λ both. out (subst (λ (x : Item). Within dims bounds x.bounds) item both.0)) leads)
+
+-- after the last entry there is nothing
+pub nothing_later : {dims : ℕ} (m : PageMap) (at : Root) (row : Row) (level : ℕ) (entries : List (Entry dims)) (place id : ℕ) (bounds : Bounds) → Stands dims m (tree_at at row)
+    → (IsSome (m at.page) → node_in dims (m at.page) ≡ Some (record { level = level; entries = map item_of entries })) → length entries ≤ place → ¬ LeadsTo dims id bounds (row_drop place row)
+nothing_later {dims} m at row level entries place id bounds stands read over leads =
+    let are = leaf_read m at row level entries stands read in
+    subst (LeadsTo dims id bounds) (all_dropped place row (omega (arith, over, ap length are, length-map entries (item_of {D = dims})))) leads
+
+-- ---- answers
+
+pub none_of_some : {A E : Type 0} (r : Result (Option A) E) (P : Type 0) → IfOk r (λ o. ¬ (o ≡ None)) → IfOk r (λ o. o ≡ None → P)
+none_of_some (Ok o) P some = λ is. absurd (some is)
+none_of_some (Err e) P some = tt
+
+pub never_err : {A E : Type 0} (r : Result A E) (P : E → Type 0) → ⊥ → IfErr r P
+never_err r P never = absurd never
+
+pub at_some : {A : Type 0} (o : Option A) (x : A) (P : A → Type 0) → o ≡ Some x → IfSome o P → P x
+at_some o x P is h = subst (λ p. IfSome p P) is h
+
+pub is_none : {A : Type 0} (o : Option A) → ((x : A) → o ≡ Some x → ⊥) → o ≡ None
+is_none None h = refl
+is_none (Some x) h = absurd (h x refl)

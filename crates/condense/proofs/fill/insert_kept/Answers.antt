@@ -1,0 +1,81 @@
+-- The goals of `insert_kept` that are proved by hand.
+use Rattle.std.proofs.Common.{◌≡◌, ◌∙◌, ℕ, ◌+◌, List, None, Some, map, refl, sym, ap, subst, arith}
+use Rattle.page_cache.specs.Cache.{pages}
+use Rattle.page_cache.specs.Calls.{changes_in_turn, no_call_changes}
+use Rattle.tree_node.specs.Nodes.{item_of}
+use Rattle.tree_node.specs.Rows.{occurs_waiting}
+use Rattle.node_page.specs.Standing.{PageMap}
+use Rattle.reinsert.specs.Placed.{Held}
+use Rattle.condense.specs.Taken.{held_now, orphan_held}
+use Rattle.condense.proofs.FillLemmas.{Filled, can_insert, comes, comes_shaped, filled_end, filled_first, filled_more}
+use Rattle.condense.proofs.fill.insert_kept.Goals as goal
+
+pub inserting-init : goal.inserting-init
+inserting-init g c = (
+  no_call_changes c.args.cache.now,
+  c.requires.root,
+  λ h t ws elsewhere can.
+      (h, filled_first g.row.D c.args.m_max (pages c.args.cache.now) t ws elsewhere c.args.root (held_now c.args.kept.now) can),
+)
+
+pub returns-then-orphan-now-clause-faults : goal.returns-then-orphan-now-clause-faults
+returns-then-orphan-now-clause-faults g c = λ h t ws elsewhere can shaped.
+    let D = g.row.D in
+    let m : PageMap = pages c.args.cache.now in
+    let m1 : PageMap = pages c.inserting.cache in
+    let so_far = c.inserting.invariant.2 h t ws elsewhere can in
+    let f = subst (λ (hs : List Held). Filled D c.args.m_max m m1 t ws elsewhere c.inserting.now hs) c.in-Some.ensures.some so_far.1 in
+    let item = item_of c.in-Some.orphan.entry in
+    let level = c.in-Some.orphan.level in
+    let held = held_now c.next.new.self in
+    let k = comes D c.args.m_max m m1 t ws elsewhere c.inserting.now item level held f in
+    let s = comes_shaped D c.args.m_max m m1 t ws elsewhere c.inserting.now item level held f k shaped in
+    absurd (omega (arith, s.0, f.can.at.level, c.if-orphan-now.true))
+
+pub returns-in-Err-clause-faults : goal.returns-in-Err-clause-faults
+returns-in-Err-clause-faults g c = λ h t ws elsewhere can shaped.
+    let D = g.row.D in
+    let m : PageMap = pages c.args.cache.now in
+    let m1 : PageMap = pages c.inserting.cache in
+    let so_far = c.inserting.invariant.2 h t ws elsewhere can in
+    let f = subst (λ (hs : List Held). Filled D c.args.m_max m m1 t ws elsewhere c.inserting.now hs) c.in-Some.ensures.some so_far.1 in
+    let item = item_of c.in-Some.orphan.entry in
+    let level = c.in-Some.orphan.level in
+    let held = held_now c.next.new.self in
+    let k = comes D c.args.m_max m m1 t ws elsewhere c.inserting.now item level held f in
+    let s = comes_shaped D c.args.m_max m m1 t ws elsewhere c.inserting.now item level held f k shaped in
+    c.in-Err.ensures.faults so_far.0 f.mid k.w.branch (λ n. occurs_waiting n k.ws' + elsewhere n)
+    (can_insert D c.args.m_max m m1 t ws elsewhere c.inserting.now item level held f k (omega (arith, c.if-orphan-now.false))) s.1 s.2 s.3
+
+pub inserting-preserved : goal.inserting-preserved
+inserting-preserved g c = (
+  changes_in_turn c.args.cache.now c.inserting.cache c.insert_with.new.cache None c.inserting.invariant.0 c.in-Ok.ensures.alters.changes,
+  record { low = c.in-Ok.ensures.root.low; page = c.in-Ok.ensures.root.page },
+  λ h t ws elsewhere can.
+      let D = g.row.D in
+      let m : PageMap = pages c.args.cache.now in
+      let m1 : PageMap = pages c.inserting.cache in
+      let so_far = c.inserting.invariant.2 h t ws elsewhere can in
+      let f = subst (λ (hs : List Held). Filled D c.args.m_max m m1 t ws elsewhere c.inserting.now hs) c.in-Some.ensures.some so_far.1 in
+      let item = item_of c.in-Some.orphan.entry in
+      let level = c.in-Some.orphan.level in
+      let held = held_now c.next.new.self in
+      let k = comes D c.args.m_max m m1 t ws elsewhere c.inserting.now item level held f in
+      let done = c.in-Ok.ensures.inserted so_far.0 f.mid k.w.branch (λ n. occurs_waiting n k.ws' + elsewhere n)
+      (can_insert D c.args.m_max m m1 t ws elsewhere c.inserting.now item level held f k (omega (arith, c.if-orphan-now.false))) in (
+        done.0,
+        filled_more D c.args.m_max m m1 t ws elsewhere c.inserting.now item level held f k (pages c.insert_with.new.cache) c.in-Ok.after c.in-Ok.ensures.root.rises (omega (arith, c.requires.most)) done.1,
+      ),
+)
+
+pub returns-clause-filled : goal.returns-clause-filled
+returns-clause-filled g c = λ h t ws elsewhere can.
+    let so_far = c.inserting.invariant.2 h t ws elsewhere can in (
+      so_far.0,
+      filled_end g.row.D c.args.m_max (pages c.args.cache.now) (pages c.inserting.cache) t ws elsewhere c.inserting.now (held_now c.inserting.kept) so_far.1
+          (ap (map (orphan_held {D = g.row.D})) (c.in_default.ensures.none refl)),
+    )
+
+pub returns-in-Err-clause-changes : goal.returns-in-Err-clause-changes
+returns-in-Err-clause-changes g c =
+    changes_in_turn c.args.cache.now c.inserting.cache c.insert_with.new.cache (Some c.in-Err.broken.cause) c.inserting.invariant.0 c.in-Err.ensures.alters.changes

@@ -1,0 +1,19 @@
+-- The goals of `leave_out` that are proved by hand.
+use Rattle.std.proofs.Common.{rules, ◌-◌, All, arith, subst, sym}
+use Rattle.tree_node.specs.declared.node.Entry.{Entry}
+use Rattle.node_page.specs.Layout.{IsReference}
+use Rattle.reinsert.proofs.AboveLemmas.{All-mapped}
+use Rattle.condense.proofs.CutLemmas.{cut_removed, items-removed}
+use Rattle.condense.proofs.put.leave_out.Goals as goal
+
+pub keep-requires : goal.keep-requires
+keep-requires g c =
+    let refers : All (λ (e : Entry g.row.D). IsReference c.args.lower.level e.reference) c.args.lower.entries.items =
+    subst (λ l. All (λ (e : Entry g.row.D). IsReference l e.reference) c.args.lower.entries.items) (sym c.requires.cut.level_is) (All-mapped (c.args.node.level - 1) c.args.lower.entries.items c.requires.cut.refers) in
+    (search rules, (search rules, (search rules, (omega (arith, c.requires.room, c.requires.few), refers))))
+
+pub returns-clause-cut : goal.returns-clause-cut
+returns-clause-cut g c = cut_removed c.args.node.level c.args.node.entries.items c.remove.new.self.items c.args.place c.requires.spellable c.requires.within c.remove.ensures.items
+
+pub returns-clause-entries : goal.returns-clause-entries
+returns-clause-entries g c = items-removed c.remove.new.self.items c.args.node.entries.items c.args.place c.remove.ensures.items

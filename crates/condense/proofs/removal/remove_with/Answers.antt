@@ -1,0 +1,129 @@
+-- The goals of `remove_with` that are proved by hand.
+use Rattle.std.proofs.Common.{rules, ◌≡◌, ◌∙◌, ℕ, ◌≤◌, ◌*◌, ◌+◌, length, Err, Ok, None, Some, IfErr, List, [], map, false, inl, inr, refl, sym, ap, subst, arith}
+use Rattle.std.specs.Prelude.{◌⊎◌}
+use Rattle.arrayvec.specs.ArrayVec.{array_vec_len}
+use Rattle.page_file.specs.Fault.{IsOfDevice}
+use Rattle.page_file.specs.declared.fault.Fault.TheVariants.{Damaged}
+use Rattle.page_cache.specs.Cache.{IsPageMap, pages}
+use Rattle.page_cache.specs.Calls.{AsksUntil, asks_changes, changes_in_turn}
+use Rattle.tree_node.specs.declared.node.Node.{Node}
+use Rattle.tree_node.specs.Nodes.{content_of, item_of}
+use Rattle.node_page.specs.Broken.{alters_so, before, changes_and_breaks, made_alters}
+use Rattle.node_page.specs.declared.broken.Broken.{Broken}
+use Rattle.node_page.specs.Standing.{PageMap, Stands}
+use Rattle.node_page.specs.Faults.{IsChangeFault, IsNoDamage}
+use Rattle.reinsert.proofs.BrokenLemmas.{at_broken}
+use Rattle.reinsert.proofs.FaultLemmas.{one_more}
+use Rattle.condense.specs.Taken.{HasTaken, IsCut, held_now, orphan_held, tree_at}
+use Rattle.condense.proofs.BelowLemmas.{at_some, is_none}
+use Rattle.condense.proofs.FreeLemmas.{stands_there}
+use Rattle.condense.proofs.LeadLemmas.{leads_there, takes_contained}
+use Rattle.condense.proofs.RemoveLemmas.{keeps_all, refused_so, took_out}
+use Rattle.condense.proofs.removal.remove_with.Goals as goal
+
+pub take_out-requires : goal.take_out-requires
+take_out-requires g c =
+    let room : array_vec_len c.begin.new.self.orphans + 39 * c.args.root.level ≤ 1560 = omega (arith, ap length c.begin.ensures, c.requires.root.low) in
+    search (rules, room)
+
+pub returns-in_err-node-clause-alters : goal.returns-in_err-node-clause-alters
+returns-in_err-node-clause-alters g c =
+    alters_so c.args.cache.now c.take_out.new.cache c.in_err-node.field-0.0 c.from_residual.result c.from_residual.ensures.1 c.in_err-node.ensures.alters.changes c.in_err-node.ensures.alters.untouched
+
+pub returns-in_err-node-clause-absent : goal.returns-in_err-node-clause-absent
+returns-in_err-node-clause-absent g c = λ h t elsewhere can lacks.
+    let stands = stands_there g.row.D (pages c.args.cache.now) c.args.root t can.at can.stands in
+    refused_so c.from_residual.result c.in_err-node.field-0.0 (λ (b : Broken). (b.touched ≡ false) × (IsOfDevice b.cause ⊎ (b.cause ≡ Damaged c.args.root.page))) c.from_residual.ensures.1
+    (c.in_err-node.ensures.absent h t.row stands lacks, inl (c.in_err-node.ensures.faults h t.row stands))
+
+pub returns-in_err-node-clause-faults : goal.returns-in_err-node-clause-faults
+returns-in_err-node-clause-faults g c = λ h t elsewhere can shape boxes has.
+    let stands = stands_there g.row.D (pages c.args.cache.now) c.args.root t can.at can.stands in
+    at_broken c.from_residual.result c.in_err-node.field-0.0 (λ (b : Broken). IsNoDamage c.take_out.new.cache b.cause) c.from_residual.ensures.1 (inl (c.in_err-node.ensures.faults h t.row stands))
+
+pub returns-in_err-node-clause-other_faults : goal.returns-in_err-node-clause-other_faults
+returns-in_err-node-clause-other_faults g c =
+    at_broken c.from_residual.result c.in_err-node.field-0.0 (λ (b : Broken). IsChangeFault b.cause) c.from_residual.ensures.1 (one_more _ _ _ c.in_err-node.ensures.other_faults)
+
+pub returns-in_default-clause-alters : goal.returns-in_default-clause-alters
+returns-in_default-clause-alters g c =
+    let old = c.args.cache.now in
+    let new = c.take_out.new.cache in
+    let asks = (c.in_ok-node.ensures.none (is_none c.in_ok-node.field-0 c.in_default.not-Some)).0 in
+    let told : AsksUntil old new (Some (Damaged c.args.root.page)) = record { gate = asks.gate; map = asks.map; capacity = asks.capacity; looks = asks.looks; faults = asks.faults } in
+    alters_so old new (before (Damaged c.args.root.page)) (Err c.from.result) c.from.ensures (asks_changes old new (Some (Damaged c.args.root.page)) told) (λ untouched. asks.map)
+
+pub returns-in_default-clause-absent : goal.returns-in_default-clause-absent
+returns-in_default-clause-absent g c = λ h t elsewhere can lacks.
+    (ap (λ (b : Broken). b.touched) c.from.ensures, inr (ap (λ (b : Broken). b.cause) c.from.ensures))
+
+pub returns-in_default-clause-faults : goal.returns-in_default-clause-faults
+returns-in_default-clause-faults g c = λ h t elsewhere can shape boxes has.
+    let stands = stands_there g.row.D (pages c.args.cache.now) c.args.root t can.at can.stands in
+    absurd (c.in_ok-node.ensures.found h t.row stands (leads_there g.row.D c.args.m_max c.args.id c.args.bounds.now t.row shape.below has) (is_none c.in_ok-node.field-0 c.in_default.not-Some))
+
+pub put_root-requires : goal.put_root-requires
+put_root-requires g c =
+    let gate = c.in_ok-node.ensures.alters.changes.gate.gate ∙ c.requires.open in
+    let cut : IsCut c.args.root.level (content_of c.in-Some.node) = at_some c.in_ok-node.field-0 c.in-Some.node (λ (n : Node g.row.D). IsCut c.args.root.level (content_of n)) c.in-Some.is c.in_ok-node.ensures.cut in
+    search (rules, gate, cut)
+
+pub returns-in-Ok-clause-alters : goal.returns-in-Ok-clause-alters
+returns-in-Ok-clause-alters g c =
+    made_alters c.args.cache.now c.put_root.new.cache c.in-Ok.after (changes_in_turn c.args.cache.now c.take_out.new.cache c.put_root.new.cache None c.in_ok-node.ensures.alters.changes c.in-Ok.ensures.changes)
+
+pub returns-in-Ok-clause-removed : goal.returns-in-Ok-clause-removed
+returns-in-Ok-clause-removed g c = λ h t elsewhere can.
+    let stands = stands_there g.row.D (pages c.args.cache.now) c.args.root t can.at can.stands in
+    let done = at_some c.in_ok-node.field-0 c.in-Some.node (λ (n : Node g.row.D). IsPageMap c.take_out.new.cache
+    × HasTaken g.row.D c.args.m_max (pages c.args.cache.now) (pages c.take_out.new.cache) c.args.root.level c.args.id c.args.bounds.now t.row (held_now c.begin.new.self) (held_now c.take_out.new.kept) (map item_of n.entries.items)) c.in-Some.is
+    (c.in_ok-node.ensures.taken h t.row stands) in
+    let took = took_out g.row.D c.args.m_max (pages c.args.cache.now) (pages c.take_out.new.cache) c.args.root t elsewhere c.args.id c.args.bounds.now (held_now c.begin.new.self) (held_now c.take_out.new.kept)
+    (map (item_of {D = g.row.D}) c.in-Some.node.entries.items) can (ap (map (orphan_held {D = g.row.D})) c.begin.ensures) done.1 in
+    c.in-Ok.ensures.removed done.0 (pages c.args.cache.now) t elsewhere c.args.id c.args.bounds.now took
+
+pub returns-in-Ok-clause-shape : goal.returns-in-Ok-clause-shape
+returns-in-Ok-clause-shape g c = λ h t elsewhere can shape boxes.
+    let stands = stands_there g.row.D (pages c.args.cache.now) c.args.root t can.at can.stands in
+    let done = at_some c.in_ok-node.field-0 c.in-Some.node (λ (n : Node g.row.D). IsPageMap c.take_out.new.cache
+    × HasTaken g.row.D c.args.m_max (pages c.args.cache.now) (pages c.take_out.new.cache) c.args.root.level c.args.id c.args.bounds.now t.row (held_now c.begin.new.self) (held_now c.take_out.new.kept) (map item_of n.entries.items)) c.in-Some.is
+    (c.in_ok-node.ensures.taken h t.row stands) in
+    let took = took_out g.row.D c.args.m_max (pages c.args.cache.now) (pages c.take_out.new.cache) c.args.root t elsewhere c.args.id c.args.bounds.now (held_now c.begin.new.self) (held_now c.take_out.new.kept)
+    (map (item_of {D = g.row.D}) c.in-Some.node.entries.items) can (ap (map (orphan_held {D = g.row.D})) c.begin.ensures) done.1 in
+    keeps_all {E = Broken} (Ok c.in-Ok.after) (IsPageMap c.put_root.new.cache) g.row.D c.args.m_max (pages c.args.cache.now) (pages c.put_root.new.cache) elsewhere c.args.id c.args.bounds.now t (omega (arith, c.requires.most)) shape boxes
+    (c.in-Ok.ensures.removed done.0 (pages c.args.cache.now) t elsewhere c.args.id c.args.bounds.now took)
+
+pub returns-in-Ok-clause-absent : goal.returns-in-Ok-clause-absent
+returns-in-Ok-clause-absent g c = λ h t elsewhere can lacks.
+    let stands = stands_there g.row.D (pages c.args.cache.now) c.args.root t can.at can.stands in
+    let done = at_some c.in_ok-node.field-0 c.in-Some.node (λ (n : Node g.row.D). IsPageMap c.take_out.new.cache
+    × HasTaken g.row.D c.args.m_max (pages c.args.cache.now) (pages c.take_out.new.cache) c.args.root.level c.args.id c.args.bounds.now t.row (held_now c.begin.new.self) (held_now c.take_out.new.kept) (map item_of n.entries.items)) c.in-Some.is
+    (c.in_ok-node.ensures.taken h t.row stands) in
+    absurd (lacks (takes_contained g.row.D c.args.m_max c.args.id c.args.bounds.now c.args.root.level t.row done.1.out done.1.takes_out))
+
+pub returns-in-Err-clause-alters : goal.returns-in-Err-clause-alters
+returns-in-Err-clause-alters g c =
+    changes_and_breaks c.args.cache.now c.take_out.new.cache c.put_root.new.cache c.in-Err.fault (Err c.midway.result) c.midway.ensures c.in_ok-node.ensures.alters.changes c.in-Err.ensures.changes
+
+pub returns-in-Err-clause-absent : goal.returns-in-Err-clause-absent
+returns-in-Err-clause-absent g c = λ h t elsewhere can lacks.
+    let stands = stands_there g.row.D (pages c.args.cache.now) c.args.root t can.at can.stands in
+    let done = at_some c.in_ok-node.field-0 c.in-Some.node (λ (n : Node g.row.D). IsPageMap c.take_out.new.cache
+    × HasTaken g.row.D c.args.m_max (pages c.args.cache.now) (pages c.take_out.new.cache) c.args.root.level c.args.id c.args.bounds.now t.row (held_now c.begin.new.self) (held_now c.take_out.new.kept) (map item_of n.entries.items)) c.in-Some.is
+    (c.in_ok-node.ensures.taken h t.row stands) in
+    absurd (lacks (takes_contained g.row.D c.args.m_max c.args.id c.args.bounds.now c.args.root.level t.row done.1.out done.1.takes_out))
+
+pub returns-in-Err-clause-faults : goal.returns-in-Err-clause-faults
+returns-in-Err-clause-faults g c = λ h t elsewhere can shape boxes has.
+    let stands = stands_there g.row.D (pages c.args.cache.now) c.args.root t can.at can.stands in
+    let done = at_some c.in_ok-node.field-0 c.in-Some.node (λ (n : Node g.row.D). IsPageMap c.take_out.new.cache
+    × HasTaken g.row.D c.args.m_max (pages c.args.cache.now) (pages c.take_out.new.cache) c.args.root.level c.args.id c.args.bounds.now t.row (held_now c.begin.new.self) (held_now c.take_out.new.kept) (map item_of n.entries.items)) c.in-Some.is
+    (c.in_ok-node.ensures.taken h t.row stands) in
+    let took = took_out g.row.D c.args.m_max (pages c.args.cache.now) (pages c.take_out.new.cache) c.args.root t elsewhere c.args.id c.args.bounds.now (held_now c.begin.new.self) (held_now c.take_out.new.kept)
+    (map (item_of {D = g.row.D}) c.in-Some.node.entries.items) can (ap (map (orphan_held {D = g.row.D})) c.begin.ensures) done.1 in
+    subst (λ (b : Broken). IsNoDamage c.put_root.new.cache b.cause) (sym c.midway.ensures)
+    (c.in-Err.ensures.faults done.0 (pages c.args.cache.now) t elsewhere c.args.id c.args.bounds.now took shape boxes)
+
+pub returns-in-Err-clause-other_faults : goal.returns-in-Err-clause-other_faults
+returns-in-Err-clause-other_faults g c =
+    subst (λ (b : Broken). IsChangeFault b.cause) (sym c.midway.ensures) c.in-Err.ensures.other_faults

@@ -1,0 +1,57 @@
+//! What a removal has kept, inserted again.
+
+ghost use Rattle.std.specs.Prelude.{◌≡◌, ◌^◌, ◌<◌, ◌≤◌, ℕ, List, IfOk, IfErr};
+ghost use Rattle.box_math.specs.Bounds.{IsDims};
+ghost use Rattle.page_file.specs.declared.gate.Gate.TheVariants.{Open};
+ghost use Rattle.page_cache.specs.Cache.{IsPageMap, gate_of, pages};
+ghost use Rattle.page_cache.specs.Calls.{Changes};
+ghost use Rattle.tree_node.specs.Rows.{Waiter};
+ghost use Rattle.tree_node.specs.Trees.{Tree};
+ghost use Rattle.node_page.specs.Faults.{IsChangeFault, IsNoDamage};
+ghost use Rattle.condense.specs.Filled.{CanFill, CanFillShaped, FillsTo};
+ghost use Rattle.condense.specs.Removed.{IsRoot};
+ghost use Rattle.condense.specs.Taken.{held_now};
+
+use crate::kept::Kept;
+use block_device::BlockDevice;
+use page_cache::PageCache;
+use page_file::Fault;
+use reinsert::{Waiting, insert_with};
+use std::alloc::Allocator;
+use tree_node::Root;
+
+// Inserts what is kept, each entry on its own level.
+pub(crate) fn insert_kept<const D: usize, B: BlockDevice, A: Allocator + Copy>(
+    cache: &mut PageCache<B, A>,
+    root: Root,
+    m_max: usize,
+    waiting: &mut Waiting<D>,
+    kept: &mut Kept<D>,
+) -> Result<Root, Fault>
+    requires dims { IsDims D }
+    requires open { gate_of cache.old ≡ Open }
+    requires most { (4 ≤ m_max) × (m_max ≤ 100) }
+    requires root { IsRoot root }
+    ensures changes { Changes cache.old cache.new result }
+    ensures root { IfOk result IsRoot }
+    ensures filled { IsPageMap cache.old → (t : Tree) (ws : List Waiter) (elsewhere : ℕ → ℕ)
+        → CanFill D (pages cache.old) root t ws elsewhere (held_now kept.old)
+        → IfOk result (λ after. IsPageMap cache.new
+        × FillsTo D m_max (pages cache.old) (pages cache.new) t ws elsewhere after) }
+    ensures faults { IsPageMap cache.old → (t : Tree) (ws : List Waiter) (elsewhere : ℕ → ℕ)
+        → CanFill D (pages cache.old) root t ws elsewhere (held_now kept.old) → CanFillShaped D m_max t ws
+        → IfErr result (IsNoDamage cache.new) }
+    ensures other_faults { IfErr result IsChangeFault }
+{
+    let mut now = root;
+    'inserting: while let Some(orphan) = kept.next() {
+        if orphan.level > now.level {
+            return Err(Fault::Damaged(now.page));
+        }
+        now = match insert_with(cache, now, &orphan.entry, orphan.level, m_max, waiting) {
+            Ok(after) => after,
+            Err(broken) => return Err(broken.cause),
+        };
+    }
+    Ok(now)
+}

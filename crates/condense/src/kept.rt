@@ -1,0 +1,24 @@
+//! The entries that a removal keeps to insert them again: their types, and what their fields keep.
+
+ghost use Rattle.std.specs.Prelude.{All};
+ghost use Rattle.node_page.specs.Layout.{IsReference};
+
+mod list;
+
+use arrayvec::ArrayVec;
+use tree_node::Entry;
+
+/// An entry of a node that has left its parent, and the level of that node.
+#[derive(Clone, Copy, Debug, Default)]
+pub(crate) struct Orphan<const D: usize> {
+    pub(crate) entry: Entry<D>,
+    pub(crate) level: u8,
+}
+
+/// Room for all entries that a removal keeps: at most 39 of each of 40 levels. It serves one removal after the other.
+#[derive(Drop)]
+pub struct Kept<const D: usize> {
+    // the first to be inserted is the last
+    orphans: ArrayVec<Orphan<D>, 1560>,
+    ghost refers: { All (λ o. IsReference o.level o.entry.reference) orphans.items },
+}

@@ -1,0 +1,56 @@
+//! What is kept: taken, added to, and begun anew.
+
+ghost use Rattle.std.specs.Prelude.{◌≡◌, ◌+◌, ◌≤◌, ◌<◌, ◌++◌, ◌∷◌, [], All, map, reverse, IsNone, IfSome, IfErr};
+ghost use Rattle.arrayvec.specs.ArrayVec.{array_vec_len};
+ghost use Rattle.page_file.specs.declared.fault.Fault.TheVariants as fault;
+ghost use Rattle.node_page.specs.Layout.{IsReference};
+ghost use Rattle.reinsert.specs.Placed.{held_with};
+ghost use Rattle.condense.specs.Taken.{held_now, orphan_held};
+
+use crate::kept::{Kept, Orphan};
+use arrayvec::ArrayVec;
+use page_file::Fault;
+use std::alloc::Allocator;
+use tree_node::Entry;
+
+impl<const D: usize> Kept<D> {
+    /// Takes the memory for all that removals keep, at once: a box in which nothing is kept. A refusal is `Memory`.
+    pub fn make<H: Allocator>(alloc: H) -> Result<Box<Kept<D>, H>, Fault>
+        ensures { IfErr result (λ f. f ≡ fault.Memory) }
+    {
+        let empty = Kept {
+            orphans: ArrayVec::new(),
+        };
+        Ok(Box::new(alloc, empty)?)
+    }
+
+    // Nothing is kept.
+    pub(crate) fn begin(&mut self)
+        ensures { self.new.orphans.items ≡ [] }
+    {
+        self.orphans.clear();
+    }
+
+    // The first to be inserted.
+    pub(crate) fn next(&mut self) -> Option<Orphan<D>>
+        ensures none { IsNone result → self.old.orphans.items ≡ [] }
+        ensures some { IfSome result (λ o. held_now self.old ≡ held_now self.new ++ orphan_held o ∷ []) }
+        ensures refers { IfSome result (λ o. IsReference o.level o.entry.reference) }
+        ensures fewer { IfSome result (λ o. array_vec_len self.new.orphans < array_vec_len self.old.orphans) }
+    {
+        self.orphans.pop()
+    }
+
+    // The entries of a node that leaves are to be inserted before all others.
+    pub(crate) fn keep(&mut self, entries: &ArrayVec<Entry<D>, 101>, level: u8)
+        requires room { array_vec_len self.old.orphans + array_vec_len entries.now ≤ 1560 }
+        requires refers { All (λ e. IsReference level e.reference) entries.now.items }
+        ensures held { held_now self.new ≡ held_now self.old ++ reverse (map (held_with level) entries.now.items) }
+        ensures len { array_vec_len self.new.orphans ≡ array_vec_len self.old.orphans + array_vec_len entries.now }
+    {
+        for passed in 0..entries.len() {
+            let entry = entries[entries.len() - 1 - passed];
+            self.orphans.push(Orphan { entry, level });
+        }
+    }
+}

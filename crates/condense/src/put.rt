@@ -1,0 +1,180 @@
+//! The child of which an object was taken: it leaves its parent where it has too few entries, else it is written.
+
+ghost use Rattle.std.specs.Prelude.{◌≡◌, ◌+◌, ◌*◌, ◌-◌, ◌<◌, ◌≤◌, ◌++◌, ℕ, List, All, IfOk, IfErr, IfSome, None, Some};
+ghost use Rattle.std.specs.Prelude.{◌⊎◌, OnOk, map, reverse, slice_index_or, true};
+ghost use Rattle.arrayvec.specs.ArrayVec.{array_vec_len};
+ghost use Rattle.box_math.specs.Bounds.{Bounds, IsDims};
+ghost use Rattle.page_file.specs.Fault.{IsDamage, IsOfDevice};
+ghost use Rattle.page_file.specs.Pages.{SameBut};
+ghost use Rattle.page_file.specs.declared.gate.Gate.TheVariants.{Open};
+ghost use Rattle.page_cache.specs.Cache.{IsLive, IsPageMap, gate_of, pages};
+ghost use Rattle.page_cache.specs.Calls.{Changes};
+ghost use Rattle.tree_node.specs.Boxes.{least_box};
+ghost use Rattle.tree_node.specs.Nodes.{Item, content_of, item_of};
+ghost use Rattle.tree_node.specs.Shape;
+ghost use Rattle.tree_node.specs.Trees.{Row};
+ghost use Rattle.node_page.specs.Broken.{Alters};
+ghost use Rattle.node_page.specs.Layout.{IsSpellable};
+ghost use Rattle.node_page.specs.Standing.{PageMap, node_in};
+ghost use Rattle.reinsert.specs.Placed.{Held, held_with, set_box};
+ghost use Rattle.condense.specs.Taken.{HasTaken, IsCut, TookBelow, held_now, items_without};
+
+use crate::children::child_of;
+use crate::kept::Kept;
+use block_device::BlockDevice;
+use node_page::{Broken, write_node};
+use page_cache::PageCache;
+use page_file::Fault;
+use std::alloc::Allocator;
+use tree_node::{Node, least};
+
+// The least count of entries of a node below the root: 40 in a hundred of the most (Beckmann et al. 1990).
+fn least_entries(m_max: usize) -> usize
+    requires { (4 ≤ m_max) × (m_max ≤ 100) }
+    ensures value { result ≡ Shape.least_entries m_max }
+    ensures few { (2 ≤ result) × (result ≤ 40) }
+{
+    (2 * m_max / 5).max(2)
+}
+
+// Puts a child of this node back, of which the object was taken.
+pub(crate) fn put_back<const D: usize, B: BlockDevice, A: Allocator + Copy>(
+    cache: &mut PageCache<B, A>,
+    node: Node<D>,
+    place: usize,
+    lower: Node<D>,
+    m_max: usize,
+    kept: &mut Kept<D>,
+) -> Result<Option<Node<D>>, Broken>
+    requires dims { IsDims D }
+    requires open { gate_of cache.old ≡ Open }
+    requires most { (4 ≤ m_max) × (m_max ≤ 100) }
+    requires above { 0 < node.level }
+    requires within { place < array_vec_len node.entries }
+    requires spellable { IsSpellable (content_of node) }
+    requires cut { IsCut (node.level - 1) (content_of lower) }
+    requires room { array_vec_len kept.old.orphans + 39 ≤ 1560 }
+    ensures alters { Alters cache.old cache.new result }
+    ensures some { IfOk result (λ o. ¬ (o ≡ None)) }
+    ensures cut { IfOk result (λ o. IfSome o (λ after. IsCut node.entry.level (content_of after))) }
+    ensures room { array_vec_len kept.new.orphans ≤ array_vec_len kept.old.orphans + 39 }
+    ensures taken { IsPageMap cache.old → (m : PageMap) (page id : ℕ) (bounds : Bounds) (row : Row) (held : List Held)
+        → TookBelow D m_max m (pages cache.old) page node.entry.level id bounds row place held (held_now kept.old)
+        (map item_of node.entry.entries.items) (map item_of lower.entry.entries.items)
+        → IfOk result (λ o. IfSome o (λ after. IsPageMap cache.new × HasTaken D m_max m (pages cache.new)
+        node.entry.level id bounds row held (held_now kept.new) (map item_of after.entries.items))) }
+    ensures touched { IfErr result (λ b. b.touched ≡ true) }
+    ensures faults { IsPageMap cache.old → (m : PageMap) (page id : ℕ) (bounds : Bounds) (row : Row) (held : List Held)
+        → TookBelow D m_max m (pages cache.old) page node.entry.level id bounds row place held (held_now kept.old)
+        (map item_of node.entry.entries.items) (map item_of lower.entry.entries.items)
+        → IfErr result (λ b. IsOfDevice b.cause) }
+    ensures other_faults { IfErr result (λ b. IsOfDevice b.cause ⊎ IsDamage b.cause) }
+{
+    match put_child(cache, node, place, lower, m_max, kept) {
+        Ok(after) => Ok(Some(after)),
+        Err(fault) => Err(Broken::midway(fault)),
+    }
+}
+
+// Puts the child back: one of too few entries leaves, else it is written.
+fn put_child<const D: usize, B: BlockDevice, A: Allocator + Copy>(
+    cache: &mut PageCache<B, A>,
+    node: Node<D>,
+    place: usize,
+    lower: Node<D>,
+    m_max: usize,
+    kept: &mut Kept<D>,
+) -> Result<Node<D>, Fault>
+    requires dims { IsDims D }
+    requires open { gate_of cache.old ≡ Open }
+    requires most { (4 ≤ m_max) × (m_max ≤ 100) }
+    requires above { 0 < node.level }
+    requires within { place < array_vec_len node.entries }
+    requires spellable { IsSpellable (content_of node) }
+    requires cut { IsCut (node.level - 1) (content_of lower) }
+    requires room { array_vec_len kept.old.orphans + 39 ≤ 1560 }
+    ensures changes { Changes cache.old cache.new result }
+    ensures cut { IfOk result (λ after. IsCut node.entry.level (content_of after)) }
+    ensures room { array_vec_len kept.new.orphans ≤ array_vec_len kept.old.orphans + 39 }
+    ensures taken { IsPageMap cache.old → (m : PageMap) (page id : ℕ) (bounds : Bounds) (row : Row) (held : List Held)
+        → TookBelow D m_max m (pages cache.old) page node.entry.level id bounds row place held (held_now kept.old)
+        (map item_of node.entry.entries.items) (map item_of lower.entry.entries.items)
+        → IfOk result (λ after. IsPageMap cache.new × HasTaken D m_max m (pages cache.new)
+        node.entry.level id bounds row held (held_now kept.new) (map item_of after.entries.items)) }
+    ensures faults { IsPageMap cache.old → (m : PageMap) (page id : ℕ) (bounds : Bounds) (row : Row) (held : List Held)
+        → TookBelow D m_max m (pages cache.old) page node.entry.level id bounds row place held (held_now kept.old)
+        (map item_of node.entry.entries.items) (map item_of lower.entry.entries.items)
+        → IfErr result IsOfDevice }
+    ensures other_faults { IfErr result (λ f. IsOfDevice f ⊎ IsDamage f) }
+{
+    let page = child_of(&node, place).page;
+    if lower.entries.len() < least_entries(m_max) {
+        return leave_out(cache, node, place, page, lower, kept);
+    }
+    write_back(cache, node, place, page, lower)
+}
+
+// A child of too few entries leaves: its page is freed, and its entries are kept.
+fn leave_out<const D: usize, B: BlockDevice, A: Allocator + Copy>(
+    cache: &mut PageCache<B, A>,
+    mut node: Node<D>,
+    place: usize,
+    page: u32,
+    lower: Node<D>,
+    kept: &mut Kept<D>,
+) -> Result<Node<D>, Fault>
+    requires open { gate_of cache.old ≡ Open }
+    requires page { 3 ≤ page }
+    requires within { place < array_vec_len node.entries }
+    requires spellable { IsSpellable (content_of node) }
+    requires few { array_vec_len lower.entries ≤ 39 }
+    requires cut { IsCut (node.level - 1) (content_of lower) }
+    requires room { array_vec_len kept.old.orphans + 39 ≤ 1560 }
+    ensures changes { Changes cache.old cache.new result }
+    ensures cut { IfOk result (λ after. IsCut node.entry.level (content_of after)) }
+    ensures room { array_vec_len kept.new.orphans ≤ array_vec_len kept.old.orphans + 39 }
+    ensures sound { IsPageMap cache.old → IsLive cache.old page → IsPageMap cache.new }
+    ensures gone { IsPageMap cache.old → IsLive cache.old page → OnOk result (pages cache.new page ≡ None) }
+    ensures others { IsPageMap cache.old → IsLive cache.old page → SameBut page (pages cache.old) (pages cache.new) }
+    ensures entries { IfOk result (λ after. map item_of after.entries.items
+        ≡ items_without (map item_of node.entry.entries.items) place) }
+    ensures held { OnOk result (held_now kept.new ≡ held_now kept.old
+        ++ reverse (map (held_with (node.entry.level - 1)) lower.entry.entries.items)) }
+    ensures faults { IsPageMap cache.old → IsLive cache.old page → IfErr result IsOfDevice }
+    ensures other_faults { IfErr result (λ f. IsOfDevice f ⊎ IsDamage f) }
+{
+    cache.free(page)?;
+    kept.keep(&lower.entries, lower.level);
+    node.entries.remove(place);
+    Ok(node)
+}
+
+// A child is written, and the box above it is made least.
+fn write_back<const D: usize, B: BlockDevice, A: Allocator + Copy>(
+    cache: &mut PageCache<B, A>,
+    mut node: Node<D>,
+    place: usize,
+    page: u32,
+    lower: Node<D>,
+) -> Result<Node<D>, Fault>
+    requires dims { IsDims D }
+    requires open { gate_of cache.old ≡ Open }
+    requires within { place < array_vec_len node.entries }
+    requires spellable { IsSpellable (content_of node) }
+    requires some { 0 < array_vec_len lower.entries }
+    requires cut { IsCut (node.level - 1) (content_of lower) }
+    ensures changes { Changes cache.old cache.new result }
+    ensures cut { IfOk result (λ after. IsCut node.entry.level (content_of after)) }
+    ensures sound { IsPageMap cache.old → IsLive cache.old page → IsPageMap cache.new }
+    ensures there { IsPageMap cache.old → IsLive cache.old page
+        → OnOk result (node_in D (pages cache.new page) ≡ Some (content_of lower.entry)) }
+    ensures others { IsPageMap cache.old → IsLive cache.old page → SameBut page (pages cache.old) (pages cache.new) }
+    ensures entries { IfOk result (λ after. map item_of after.entries.items ≡ set_box
+        (map item_of node.entry.entries.items) place (least_box D (map item_of lower.entry.entries.items))) }
+    ensures faults { IsPageMap cache.old → IsLive cache.old page → IfErr result IsOfDevice }
+    ensures other_faults { IfErr result (λ f. IsOfDevice f ⊎ IsDamage f) }
+{
+    write_node(cache, page, &lower)?;
+    node.entries[place].bounds = least(lower.entries.as_slice());
+    Ok(node)
+}

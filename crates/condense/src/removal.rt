@@ -1,0 +1,163 @@
+//! A lawful removal: the object leaves, what is kept comes back, and the root gives way.
+
+ghost use Rattle.std.specs.Prelude.{◌≡◌, ◌^◌, ◌<◌, ◌≤◌, ◌∷◌, ℕ, IfOk, IfErr, true, false, map};
+ghost use Rattle.std.specs.List.{Contains};
+ghost use Rattle.std.specs.List.Sorted.{IsPermutation};
+ghost use Rattle.arrayvec.specs.ArrayVec.{array_vec_len};
+ghost use Rattle.box_math.specs.Bounds.{Bounds, IsDims};
+ghost use Rattle.page_file.specs.declared.gate.Gate.TheVariants.{Open};
+ghost use Rattle.page_cache.specs.Cache.{IsPageMap, gate_of, pages};
+ghost use Rattle.page_cache.specs.Calls.{Changes};
+ghost use Rattle.tree_node.specs.Boxes.{RowHasBoxes};
+ghost use Rattle.tree_node.specs.Nodes.{content_of, item_of};
+ghost use Rattle.tree_node.specs.Shape.{HasShape};
+ghost use Rattle.tree_node.specs.Trees.{Tree, objects_in};
+ghost use Rattle.node_page.specs.Broken.{Alters};
+ghost use Rattle.node_page.specs.Standing.{PageMap, Stands};
+ghost use Rattle.node_page.specs.Faults.{IsChangeFault, IsNoDamage};
+ghost use Rattle.reinsert.specs.Inserted.{IsRootOf};
+ghost use Rattle.condense.specs.Removed.{CanRemove, IsRefused, IsRoot, RemovesTo, TookOut};
+ghost use Rattle.condense.specs.Taken.{IsCut, held_now};
+
+use crate::fill::insert_kept;
+use crate::kept::Kept;
+use crate::lower::give_way;
+use crate::take::take_out;
+use block_device::BlockDevice;
+use box_math::BBox;
+use node_page::{Broken, write_node};
+use page_cache::PageCache;
+use page_file::Fault;
+use reinsert::Waiting;
+use std::alloc::Allocator;
+use tree_node::{Node, Root};
+
+/// Removes the object with that identifier and box from the tree at that root (docs/RULES.md). The gate has to be open.
+///
+/// Where the map is sound and the pages stand for a tree at the root, they stand after `Ok` for a tree that a lawful
+/// removal leads to. Pages outside of these trees stay, those that came in were not live, and those that went are no
+/// longer live. A tree that has its shape keeps it, and has its objects but for the one.
+///
+/// A refusal that is not `touched` leaves the map as it was; the room of what is kept and of what waits is taken before
+/// the first write. Where the tree has its shape and the object, a refusal is of memory or of the device, or all page
+/// numbers are given out (`NoPages`). Where no leaf has the object, that is `Damaged` with the root's page, untouched,
+/// unless memory or the device refused before.
+pub fn remove<const D: usize, B: BlockDevice, A: Allocator + Copy, H: Allocator + Copy>(
+    alloc: H,
+    cache: &mut PageCache<B, A>,
+    root: Root,
+    id: u64,
+    bounds: &BBox<D>,
+    m_max: usize,
+) -> Result<Root, Broken>
+    requires dims { IsDims D }
+    requires open { gate_of cache.old ≡ Open }
+    requires most { (4 ≤ m_max) × (m_max ≤ 100) }
+    requires root { IsRoot root }
+    ensures alters { Alters cache.old cache.new result }
+    ensures root { IfOk result IsRoot }
+    ensures removed { IsPageMap cache.old → (t : Tree) (elsewhere : ℕ → ℕ)
+        → CanRemove D (pages cache.old) root t elsewhere → IfOk result (λ after. IsPageMap cache.new
+        × RemovesTo D m_max (pages cache.old) (pages cache.new) elsewhere id bounds.now t after) }
+    ensures shape { IsPageMap cache.old → (t : Tree) (elsewhere : ℕ → ℕ)
+        → CanRemove D (pages cache.old) root t elsewhere → HasShape D m_max t → RowHasBoxes D t.row
+        → IfOk result (λ after. (new : Tree) → IsRootOf after new → Stands D (pages cache.new) new
+        → HasShape D m_max new × IsPermutation ((id, bounds.now) ∷ objects_in new.row) (objects_in t.row)) }
+    ensures absent { IsPageMap cache.old → (t : Tree) (elsewhere : ℕ → ℕ)
+        → CanRemove D (pages cache.old) root t elsewhere → ¬ Contains (objects_in t.row) (id, bounds.now)
+        → IsRefused root.page result }
+    ensures faults { IsPageMap cache.old → (t : Tree) (elsewhere : ℕ → ℕ)
+        → CanRemove D (pages cache.old) root t elsewhere → HasShape D m_max t → RowHasBoxes D t.row
+        → Contains (objects_in t.row) (id, bounds.now) → IfErr result (λ b. IsNoDamage cache.new b.cause) }
+    ensures other_faults { IfErr result (λ b. IsChangeFault b.cause) }
+{
+    let mut waiting = Waiting::make(alloc)?;
+    let mut kept = Kept::make(alloc)?;
+    remove_with(cache, root, id, bounds, m_max, &mut waiting, &mut kept)
+}
+
+/// Removes an object as `remove` does, and takes no memory but what the cache takes. The `Waiting` and the `Kept` serve
+/// again afterwards, also after a refusal.
+pub fn remove_with<const D: usize, B: BlockDevice, A: Allocator + Copy>(
+    cache: &mut PageCache<B, A>,
+    root: Root,
+    id: u64,
+    bounds: &BBox<D>,
+    m_max: usize,
+    waiting: &mut Waiting<D>,
+    kept: &mut Kept<D>,
+) -> Result<Root, Broken>
+    requires dims { IsDims D }
+    requires open { gate_of cache.old ≡ Open }
+    requires most { (4 ≤ m_max) × (m_max ≤ 100) }
+    requires root { IsRoot root }
+    ensures alters { Alters cache.old cache.new result }
+    ensures root { IfOk result IsRoot }
+    ensures removed { IsPageMap cache.old → (t : Tree) (elsewhere : ℕ → ℕ)
+        → CanRemove D (pages cache.old) root t elsewhere → IfOk result (λ after. IsPageMap cache.new
+        × RemovesTo D m_max (pages cache.old) (pages cache.new) elsewhere id bounds.now t after) }
+    ensures shape { IsPageMap cache.old → (t : Tree) (elsewhere : ℕ → ℕ)
+        → CanRemove D (pages cache.old) root t elsewhere → HasShape D m_max t → RowHasBoxes D t.row
+        → IfOk result (λ after. (new : Tree) → IsRootOf after new → Stands D (pages cache.new) new
+        → HasShape D m_max new × IsPermutation ((id, bounds.now) ∷ objects_in new.row) (objects_in t.row)) }
+    ensures absent { IsPageMap cache.old → (t : Tree) (elsewhere : ℕ → ℕ)
+        → CanRemove D (pages cache.old) root t elsewhere → ¬ Contains (objects_in t.row) (id, bounds.now)
+        → IsRefused root.page result }
+    ensures faults { IsPageMap cache.old → (t : Tree) (elsewhere : ℕ → ℕ)
+        → CanRemove D (pages cache.old) root t elsewhere → HasShape D m_max t → RowHasBoxes D t.row
+        → Contains (objects_in t.row) (id, bounds.now) → IfErr result (λ b. IsNoDamage cache.new b.cause) }
+    ensures other_faults { IfErr result (λ b. IsChangeFault b.cause) }
+{
+    kept.begin();
+    let Some(node) = take_out(cache, root, id, bounds, m_max, kept)? else {
+        return Err(Broken::from(Fault::Damaged(root.page)));
+    };
+    match put_root(cache, root, node, m_max, waiting, kept) {
+        Ok(after) => Ok(after),
+        Err(fault) => Err(Broken::midway(fault)),
+    }
+}
+
+// Writes what the root has become, inserts what is kept, and lets the root give way.
+fn put_root<const D: usize, B: BlockDevice, A: Allocator + Copy>(
+    cache: &mut PageCache<B, A>,
+    root: Root,
+    node: Node<D>,
+    m_max: usize,
+    waiting: &mut Waiting<D>,
+    kept: &mut Kept<D>,
+) -> Result<Root, Fault>
+    requires dims { IsDims D }
+    requires open { gate_of cache.old ≡ Open }
+    requires most { (4 ≤ m_max) × (m_max ≤ 100) }
+    requires root { IsRoot root }
+    requires cut { IsCut root.level (content_of node) }
+    ensures changes { Changes cache.old cache.new result }
+    ensures root { IfOk result IsRoot }
+    ensures removed { IsPageMap cache.old → (m : PageMap) (t : Tree) (elsewhere : ℕ → ℕ) (id : ℕ) (bounds : Bounds)
+        → TookOut D m_max m (pages cache.old) root t elsewhere id bounds (held_now kept.old)
+        (map item_of node.entry.entries.items)
+        → IfOk result (λ after. IsPageMap cache.new
+        × RemovesTo D m_max m (pages cache.new) elsewhere id bounds t after) }
+    ensures faults { IsPageMap cache.old → (m : PageMap) (t : Tree) (elsewhere : ℕ → ℕ) (id : ℕ) (bounds : Bounds)
+        → TookOut D m_max m (pages cache.old) root t elsewhere id bounds (held_now kept.old)
+        (map item_of node.entry.entries.items)
+        → HasShape D m_max t → RowHasBoxes D t.row
+        → IfErr result (IsNoDamage cache.new) }
+    ensures other_faults { IfErr result IsChangeFault }
+{
+    if lacks_entries(&node) {
+        return Err(Fault::Damaged(root.page));
+    }
+    write_node(cache, root.page, &node)?;
+    let filled = insert_kept(cache, root, m_max, waiting, kept)?;
+    give_way::<D, B, A>(cache, filled)
+}
+
+// Whether the node is none that a page can spell: above the leaves, and without an entry.
+fn lacks_entries<const D: usize>(node: &Node<D>) -> bool
+    ensures yes { result ≡ true → (0 < node.now.level) × (array_vec_len node.now.entries ≡ 0) }
+    ensures no { result ≡ false → 0 < node.now.level → 1 ≤ array_vec_len node.now.entries }
+{
+    node.level > 0 && node.entries.is_empty()
+}

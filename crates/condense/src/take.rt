@@ -1,0 +1,75 @@
+//! An object taken out below a node, and the nodes between condensed.
+
+ghost use Rattle.std.specs.Prelude.{◌≡◌, ◌⊎◌, ◌+◌, ◌*◌, ◌<◌, ◌≤◌, ℕ, IfOk, IfErr, IfSome, None, false, map};
+ghost use Rattle.std.specs.List.{Contains};
+ghost use Rattle.arrayvec.specs.ArrayVec.{array_vec_len};
+ghost use Rattle.box_math.specs.Bounds.{IsDims};
+ghost use Rattle.page_file.specs.Fault.{IsDamage, IsOfDevice};
+ghost use Rattle.page_file.specs.declared.gate.Gate.TheVariants.{Open};
+ghost use Rattle.page_cache.specs.Cache.{IsPageMap, gate_of, pages};
+ghost use Rattle.page_cache.specs.Calls.{AsksUntil};
+ghost use Rattle.tree_node.specs.Nodes.{content_of, item_of};
+ghost use Rattle.tree_node.specs.Trees.{Row, objects_in};
+ghost use Rattle.node_page.specs.Broken.{Alters};
+ghost use Rattle.node_page.specs.Standing.{Stands};
+ghost use Rattle.condense.specs.Taken.{HasTaken, IsCut, LeadsTo, held_now, tree_at};
+
+use crate::children::child_of;
+use crate::kept::Kept;
+use crate::leaf::take_here;
+use crate::put::put_back;
+use block_device::BlockDevice;
+use box_math::BBox;
+use node_page::{Broken, read_node};
+use page_cache::PageCache;
+use std::alloc::Allocator;
+use tree_node::{Node, Root};
+
+// Takes the object out of the first leaf below this node that has it, and to which boxes lead that enclose its box, and
+// condenses the nodes between. What this node has become is handed out, and not yet written. Where no such leaf has the
+// object, nothing is written.
+pub(crate) fn take_out<const D: usize, B: BlockDevice, A: Allocator + Copy>(
+    cache: &mut PageCache<B, A>,
+    at: Root,
+    id: u64,
+    bounds: &BBox<D>,
+    m_max: usize,
+    kept: &mut Kept<D>,
+) -> Result<Option<Node<D>>, Broken>
+    requires dims { IsDims D }
+    requires open { gate_of cache.old ≡ Open }
+    requires most { (4 ≤ m_max) × (m_max ≤ 100) }
+    requires room { array_vec_len kept.old.orphans + 39 * at.level ≤ 1560 }
+    ensures alters { Alters cache.old cache.new result }
+    ensures cut { IfOk result (λ o. IfSome o (λ node. IsCut at.level (content_of node))) }
+    ensures room { array_vec_len kept.new.orphans ≤ array_vec_len kept.old.orphans + 39 * at.level }
+    ensures none { IfOk result (λ o. o ≡ None → AsksUntil cache.old cache.new None
+        × (kept.new.orphans.items ≡ kept.old.orphans.items)) }
+    ensures taken { IsPageMap cache.old → (row : Row) → Stands D (pages cache.old) (tree_at at row)
+        → IfOk result (λ o. IfSome o (λ node. IsPageMap cache.new × HasTaken D m_max (pages cache.old)
+        (pages cache.new) at.level id bounds.now row (held_now kept.old) (held_now kept.new)
+        (map item_of node.entries.items))) }
+    ensures found { IsPageMap cache.old → (row : Row) → Stands D (pages cache.old) (tree_at at row)
+        → LeadsTo D id bounds.now row → IfOk result (λ o. ¬ (o ≡ None)) }
+    ensures absent { IsPageMap cache.old → (row : Row) → Stands D (pages cache.old) (tree_at at row)
+        → ¬ Contains (objects_in row) (id, bounds.now) → IfErr result (λ b. b.touched ≡ false) }
+    ensures faults { IsPageMap cache.old → (row : Row) → Stands D (pages cache.old) (tree_at at row)
+        → IfErr result (λ b. IsOfDevice b.cause) }
+    ensures other_faults { IfErr result (λ b. IsOfDevice b.cause ⊎ IsDamage b.cause) }
+{
+    let node = read_node::<D, B, A>(cache, at.page, at.level)?;
+    if at.level == 0 {
+        return Ok(take_here(node, id, bounds));
+    }
+    'children: for place in 0..node.entries.len() {
+        if !node.entries[place].bounds.encloses(bounds) {
+            continue;
+        }
+        let below = child_of(&node, place);
+        let Some(lower) = take_out(cache, below, id, bounds, m_max, kept)? else {
+            continue;
+        };
+        return put_back(cache, node, place, lower, m_max, kept);
+    }
+    Ok(None)
+}

@@ -1,0 +1,31 @@
+-- The goals of `add_bucket` that are proved by hand: what the page spells.
+use Rattle.std.proofs.Common.{◌∙◌, ap, refl}
+use Rattle.block_bytes.specs.Numbers.{number_at}
+use Rattle.block_bytes.specs.PlaceLaws.{length-first_places}
+use Rattle.bucket_page.specs.Layout.{object_at, objects_at}
+use Rattle.bucket_page.proofs.Reading.{all_places, count_of_bucket, spells}
+use Rattle.page_cache.specs.Cache.{given}
+use Rattle.id_table.specs.Table.{bucket_in}
+use Rattle.id_table.proofs.BucketLemmas.{bucket_bytes}
+use Rattle.id_table.proofs.check.add_bucket.Goals as goal
+
+pub returns-then-not-is_in_chain-clause-stands : goal.returns-then-not-is_in_chain-clause-stands
+returns-then-not-is_in_chain-clause-stands g c = λ h content there follows.
+    let is = bucket_bytes g.row.D (given c.args.cache.now c.args.number) c.in_ok-page.page.now content (c.in_ok-page.ensures.given_bytes h) there in
+    let s = spells g.row.D c.in_ok-page.page.now content is in
+    let good = c.is_in_chain.ensures.1 (s.head, λ yes. count_of_bucket g.row.D c.in_ok-page.page.now content is ∙ follows.full yes) in
+    absurd (cc)
+
+pub returns-clause-found : goal.returns-clause-found
+returns-clause-found g c = λ h.
+    let page = c.in_ok-page.page.now in
+    let count = number_at 2 2 page in
+    let head = c.is_in_chain.ensures.0 c.if-not-is_in_chain.false in
+    record {
+      entries = objects_at g.row.D page count;
+      low = c.in_ok-come_to.ensures.low;
+      there = ap (bucket_in g.row.D) (c.in_ok-page.ensures.given_bytes h) ∙ all_places g.row.D count c.next_at.result page head.0 refl c.next_at.ensures.value c.in_ok-add_objects.ensures.ordered;
+      full = λ yes. length-first_places (object_at g.row.D page) count ∙ head.1 yes;
+      objects = c.in_ok-add_objects.ensures.found;
+      visited = c.in_ok-come_to.ensures.added;
+    }

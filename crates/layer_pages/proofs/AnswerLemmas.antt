@@ -1,0 +1,39 @@
+-- What searches of a tree answer, said of the objects of its layer.
+use Rattle.std.proofs.Common.{◌≡◌, ◌∙◌, ℕ, Bool, List, [], ◌∷◌, ◌+◌, cond, map, take, refl, sym, ap}
+use Rattle.std.specs.Prelude.{IsPermutation, filter, ℤ}
+use Rattle.std.specs.FinMap.{entries, entries_sorted}
+use Rattle.std.proofs.lemmas.List.Sorted.{IsPermutation-sym, IsPermutation-trans}
+use Rattle.box_math.specs.Bounds.{Bounds}
+use Rattle.tree_node.specs.Positions.{total}
+use Rattle.tree_node.specs.Searches.{passing_objects}
+use Rattle.tree_node.specs.Trees.{objects_in}
+use Rattle.bulk_load.proofs.RowWords.{total-permutation}
+use Rattle.nearest.specs.Nearest.{nearest_first, with_distances}
+use Rattle.nearest.proofs.OrderLemmas as order
+use Rattle.nearest.proofs.OrderLemmas.{listed, listed-nearest_first, same_row, Ascends-nearest_first}
+use Rattle.layer_pages.specs.Laws.{NearestAreObjects, ObjectsGiveBoxes, RangesAnswerObjects}
+use Rattle.layer_pages.proofs.ObjectLemmas.{filter_permuted, filter_sorted, one_order, row_boxes}
+
+pub objects_give_boxes : ObjectsGiveBoxes
+objects_give_boxes dims most t shape boxes = row_boxes dims most t.row shape.below boxes
+
+pub ranges_answer_objects : RangesAnswerObjects
+ranges_answer_objects dims most pages root directory l objects test rows is answer =
+    let pass : ℕ × Bounds → Bool = λ o. test o.1 in
+    one_order rows (filter pass (entries objects)) answer.order (filter_sorted pass (entries objects) (entries_sorted objects))
+    (IsPermutation-trans rows (passing_objects test l.tree.row) (filter pass (entries objects)) (IsPermutation-sym (passing_objects test l.tree.row) rows answer.all)
+    (filter_permuted pass (objects_in l.tree.row) (entries objects) is.leaves))
+
+listed-map : (z : ℕ × ℕ) (row_of : ℕ × Bounds → ℕ × ℕ) (objects : List (ℕ × Bounds)) → listed z (map row_of objects) ≡ total (λ o. cond (same_row z (row_of o)) 1 0) objects
+listed-map z row_of [] = refl
+listed-map z row_of (o ∷ objects) = ap (λ n. cond (same_row z (row_of o)) 1 0 + n) (listed-map z row_of objects)
+
+same_order : (dims : ℕ) (point : List ℤ) (xs ys : List (ℕ × Bounds)) → IsPermutation xs ys → nearest_first (with_distances dims point xs) ≡ nearest_first (with_distances dims point ys)
+same_order dims point xs ys same =
+    let ds = with_distances dims point xs in
+    let es = with_distances dims point ys in
+    order.one_order (nearest_first ds) (nearest_first es) (Ascends-nearest_first ds) (Ascends-nearest_first es)
+    (λ z. listed-nearest_first z ds ∙ listed-map z _ xs ∙ sym (total-permutation _ xs ys same) ∙ sym (listed-map z _ ys) ∙ sym (listed-nearest_first z es))
+
+pub nearest_are_objects : NearestAreObjects
+nearest_are_objects dims most pages root directory l objects k point is = ap (take k) (same_order dims point (objects_in l.tree.row) (entries objects) is.leaves)

@@ -1,0 +1,85 @@
+-- Layers beside a change of pages, and changes of the parts of a layer in turn.
+use Rattle.std.proofs.Common.{◌≡◌, ◌∙◌, ℕ, ◌<◌, ◌≤◌, IsSome, ⊎_elim, arith}
+use Rattle.tree_node.specs.Trees.{occurs_in}
+use Rattle.node_page.specs.Parts.{Moves, Part, both, no_page}
+use Rattle.node_page.specs.Standing.{PageMap}
+use Rattle.node_page.proofs.ChangeLemmas.{trees_beside_stand}
+use Rattle.node_page.proofs.PartLemmas.{moves_beside, moves_in_turn, moves_same, none_or_some, not_new, staying_moves}
+use Rattle.node_page.proofs.StandingLemmas.{pages_are_there}
+use Rattle.id_table.specs.Table.{IdTable, IdsStand, chain_at, link_at, occurs_in_ids}
+use Rattle.id_table.proofs.ReplaceLemmas.{chain_stays}
+use Rattle.id_table.proofs.TableLemmas.{chain_in_table, occurs_here, table_there}
+use Rattle.layer_pages.specs.Laws.{LayersBesideStand, LayersStandInEqualPages, PagesOfALayerAreThere}
+
+-- ---- tables
+
+-- a table stands in pages that are equal where it stands
+equal_pages_ids : (dims : ℕ) (old new : PageMap) (t : IdTable) → ((n : ℕ) → 0 < occurs_in_ids n t → new n ≡ old n) → IdsStand dims old t → IdsStand dims new t
+equal_pages_ids dims old new t same s = record {
+  directory = s.directory;
+  there = (let here = occurs_here t.page in same t.page (omega (arith, here))) ∙ s.there;
+  low = s.low;
+  spelled = s.spelled;
+  whole = s.whole;
+  chains = λ class within. chain_stays dims old new (link_at class s.directory) (chain_at t class)
+      (λ n here. same n (omega (arith, here, chain_in_table n class t (omega (arith, within, s.whole)))))
+      (s.chains class within);
+  filled = s.filled;
+  once = s.once;
+}
+
+-- a table that stands beside a change stands after it, and shares no page with it
+pub ids_beside : (dims : ℕ) (old new : PageMap) (was now : Part) (t : IdTable) → Moves old new was now → IdsStand dims old t → ((n : ℕ) → 0 < occurs_in_ids n t → was n ≡ 0)
+    → IdsStand dims new t × ((n : ℕ) → 0 < occurs_in_ids n t → now n ≡ 0)
+ids_beside dims old new was now t moves stands apart =
+    let none : (n : ℕ) → 0 < occurs_in_ids n t → now n ≡ 0 = λ n here. not_new old new was now n moves (apart n here) (table_there dims old t n stands here) in
+    (equal_pages_ids dims old new t (λ n here. moves.outside n (apart n here) (none n here)) stands, none)
+
+-- ---- layers
+
+pub pages_of_a_layer : PagesOfALayerAreThere
+pages_of_a_layer dims most pages root directory l objects is n here = ⊎_elim
+    (λ (none : occurs_in n l.tree ≡ 0). table_there dims pages l.ids n is.ids (omega (arith, none, here)))
+    (λ (some : 0 < occurs_in n l.tree). pages_are_there dims pages l.tree n is.tree.stands some)
+    (none_or_some (occurs_in n l.tree))
+
+pub layers_beside : LayersBesideStand
+layers_beside dims most old new was now root directory l objects moves is apart =
+    let tree = trees_beside_stand dims old new was now l.tree moves is.tree.stands (λ n here. apart n (omega (arith, here))) in
+    let ids = ids_beside dims old new was now l.ids moves is.ids (λ n here. apart n (omega (arith, here))) in (
+      record {
+        tree = record { page_is = is.tree.page_is; level_is = is.tree.level_is; stands = tree.0; shape = is.tree.shape };
+        boxes = is.boxes;
+        directory_is = is.directory_is;
+        ids = ids.0;
+        leaves = is.leaves;
+        table = is.table;
+        once = is.once;
+      },
+      λ n here. ⊎_elim
+          (λ (none : occurs_in n l.tree ≡ 0). ids.1 n (omega (arith, none, here)))
+          (λ (some : 0 < occurs_in n l.tree). tree.1 n some)
+          (none_or_some (occurs_in n l.tree)),
+    )
+
+pub layers_in_equal_pages : LayersStandInEqualPages
+layers_in_equal_pages dims most old new root directory l objects same is =
+    (layers_beside dims most old new no_page no_page root directory l objects
+    (staying_moves old new no_page same (λ n. omega arith) (λ n here. absurd (omega (arith, here)))) is (λ n here. omega arith)).0
+
+-- ---- two changes in turn, each of a part of its own
+
+module _ (old mid new : PageMap) (was now a b : Part) (first : Moves old mid was now) (second : Moves mid new a b) (live : (n : ℕ) → 0 < a n → IsSome (old n)) (apart : (n : ℕ) → both was a n ≤ 1) where
+  first_beside : Moves old mid (both was a) (both now a)
+  first_beside = moves_beside old mid was now a first live apart
+
+  second_beside : Moves mid new (both now a) (both now b)
+  second_beside = moves_same mid new (both a now) (both now a) (both b now) (both now b) (λ n. omega arith) (λ n. omega arith)
+      (moves_beside mid new a b now second first.live (λ n. omega (arith, first_beside.once n)))
+
+  pub both_change : Moves old new (both was a) (both now b)
+  both_change = moves_in_turn old mid new (both was a) (both now a) (both now b) first_beside second_beside
+
+  -- what the first made shares no page with what the second changes
+  pub made_apart : (n : ℕ) → 0 < now n → a n ≡ 0
+  made_apart n here = omega (arith, here, first_beside.once n)

@@ -1,0 +1,8 @@
+-- The files of lemmas.
+pub mod ObjectLemmas
+pub mod LayerLemmas
+pub mod AnswerLemmas
+pub mod FaultLemmas
+pub mod MadeLemmas
+pub mod FreeLemmas
+pub mod LoadLemmas

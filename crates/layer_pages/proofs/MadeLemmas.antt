@@ -1,0 +1,147 @@
+-- Layers that were made, or have an object more.
+use Rattle.std.proofs.Common.{◌≡◌, ◌∙◌, ℕ, ◌+◌, ◌<◌, ◌≤◌, false, Option, Some, None, List, [], ◌∷◌, length, refl, sym, ap, subst, arith}
+use Rattle.std.specs.FinMap as map
+use Rattle.std.specs.FinMap.{entries, len, len-empty, len-entries}
+use Rattle.std.specs.Ordering.{nat_cmp}
+use Rattle.std.specs.Prelude.{IsPermutation, IsSome}
+use Rattle.std.proofs.lemmas.List.Sorted.{IsPermutation-refl}
+use Rattle.box_math.specs.Bounds.{Bounds, IsBox}
+use Rattle.page_file.specs.Pages.{SameBut}
+use Rattle.tree_node.specs.Nodes.{NodeContent}
+use Rattle.tree_node.specs.Trees.{Tree, Branch, end, object, occurs_in}
+use Rattle.tree_node.specs.declared.node.Root.{Root}
+use Rattle.node_page.specs.Parts.{Moves, both, no_page, one_page}
+use Rattle.node_page.specs.Standing.{PageMap, Stands, node_in}
+use Rattle.node_page.proofs.ChangeLemmas.{trees_beside_stand}
+use Rattle.node_page.proofs.PartLemmas.{moves_same, one_page_moves}
+use Rattle.id_table.specs.Changes.{Adds, Makes}
+use Rattle.id_table.specs.Table.{IdsStand, Object, objects_of, part_of}
+use Rattle.id_table.proofs.TableLemmas.{table_there}
+use Rattle.reinsert.specs.Inserted.{CanInsert, InsertsTo}
+use Rattle.reinsert.specs.Kept.{EntryHasShape}
+use Rattle.reinsert.proofs.ObjectLemmas.{insertion_keeps_objects}
+use Rattle.reinsert.proofs.ShapeLemmas.{insertion_keeps_shape}
+use Rattle.layer_pages.specs.Changes.{BecomesLayer, HasInserted, IsEmptyLeaf}
+use Rattle.layer_pages.specs.Layers.{IsLayerAt, LayerPages, Objects, part_of_layer}
+use Rattle.layer_pages.proofs.LayerLemmas.{both_change, ids_beside, made_apart}
+use Rattle.layer_pages.proofs.ObjectLemmas.{more_leaves}
+
+-- ---- an empty leaf and an empty table
+
+none_of_none : (os : List Object) → length os ≡ 0 → IsPermutation [] os
+none_of_none [] none = IsPermutation-refl []
+none_of_none (o ∷ os) none = absurd (omega (arith, none))
+
+abbrev none : Objects
+none = map.empty
+
+no_objects : IsPermutation [] (entries none)
+no_objects = none_of_none (entries none) (sym (len-entries none) ∙ none_counted)
+  where
+    none_counted : len none ≡ 0
+    none_counted = len-empty nat_cmp Bounds
+
+node_there : (dims : ℕ) (page : Option (List ℕ)) (c : NodeContent) → node_in dims page ≡ Some c → IsSome page
+node_there dims None c e = absurd (cc)
+node_there dims (Some bytes) c e = refl
+
+module _ (dims most : ℕ) (old mid new : PageMap) (page directory : ℕ) (fresh : old page ≡ None) (leaf : node_in dims (mid page) ≡ Some (record { level = 0; entries = [] }))
+    (others : SameBut page old mid) (ids : Makes dims mid new directory) where
+  empty_tree : Tree
+  empty_tree = record { page = page; level = 0; row = end }
+
+  leaf_comes : Moves old mid no_page (λ n. occurs_in n empty_tree)
+  unfolding empty_tree
+  leaf_comes = moves_same old mid no_page no_page (one_page page) (λ n. occurs_in n empty_tree) (λ n. refl) (λ n. omega arith)
+      ((one_page_moves old mid page others).0 fresh (node_there dims (mid page) _ leaf))
+
+  leaf_stands : Stands dims mid empty_tree
+  unfolding empty_tree
+  leaf_stands = record { root = leaf; below = tt; distinct = leaf_comes.once }
+
+  all_moves : Moves old new (both no_page no_page) (both (λ n. occurs_in n empty_tree) (part_of ids.table))
+  all_moves = both_change old mid new no_page (λ n. occurs_in n empty_tree) no_page (part_of ids.table) leaf_comes ids.moves (λ n here. absurd (omega (arith, here))) (λ n. omega arith)
+
+  pub layer_made : BecomesLayer dims most old new no_page (record { page = page; level = 0 }) directory map.empty IsEmptyLeaf
+  unfolding empty_tree
+  layer_made = record {
+    layer = record { tree = empty_tree; ids = ids.table };
+    stands = record {
+      tree = record {
+        page_is = refl;
+        level_is = refl;
+        stands = (trees_beside_stand dims mid new no_page (part_of ids.table) empty_tree ids.moves leaf_stands (λ n here. refl)).0;
+        shape = record { levels = tt; few = omega arith; some = λ above. absurd (omega (arith, above)); below = tt };
+      };
+      boxes = tt;
+      directory_is = ids.page;
+      ids = ids.stands;
+      leaves = no_objects;
+      table = ids.objects;
+      once = all_moves.once;
+    };
+    tree_is = record { level = refl; row = refl };
+    moves = moves_same old new (both no_page no_page) no_page (both (λ n. occurs_in n empty_tree) (part_of ids.table)) (part_of_layer (record { tree = empty_tree; ids = ids.table })) (λ n. refl) (λ n. refl) all_moves;
+  }
+
+-- ---- an object more
+
+module _ (dims most : ℕ) (old : PageMap) (root : Root) (directory : ℕ) (l : LayerPages) (objects : Objects) (is : IsLayerAt dims most old root directory l objects) (id : ℕ) (bounds : Bounds) where
+  abbrev pub branch : Branch
+  branch = object bounds id
+
+  pub can_insert : CanInsert dims old root (record { bounds = bounds; reference = id }) 0 l.tree branch (part_of l.ids)
+  can_insert = record {
+    at = record { page = is.tree.page_is; level = is.tree.level_is };
+    stands = is.tree.stands;
+    entry = refl;
+    entry_stands = (refl, tt);
+    fits = omega arith;
+    apart = λ n. omega (arith, is.once n);
+    live = λ n here. table_there dims old l.ids n is.ids here;
+  }
+
+  pub entry_has_shape : IsBox dims bounds → EntryHasShape dims most 0 branch
+  entry_has_shape box = (tt, (box, tt), (refl, tt))
+
+  module _ (mid : PageMap) (after : Root) (to : InsertsTo dims most old mid 0 l.tree branch (part_of l.ids) after) where
+    tree_moves : Moves old mid (λ n. occurs_in n l.tree) (λ n. occurs_in n to.new)
+    tree_moves = moves_same old mid (λ n. occurs_in n l.tree + 0) (λ n. occurs_in n l.tree) (λ n. occurs_in n to.new) (λ n. occurs_in n to.new) (λ n. omega arith) (λ n. refl) to.moves
+
+    -- the table stands as it did
+    pub ids_meanwhile : IdsStand dims mid l.ids
+    ids_meanwhile = (ids_beside dims old mid (λ n. occurs_in n l.tree) (λ n. occurs_in n to.new) l.ids tree_moves is.ids (λ n here. omega (arith, here, is.once n))).0
+
+    pub absent_meanwhile : map.contains_key objects id ≡ false → map.contains_key (objects_of l.ids) id ≡ false
+    absent_meanwhile absent = subst (λ (m : Objects). map.contains_key m id ≡ false) (sym is.table) absent
+
+    module _ (new : PageMap) (ids : Adds dims mid new l.ids id bounds) where
+      ids_live : (n : ℕ) → 0 < part_of l.ids n → IsSome (old n)
+      ids_live n here = table_there dims old l.ids n is.ids here
+
+      all_change : Moves old new (part_of_layer l) (both (λ n. occurs_in n to.new) (part_of ids.table))
+      all_change = both_change old mid new (λ n. occurs_in n l.tree) (λ n. occurs_in n to.new) (part_of l.ids) (part_of ids.table) tree_moves ids.moves ids_live is.once
+
+      pub layer_inserted : 2 ≤ most → IsBox dims bounds → map.contains_key objects id ≡ false → BecomesLayer dims most old new (part_of_layer l) after directory (map.insert objects id bounds) (HasInserted dims most l id bounds)
+      layer_inserted two box absent =
+          let kept = insertion_keeps_shape dims most (part_of l.ids) branch 0 l.tree to.new to.insertion two (entry_has_shape box) is.boxes is.tree.shape in
+          record {
+            layer = record { tree = to.new; ids = ids.table };
+            stands = record {
+              tree = record {
+                page_is = to.at.page;
+                level_is = to.at.level;
+                stands = (trees_beside_stand dims mid new (part_of l.ids) (part_of ids.table) to.new ids.moves to.stands
+                    (made_apart old mid new (λ n. occurs_in n l.tree) (λ n. occurs_in n to.new) (part_of l.ids) (part_of ids.table) tree_moves ids.moves ids_live is.once)).0;
+                shape = kept.0;
+              };
+              boxes = kept.1;
+              directory_is = ids.page ∙ is.directory_is;
+              ids = ids.stands;
+              leaves = more_leaves _ _ objects id bounds (insertion_keeps_objects dims most (part_of l.ids) branch 0 l.tree to.new to.insertion) is.leaves absent;
+              table = ids.objects ∙ ap (λ (m : Objects). map.insert m id bounds) is.table;
+              once = all_change.once;
+            };
+            tree_is = to.insertion;
+            moves = all_change;
+          }

@@ -1,0 +1,47 @@
+-- What the calls on the pages of a layer make of them (our rule, docs/FORMAT.md, "Trees of pages" and "Identifier
+-- tables").
+use Rattle.std.specs.Prelude.{◌≡◌, ℕ, List, map}
+use Rattle.box_math.specs.Bounds.{Bounds}
+use Rattle.tree_node.specs.Nodes.{Item}
+use Rattle.tree_node.specs.Trees.{Tree, end, object}
+use Rattle.tree_node.specs.declared.node.Root.{Root}
+use Rattle.node_page.specs.Parts.{Moves, Part}
+use Rattle.node_page.specs.Standing.{PageMap}
+use Rattle.id_table.specs.Table.{IdTable, IdsStand, objects_of, part_of}
+use Rattle.reinsert.specs.Insertion.{IsInsertion}
+use Rattle.bulk_load.specs.Packed.{IsPacked}
+use Rattle.layer_pages.specs.Layers.{IsLayerAt, LayerPages, Objects, part_of_layer}
+
+-- A part of the pages became those of a layer with these objects, at that root and directory, whose tree is so. All
+-- other pages stay, and those that came in were not live.
+pub record BecomesLayer (dims most : ℕ) (old new : PageMap) (was : Part) (root : Root) (directory : ℕ)
+    (objects : Objects) (IsSo : Tree → Type 0) : Type 0 where
+  pub layer : LayerPages
+  pub stands : IsLayerAt dims most new root directory layer objects
+  pub tree_is : IsSo layer.tree
+  pub moves : Moves old new was (part_of_layer layer)
+
+-- an empty leaf
+pub record IsEmptyLeaf (t : Tree) : Type 0 where
+  pub level : t.level ≡ 0
+  pub row : t.row ≡ end
+
+-- the tree of a layer after a lawful insertion of an object, with no page of the layer's table
+abbrev pub HasInserted : ℕ → ℕ → LayerPages → ℕ → Bounds → Tree → Type 0
+HasInserted dims most l id bounds t = IsInsertion dims most (part_of l.ids) (object bounds id) 0 l.tree t
+
+-- an object as an entry of a leaf
+abbrev pub item_of_object : ℕ × Bounds → Item
+item_of_object o = record { bounds = o.1; reference = o.0 }
+
+-- a tree packed from these objects
+abbrev pub HasPacked : ℕ → ℕ → List (ℕ × Bounds) → Tree → Type 0
+HasPacked dims most objects t = IsPacked dims most (map item_of_object objects) t
+
+-- A part of the pages became those of an identifier table of these objects.
+pub record BecomesTable (dims : ℕ) (old new : PageMap) (was : Part) (directory : ℕ) (objects : Objects) : Type 0 where
+  pub table : IdTable
+  pub page : table.page ≡ directory
+  pub stands : IdsStand dims new table
+  pub objects_are : objects_of table ≡ objects
+  pub moves : Moves old new was (part_of table)

@@ -1,0 +1,43 @@
+-- The pages of a layer: a tree, and an identifier table of the same objects (our rule, docs/FORMAT.md, "Trees of pages"
+-- and "Identifier tables").
+use Rattle.std.specs.Prelude.{◌≡◌, ℕ, ◌+◌, ◌^◌, ◌<◌, ◌≤◌, IsPermutation}
+use Rattle.std.specs.FinMap.{FinMap, entries}
+use Rattle.std.specs.Ordering.{nat_cmp}
+use Rattle.box_math.specs.Bounds.{Bounds}
+use Rattle.tree_node.specs.Boxes.{RowHasBoxes}
+use Rattle.tree_node.specs.Trees.{Tree, objects_in, occurs_in}
+use Rattle.tree_node.specs.declared.node.Root.{Root}
+use Rattle.node_page.specs.Parts.{Part}
+use Rattle.node_page.specs.Rooted.{IsTreeAt}
+use Rattle.node_page.specs.Standing.{PageMap}
+use Rattle.id_table.specs.Table.{IdTable, IdsStand, objects_of, occurs_in_ids}
+
+-- the tree and the identifier table of a layer
+pub record LayerPages : Type 0 where
+  pub tree : Tree
+  pub ids : IdTable
+
+-- a box for each identifier
+abbrev pub Objects : Type 0
+Objects = FinMap nat_cmp Bounds
+
+-- the part of the pages that a layer has
+abbrev pub part_of_layer : LayerPages → Part
+part_of_layer l n = occurs_in n l.tree + occurs_in_ids n l.ids
+
+-- where a tree that may grow begins: no higher than level 40, in a page that a node can refer to
+pub record CanBeRoot (root : Root) : Type 0 where
+  pub level : root.level ≤ 40
+  pub page : (3 ≤ root.page) × (root.page < 2 ^ 31)
+
+-- The pages stand for the layer, whose tree is at that root, with nodes of at most so many entries, and whose table is
+-- at that directory. Both hold just these objects, and no page is in the layer twice.
+pub record IsLayerAt (dims most : ℕ) (pages : PageMap) (root : Root) (directory : ℕ) (l : LayerPages)
+    (objects : Objects) : Type 0 where
+  pub tree : IsTreeAt dims most pages root l.tree
+  pub boxes : RowHasBoxes dims l.tree.row
+  pub directory_is : l.ids.page ≡ directory
+  pub ids : IdsStand dims pages l.ids
+  pub leaves : IsPermutation (objects_in l.tree.row) (entries objects)
+  pub table : objects_of l.ids ≡ objects
+  pub once : (n : ℕ) → part_of_layer l n ≤ 1

@@ -1,0 +1,44 @@
+//! Layers given up.
+
+ghost use Rattle.std.specs.Prelude.{◌≡◌, ℕ, IfErr, OnOk};
+ghost use Rattle.box_math.specs.Bounds.{IsDims};
+ghost use Rattle.page_file.specs.Fault.{IsOfDevice};
+ghost use Rattle.page_file.specs.declared.gate.Gate.TheVariants.{Open};
+ghost use Rattle.page_cache.specs.Cache.{IsPageMap, gate_of, pages};
+ghost use Rattle.node_page.specs.Broken.{Alters};
+ghost use Rattle.node_page.specs.Parts.{Moves, no_page};
+ghost use Rattle.layer_pages.specs.Layers.{CanBeRoot, IsLayerAt, LayerPages, Objects, part_of_layer};
+
+use block_device::BlockDevice;
+use condense::free_tree;
+use id_table::free_all;
+use node_page::{Broken, Root};
+use page_cache::PageCache;
+use std::alloc::Allocator;
+
+/// Frees all pages of a layer. The gate has to be open.
+///
+/// With a sound map, where the pages stand for a layer at that root and directory, a refusal is `Memory` or `Device`.
+pub fn free<const D: usize, B: BlockDevice, A: Allocator + Copy>(
+    cache: &mut PageCache<B, A>,
+    root: Root,
+    directory: u32,
+) -> Result<(), Broken>
+    requires dims { IsDims D }
+    requires open { gate_of cache.old ≡ Open }
+    requires root { CanBeRoot root }
+    ensures alters { Alters cache.old cache.new result }
+    ensures sound { IsPageMap cache.old → (l : LayerPages) (most : ℕ) (objects : Objects)
+        → IsLayerAt D most (pages cache.old) root directory l objects → IsPageMap cache.new }
+    ensures freed { IsPageMap cache.old → (l : LayerPages) (most : ℕ) (objects : Objects)
+        → IsLayerAt D most (pages cache.old) root directory l objects
+        → OnOk result (Moves (pages cache.old) (pages cache.new) (part_of_layer l) no_page) }
+    ensures faults { IsPageMap cache.old → (l : LayerPages) (most : ℕ) (objects : Objects)
+        → IsLayerAt D most (pages cache.old) root directory l objects → IfErr result (λ b. IsOfDevice b.cause) }
+{
+    free_tree::<D, B, A>(cache, root)?;
+    match free_all::<D, B, A>(cache, directory) {
+        Ok(()) => Ok(()),
+        Err(broken) => Err(Broken::midway(broken.cause)),
+    }
+}

@@ -1,0 +1,129 @@
+//! All objects of a layer at once.
+
+ghost use Rattle.std.specs.Prelude.{◌≡◌, ◌≤◌, ◌%◌, ℕ, true, false, map as each, All, IfErr, IfOk, IsPermutation, OnOk};
+ghost use Rattle.std.specs.FinMap as map;
+ghost use Rattle.box_math.specs.Bounds.{IsBox, IsDims};
+ghost use Rattle.page_file.specs.declared.fault.Fault.TheVariants as fault;
+ghost use Rattle.page_file.specs.declared.gate.Gate.TheVariants.{Open};
+ghost use Rattle.page_cache.specs.Cache.{IsPageMap, gate_of, pages};
+ghost use Rattle.tree_node.specs.Nodes.{items_of};
+ghost use Rattle.node_page.specs.Broken.{Alters};
+ghost use Rattle.node_page.specs.Faults.{IsNoDamage};
+ghost use Rattle.layer_pages.specs.Changes.{BecomesLayer, BecomesTable, HasPacked, item_of_object};
+ghost use Rattle.layer_pages.specs.Layers.{CanBeRoot, IsLayerAt, LayerPages, Objects, part_of_layer};
+
+use block_device::BlockDevice;
+use box_math::BBox;
+use condense::free_tree;
+use id_table::fill;
+use node_page::{Broken, Entry, Root};
+use page_cache::PageCache;
+use page_file::Fault;
+use std::alloc::Allocator;
+
+/// Puts these objects into a layer without objects, and answers the root of its tree, which is packed and has nodes of
+/// at most `m_max` entries. Their identifiers are all different. The gate has to be open. The objects are left in
+/// another order.
+///
+/// With a sound map, where the pages stand for a layer without objects at that root and directory, a refusal is
+/// `Memory` or `Device`, or `NoPages` where all page numbers are given out.
+pub fn load<const D: usize, B: BlockDevice, A: Allocator + Copy, H: Allocator + Copy>(
+    alloc: H,
+    cache: &mut PageCache<B, A>,
+    root: Root,
+    directory: u32,
+    objects: &mut [(u64, BBox<D>)],
+    m_max: u8,
+) -> Result<Root, Broken>
+    requires dims { IsDims D }
+    requires open { gate_of cache.old ≡ Open }
+    requires most { (4 ≤ m_max) × (m_max ≤ 100) }
+    requires root { CanBeRoot root }
+    ensures alters { Alters cache.old cache.new result }
+    ensures root { IfOk result CanBeRoot }
+    ensures sound { IsPageMap cache.old → (l : LayerPages) (most : ℕ) (all : Objects)
+        → IsLayerAt D most (pages cache.old) root directory l map.empty → IsPermutation objects.old (map.entries all)
+        → IfOk result (λ _. IsPageMap cache.new) }
+    ensures loaded { IsPageMap cache.old → (l : LayerPages) (most : ℕ) (all : Objects)
+        → IsLayerAt D most (pages cache.old) root directory l map.empty → IsPermutation objects.old (map.entries all)
+        → IfOk result (λ after. BecomesLayer D m_max (pages cache.old) (pages cache.new) (part_of_layer l) after
+        directory all (HasPacked D m_max objects.old)) }
+    ensures same { IsPermutation objects.old objects.new }
+    ensures faults { IsPageMap cache.old → (l : LayerPages) (most : ℕ) (all : Objects)
+        → IsLayerAt D most (pages cache.old) root directory l map.empty → IsPermutation objects.old (map.entries all)
+        → IfErr result (λ b. IsNoDamage cache.new b.cause) }
+{
+    let mut entries = entries_of(alloc, objects)?;
+    let after = bulk_load::load(alloc, cache, entries.as_mut_slice(), m_max)?;
+    if !can_be_root(after) {
+        return Err(Broken::midway(Fault::Damaged(after.page)));
+    }
+    match put_ids(cache, root, directory, objects) {
+        Ok(()) => Ok(after),
+        Err(broken) => Err(Broken::midway(broken.cause)),
+    }
+}
+
+// The objects as entries of leaves.
+fn entries_of<const D: usize, H: Allocator>(
+    alloc: H,
+    objects: &[(u64, BBox<D>)],
+) -> Result<Vec<Entry<D>, H>, Fault>
+    ensures items { IfOk result (λ entries. items_of entries.items ≡ each item_of_object objects.now) }
+    ensures boxes { IfOk result (λ entries. All (λ item. IsBox D item.bounds) (items_of entries.items)) }
+    ensures refused { IfErr result (λ f. f ≡ fault.Memory) }
+{
+    let mut entries = Vec::with_capacity(alloc, objects.len())?;
+    for object in objects {
+        // a box that was looked at is known to be one
+        let _ = object.1.low();
+        entries.push(Entry {
+            bounds: object.1,
+            reference: object.0,
+        })?;
+    }
+    Ok(entries)
+}
+
+// Whether a tree may begin there.
+fn can_be_root(root: Root) -> bool
+    ensures yes { result ≡ true → CanBeRoot root }
+    ensures no { result ≡ false → ¬ (CanBeRoot root) }
+{
+    root.level <= 40 && root.page >= 3 && root.page < 1 << 31
+}
+
+// Puts these objects into the table of a layer without objects, and frees its tree.
+fn put_ids<const D: usize, B: BlockDevice, A: Allocator + Copy>(
+    cache: &mut PageCache<B, A>,
+    root: Root,
+    directory: u32,
+    objects: &mut [(u64, BBox<D>)],
+) -> Result<(), Broken>
+    requires dims { IsDims D }
+    requires open { gate_of cache.old ≡ Open }
+    requires root { CanBeRoot root }
+    ensures alters { Alters cache.old cache.new result }
+    ensures sound { IsPageMap cache.old → (l : LayerPages) (most : ℕ) (all : Objects)
+        → IsLayerAt D most (pages cache.old) root directory l map.empty → IsPermutation objects.old (map.entries all)
+        → OnOk result (IsPageMap cache.new) }
+    ensures put { IsPageMap cache.old → (l : LayerPages) (most : ℕ) (all : Objects)
+        → IsLayerAt D most (pages cache.old) root directory l map.empty → IsPermutation objects.old (map.entries all)
+        → OnOk result (BecomesTable D (pages cache.old) (pages cache.new) (part_of_layer l) directory all) }
+    ensures same { IsPermutation objects.old objects.new }
+    ensures faults { IsPageMap cache.old → (l : LayerPages) (most : ℕ) (all : Objects)
+        → IsLayerAt D most (pages cache.old) root directory l map.empty → IsPermutation objects.old (map.entries all)
+        → IfErr result (λ b. IsNoDamage cache.new b.cause) }
+{
+    // each page of the table is then looked at in a row
+    objects.sort_unstable_by_key(
+        |object| -> u64
+            ensures { result ≡ object.entry.now.0 % 1000 }
+        { object.0 % 1000 },
+    );
+    fill(cache, directory, objects)?;
+    match free_tree::<D, B, A>(cache, root) {
+        Ok(()) => Ok(()),
+        Err(broken) => Err(Broken::midway(broken.cause)),
+    }
+}

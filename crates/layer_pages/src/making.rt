@@ -1,0 +1,72 @@
+//! Layers made.
+
+ghost use Rattle.std.specs.Prelude.{◌≡◌, ◌^◌, ◌<◌, ◌≤◌, ℕ, [], None, Some, IfErr, IfOk};
+ghost use Rattle.std.specs.FinMap as map;
+ghost use Rattle.box_math.specs.Bounds.{IsDims};
+ghost use Rattle.page_file.specs.Pages.{SameBut};
+ghost use Rattle.page_file.specs.declared.gate.Gate.TheVariants.{Open};
+ghost use Rattle.page_cache.specs.Cache.{IsPageMap, gate_of, next_of, pages};
+ghost use Rattle.page_cache.specs.Calls.{Changes};
+ghost use Rattle.node_page.specs.Broken.{Alters};
+ghost use Rattle.node_page.specs.Parts.{no_page};
+ghost use Rattle.node_page.specs.Standing.{node_in};
+ghost use Rattle.node_page.specs.Faults.{IsNoDamage};
+ghost use Rattle.layer_pages.specs.Changes.{BecomesLayer, IsEmptyLeaf};
+ghost use Rattle.layer_pages.specs.Layers.{CanBeRoot};
+
+use arrayvec::ArrayVec;
+use block_device::BlockDevice;
+use node_page::{Broken, Node, Root, write_node};
+use page_cache::PageCache;
+use page_file::Fault;
+use std::alloc::Allocator;
+
+/// Makes a layer of no objects in pages that were not live, and answers its root and the page of its directory. The
+/// gate has to be open.
+///
+/// With a sound map a refusal is `Memory` or `Device`, or `NoPages` where all page numbers are given out.
+pub fn make<const D: usize, B: BlockDevice, A: Allocator + Copy>(
+    cache: &mut PageCache<B, A>,
+) -> Result<(Root, u32), Broken>
+    requires dims { IsDims D }
+    requires open { gate_of cache.old ≡ Open }
+    ensures alters { Alters cache.old cache.new result }
+    ensures places { IfOk result (λ made. CanBeRoot made.0 × (3 ≤ made.1) × (made.1 < next_of cache.new)) }
+    ensures sound { IsPageMap cache.old → IsPageMap cache.new }
+    ensures made { IsPageMap cache.old → (most : ℕ) → IfOk result (λ made.
+        BecomesLayer D most (pages cache.old) (pages cache.new) no_page made.0 made.1 map.empty IsEmptyLeaf) }
+    ensures faults { IsPageMap cache.old → IfErr result (λ b. IsNoDamage cache.new b.cause) }
+{
+    let page = match make_leaf::<D, B, A>(cache) {
+        Ok(page) => page,
+        Err(fault) => return Err(Broken::midway(fault)),
+    };
+    match id_table::make::<D, B, A>(cache) {
+        Ok(directory) => Ok((Root { page, level: 0 }, directory)),
+        Err(broken) => Err(Broken::midway(broken.cause)),
+    }
+}
+
+// Gives out a page and writes an empty leaf into it.
+fn make_leaf<const D: usize, B: BlockDevice, A: Allocator + Copy>(
+    cache: &mut PageCache<B, A>,
+) -> Result<u32, Fault>
+    requires dims { IsDims D }
+    requires open { gate_of cache.old ≡ Open }
+    ensures changes { Changes cache.old cache.new result }
+    ensures number { IfOk result (λ page. (3 ≤ page) × (page < 2 ^ 31)) }
+    ensures sound { IsPageMap cache.old → IsPageMap cache.new }
+    ensures fresh { IsPageMap cache.old → IfOk result (λ page. pages cache.old page ≡ None) }
+    ensures leaf { IsPageMap cache.old → IfOk result (λ page.
+        node_in D (pages cache.new page) ≡ Some (record { level = 0; entries = [] })) }
+    ensures others { IsPageMap cache.old → IfOk result (λ page. SameBut page (pages cache.old) (pages cache.new)) }
+    ensures faults { IsPageMap cache.old → IfErr result (IsNoDamage cache.new) }
+{
+    let leaf: Node<D> = Node {
+        level: 0,
+        entries: ArrayVec::new(),
+    };
+    let page = cache.allocate()?;
+    write_node(cache, page, &leaf)?;
+    Ok(page)
+}

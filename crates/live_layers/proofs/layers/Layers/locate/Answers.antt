@@ -1,0 +1,33 @@
+-- The record at the place is that of a layer that may be, and says where the layer stands.
+use Rattle.std.proofs.Common.{◌≡◌, ◌∙◌, List, get_or, ap, arith}
+use Rattle.std.proofs.lemmas.List.{length-map}
+use Rattle.catalog_page.specs.Layout.{record_of}
+use Rattle.catalog_page.specs.declared.layer_record.LayerRecord.{LayerRecord}
+use Rattle.live_layers.proofs.LocateLemmas.{can_be_root, fanout_fits, located_here}
+use Rattle.live_layers.proofs.layers.Layers.locate.Goals as goal
+
+pub returns-clause-fanout : goal.returns-clause-fanout
+returns-clause-fanout g c =
+    let kept = c.args.self.now in
+    let items = kept.records.items in
+    let place = c.args.place in
+    let r = c.index-deref-place.result in
+    let is : r ≡ get_or items place r = c.index-deref-place.is ∙ ap (λ (xs : List LayerRecord). get_or xs place r) c.deref.ensures.0 in
+    fanout_fits items place r is (omega (arith, c.requires, length-map items record_of)) kept.are_layers
+
+pub returns-clause-root : goal.returns-clause-root
+returns-clause-root g c =
+    let kept = c.args.self.now in
+    let items = kept.records.items in
+    let place = c.args.place in
+    let r = c.index-deref-place.result in
+    let is : r ≡ get_or items place r = c.index-deref-place.is ∙ ap (λ (xs : List LayerRecord). get_or xs place r) c.deref.ensures.0 in
+    can_be_root items place r is (omega (arith, c.requires, length-map items record_of)) kept.are_layers
+
+pub returns-clause-located : goal.returns-clause-located
+returns-clause-located g c = λ t name sound finds.
+    let kept = c.args.self.now in
+    let place = c.args.place in
+    let r = c.index-deref-place.result in
+    let is : r ≡ get_or kept.records.items place r = c.index-deref-place.is ∙ ap (λ (xs : List LayerRecord). get_or xs place r) c.deref.ensures.0 in
+    located_here kept t name place sound finds r is

@@ -1,0 +1,39 @@
+-- The pages hold the table, the catalog names its layers, and the blocks are those pages.
+use Rattle.std.proofs.Common.{◌∷◌, refl}
+use Rattle.block_device.specs.Moments.{leaves_weaker}
+use Rattle.catalog_page.specs.Layout.{records_of}
+use Rattle.page_cache.specs.Cache.{blocks_of, device_of}
+use Rattle.page_file.specs.Stops.{SameButGate}
+use Rattle.live_layers.specs.Image.{IsRefusedOrImageOf}
+use Rattle.live_layers.proofs.KeepLemmas.{kept_catalog, kept_table, sound_kept}
+use Rattle.live_layers.proofs.StopLemmas.{image_of, or_this, table_closed}
+use Rattle.live_layers.proofs.Results.{on_ok}
+use Rattle.live_layers.proofs.layers.Layers.settle.Goals as goal
+
+pub returns-in_err-write-clause-stops : goal.returns-in_err-write-clause-stops
+returns-in_err-write-clause-stops g c = λ ts t sound rests.
+    let d = g.B.BlockDevice in
+    leaves_weaker d.moment d.left_since (device_of c.args.self.now.cache) (device_of c.write.new.self.cache) (IsRefusedOrImageOf ts) (IsRefusedOrImageOf (t ∷ ts)) (or_this ts t) (c.write.ensures.stops ts sound.map.honest rests)
+
+pub returns-clause-stops : goal.returns-clause-stops
+returns-clause-stops g c = λ ts t sound rests.
+    let mid = c.write.new.self in
+    let new = c.settle.new.self in
+    let before = c.write.ensures.sound t sound in
+    let keeps = c.settle.ensures.map in
+    let spelled = kept_catalog mid.cache new (records_of mid.records) before.map.honest keeps (before.catalog c.in_ok-write.ensures.written) in
+    table_closed (device_of c.args.self.now.cache) (device_of mid.cache) (device_of new) new (λ b. SameButGate b (blocks_of new)) ts (records_of mid.records) t (c.write.ensures.stops ts sound.map.honest rests)
+    (c.settle.ensures.stops before.map.honest) (keeps.sound.0 before.map) spelled (kept_table mid.cache new (records_of mid.records) t before.map.honest keeps before.holds)
+
+pub returns-clause-closed : goal.returns-clause-closed
+returns-clause-closed g c = λ t sound.
+    let mid = c.write.new.self in
+    let new = c.settle.new.self in
+    let before = c.write.ensures.sound t sound in
+    let keeps = c.settle.ensures.map in
+    let spelled = kept_catalog mid.cache new (records_of mid.records) before.map.honest keeps (before.catalog c.in_ok-write.ensures.written) in
+    on_ok c.settle.result (λ lies. image_of new (blocks_of new) (records_of mid.records) t (keeps.sound.0 before.map) lies spelled (kept_table mid.cache new (records_of mid.records) t before.map.honest keeps before.holds))
+    (c.settle.ensures.lies before.map.honest)
+
+pub returns-clause-sound : goal.returns-clause-sound
+returns-clause-sound g c = λ t sound. sound_kept c.write.new.self _ t c.settle.ensures.map refl refl (λ w. w) (c.write.ensures.sound t sound)

@@ -1,0 +1,76 @@
+-- The catalog is written behind an open gate, and nothing else.
+use Rattle.std.proofs.Common.{◌≡◌, ◌∙◌, true, false, refl, ap, arith}
+use Rattle.std.specs.Prelude.{option_and_then}
+use Rattle.catalog_page.specs.Layout.{records_at}
+use Rattle.page_cache.specs.Cache.{device_of}
+use Rattle.page_file.specs.Fault.{IsOfDevice}
+use Rattle.page_cache.specs.Laws.{numbers_are_few, the_catalog_is_live}
+use Rattle.live_layers.proofs.KeepLemmas.{sound_kept, sound_written}
+use Rattle.live_layers.proofs.StopLemmas.{gate_opened, none_made, pages_written}
+use Rattle.live_layers.proofs.Results.{the_err}
+use Rattle.live_layers.proofs.layers.Layers.write.Goals as goal
+
+pub returns-then-self-clause-stops : goal.returns-then-self-clause-stops
+returns-then-self-clause-stops g c = λ ts honest rests.
+    let cache = c.args.self.now.cache in
+    none_made cache ts honest (λ b left. g.met.B.BlockDevice.only_now (device_of cache) b honest left) rests
+
+pub returns-in_err-begin_change-clause-stops : goal.returns-in_err-begin_change-clause-stops
+returns-in_err-begin_change-clause-stops g c = λ ts honest rests.
+    let cache = c.args.self.now.cache in
+    let begun = c.begin_change.ensures in
+    gate_opened cache c.begin_change.new.self ts honest (λ b left. g.met.B.BlockDevice.only_now (device_of cache) b honest left) (λ opened. (begun.was_open opened).0.device) (begun.stops honest) rests
+
+pub returns-in_err-begin_change-clause-rests : goal.returns-in_err-begin_change-clause-rests
+returns-in_err-begin_change-clause-rests g c = λ ts honest rests closed b same.
+    let begun = c.in_err-begin_change.ensures in
+    rests (λ opened. let no : false ≡ true = (begun.was_open opened).1 in absurd (cc)) b (same ∙ begun.blocks honest)
+
+pub returns-in_err-begin_change-clause-sound : goal.returns-in_err-begin_change-clause-sound
+returns-in_err-begin_change-clause-sound g c = λ t sound. sound_kept c.args.self.now _ t c.begin_change.ensures.map refl refl (λ w. w) sound
+
+pub returns-in_err-put-clause-stops : goal.returns-in_err-put-clause-stops
+returns-in_err-put-clause-stops g c = λ ts honest rests.
+    let cache = c.args.self.now.cache in
+    let begun = c.begin_change.ensures in
+    pages_written cache c.begin_change.new.self c.put.new.self ts (begun.honest.0 honest) c.in_ok-begin_change.ensures.open
+    (gate_opened cache c.begin_change.new.self ts honest (λ b left. g.met.B.BlockDevice.only_now (device_of cache) b honest left) (λ opened. (begun.was_open opened).0.device) (begun.stops honest) rests)
+    c.put.ensures.changes.gate
+
+pub returns-in_err-put-clause-rests : goal.returns-in_err-put-clause-rests
+returns-in_err-put-clause-rests g c = λ ts honest rests closed. absurd (closed (c.put.ensures.changes.gate.gate ∙ c.in_ok-begin_change.ensures.open))
+
+pub returns-in_err-put-clause-sound : goal.returns-in_err-put-clause-sound
+returns-in_err-put-clause-sound g c = λ t sound.
+    let keeps = c.begin_change.ensures.map in
+    let map = keeps.sound.0 sound.map in
+    let live = the_catalog_is_live c.begin_change.new.self in
+    sound_written c.args.self.now c.begin_change.new.self _ t sound keeps (c.put.ensures.others map.honest live) (c.put.ensures.live map.honest live) (c.put.ensures.sound map live) c.put.ensures.next refl refl
+    (λ w. let e : c.args.self.now.written ≡ true = w in let f = c.if-self.false in absurd (cc))
+
+pub returns-in_err-put-clause-faults : goal.returns-in_err-put-clause-faults
+returns-in_err-put-clause-faults g c = λ before.
+    let begun = c.begin_change.new.self in
+    let map = c.begin_change.ensures.map.sound.0 before in
+    let few = numbers_are_few begun in
+    the_err c.from_residual-in_err-put.result c.in_err-put.field-0.0 IsOfDevice c.from_residual-in_err-put.ensures.1
+    (c.in_err-put.ensures.faults map.honest (omega arith) (omega (arith, few.0)))
+
+pub returns-clause-stops : goal.returns-clause-stops
+returns-clause-stops g c = λ ts honest rests.
+    let cache = c.args.self.now.cache in
+    let begun = c.begin_change.ensures in
+    pages_written cache c.begin_change.new.self c.put.new.self ts (begun.honest.0 honest) c.in_ok-begin_change.ensures.open
+    (gate_opened cache c.begin_change.new.self ts honest (λ b left. g.met.B.BlockDevice.only_now (device_of cache) b honest left) (λ opened. (begun.was_open opened).0.device) (begun.stops honest) rests)
+    c.put.ensures.changes.gate
+
+pub returns-clause-rests : goal.returns-clause-rests
+returns-clause-rests g c = λ ts honest rests closed. absurd (closed (c.put.ensures.changes.gate.gate ∙ c.in_ok-begin_change.ensures.open))
+
+pub returns-clause-sound : goal.returns-clause-sound
+returns-clause-sound g c = λ t sound.
+    let keeps = c.begin_change.ensures.map in
+    let map = keeps.sound.0 sound.map in
+    let live = the_catalog_is_live c.begin_change.new.self in
+    sound_written c.args.self.now c.begin_change.new.self _ t sound keeps (c.put.ensures.others map.honest live) (c.put.ensures.live map.honest live) (c.put.ensures.sound map live) c.put.ensures.next refl refl
+    (λ w. ap (option_and_then records_at) (c.in_ok-put.ensures.written map.honest live) ∙ c.encode.ensures.read_back)

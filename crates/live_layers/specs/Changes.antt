@@ -1,0 +1,54 @@
+-- What a change of live layers does: it is made, refused with the table as it was, or broken off half way.
+use Rattle.std.specs.Prelude.{◌≡◌, ◌⊎◌, List, Result, Ok, Err}
+use Rattle.block_device.specs.Device.{HasRisen, LeavesOnly}
+use Rattle.page_cache.specs.Cache.{IsHonest, KeepsGate, device_of, gate_of, next_of}
+use Rattle.page_file.specs.declared.fault.Fault.{Fault}
+use Rattle.page_file.specs.declared.fault.Fault.TheVariants as fault
+use Rattle.page_file.specs.declared.gate.Gate.TheVariants.{Open}
+use Rattle.plain_table.specs.Commands.{Command}
+use Rattle.plain_table.specs.Step.{Answer, after, reply_of}
+use Rattle.plain_table.specs.Step.Answer.{Done, Refused}
+use Rattle.plain_table.specs.Table.{Table}
+use Rattle.store_law.specs.Lawful.{IsFault, IsSpent, MayWrite, RefusedBy}
+use Rattle.live_layers.specs.Image.{IsRefusedOrImageOf}
+use Rattle.live_layers.specs.Keeping.{IsSound, RestLeavesOneOf}
+use Rattle.live_layers.specs.declared.layers.Layers.{Layers}
+use Rattle.live_layers.specs.declared.unmade.Unmade.{Unmade}
+use Rattle.live_layers.specs.declared.unmade.Unmade.TheVariants as unmade
+
+-- the device's count of faults rose between the two
+abbrev pub Rose : {D A : Type 0} {m : _} → Layers D A m → Layers D A m → Type 0
+Rose {m = m} old new = HasRisen (m.faults (device_of old.cache)) (m.faults (device_of new.cache))
+
+-- want of memory, a device that failed, or want of page numbers
+abbrev pub IsFaultOfChange : Type 0 → Type 0 → Fault → Type 0
+IsFaultOfChange rose spent fault.Memory = Unit {0}
+IsFaultOfChange rose spent fault.Device = rose
+IsFaultOfChange rose spent fault.NoPages = spent
+IsFaultOfChange rose spent f = ⊥
+
+-- The change is made, and the layers are sound with the table after it; or it is refused, as the table refuses it or by a
+-- fault, and they are sound with the table as it was; or it broke off half way, and nothing is promised of them.
+abbrev pub IsChanged : {D A : Type 0} {m : _} → Layers D A m → Layers D A m → Table → Command → Result (Unit {0}) Unmade → Type 0
+IsChanged old new t c (Ok u) = (Done ≡ reply_of t c) × IsSound new (after t c)
+IsChanged old new t c (Err (unmade.Refused r)) =
+    IsSound new t × (((Refused r ≡ reply_of t c) × (after t c ≡ t)) ⊎ IsFault (Rose old new) (IsSpent (next_of new.cache) × MayWrite t c) r)
+IsChanged old new t c (Err (unmade.Broken f)) = IsHonest new.cache × MayWrite t c × IsFaultOfChange (Rose old new) (IsSpent (next_of new.cache)) f
+
+-- it broke off half way, or was made
+abbrev pub IsBegun : Result (Unit {0}) Unmade → Type 0
+IsBegun (Err (unmade.Refused r)) = ⊥
+IsBegun result = Unit {0}
+
+-- What stops leave of a change: nothing but what one at rest left, so once its gate is open blocks that opening refuses.
+-- The gate is open where the change was begun, and stays as it is where the table would not change.
+pub record ChangeLeaves {D A : Type 0} {m : _} (old new : Layers D A m) (t : Table) (c : Command) (result : Result (Unit {0}) Unmade) : Type 0 where
+  pub stops : (ts : List Table) → RestLeavesOneOf old.cache ts → LeavesOnly m.moment m.left_since (device_of old.cache) (device_of new.cache) (IsRefusedOrImageOf ts)
+  pub rests : (ts : List Table) → RestLeavesOneOf old.cache ts → RestLeavesOneOf new.cache ts
+  pub opened : IsBegun result → gate_of new.cache ≡ Open
+  pub quiet : after t c ≡ t → KeepsGate old.cache new.cache
+
+-- A question is answered as the table answers it, or refused by a fault, and the layers are sound with the table as it was.
+abbrev pub IsAnswered : {D A : Type 0} {m : _} → Layers D A m → Layers D A m → Table → Command → Answer → Type 0
+IsAnswered old new t c a =
+    IsSound new t × ((a ≡ reply_of t c) ⊎ RefusedBy (IsFault (Rose old new) (IsSpent (next_of new.cache) × MayWrite t c)) a)

@@ -1,0 +1,34 @@
+-- What a change that broke off leaves, and the refusals that faults of a file are.
+use Rattle.std.specs.Prelude.{ℕ, ◌≡◌, if◌then◌else◌, Result, OnOk, IfErr}
+use Rattle.block_device.specs.Device.{one_more}
+use Rattle.node_page.specs.declared.broken.Broken.{Broken}
+use Rattle.page_file.specs.declared.fault.Fault.{Fault}
+use Rattle.page_file.specs.declared.fault.Fault.TheVariants as fault
+use Rattle.plain_table.specs.declared.refusal.Refusal.{Refusal}
+use Rattle.plain_table.specs.declared.refusal.Refusal.TheVariants as refusal
+use Rattle.store_law.specs.Lawful.{blames_device}
+use Rattle.live_layers.specs.declared.unmade.Unmade.{Unmade}
+use Rattle.live_layers.specs.declared.unmade.Unmade.TheVariants as unmade
+
+-- the refusal of the same name
+abbrev pub as_refusal : Fault → Refusal
+as_refusal fault.Memory = refusal.Memory
+as_refusal fault.Device = refusal.Device
+as_refusal (fault.Damaged page) = refusal.Damaged page
+as_refusal fault.NotClosed = refusal.NotClosed
+as_refusal fault.NotAStore = refusal.NotAStore
+as_refusal fault.WrongVersion = refusal.WrongVersion
+as_refusal fault.NoPages = refusal.NoPages
+
+-- why a change that broke off was not made
+abbrev pub unmade_by : Broken → Unmade
+unmade_by b = if b.touched then unmade.Broken b.cause else unmade.Refused (as_refusal b.cause)
+
+-- how often the device has failed after a refusal: once more with one that says so, and no more with another
+abbrev pub faults_after_refusal : Refusal → ℕ → ℕ
+faults_after_refusal r before = if blames_device r then one_more before else before
+
+-- the count of the device's faults rises by one with a refusal that says so, and with nothing else
+pub record HasRefusalCause {T : Type 0} (before now : ℕ) (result : Result T Refusal) : Type 0 where
+  pub ok : OnOk result (now ≡ before)
+  pub refused : IfErr result (λ r. now ≡ faults_after_refusal r before)

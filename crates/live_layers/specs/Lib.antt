@@ -1,0 +1,10 @@
+-- The files of definitions.
+pub mod Catalog
+pub mod Layers
+pub mod Image
+pub mod Faults
+pub mod Entries
+pub mod Keeping
+pub mod Changes
+pub mod Located
+pub mod Questions

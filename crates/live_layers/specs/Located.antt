@@ -1,0 +1,17 @@
+-- What is known of the layer of a name where it stands.
+use Rattle.std.specs.Prelude.{◌≡◌, ℕ, List}
+use Rattle.layer_pages.specs.Layers.{IsLayerAt, LayerPages}
+use Rattle.page_cache.specs.Cache.{pages}
+use Rattle.plain_table.specs.Table.{Table, layer_at}
+use Rattle.live_layers.specs.Keeping.{cache_of, records_in}
+use Rattle.live_layers.specs.Layers.{IsTreeOf}
+use Rattle.live_layers.specs.declared.layers.Layers.{Layers}
+use Rattle.live_layers.specs.declared.located.Located.{Located}
+
+-- it has the dimension and fanout of the layer of that name, which stands at the root and directory
+pub record IsLocated {D A : Type 0} {m : _} (kept : Layers D A m) (t : Table) (name : List ℕ) (located : Located) : Type 0 where
+  pub layer : LayerPages
+  pub dims : (layer_at t name).dims ≡ located.dims
+  pub fanout : (layer_at t name).fanout ≡ located.fanout
+  pub stands : IsLayerAt located.dims located.fanout (pages (cache_of kept)) located.root located.directory layer (layer_at t name).objects
+  pub its_tree : IsTreeOf (pages (cache_of kept)) (records_in kept) name layer.tree

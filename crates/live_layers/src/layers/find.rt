@@ -1,0 +1,22 @@
+//! Where the layer of a name stands.
+
+ghost use Rattle.std.specs.Prelude.{◌<◌, ◌≤◌, length, IfOk, IfErr};
+ghost use Rattle.plain_table.specs.Table.{Table};
+ghost use Rattle.live_layers.specs.Keeping.{Belongs, Finds, IsSound, records_in};
+
+use crate::layers::Layers;
+use crate::search::search;
+use block_device::BlockDevice;
+use std::alloc::Allocator;
+
+impl<D: BlockDevice, A: Allocator> Layers<D, A> {
+    // The place of the layer of that name, or else the one where it would go.
+    pub(crate) fn find(&self, name: &[u8]) -> Result<usize, usize>
+        ensures within { IfOk result (λ place. place < length (records_in self.now)) }
+        ensures end { IfErr result (λ place. place ≤ length (records_in self.now)) }
+        ensures found { (t : Table) → IsSound self.now t → IfOk result (λ place. Finds t name.now place) }
+        ensures belongs { (t : Table) → IsSound self.now t → IfErr result (λ place. Belongs t name.now place) }
+    {
+        search(&self.records, name)
+    }
+}

@@ -1,0 +1,35 @@
+//! The layer at a place.
+
+ghost use Rattle.std.specs.Prelude.{◌<◌, ◌≤◌, ℕ, List, length};
+ghost use Rattle.layer_pages.specs.Layers.{CanBeRoot};
+ghost use Rattle.plain_table.specs.Table.{Table};
+ghost use Rattle.live_layers.specs.Keeping.{Finds, IsSound, records_in};
+ghost use Rattle.live_layers.specs.Located.{IsLocated};
+
+use crate::layers::Layers;
+use crate::located::Located;
+use block_device::BlockDevice;
+use node_page::Root;
+use std::alloc::Allocator;
+
+impl<D: BlockDevice, A: Allocator> Layers<D, A> {
+    // Where the layer at a place stands.
+    pub(crate) fn locate(&self, place: usize) -> Located
+        requires { place < length (records_in self.now) }
+        ensures fanout { (4 ≤ result.fanout) × (result.fanout ≤ 100) }
+        ensures root { CanBeRoot result.root }
+        ensures located { (t : Table) (name : List ℕ) → IsSound self.now t → Finds t name place →
+            IsLocated self.now t name result }
+    {
+        let record = &self.records[place];
+        Located {
+            dims: record.dims,
+            fanout: record.fanout,
+            root: Root {
+                page: record.root,
+                level: record.level,
+            },
+            directory: record.directory,
+        }
+    }
+}

@@ -1,0 +1,14 @@
+//! The layers of a live store: their records in memory, and their trees and identifier tables in the pages of a cache
+//! (docs/FORMAT.md).
+#![tactic(auto)]
+
+mod catalog;
+mod faults;
+mod layers;
+mod located;
+mod question;
+mod search;
+mod unmade;
+
+pub use layers::Layers;
+pub use unmade::Unmade;

@@ -1,0 +1,16 @@
+//! Where a layer stands.
+
+use node_page::Root;
+
+/// Where the tree and the identifier table of a layer stand, and what they are like.
+#[derive(Clone, Copy)]
+pub struct Located {
+    /// How many axes its boxes have.
+    pub dims: u8,
+    /// How many entries a node of its tree has at most.
+    pub fanout: u8,
+    /// The root of its tree.
+    pub root: Root,
+    /// The page of the directory of its identifier table.
+    pub directory: u32,
+}

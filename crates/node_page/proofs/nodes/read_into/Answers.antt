@@ -1,0 +1,22 @@
+use Rattle.std.proofs.Common.{◌≡◌, ◌⊎◌, rules, refl, sym, ◌∙◌}
+use Rattle.page_file.specs.Fault.{IsOfDevice}
+use Rattle.page_cache.specs.Cache.{given, next_of, pages}
+use Rattle.page_cache.specs.Laws.{a_live_page_was_given_out}
+use Rattle.node_page.proofs.StandingLemmas.{page_of_node}
+use Rattle.node_page.proofs.NodeLemmas.{at_error, node_of_page}
+use Rattle.node_page.proofs.nodes.read_into.Goals as goal
+
+pub returns-in_err-page-clause-there : goal.returns-in_err-page-clause-there
+returns-in_err-page-clause-there g c = λ h content there level.
+    let n = c.args.page in
+    let given = a_live_page_was_given_out c.args.cache.now n (page_of_node g.row.D (pages c.args.cache.now n) content there) in
+    at_error c.from_residual.result c.in_err-page.field-0.0 IsOfDevice c.from_residual.ensures.1 (c.in_err-page.ensures.faults h given.0 given.1)
+
+pub returns-then-decode_into-clause-node : goal.returns-then-decode_into-clause-node
+returns-then-decode_into-clause-node g c = λ h live. node_of_page g.row.D (pages c.args.cache.now c.args.page) _ _ (c.in_ok-page.ensures.bytes h live) (c.decode_into.ensures.spelled (search rules))
+
+pub returns-else-decode_into-clause-there : goal.returns-else-decode_into-clause-there
+returns-else-decode_into-clause-there g c = λ h content there level.
+    let live = page_of_node g.row.D (pages c.args.cache.now c.args.page) content there in
+    let spelled = sym (node_of_page g.row.D (pages c.args.cache.now c.args.page) _ _ (c.in_ok-page.ensures.bytes h live) refl) ∙ there in
+    absurd (c.decode_into.ensures.none c.if-decode_into.false content spelled level)

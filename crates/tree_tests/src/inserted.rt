@@ -1,0 +1,53 @@
+//! Many boxes inserted one after the other: the tree is checked on the way, and answers windows as a plain filter does.
+
+ghost use Rattle.std.specs.Prelude.{◌≤◌};
+
+use crate::scene::{Asked, Dice, Spread, add_tree, are_rows, bare, boxes, insert_all, is_whole};
+use range_query::window;
+use reinsert::Waiting;
+use std::alloc::Global;
+use std::process::Abort;
+use std::test::Fail;
+
+// How many boxes are inserted between two checks of the tree.
+const PART: usize = 1_000;
+
+// Inserts so many boxes, and checks the tree on the way. Then it compares a hundred windows.
+fn grow(rt: &impl Abort, alloc: Global, count: u64, m_max: u8) -> Result<(), Fail>
+    requires { (4 ≤ m_max) × (m_max ≤ 100) }
+{
+    let entries = boxes(alloc, Spread::Uniform, count)?;
+    let mut cache = bare(alloc)?;
+    let mut waiting = Waiting::make(alloc)?;
+    let mut root = add_tree::<2>(&mut cache)?;
+    let mut done: usize = 0;
+    'parts: for part in entries.as_slice().chunks(PART) {
+        root = insert_all(&mut cache, &mut waiting, root, part, m_max)?;
+        done = done.saturating_add(part.len()).min(entries.len());
+        let so_far = &entries.as_slice()[..done];
+        assert!(rt; is_whole(alloc, &mut cache, root, so_far, m_max)?, "{done}");
+    }
+    let mut dice = Dice::new(count);
+    'windows: for turn in 0..100u32 {
+        let asked = dice.bounds(Spread::Uniform, 0x7fff);
+        let rows = window::<2, _, _, _>(alloc, &mut cache, root, &asked)?;
+        let are = are_rows(rows.as_slice(), entries.as_slice(), &Asked::Window(asked));
+        assert!(rt; are, "{turn}");
+    }
+    Ok(())
+}
+
+#[test]
+fn many_boxes_four_to_a_node(rt: HostRuntime) -> Result<(), Fail> {
+    grow(&rt, rt.alloc(), 100_000, 4)
+}
+
+#[test]
+fn many_boxes_ten_to_a_node(rt: HostRuntime) -> Result<(), Fail> {
+    grow(&rt, rt.alloc(), 100_000, 10)
+}
+
+#[test]
+fn many_boxes_a_hundred_to_a_node(rt: HostRuntime) -> Result<(), Fail> {
+    grow(&rt, rt.alloc(), 100_000, 100)
+}
