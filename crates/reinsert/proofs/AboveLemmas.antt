@@ -1,6 +1,8 @@
 -- The entries of a node whose child has settled, as the code has them.
 use Rattle.std.proofs.Common.{Option, Some, None, ◌≡◌, ◌∙◌, ℕ, zero, suc, ◌+◌, ◌<◌, ◌≤◌, List, [], ◌∷◌, ◌++◌, length, map, take, drop, get_or, set, All, IfSome, refl, sym, ap, subst, arith}
 use Rattle.std.specs.List.{refill}
+use Rattle.std.specs.Prelude.{is_some, false}
+use Rattle.std.proofs.Math.Seq.{map-set_same}
 use Rattle.std.proofs.lemmas.List.{map-append, append-nil, take_all, length-map, length-append, length-set, get_or-map}
 use Rattle.std.proofs.lemmas.List.Elements.{All-append}
 use Rattle.box_math.specs.Bounds.{Bounds}
@@ -27,6 +29,19 @@ set_box-is : {D : ℕ} (entries : List (Entry D)) (at : ℕ) (b : Bounds) (e : E
 set_box-is [] at b e within = absurd (omega (arith, within))
 set_box-is (x ∷ xs) zero b e within = refl
 set_box-is (x ∷ xs) (suc at) b e within = ap (λ (es : List Item). item_of x ∷ es) (set_box-is xs at b e (omega (arith, within)))
+
+nothing_beside : {A : Type 0} (o : Option A) → is_some o ≡ false → o ≡ None
+nothing_beside None h = refl
+nothing_beside (Some x) h = absurd (cc)
+
+-- a child that kept its box, and beside which nothing was split off, leaves the entries as they were
+pub entries_kept : {D : ℕ} (entries : List (Entry D)) (at : ℕ) (lower : Settled D) (e : Entry D) → at < length entries → is_some lower.beside ≡ false → lower.bounds ≡ (get_or entries at e).bounds
+    → map item_of entries ≡ items_after D entries at lower
+entries_kept entries at lower e within none same =
+    let r = (get_or entries at e).reference in
+    sym (map-set_same item_of entries at (record { bounds = lower.bounds; reference = r }) e (ap (λ (b : Bounds). let i : Item = record { bounds = b; reference = r } in i) same))
+    ∙ set_box-is entries at lower.bounds e within ∙ sym (append-nil (set_box (map item_of entries) at lower.bounds))
+    ∙ ap (λ o. set_box (map item_of entries) at lower.bounds ++ items_beside o) (sym (nothing_beside lower.beside none))
 
 length-set_box : (xs : List Item) (at : ℕ) (b : Bounds) → length (set_box xs at b) ≡ length xs
 length-set_box [] at b = refl

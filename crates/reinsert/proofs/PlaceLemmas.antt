@@ -155,9 +155,12 @@ module _ {D : ℕ} (most top level target at : ℕ) (called called1 : List Bool)
       fewer n,
     )
 
+    still_there : HasNode D m1 page level row
+    still_there = node_stays D m m1 page level row (stays page (omega (arith, occurs_here page, fewer page, can.distinct page))) can.there
+
     can_settle : CanSettle D m1 page level new_branches
     can_settle = record {
-      live = page_of_node D (m1 page) _ (node_stays D m m1 page level row (stays page (omega (arith, occurs_here page, fewer page, can.distinct page))) can.there);
+      live = page_of_node D (m1 page) _ still_there;
       stands = RowStands-append D m1 level (branches_of new_row) (beside_branches D done.outcome.beside)
           (subst (λ r. RowStands D m1 level r) (sym (row_of-branches_of new_row))
           (RowStands-with_child D m m1 level row at h.from (least_box D (row_items done.outcome.row)) done.outcome.row h.there can.below (λ n. omega (arith, can.distinct n))
@@ -235,7 +238,7 @@ pub placed_over : {D : ℕ} (X Y : Type 0) (most top level target at reference :
     (entries : List (Entry D)) (d : Entry D)
     → CanPlace D m page level target row branch → target < level → row_items row ≡ map item_of entries → IsChosenChild D level (map item_of entries) (item_in branch).bounds at → reference ≡ (get_or (map item_of entries) at (item_of d)).reference
     → ((below : Row) → CanPlace D m reference (level - 1) target below branch → Y × PlacesTo D most top (level - 1) target called branch below m m1 reference lower waits waits1 called1)
-    → (Y → (branches : List Branch) → map item_in branches ≡ items_after D entries at lower → CanSettle D m1 page level branches → X × SettlesTo D most top level called1 branches m1 m' page settled waits1 waits' called')
+    → (Y → (branches : List Branch) → map item_in branches ≡ items_after D entries at lower → CanSettle D m1 page level branches → HasNode D m1 page level row → X × SettlesTo D most top level called1 branches m1 m' page settled waits1 waits' called')
     → X × PlacesTo D most top level target called branch row m m' page settled waits waits' called'
 placed_over {D} X Y most top level target at reference called called1 branch row m m1 m' page lower settled waits waits1 waits' called' entries d can above are chosen refers callee finish =
     let chosen_here : IsChosenChild D level (row_items row) (item_in branch).bounds at = subst (λ (es : List Item). IsChosenChild D level es (item_in branch).bounds at) (sym are) chosen in
@@ -244,7 +247,8 @@ placed_over {D} X Y most top level target at reference called called1 branch row
     let both = callee h.from.row (child_can most top level target at called called1 branch row m m1 page lower waits waits1 can above h reference is) in
     let done = both.1 in
     let up = finish both.0 (after_child D row at done.outcome) (above_items row at h.from lower waits waits1 called1 done.outcome entries h.there done.shows are)
-    (can_settle most top level target at called called1 branch row m m1 page lower waits waits1 can above h reference is done) in
+    (can_settle most top level target at called called1 branch row m m1 page lower waits waits1 can above h reference is done)
+    (still_there most top level target at called called1 branch row m m1 page lower waits waits1 can above h reference is done) in
     (up.0, placed_above most top level target at called called1 branch row m m1 page lower waits waits1 can above h reference is done m' settled waits' called' chosen_here up.1)
 
 -- ---- what a call gives, where it answers Ok
@@ -274,7 +278,7 @@ pub over_ok : {D : ℕ} {E : Type 0} (r : Result (Settled D) E) (X Y : Type 0) (
     → ((n : ℕ) → m0 n ≡ m n) → CanPlace D m page level target row branch → target < level → row_items row ≡ map item_of entries → IsChosenChild D level (map item_of entries) (item_in branch).bounds at
     → reference ≡ (get_or (map item_of entries) at (item_of d)).reference
     → ((below : Row) → CanPlace D m0 reference (level - 1) target below branch → Y × PlacesTo D most top (level - 1) target called branch below m0 m1 reference lower waits waits1 called1)
-    → (Y → (branches : List Branch) → map item_in branches ≡ items_after D entries at lower → CanSettle D m1 page level branches → IfOk r (λ s. X × SettlesTo D most top level called1 branches m1 m' page s waits1 waits' called'))
+    → (Y → (branches : List Branch) → map item_in branches ≡ items_after D entries at lower → CanSettle D m1 page level branches → HasNode D m1 page level row → IfOk r (λ s. X × SettlesTo D most top level called1 branches m1 m' page s waits1 waits' called'))
     → IfOk r (λ s. X × PlacesTo D most top level target called branch row m m' page s waits waits' called')
 over_ok (Ok s) X Y most top level target at reference called called1 branch row m m0 m1 m' page lower waits waits1 waits' called' entries d same can above are chosen refers callee finish =
     let both = placed_over X Y most top level target at reference called called1 branch row m0 m1 m' page lower s waits waits1 waits' called' entries d (can_place_from _ m m0 page level target row branch same can) above are chosen refers callee finish in

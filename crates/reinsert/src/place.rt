@@ -2,7 +2,7 @@
 
 ghost use Rattle.std.specs.Prelude.{◌≡◌, ◌^◌, ◌+◌, ◌<◌, ◌≤◌, ◌++◌, ◌∷◌, [], Some, true, false, ℕ, List, All, length};
 ghost use Rattle.std.specs.Prelude.{map};
-ghost use Rattle.std.specs.Prelude.{◌⊎◌, slice_index_or, IfOk, IfErr, IfSome, OnOk};
+ghost use Rattle.std.specs.Prelude.{◌⊎◌, slice_index_or, IfOk, IfErr, IfSome, IsTrue, OnOk};
 ghost use Rattle.arrayvec.specs.ArrayVec.{array_vec_len};
 ghost use Rattle.box_math.specs.Bounds.{IsDims};
 ghost use Rattle.page_file.specs.Fault.{IsDamage, IsOfDevice};
@@ -20,7 +20,7 @@ ghost use Rattle.node_page.specs.Faults.{IsChangeFault, IsNoDamage};
 ghost use Rattle.reinsert.specs.Placed.{CanPlace, CanSettle, HasFewEntries, PlacesTo, SettlesTo};
 ghost use Rattle.reinsert.specs.Placed.{items_after, measure_of};
 
-use crate::settle::settle;
+use crate::settle::{settle, stay};
 use crate::settled::Settled;
 use crate::waiting::Waiting;
 use arrayvec::ArrayVec;
@@ -165,7 +165,18 @@ fn put_here<const D: usize, B: BlockDevice, A: Allocator + Copy>(
     }
 }
 
-// Writes a node whose child at the place has settled, of which pages were written.
+// Whether a node keeps its entries where its child at the place has settled so: the child kept its box, and nothing was
+// split off it.
+fn keeps_entries<const D: usize>(node: &Node<D>, at: usize, lower: &Settled<D>) -> bool
+    requires within { at < array_vec_len node.now.entries }
+    ensures { IsTrue result
+        → map item_of node.now.entries.items ≡ items_after D node.now.entries.items at lower.now }
+{
+    lower.beside.is_none() && lower.bounds == node.entries[at].bounds
+}
+
+// Settles a node whose child at the place has settled, of which pages were written. It is itself written where its
+// entries change.
 fn put_above<const D: usize, B: BlockDevice, A: Allocator + Copy>(
     cache: &mut PageCache<B, A>,
     page: u32,
@@ -189,7 +200,8 @@ fn put_above<const D: usize, B: BlockDevice, A: Allocator + Copy>(
     ensures beside { IfOk result (λ s. IfSome s.beside (λ e. IsReference (node.old.level + 1) e.reference)) }
     ensures settled { IsPageMap cache.old → (branches : List Branch)
         → map item_in branches ≡ items_after D node.old.entries.items at lower.entry
-        → CanSettle D (pages cache.old) page node.old.level branches →
+        → CanSettle D (pages cache.old) page node.old.level branches
+        → node_in D (pages cache.old page) ≡ Some (content_of node.old) →
         IfOk result (λ s. IsPageMap cache.new
         × SettlesTo D m_max top node.old.level waiting.old.called branches (pages cache.old) (pages cache.new)
         page s waiting.old.waits.items waiting.new.waits.items waiting.new.called) }
@@ -197,6 +209,9 @@ fn put_above<const D: usize, B: BlockDevice, A: Allocator + Copy>(
     ensures faults { IsPageMap cache.old → IsLive cache.old page → IfErr result (λ b. IsNoDamage cache.new b.cause) }
     ensures other_faults { IfErr result (λ b. IsChangeFault b.cause) }
 {
+    if keeps_entries(node, at, &lower) {
+        return Ok(stay(node));
+    }
     match settle_above(cache, page, node, at, lower, top, m_max, waiting) {
         Ok(settled) => Ok(settled),
         Err(fault) => Err(Broken::midway(fault)),

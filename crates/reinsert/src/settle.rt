@@ -1,6 +1,6 @@
 //! A node that may have one entry too many is written, its far set waits again, or it is split.
 
-ghost use Rattle.std.specs.Prelude.{◌≡◌, ◌^◌, ◌+◌, ◌<◌, ◌≤◌, true, false, ℕ, Bool, List, None, All, map, IfOk, IfErr};
+ghost use Rattle.std.specs.Prelude.{◌≡◌, ◌^◌, ◌+◌, ◌<◌, ◌≤◌, true, false, ℕ, Bool, List, None, Some, All, map, IfOk, IfErr};
 ghost use Rattle.std.specs.Prelude.{IfSome};
 ghost use Rattle.arrayvec.specs.ArrayVec.{array_vec_len};
 ghost use Rattle.box_math.specs.Bounds.{IsDims};
@@ -11,6 +11,7 @@ ghost use Rattle.tree_node.specs.Nodes.{content_of, item_of};
 ghost use Rattle.tree_node.specs.Rows.{item_in};
 ghost use Rattle.tree_node.specs.Trees.{Branch};
 ghost use Rattle.node_page.specs.Layout.{IsReference, IsSpellable};
+ghost use Rattle.node_page.specs.Standing.{PageMap, node_in};
 ghost use Rattle.reinsert.specs.Called.{is_called};
 ghost use Rattle.reinsert.specs.Far;
 ghost use Rattle.node_page.specs.Faults.{IsChangeFault, IsNoDamage};
@@ -72,6 +73,24 @@ pub(crate) fn settle<const D: usize, B: BlockDevice, A: Allocator + Copy>(
         return take_out_far(cache, page, node, m_max, waiting);
     }
     split_off(cache, page, node, m_max, waiting)
+}
+
+// A node of at most the most entries, which its page holds as it is: nothing is written.
+pub(crate) fn stay<const D: usize>(node: &Node<D>) -> Settled<D>
+    requires some { 0 < array_vec_len node.now.entries }
+    ensures alone { result.beside ≡ None }
+    ensures settled { (m : PageMap) (page most top : ℕ) (called : List Bool) (waits : List (Wait D))
+        (branches : List Branch)
+        → array_vec_len node.now.entries ≤ most
+        → map item_in branches ≡ map item_of node.now.entries.items
+        → CanSettle D m page node.now.level branches
+        → node_in D (m page) ≡ Some (content_of node.now) →
+        SettlesTo D most top node.now.level called branches m m page result waits waits called }
+{
+    Settled {
+        bounds: least(node.entries.as_slice()),
+        beside: None,
+    }
 }
 
 // Writes a node of at most the most entries.

@@ -120,9 +120,10 @@ returns-clause-placed g t c = λ h row branch item can.
     c.args.waiting.now.called c.place.new.waiting.called branch row m m0 m1 m' page c.in_ok-lower.lower c.args.waiting.now.waits.items c.place.new.waiting.waits.items _ _ entries c.args.entry.now
     (c.in_ok-read_fitting.ensures.asks.map.pages_stay h.honest) can (omega (arith, c.requires.levels, c.if-at-target.false)) read chosen (c.child_for-place_of_child.ensures.page (item_of c.args.entry.now))
     (λ below could. c.in_ok-lower.ensures.placed (c.in_ok-read_fitting.ensures.asks.map.sound.0 h) below branch item could)
-    (λ sound branches are settle.
+    (λ sound branches are settle there.
     subst (λ l. IfOk c.put_above.result (λ s. IsPageMap c.put_above.new.cache × SettlesTo D c.args.m_max c.args.top l c.place.new.waiting.called branches m1 m' page s c.place.new.waiting.waits.items c.put_above.new.waiting.waits.items c.put_above.new.waiting.called)) level
-    (c.put_above.ensures.settled sound branches are (subst (λ l. CanSettle D m1 page l branches) (sym level) settle)))
+    (c.put_above.ensures.settled sound branches are (subst (λ l. CanSettle D m1 page l branches) (sym level) settle)
+    (there ∙ ap (λ es. Some (record { level = c.args.at.level; entries = es })) read ∙ ap (λ l. Some (record { level = l; entries = map item_of entries })) (sym level))))
 
 pub returns-in_err-read_fitting-clause-faults : goal.returns-in_err-read_fitting-clause-faults
 returns-in_err-read_fitting-clause-faults g t c = λ h row branch item can few.
