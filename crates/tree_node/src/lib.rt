@@ -12,4 +12,4 @@ mod tests;
 
 pub use entries::{box_of, least, picked, reference_of, see_boxes};
 pub use node::{Entry, Node, Root};
-pub use orders::likely_order;
+pub use orders::{likely_first, likely_order};
