@@ -1,5 +1,5 @@
 -- The goal of `keeps_entries` that is proved by hand.
-use Rattle.std.proofs.Common.{◌≡◌, ◌∙◌, List, ap, get_or}
+use Rattle.std.proofs.Common.{◌∙◌, List, ap, get_or}
 use Rattle.std.specs.Prelude.{not}
 use Rattle.tree_node.specs.declared.node.Entry.{Entry}
 use Rattle.node_page.proofs.BoxTests.{same_box}

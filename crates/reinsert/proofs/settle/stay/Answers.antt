@@ -9,4 +9,4 @@ use Rattle.reinsert.proofs.settle.stay.Goals as goal
 pub returns-clause-settled : goal.returns-clause-settled
 returns-clause-settled g c = λ m page most top called waits branches few are can there.
     fits_settled most top c.args.node.now.level called branches c.args.node.now.entries.items m m page _ _ _ _ are can few
-        (c.least.ensures ∙ ap (λ (es : List (Entry g.row.D)). least_box g.row.D (map item_of es)) c.as_slice.ensures.value) refl refl refl there (λ k differs. refl)
+    (c.least.ensures ∙ ap (λ (es : List (Entry g.row.D)). least_box g.row.D (map item_of es)) c.as_slice.ensures.value) refl refl refl there (λ k differs. refl)
