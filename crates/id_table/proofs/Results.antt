@@ -1,20 +1,12 @@
 -- Answers of calls, and of the changes that they make.
-use Rattle.std.proofs.Common.{◌≡◌, Option, Some, None, true, false, sym, ap, subst}
-use Rattle.std.specs.Prelude.{Result, Ok, Err, IfErr, IfOk, IfSome, IfNone, IsErrAnd, OnOk}
+use Rattle.std.proofs.Common.{◌≡◌, None, true, false, sym, ap, subst}
+use Rattle.std.specs.Prelude.{Result, Ok, Err, IfErr, IfOk, IsErrAnd, OnOk}
 use Rattle.page_file.specs.declared.fault.Fault.{Fault}
 use Rattle.page_cache.specs.Calls.{AsksUntil, Changes, ChangesUntil, changes_in_turn, fault_in}
 use Rattle.page_cache.specs.declared.cache.PageCache.{PageCache}
 use Rattle.node_page.specs.Broken.{Alters, asks_and_alters, before}
 use Rattle.node_page.specs.declared.broken.Broken.{Broken}
 use Rattle.id_table.specs.Faults.{broken_of}
-
-pub some_is : {X : Type 0} (o : Option X) (x : X) (P : X → Type 0) → o ≡ Some x → IfSome o P → P x
-some_is None x P is h = absurd (cc)
-some_is (Some y) x P is h = let same : y ≡ x = cc in subst P same h
-
-pub none_is : {X : Type 0} (o : Option X) (P : Type 0) → o ≡ None → IfNone o P → P
-none_is None P is h = h
-none_is (Some y) P is h = absurd (cc)
 
 -- a change refused by a call before it began
 pub refused_before : {T : Type 0} (r : Result T Broken) (f : Fault) (P : Fault → Type 0) → IsErrAnd r (λ e. e ≡ before f) → P f → IfErr r (λ b. P b.cause)

@@ -20,6 +20,7 @@ use crate::broken::midway;
 use crate::bucket::{room_in, write_bucket};
 use crate::directory::{class_of, read_link, write_link};
 use arrayvec::ArrayVec;
+use block_bytes::zero_block;
 use block_device::BlockDevice;
 use box_math::BBox;
 use bucket_page::{Bucket, count_at, push_entry};
@@ -80,29 +81,31 @@ pub(crate) fn add_run<const D: usize, B: BlockDevice, A: Allocator + Copy>(
 {
     let class = class_of(objects[0].0);
     let first = read_link::<D, B, A>(cache, directory, class)?;
-    match room_in::<D, B, A>(cache, first)? {
-        Some(page) => midway(put_in(cache, first, page, class, objects)),
-        None => midway(put_alone(cache, directory, class, first, objects)),
+    let mut page = zero_block();
+    let room = room_in::<D, B, A>(cache, first, &mut page)?;
+    if room {
+        return midway(put_in(cache, first, &mut page, class, objects));
     }
+    midway(put_alone(cache, directory, class, first, objects))
 }
 
-// Writes a bucket page with a run of objects more, and answers how many.
+// Writes a run of objects more into the bytes of a bucket page, and these into it. Answers how many objects.
 fn put_in<const D: usize, B: BlockDevice, A: Allocator + Copy>(
     cache: &mut PageCache<B, A>,
     number: u32,
-    page: [u8; 4096],
+    page: &mut [u8; 4096],
     class: usize,
     objects: &[(u64, BBox<D>)],
 ) -> Result<usize, Fault>
     requires dims { IsDims D }
     requires open { gate_of cache.old ≡ Open }
-    requires room { number_at 2 2 page < 100 }
+    requires room { number_at 2 2 page.old < 100 }
     requires some { 0 < length objects.now }
     requires first { class ≡ first_class objects.now }
     ensures changes { Changes cache.old cache.new result }
     ensures next { next_of cache.new ≡ next_of cache.old }
     ensures run { IfOk result (IsRun class objects.now) }
-    ensures written { IsHonest cache.old → IsLive cache.old number → (c : BucketContent) → bucket_at D page ≡ Some c
+    ensures written { IsHonest cache.old → IsLive cache.old number → (c : BucketContent) → bucket_at D page.old ≡ Some c
         → IfOk result (λ count. bucket_in D (pages cache.new number) ≡ Some (with_more c (take count objects.now))) }
     ensures others { IsHonest cache.old → IsLive cache.old number
         → SameBut number (pages cache.old) (pages cache.new) }
@@ -110,9 +113,8 @@ fn put_in<const D: usize, B: BlockDevice, A: Allocator + Copy>(
     ensures faults { IsHonest cache.old → IsLive cache.old number → IfErr result IsOfDevice }
     ensures other_faults { IfErr result (λ f. IsOfDevice f ⊎ IsDamage f) }
 {
-    let mut bytes = page;
-    let count = push_run(&mut bytes, class, objects);
-    cache.put(number, &bytes)?;
+    let count = push_run(page, class, objects);
+    cache.put(number, page)?;
     Ok(count)
 }
 
