@@ -45,43 +45,8 @@ none_times q (x ∷ xs) none = step (eqb x.0 q) (box_in q xs) (times_in q xs) (n
     step true there n later e = absurd (cc)
     step false there n later e = omega (arith, later e)
 
-same_key : (q k : ℕ) → eq_by_cmp nat_cmp q k ≡ eqb k q
+pub same_key : (q k : ℕ) → eq_by_cmp nat_cmp q k ≡ eqb k q
 same_key q k = grind (arith, nat_tests)
-
--- the table with a chain that has the object more
-pub adds : (dims : ℕ) (old new : PageMap) (t : IdTable) (id : ℕ) (bounds : Bounds) (chain : List Bucket) → (stands : IdsStand dims old t) → Replaces dims old new t stands.directory (class_of id) chain
-    → ((q : ℕ) → box_in q (entries_in chain) ≡ cond (eqb id q) (Some bounds) (box_in q (entries_in (chain_at t (class_of id))))) → Adds dims old new t id bounds
-adds dims old new t id bounds chain stands r more =
-    let small : class_of id < 1000 = omega arith in
-    let within : class_of id < length t.chains = omega (arith, small, stands.whole) in
-    let after = stands_with dims old new t (class_of id) chain small stands r in
-    record {
-      table = with_chain t (class_of id) chain;
-      page = refl;
-      stands = after;
-      objects = same_map nat_cmp_total nat_cmp-IsAntisymmetric (objects_of (with_chain t (class_of id) chain)) (map.insert (objects_of t) id bounds) (λ q.
-          let now = found_by_class (with_chain t (class_of id) chain) q after.whole after.filled in
-          let was = found_by_class t q stands.whole stands.filled in
-          now ∙ each within q ∙ ap (λ o. cond (eqb id q) (Some bounds) o) (sym was)
-          ∙ ap (λ b. cond b (Some bounds) (map.get (objects_of t) q)) (sym (same_key q id)) ∙ sym (get-insert nat_cmp_total (objects_of t) id bounds q));
-      moves = moves_with dims old new t (class_of id) chain small stands r;
-    }
-  where
-    other_key : (id q : ℕ) → ¬ (class_of q ≡ class_of id) → eqb id q ≡ false
-    other_key id q differ = ⊎_elim (λ (is : id ≡ q). absurd (differ (ap class_of (sym is)))) (λ (no : ¬ (id ≡ q)). is_no id q no) (cases_eq id q)
-      where
-        is_no : (a b : ℕ) → ¬ (a ≡ b) → eqb a b ≡ false
-        is_no a b h = grind (arith, nat_tests)
-
-    each : class_of id < length t.chains → (q : ℕ) → box_in q (entries_in (chain_at (with_chain t (class_of id) chain) (class_of q))) ≡ cond (eqb id q) (Some bounds) (box_in q (entries_in (chain_at t (class_of q))))
-    each within q = ⊎_elim
-        (λ (is : class_of q ≡ class_of id).
-        ap (λ k. box_in q (entries_in (chain_at (with_chain t (class_of id) chain) k))) is ∙ ap (λ c. box_in q (entries_in c)) (this_chain t (class_of id) chain within)
-        ∙ more q ∙ ap (λ k. cond (eqb id q) (Some bounds) (box_in q (entries_in (chain_at t k)))) (sym is))
-        (λ (differ : ¬ (class_of q ≡ class_of id)).
-        ap (λ c. box_in q (entries_in c)) (other_chain t (class_of id) chain within (class_of q) differ)
-        ∙ ap (λ b. cond b (Some bounds) (box_in q (entries_in (chain_at t (class_of q))))) (sym (other_key id q differ)))
-        (cases_eq (class_of q) (class_of id))
 
 -- an object that the table does not have is not in its chain
 pub not_in_chain : (dims : ℕ) (pages : PageMap) (t : IdTable) (id : ℕ) → IdsStand dims pages t → map.contains_key (objects_of t) id ≡ false → box_in id (entries_in (chain_at t (class_of id))) ≡ None
@@ -99,7 +64,7 @@ pub all_more : (P : Object → Type 0) (x : Object) (xs ys : List Object) → Al
 all_more P x [] ys all here = All-cons P x ys here all
 all_more P x (y ∷ xs) ys all here = All-cons P y (xs ++ x ∷ ys) (All-head P y (xs ++ ys) all) (all_more P x xs ys (All-tail P y (xs ++ ys) all) here)
 
-single_more : (id : ℕ) (x : Object) (xs ys : List Object) → times_in id (xs ++ ys) ≤ 1 → box_in x.0 (xs ++ ys) ≡ None → times_in id (xs ++ x ∷ ys) ≤ 1
+pub single_more : (id : ℕ) (x : Object) (xs ys : List Object) → times_in id (xs ++ ys) ≤ 1 → box_in x.0 (xs ++ ys) ≡ None → times_in id (xs ++ x ∷ ys) ≤ 1
 single_more id x xs ys single none = ⊎_elim
     (λ (is : x.0 ≡ id). let zero_times = none_times id (xs ++ ys) (subst (λ k. box_in k (xs ++ ys) ≡ None) is none) in let few = at_most (eqb x.0 id) in omega (arith, zero_times, few, times_more id x xs ys))
     (λ (other : ¬ (x.0 ≡ id)). let no = not_there x.0 id other in omega (arith, no, single, times_more id x xs ys))
@@ -108,67 +73,6 @@ single_more id x xs ys single none = ⊎_elim
     at_most : (b : Bool) → cond b 1 0 ≤ 1
     at_most true = omega arith
     at_most false = omega arith
-
--- a chain with an object more in its first bucket
-filled_more : (class : ℕ) (page : ℕ) (xs : List Object) (bs : List Bucket) (x : Object) → IsFilled class (record { page = page; entries = xs } ∷ bs) → class_of x.0 ≡ class → box_in x.0 (xs ++ entries_in bs) ≡ None
-    → IsFilled class (record { page = page; entries = xs ++ x ∷ [] } ∷ bs)
-filled_more class page xs bs x filled is none =
-    let same = append_assoc xs (x ∷ []) (entries_in bs) in
-    record {
-      full = filled.full;
-      placed = subst (All (λ (object : Object). class_of object.0 ≡ class)) (sym same) (all_more (λ (object : Object). class_of object.0 ≡ class) x xs (entries_in bs) filled.placed is);
-      single = λ id. subst (λ (es : List Object). times_in id es ≤ 1) (sym same) (single_more id x xs (entries_in bs) (filled.single id) none);
-    }
-
-pub added_in_place : (dims : ℕ) (old new : PageMap) (t : IdTable) (id : ℕ) (bounds : Bounds) (first : ℕ) (c : BucketContent) (b : Bucket) (bs : List Bucket) → (stands : IdsStand dims old t) → first ≡ link_at (class_of id) stands.directory
-    → bucket_in dims (old first) ≡ Some c → bucket_in dims (new first) ≡ Some (pushed c (id, bounds)) → SameBut first old new
-    → chain_at t (class_of id) ≡ b ∷ bs → ChainStands dims old first (b ∷ bs) → IsFilled (class_of id) (b ∷ bs) → box_in id (entries_in (b ∷ bs)) ≡ None → Adds dims old new t id bounds
-added_in_place dims old new t id bounds first c b bs stands link read written same is chain filled none =
-    let small : class_of id < 1000 = omega arith in
-    let within : class_of id < length t.chains = omega (arith, small, stands.whole) in
-    let x : Object = (id, bounds) in
-    let longer : Bucket = record { page = b.page; entries = b.entries ++ x ∷ [] } in
-    let counts : (n : ℕ) → occurs_in_chain n (chain_at t (class_of id)) ≡ occurs_in_chain n (b ∷ bs) = λ n. ap (occurs_in_chain n) is in
-    let part : (n : ℕ) → occurs_in_chain n (b ∷ bs) ≤ 1 = λ n. let whole = chain_in_table n (class_of id) t within in omega (arith, whole, counts n, stands.once n) in
-    let same_content : c ≡ record { next = chain.2; entries = b.entries } = let was = chain.3 in let at = chain.0 in cc in
-    adds dims old new t id bounds (longer ∷ bs) stands
-    (record {
-      directory = stands.directory;
-      there = same t.page (λ e.
-          let at : t.page ≡ b.page = e ∙ chain.0 in
-          let on_directory : ◌≡◌ {A = ℕ} (cond (eqb t.page b.page) 1 0) 1 = ap (λ k. cond (eqb t.page k) 1 0) (sym at) ∙ occurs_here t.page in
-          let whole = chain_in_table b.page (class_of id) t within in
-          omega (arith, on_directory, stands.once b.page, whole, counts b.page, occurs_here b.page)) ∙ stands.there;
-      spelled = stands.spelled;
-      first = subst (λ n. ChainStands dims new n (longer ∷ bs)) link (
-        chain.0,
-        chain.1,
-        chain.2,
-        ap (λ n. bucket_in dims (new n)) (sym chain.0) ∙ written ∙ ap (λ (k : BucketContent). Some (record { next = k.next; entries = k.entries ++ x ∷ [] })) same_content,
-        chain_stays dims old new chain.2 bs (λ n p. same n (λ e. let at : n ≡ b.page = e ∙ chain.0 in let here : ◌≡◌ {A = ℕ} (cond (eqb b.page n) 1 0) 1 = ap (λ k. cond (eqb b.page k) 1 0) at ∙ occurs_here b.page in omega (arith, here, p, part n))) chain.4,
-      );
-      links = λ other differ. refl;
-      filled = filled_more (class_of id) b.page b.entries bs x filled refl none;
-      others = λ n apart gone none'. same n (λ e. let at : n ≡ b.page = e ∙ chain.0 in let here : ◌≡◌ {A = ℕ} (cond (eqb b.page n) 1 0) 1 = ap (λ k. cond (eqb b.page k) 1 0) at ∙ occurs_here b.page in omega (arith, here, none'));
-      came = λ n gone some. absurd (omega (arith, gone, some, counts n));
-      went = λ n some gone. absurd (omega (arith, gone, some, counts n));
-      once = part;
-    })
-    (λ q. ap (box_in q) (append_assoc b.entries (x ∷ []) (entries_in bs)) ∙ one_more q x b.entries (entries_in bs) none ∙ ap (λ (k : List Bucket). cond (eqb id q) (Some bounds) (box_in q (entries_in k))) (sym is))
-
-pub adds_in_place : (dims : ℕ) (old new : PageMap) (t : IdTable) (id : ℕ) (bounds : Bounds) (first : ℕ) (c : BucketContent) → (stands : IdsStand dims old t) → first ≡ link_at (class_of id) stands.directory → ¬ (first ≡ 0)
-    → bucket_in dims (old first) ≡ Some c → bucket_in dims (new first) ≡ Some (pushed c (id, bounds)) → SameBut first old new
-    → map.contains_key (objects_of t) id ≡ false → Adds dims old new t id bounds
-adds_in_place dims old new t id bounds first c stands link some read written same absent =
-    let small : class_of id < 1000 = omega arith in
-    go dims old new t id bounds first c stands link some read written same (chain_at t (class_of id)) refl
-    (subst (λ n. ChainStands dims old n (chain_at t (class_of id))) (sym link) (stands.chains (class_of id) small)) (stands.filled (class_of id) small) (not_in_chain dims old t id stands absent)
-  where
-    go : (dims : ℕ) (old new : PageMap) (t : IdTable) (id : ℕ) (bounds : Bounds) (first : ℕ) (c : BucketContent) → (stands : IdsStand dims old t) → first ≡ link_at (class_of id) stands.directory → ¬ (first ≡ 0)
-        → bucket_in dims (old first) ≡ Some c → bucket_in dims (new first) ≡ Some (pushed c (id, bounds)) → SameBut first old new
-        → (chain : List Bucket) → chain_at t (class_of id) ≡ chain → ChainStands dims old first chain → IsFilled (class_of id) chain → box_in id (entries_in chain) ≡ None → Adds dims old new t id bounds
-    go dims old new t id bounds first c stands link some read written same [] is chain filled none = absurd (some chain)
-    go dims old new t id bounds first c stands link some read written same (b ∷ bs) is chain filled none = added_in_place dims old new t id bounds first c b bs stands link read written same is chain filled none
 
 -- ---- a bucket put before a chain
 
@@ -228,19 +132,6 @@ replaced_before dims old new t class first es stands small link put full placed 
           (λ (other : ¬ (put.number ≡ n)). let no = not_there put.number n other in let p = part n in omega (arith, no, p, stands.once n))
           (cases_eq put.number n);
     }
-
--- the table with an object more, in a page of its own
-pub adds_before : (dims : ℕ) (old new : PageMap) (t : IdTable) (id : ℕ) (bounds : Bounds) (first : ℕ) → (stands : IdsStand dims old t) → first ≡ link_at (class_of id) stands.directory
-    → PutsBefore dims old new t.page (class_of id) first ((id, bounds) ∷ []) stands.directory → BeginsFull (chain_at t (class_of id)) → map.contains_key (objects_of t) id ≡ false → Adds dims old new t id bounds
-adds_before dims old new t id bounds first stands link put full absent =
-    let small : class_of id < 1000 = omega arith in
-    let chain = chain_at t (class_of id) in
-    let none = not_in_chain dims old t id stands absent in
-    adds dims old new t id bounds (record { page = put.number; entries = (id, bounds) ∷ [] } ∷ chain) stands
-    (replaced_before dims old new t (class_of id) first ((id, bounds) ∷ []) stands small link put full
-    (All-cons (λ (object : Object). class_of object.0 ≡ class_of id) (id, bounds) [] refl (search rules))
-    (λ q. single_more q (id, bounds) [] (entries_in chain) ((stands.filled (class_of id) small).single q) none))
-    (λ q. refl)
 
 -- the same, from pages that are equal
 pub puts_from : (dims : ℕ) (old mid new : PageMap) (directory class first : ℕ) (es : List Object) (page : List ℕ) → ((n : ℕ) → mid n ≡ old n)

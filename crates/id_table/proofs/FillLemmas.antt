@@ -1,6 +1,7 @@
--- Objects added one after the other.
+-- Objects added run after run.
 use Rattle.std.proofs.Common.{◌≡◌, ◌∙◌, ◌^◌, ℕ, zero, suc, ◌+◌, ◌<◌, ◌≤◌, None, false, List, [], ◌∷◌, ◌++◌, length, take, drop, get_or, refl, sym, ap, subst, inl, inr, arith}
-use Rattle.std.proofs.lemmas.List.{drop_more, take_more}
+use Rattle.std.proofs.Math.Seq.{take-add}
+use Rattle.std.proofs.lemmas.List.{drop-drop}
 use Rattle.std.specs.FinMap as map
 use Rattle.std.specs.FinMap.{FinMap}
 use Rattle.std.specs.Ordering.{nat_cmp}
@@ -12,16 +13,25 @@ use Rattle.page_cache.specs.declared.cache.PageCache.{PageCache}
 use Rattle.page_file.specs.declared.fault.Fault.{Fault}
 use Rattle.node_page.specs.Parts.{Moves}
 use Rattle.node_page.proofs.PartLemmas.{moves_in_turn, staying_moves}
-use Rattle.id_table.specs.Changes.{Adds, AreNew, Fills, with_all}
+use Rattle.id_table.specs.Changes.{AreNew, Fills, with_all}
 use Rattle.id_table.specs.Faults.{IsOfPages}
 use Rattle.id_table.specs.Table.{IdTable, IdsStand, Object, objects_of, part_of}
-use Rattle.id_table.proofs.BucketLemmas.{some_object}
 use Rattle.id_table.proofs.TableLemmas.{table_there}
 
--- one object more
-with_all-append : (m : FinMap nat_cmp Bounds) (xs : List Object) (x : Object) → with_all m (xs ++ x ∷ []) ≡ map.insert (with_all m xs) x.0 x.1
-with_all-append m [] x = refl
-with_all-append m (y ∷ xs) x = with_all-append (map.insert m y.0 y.1) xs x
+with_all-append : (m : FinMap nat_cmp Bounds) (xs ys : List Object) → with_all m (xs ++ ys) ≡ with_all (with_all m xs) ys
+with_all-append m [] ys = refl
+with_all-append m (x ∷ xs) ys = with_all-append (map.insert m x.0 x.1) xs ys
+
+-- of new objects the first ones are new, and so are the others beside them
+pub first_new : (n : ℕ) (es : List Object) (m : FinMap nat_cmp Bounds) → AreNew m es → AreNew m (take n es)
+first_new zero es m new = tt
+first_new (suc n) [] m new = tt
+first_new (suc n) (e ∷ es) m new = (new.0, first_new n es (map.insert m e.0 e.1) new.1)
+
+others_new : (n : ℕ) (es : List Object) (m : FinMap nat_cmp Bounds) → AreNew m es → AreNew (with_all m (take n es)) (drop n es)
+others_new zero es m new = new
+others_new (suc n) [] m new = tt
+others_new (suc n) (e ∷ es) m new = others_new n es (map.insert m e.0 e.1) new.1
 
 module _ {B A : Type 0} {m : _} where
   -- the table with the objects so far
@@ -52,36 +62,28 @@ module _ {B A : Type 0} {m : _} where
     };
   }
 
-  module _ {dims directory : ℕ} {old now : PageCache B A m} {objects : List Object} {count : ℕ} (so_far : Filling dims directory old now objects count) (within : count < length objects) (x : Object) (is : x ≡ get_or objects count some_object) where
-    -- the next object is new to the table with those before it
-    pub next_new : (sound : IsPageMap old) (t : IdTable) (at : t.page ≡ directory) (stands : IdsStand dims (pages old) t) (new : AreNew (objects_of t) objects)
-        → map.contains_key (objects_of (so_far.left sound t at stands new).table) x.0 ≡ false
-    next_new sound t at stands new =
-        let f = so_far.left sound t at stands new in
-        let rest = subst (AreNew (objects_of f.table)) (drop_more objects count some_object within) f.rest in
-        subst (λ (o : Object). map.contains_key (objects_of f.table) o.0 ≡ false) (sym is) rest.0
-
-    pub fills_on : (new : PageCache B A m) → ChangesUntil now new None
-        → (IsPageMap now → (t : IdTable) → t.page ≡ directory → IdsStand dims (pages now) t → IsPageMap new)
-        → (IsPageMap now → (t : IdTable) → t.page ≡ directory → IdsStand dims (pages now) t → map.contains_key (objects_of t) x.0 ≡ false → Adds dims (pages now) (pages new) t x.0 x.1)
-        → Filling dims directory old new objects (count + 1)
-    fills_on new changes sound adds = record {
-      changes = changes_in_turn old now new None so_far.changes changes;
-      left = λ sound_old t at stands fresh.
-          let f = so_far.left sound_old t at stands fresh in
-          let added = adds f.map_is f.table (f.page ∙ at) f.stands (next_new sound_old t at stands fresh) in
-          let rest = subst (AreNew (objects_of f.table)) (drop_more objects count some_object within) f.rest in
-          record {
-            table = added.table;
-            page = added.page ∙ f.page;
-            stands = added.stands;
-            map_is = sound f.map_is f.table (f.page ∙ at) f.stands;
-            has = added.objects ∙ ap (λ (k : FinMap nat_cmp Bounds). map.insert k x.0 x.1) f.has ∙ sym (with_all-append (objects_of t) (take count objects) x)
-                ∙ ap (λ (o : Object). with_all (objects_of t) (take count objects ++ o ∷ [])) is ∙ ap (with_all (objects_of t)) (sym (take_more objects count some_object within));
-            rest = subst (λ (k : FinMap nat_cmp Bounds). AreNew k (drop (count + 1) objects)) (ap (λ (o : Object). map.insert (objects_of f.table) o.0 o.1) (sym is) ∙ sym added.objects) rest.1;
-            moves = moves_in_turn (pages old) (pages now) (pages new) (part_of t) (part_of f.table) (part_of added.table) f.moves added.moves;
-          };
-    }
+  -- so many more are added
+  pub fills_on : {dims directory : ℕ} {old now : PageCache B A m} {objects : List Object} {count : ℕ} (so_far : Filling dims directory old now objects count) (more : ℕ) (new : PageCache B A m) → ChangesUntil now new None
+      → (IsPageMap now → (t : IdTable) → t.page ≡ directory → IdsStand dims (pages now) t → IsPageMap new)
+      → (IsPageMap now → (t : IdTable) → t.page ≡ directory → IdsStand dims (pages now) t → AreNew (objects_of t) (drop count objects) → Fills dims (pages now) (pages new) t (take more (drop count objects)))
+      → Filling dims directory old new objects (count + more)
+  fills_on {dims} {directory} {old} {now} {objects} {count} so_far more new changes sound fills = record {
+    changes = changes_in_turn old now new None so_far.changes changes;
+    left = λ sound_old t at stands fresh.
+        let f = so_far.left sound_old t at stands fresh in
+        let filled = fills f.map_is f.table (f.page ∙ at) f.stands f.rest in
+        let rest = drop count objects in
+        record {
+          table = filled.table;
+          page = filled.page ∙ f.page;
+          stands = filled.stands;
+          map_is = sound f.map_is f.table (f.page ∙ at) f.stands;
+          has = filled.objects ∙ ap (λ (k : FinMap nat_cmp Bounds). with_all k (take more rest)) f.has ∙ sym (with_all-append (objects_of t) (take count objects) (take more rest))
+              ∙ ap (with_all (objects_of t)) (sym (take-add count more objects));
+          rest = subst (AreNew (objects_of filled.table)) (drop-drop more count objects) (subst (λ (k : FinMap nat_cmp Bounds). AreNew k (drop more rest)) (sym filled.objects) (others_new more rest (objects_of f.table) f.rest));
+          moves = moves_in_turn (pages old) (pages now) (pages new) (part_of t) (part_of f.table) (part_of filled.table) f.moves filled.moves;
+        };
+  }
 
   -- all of them
   pub all_filled : (dims directory : ℕ) (old now : PageCache B A m) (objects : List Object) (count : ℕ) → length objects ≤ count → Filling dims directory old now objects count

@@ -10,8 +10,11 @@ pub mod GetLemmas
 pub mod MakingLemmas
 pub mod ReplaceLemmas
 pub mod AddLemmas
+pub mod ManyLemmas
+pub mod StartLemmas
 pub mod RemoveLemmas
 pub mod ShrinkLemmas
 pub mod PlaceLemmas
+pub mod ReachLemmas
 pub mod FreeLemmas
 pub mod FillLemmas

@@ -1,20 +1,12 @@
 -- Answers of calls, and of the changes that they make.
-use Rattle.std.proofs.Common.{◌≡◌, Option, Some, None, true, false, sym, ap, subst}
-use Rattle.std.specs.Prelude.{Result, Ok, Err, IfErr, IfSome, IfNone, IsErrAnd, OnOk}
+use Rattle.std.proofs.Common.{◌≡◌, None, true, false, sym, ap, subst}
+use Rattle.std.specs.Prelude.{Result, Ok, Err, IfErr, IfOk, IsErrAnd, OnOk}
 use Rattle.page_file.specs.declared.fault.Fault.{Fault}
 use Rattle.page_cache.specs.Calls.{AsksUntil, Changes, ChangesUntil, changes_in_turn, fault_in}
 use Rattle.page_cache.specs.declared.cache.PageCache.{PageCache}
 use Rattle.node_page.specs.Broken.{Alters, asks_and_alters, before}
 use Rattle.node_page.specs.declared.broken.Broken.{Broken}
 use Rattle.id_table.specs.Faults.{broken_of}
-
-pub some_is : {X : Type 0} (o : Option X) (x : X) (P : X → Type 0) → o ≡ Some x → IfSome o P → P x
-some_is None x P is h = absurd (cc)
-some_is (Some y) x P is h = let same : y ≡ x = cc in subst P same h
-
-pub none_is : {X : Type 0} (o : Option X) (P : Type 0) → o ≡ None → IfNone o P → P
-none_is None P is h = h
-none_is (Some y) P is h = absurd (cc)
 
 -- a change refused by a call before it began
 pub refused_before : {T : Type 0} (r : Result T Broken) (f : Fault) (P : Fault → Type 0) → IsErrAnd r (λ e. e ≡ before f) → P f → IfErr r (λ b. P b.cause)
@@ -29,6 +21,11 @@ module _ {T : Type 0} where
   pub broken_err : (r : Result T Fault) (b : Result T Broken) (P : Fault → Type 0) → b ≡ broken_of r → IfErr r P → IfErr b (λ e. P e.cause)
   broken_err (Ok x) b P is h = subst (λ (b : Result T Broken). IfErr b (λ e. P e.cause)) (sym is) tt
   broken_err (Err f) b P is h = subst (λ (b : Result T Broken). IfErr b (λ e. P e.cause)) (sym is) h
+
+  -- what two clauses say of the answer of the calls
+  pub broken_if : (r : Result T Fault) (b : Result T Broken) (P Q R : T → Type 0) → b ≡ broken_of r → IfOk r P → IfOk r Q → ((x : T) → P x → Q x → R x) → IfOk b R
+  broken_if (Ok x) b P Q R is p q both = subst (λ (b : Result T Broken). IfOk b R) (sym is) (both x p q)
+  broken_if (Err f) b P Q R is p q both = subst (λ (b : Result T Broken). IfOk b R) (sym is) tt
 
   module _ {D A : Type 0} {m : _} where
     -- calls that change pages are a change that breaks off midway where one of them is refused

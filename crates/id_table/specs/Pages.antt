@@ -1,11 +1,11 @@
 -- What writes into the pages of a table leave (our rule, docs/FORMAT.md, "Identifier tables").
-use Rattle.std.specs.Prelude.{◌≡◌, ◌⊎◌, ℕ, ◌<◌, List, [], ◌∷◌, ◌++◌, Option, Some, None, length, slice_index_or, IsSome, ⊤}
+use Rattle.std.specs.Prelude.{◌≡◌, ◌⊎◌, ℕ, ◌<◌, ◌≤◌, All, List, [], ◌∷◌, ◌++◌, Option, Some, None, length, slice_index_or, take, IsSome, ⊤}
 use Rattle.block_bytes.specs.Numbers.{number_at}
 use Rattle.bucket_page.specs.Layout.{BucketContent, popped}
 use Rattle.page_file.specs.Pages.{SameBut}
 use Rattle.node_page.specs.Parts.{Part}
 use Rattle.node_page.specs.Standing.{PageMap}
-use Rattle.id_table.specs.Table.{Bucket, IsDirectory, Object, box_in, bucket_in, entries_in, link_at}
+use Rattle.id_table.specs.Table.{Bucket, IsDirectory, Object, box_in, bucket_in, class_of, entries_in, link_at}
 
 -- a directory of empty chains
 pub record NewDirectory (dims : ℕ) (page : List ℕ) : Type 0 where
@@ -81,3 +81,20 @@ Shrinks dims old new directory class first c page = Shortens dims old new first 
 pub record Frees (old new : PageMap) (part : Part) : Type 0 where
   pub gone : (n : ℕ) → 0 < part n → new n ≡ None
   pub others : (n : ℕ) → part n ≡ 0 → new n ≡ old n
+
+-- ---- many objects at once
+
+-- the remainder of the identifier of the first object
+abbrev pub first_class : List Object → ℕ
+first_class [] = 0
+first_class (object ∷ objects) = class_of object.0
+
+-- the first objects, so many and at least one, have this remainder
+pub record IsRun (class : ℕ) (objects : List Object) (count : ℕ) : Type 0 where
+  pub some : 0 < count
+  pub few : count ≤ length objects
+  pub placed : All (λ object. class_of object.0 ≡ class) (take count objects)
+
+-- a bucket with these objects behind its own
+abbrev pub with_more : BucketContent → List Object → BucketContent
+with_more c objects = record { next = c.next; entries = c.entries ++ objects }

@@ -1,28 +1,29 @@
 //! An object added.
 
-ghost use Rattle.std.specs.Prelude.{◌≡◌, ◌≤◌, ◌<◌, ◌⊎◌, List, ℕ, [], ◌∷◌, Some, false, length, IfErr, OnOk};
+ghost use Rattle.std.specs.Prelude.{◌≡◌, ◌≤◌, ◌<◌, ◌⊎◌, List, ℕ, Some, false, length, take, IfErr, IfOk, OnOk};
 ghost use Rattle.std.specs.FinMap as map;
 ghost use Rattle.block_bytes.specs.Numbers.{number_at};
 ghost use Rattle.box_math.specs.Bounds.{IsDims};
-ghost use Rattle.bucket_page.specs.Layout.{BucketContent, bucket_at, pushed};
+ghost use Rattle.bucket_page.specs.Layout.{BucketContent, bucket_at};
 ghost use Rattle.page_file.specs.Fault.{IsDamage, IsOfDevice};
 ghost use Rattle.page_file.specs.Pages.{SameBut};
 ghost use Rattle.page_file.specs.declared.gate.Gate.TheVariants.{Open};
 ghost use Rattle.page_cache.specs.Cache.{IsHonest, IsLive, IsPageMap, gate_of, next_of, pages};
 ghost use Rattle.page_cache.specs.Calls.{Changes};
 ghost use Rattle.node_page.specs.Broken.{Alters};
-ghost use Rattle.id_table.specs.Changes.{Adds};
+ghost use Rattle.id_table.specs.Changes.{Adds, AreNew, Fills};
 ghost use Rattle.id_table.specs.Faults.{IsOfPages};
-ghost use Rattle.id_table.specs.Pages.{PutsBefore};
+ghost use Rattle.id_table.specs.Pages.{IsRun, PutsBefore, first_class, with_more};
 ghost use Rattle.id_table.specs.Table.{IdTable, IdsStand, bucket_in, objects_of};
 
 use crate::broken::midway;
 use crate::bucket::{room_in, write_bucket};
 use crate::directory::{class_of, read_link, write_link};
 use arrayvec::ArrayVec;
+use block_bytes::zero_block;
 use block_device::BlockDevice;
 use box_math::BBox;
-use bucket_page::{Bucket, push_entry};
+use bucket_page::{Bucket, count_at, push_entry};
 use node_page::Broken;
 use page_cache::PageCache;
 use page_file::Fault;
@@ -51,68 +52,147 @@ pub fn add<const D: usize, B: BlockDevice, A: Allocator + Copy>(
         → IfErr result (λ b. IsOfPages (next_of cache.old) b.cause) }
     ensures other_faults { IfErr result (λ b. IsOfPages (next_of cache.old) b.cause ⊎ IsDamage b.cause) }
 {
-    let class = class_of(id);
-    let first = read_link::<D, B, A>(cache, directory, class)?;
-    match room_in::<D, B, A>(cache, first)? {
-        Some(page) => midway(put_in(cache, first, page, id, bounds)),
-        None => midway(put_alone(cache, directory, class, first, id, bounds)),
+    match add_run(cache, directory, &[(id, *bounds)]) {
+        Ok(_) => Ok(()),
+        Err(broken) => Err(broken),
     }
 }
 
-// Writes a bucket page with an object more.
+// Adds the objects from the first one on that are of its chain: as many as the first page of the chain has room for, or
+// a new page before that one where it is full. Answers how many these are.
+pub(crate) fn add_run<const D: usize, B: BlockDevice, A: Allocator + Copy>(
+    cache: &mut PageCache<B, A>,
+    directory: u32,
+    objects: &[(u64, BBox<D>)],
+) -> Result<usize, Broken>
+    requires dims { IsDims D }
+    requires open { gate_of cache.old ≡ Open }
+    requires some { 0 < length objects.now }
+    ensures alters { Alters cache.old cache.new result }
+    ensures sound { IsPageMap cache.old → (t : IdTable) → t.page ≡ directory → IdsStand D (pages cache.old) t
+        → IsPageMap cache.new }
+    ensures count { IfOk result (λ count. (0 < count) × (count ≤ length objects.now)) }
+    ensures added { IsPageMap cache.old → (t : IdTable) → t.page ≡ directory → IdsStand D (pages cache.old) t
+        → AreNew (objects_of t) objects.now
+        → IfOk result (λ count. Fills D (pages cache.old) (pages cache.new) t (take count objects.now)) }
+    ensures faults { IsPageMap cache.old → (t : IdTable) → t.page ≡ directory → IdsStand D (pages cache.old) t
+        → IfErr result (λ b. IsOfPages (next_of cache.old) b.cause) }
+    ensures other_faults { IfErr result (λ b. IsOfPages (next_of cache.old) b.cause ⊎ IsDamage b.cause) }
+{
+    let class = class_of(objects[0].0);
+    let first = read_link::<D, B, A>(cache, directory, class)?;
+    let mut page = zero_block();
+    let room = room_in::<D, B, A>(cache, first, &mut page)?;
+    if room {
+        return midway(put_in(cache, first, &mut page, class, objects));
+    }
+    midway(put_alone(cache, directory, class, first, objects))
+}
+
+// Writes a run of objects more into the bytes of a bucket page, and these into it. Answers how many objects.
 fn put_in<const D: usize, B: BlockDevice, A: Allocator + Copy>(
     cache: &mut PageCache<B, A>,
     number: u32,
-    page: [u8; 4096],
-    id: u64,
-    bounds: &BBox<D>,
-) -> Result<(), Fault>
+    page: &mut [u8; 4096],
+    class: usize,
+    objects: &[(u64, BBox<D>)],
+) -> Result<usize, Fault>
     requires dims { IsDims D }
     requires open { gate_of cache.old ≡ Open }
-    requires room { number_at 2 2 page < 100 }
+    requires room { number_at 2 2 page.old < 100 }
+    requires some { 0 < length objects.now }
+    requires first { class ≡ first_class objects.now }
     ensures changes { Changes cache.old cache.new result }
     ensures next { next_of cache.new ≡ next_of cache.old }
-    ensures written { IsHonest cache.old → IsLive cache.old number → (c : BucketContent) → bucket_at D page ≡ Some c
-        → OnOk result (bucket_in D (pages cache.new number) ≡ Some (pushed c (id, bounds.now))) }
+    ensures run { IfOk result (IsRun class objects.now) }
+    ensures written { IsHonest cache.old → IsLive cache.old number → (c : BucketContent) → bucket_at D page.old ≡ Some c
+        → IfOk result (λ count. bucket_in D (pages cache.new number) ≡ Some (with_more c (take count objects.now))) }
     ensures others { IsHonest cache.old → IsLive cache.old number
         → SameBut number (pages cache.old) (pages cache.new) }
     ensures sound { IsPageMap cache.old → IsLive cache.old number → IsPageMap cache.new }
     ensures faults { IsHonest cache.old → IsLive cache.old number → IfErr result IsOfDevice }
     ensures other_faults { IfErr result (λ f. IsOfDevice f ⊎ IsDamage f) }
 {
-    let mut bytes = page;
-    push_entry(&mut bytes, &(id, *bounds));
-    cache.put(number, &bytes)
+    let count = push_run(page, class, objects);
+    cache.put(number, page)?;
+    Ok(count)
 }
 
-// Puts an object into a new page before the first one of a chain.
+// Adds to a bucket page the objects from the first one on that are of the chain, as many as it has room for. Answers
+// how many these are.
+fn push_run<const D: usize>(
+    page: &mut [u8; 4096],
+    class: usize,
+    objects: &[(u64, BBox<D>)],
+) -> usize
+    requires dims { IsDims D }
+    requires room { number_at 2 2 page.old < 100 }
+    requires some { 0 < length objects.now }
+    requires first { class ≡ first_class objects.now }
+    ensures run { IsRun class objects.now result }
+    ensures pushed { (c : BucketContent) → bucket_at D page.old ≡ Some c
+        → bucket_at D page.new ≡ Some (with_more c (take result objects.now)) }
+{
+    let mut count = 0;
+    for object in objects {
+        if count_at(page) >= 100 || class_of(object.0) != class {
+            return count;
+        }
+        push_entry(page, object);
+        count += 1;
+    }
+    count
+}
+
+// Puts a run of objects into a new page before the first one of a chain, and answers how many.
 fn put_alone<const D: usize, B: BlockDevice, A: Allocator + Copy>(
     cache: &mut PageCache<B, A>,
     directory: u32,
     class: usize,
     first: u32,
-    id: u64,
-    bounds: &BBox<D>,
-) -> Result<(), Fault>
+    objects: &[(u64, BBox<D>)],
+) -> Result<usize, Fault>
     requires dims { IsDims D }
     requires class { class < 1000 }
     requires open { gate_of cache.old ≡ Open }
+    requires some { 0 < length objects.now }
+    requires first { class ≡ first_class objects.now }
     ensures changes { Changes cache.old cache.new result }
+    ensures run { IfOk result (IsRun class objects.now) }
     ensures sound { IsPageMap cache.old → IsLive cache.old directory → IsPageMap cache.new }
     ensures put { IsPageMap cache.old → (page : List ℕ) → pages cache.old directory ≡ Some page
-        → OnOk result (PutsBefore D (pages cache.old) (pages cache.new) directory class first
-        ((id, bounds.now) ∷ []) page) }
+        → IfOk result (λ count. PutsBefore D (pages cache.old) (pages cache.new) directory class first
+        (take count objects.now) page) }
     ensures faults { IsPageMap cache.old → IsLive cache.old directory
         → IfErr result (λ f. IsOfPages (next_of cache.old) f) }
     ensures other_faults { IfErr result (λ f. IsOfPages (next_of cache.old) f ⊎ IsDamage f) }
 {
-    let mut entries = ArrayVec::new();
-    entries.push((id, *bounds));
     let bucket = Bucket {
         next: first,
-        entries,
+        entries: run_of(class, objects),
     };
-    put_before(cache, directory, class, &bucket)
+    put_before(cache, directory, class, &bucket)?;
+    Ok(bucket.entries.len())
+}
+
+// The objects from the first one on that are of the chain, as many as a page has room for.
+fn run_of<const D: usize>(
+    class: usize,
+    objects: &[(u64, BBox<D>)],
+) -> ArrayVec<(u64, BBox<D>), 100>
+    requires some { 0 < length objects.now }
+    requires first { class ≡ first_class objects.now }
+    ensures taken { result.items ≡ take (length result.items) objects.now }
+    ensures run { IsRun class objects.now (length result.items) }
+{
+    let mut entries = ArrayVec::new();
+    for object in objects {
+        if entries.is_full() || class_of(object.0) != class {
+            return entries;
+        }
+        entries.push(*object);
+    }
+    entries
 }
 
 // Puts a bucket into a new page before the first one of a chain, which the bucket names as the next.

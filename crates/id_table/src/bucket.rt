@@ -1,6 +1,6 @@
 //! Buckets at the pages of a cache.
 
-ghost use Rattle.std.specs.Prelude.{◌≡◌, ◌<◌, ◌⊎◌, ℕ, List, Some, length, IfOk, IfErr, IfSome, IfNone, IsSomeAnd, OnOk};
+ghost use Rattle.std.specs.Prelude.{◌≡◌, ◌<◌, ◌⊎◌, ℕ, List, Some, true, false, length, IfOk, IfErr, IfSome, IsSomeAnd, OnOk};
 ghost use Rattle.block_bytes.specs.Numbers.{number_at};
 ghost use Rattle.box_math.specs.Bounds.{IsDims};
 ghost use Rattle.bucket_page.specs.Layout.{BucketContent, bucket_at, content_of};
@@ -107,36 +107,38 @@ pub(crate) fn place_at<const D: usize, B: BlockDevice, A: Allocator + Copy>(
     }
 }
 
-// The bytes of the first page of a chain, where it has room for an object more. `None` where there is no page, or the
-// first one is full.
+// Whether the first page of a chain has room for an object more, and its bytes if it has. It has none where there is no
+// page, or it is full.
 #[tactic(auto, using(page_cache::specs::Calls::ends_so))]
 pub(crate) fn room_in<const D: usize, B: BlockDevice, A: Allocator + Copy>(
     cache: &mut PageCache<B, A>,
     first: u32,
-) -> Result<Option<[u8; 4096]>, Fault>
+    bytes: &mut [u8; 4096],
+) -> Result<bool, Fault>
     requires dims { IsDims D }
     ensures asks { Asks cache.old cache.new result }
-    ensures some { IfOk result (λ found. IfSome found (λ page. ¬ (first ≡ 0))) }
-    ensures room { IfOk result (λ found. IfSome found (λ page. number_at 2 2 page < 100)) }
+    ensures some { IfOk result (λ room. room ≡ true → ¬ (first ≡ 0)) }
+    ensures room { IfOk result (λ room. room ≡ true → number_at 2 2 bytes.new < 100) }
     ensures bytes { IsHonest cache.old → (c : BucketContent) → bucket_in D (pages cache.old first) ≡ Some c
-        → IfOk result (λ found. IfSome found (λ page. bucket_at D page ≡ Some c)) }
+        → IfOk result (λ room. room ≡ true → bucket_at D bytes.new ≡ Some c) }
     ensures full { IsHonest cache.old → (chain : List Linked) → ChainStands D (pages cache.old) first chain
-        → IfOk result (λ found. IfNone found (BeginsFull chain)) }
+        → IfOk result (λ room. room ≡ false → BeginsFull chain) }
     ensures there { IsHonest cache.old → (chain : List Linked) → ChainStands D (pages cache.old) first chain
         → IfErr result IsOfDevice }
     ensures other_faults { IfErr result (λ f. IsOfDevice f ⊎ IsDamage f) }
 {
     if first == 0 {
-        return Ok(None);
+        return Ok(false);
     }
     let page = cache.page(first)?;
     if !has_bucket_head::<D>(page) {
         return Err(Fault::Damaged(first));
     }
     if count_at(page) == 100 {
-        return Ok(None);
+        return Ok(false);
     }
-    Ok(Some(*page))
+    *bytes = *page;
+    Ok(true)
 }
 
 // Writes a bucket into a live page. After a refusal that page may hold any bytes.

@@ -4,7 +4,8 @@ ghost use Rattle.std.specs.Prelude.{◌≡◌, ◌≤◌, ◌<◌, ◌+◌, ◌+
 ghost use Rattle.std.specs.Prelude.{IfErr, IfOk, OnErr, OnOk, IsTrue, length};
 ghost use Rattle.block_bytes.specs.Numbers.{number_at};
 ghost use Rattle.box_math.specs.Bounds.{IsDims};
-ghost use Rattle.bucket_page.specs.Layout.{BucketContent, HasBucketHead, HasOrderedBox, bucket_at, object_at, objects_at};
+ghost use Rattle.bucket_page.specs.Layout.{BucketContent, HasBucketHead, HasOrderedBox, bucket_at};
+ghost use Rattle.bucket_page.specs.Layout.{object_at, objects_at};
 ghost use Rattle.page_file.specs.Fault.{IsDamage, IsOfDevice};
 ghost use Rattle.page_file.specs.declared.fault.Fault.TheVariants as fault;
 ghost use Rattle.page_cache.specs.Cache.{IsHonest, IsPageMap, given, looks_of, next_of, pages};

@@ -10,7 +10,7 @@ ghost use Rattle.id_table.specs.Changes.{AreNew, Fills};
 ghost use Rattle.id_table.specs.Faults.{IsOfPages};
 ghost use Rattle.id_table.specs.Table.{IdTable, IdsStand, objects_of};
 
-use crate::adding::add;
+use crate::adding::add_run;
 use block_device::BlockDevice;
 use box_math::BBox;
 use node_page::Broken;
@@ -18,8 +18,9 @@ use page_cache::PageCache;
 use std::alloc::Allocator;
 
 /// Adds objects to the table, none of which has an identifier that is there or that one before it has. No chain is
-/// walked: each object wants the directory and the first page of its chain. In the order of the remainders by 1000 each
-/// page is looked at in a row, so that a small cache serves. The gate has to be open.
+/// walked: those of one chain that stand in a row are put into its first page together, as many as it has room for, and
+/// then into a new page before it. So in the order of the remainders by 1000 each page of objects is written once. The
+/// gate has to be open.
 ///
 /// With a sound map, where the pages stand for a table at that directory, a refusal is `Memory` or `Device`, or
 /// `NoPages` where all page numbers were given out. It is untouched where the first object was refused so.
@@ -40,11 +41,11 @@ pub fn fill<const D: usize, B: BlockDevice, A: Allocator + Copy>(
         → AreNew (objects_of t) objects.now → IfErr result (λ b. IsOfPages (next_of cache.new) b.cause) }
     ensures other_faults { IfErr result (λ b. IsOfPages (next_of cache.new) b.cause ⊎ IsDamage b.cause) }
 {
-    let mut begun = false;
-    for object in objects {
-        match add(cache, directory, object.0, &object.1) {
-            Ok(()) => begun = true,
-            Err(broken) => return Err(broken_after(begun, broken)),
+    let mut filled = 0;
+    while filled < objects.len() {
+        match add_run(cache, directory, &objects[filled..]) {
+            Ok(count) => filled += count,
+            Err(broken) => return Err(broken_after(filled > 0, broken)),
         }
     }
     Ok(())

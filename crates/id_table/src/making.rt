@@ -10,6 +10,7 @@ ghost use Rattle.node_page.specs.Broken.{Alters};
 ghost use Rattle.id_table.specs.Changes.{Makes};
 ghost use Rattle.id_table.specs.Faults.{IsOfPages};
 
+use crate::broken::midway;
 use crate::directory::write_directory;
 use block_bytes::zero_block;
 use block_device::BlockDevice;
@@ -34,10 +35,7 @@ pub fn make<const D: usize, B: BlockDevice, A: Allocator + Copy>(
     ensures faults { IsPageMap cache.old → IfErr result (λ b. IsOfPages (next_of cache.old) b.cause) }
     ensures other_faults { IfErr result (λ b. IsOfPages (next_of cache.old) b.cause ⊎ IsDamage b.cause) }
 {
-    match make_page::<D, B, A>(cache) {
-        Ok(directory) => Ok(directory),
-        Err(fault) => Err(Broken::midway(fault)),
-    }
+    midway(make_page::<D, B, A>(cache))
 }
 
 // Gives out a page and writes a directory of empty chains into it.

@@ -1,9 +1,13 @@
 //! Tests of tables in two and three dimensions against what was added and removed, of the pages that they take, and of
 //! pages that stand for no table.
 
-ghost use Rattle.std.specs.Prelude.{◌≡◌, IfOk};
+ghost use Rattle.std.specs.Prelude.{◌≡◌, ◌≤◌, IfOk};
 ghost use Rattle.page_file.specs.declared.gate.Gate.TheVariants.{Open};
 ghost use Rattle.page_cache.specs.Cache.{gate_of};
+
+mod damaged;
+mod many;
+mod refused;
 
 use crate::{add, fill, free_all, get, make, remove};
 use block_bytes::{read_u16, read_u32};
@@ -21,8 +25,16 @@ type Cache = PageCache<MemoryDevice, Global>;
 fn scene(alloc: Global) -> Result<Cache, Fault>
     ensures { IfOk result (λ cache. gate_of cache ≡ Open) }
 {
+    scene_of(alloc, 8)
+}
+
+// The same with so many pages.
+fn scene_of(alloc: Global, capacity: u32) -> Result<Cache, Fault>
+    requires { (8 ≤ capacity) × (capacity ≤ 4096) }
+    ensures { IfOk result (λ cache. gate_of cache ≡ Open) }
+{
     let file = create_pages(MemoryDevice::new(alloc)).map_err(|(fault, _)| fault)?;
-    let mut cache = PageCache::over(alloc, file, 8).map_err(|(fault, _)| fault)?;
+    let mut cache = PageCache::over(alloc, file, capacity).map_err(|(fault, _)| fault)?;
     cache.begin_change()?;
     Ok(cache)
 }
@@ -90,6 +102,30 @@ fn a_filled_table_has_its_objects(rt: HostRuntime) -> Result<(), Fail> {
     assert_eq!(rt; head(&mut cache, 4)?, (2, 0));
     assert!(rt; get::<2, _, _>(&mut cache, table, 8)? == Some(point(2)?));
     assert!(rt; get::<2, _, _>(&mut cache, table, 1007)? == Some(point(3)?));
+    Ok(())
+}
+
+#[test]
+fn a_filled_chain_has_full_buckets_behind_its_first(rt: HostRuntime) -> Result<(), Fail> {
+    let mut cache = scene(rt.alloc())?;
+    let Ok(table) = make::<2, _, _>(&mut cache) else {
+        return Err(Fail::from("make"));
+    };
+    let bounds = point::<2>(1)?;
+    let mut objects = [(8, bounds); 250];
+    for k in 0..249 {
+        objects[k].0 = 1000 * k as u64 + 7;
+    }
+    assert!(rt; fill(&mut cache, table, &objects).is_ok());
+    assert_eq!(rt; head(&mut cache, 7)?, (1, 0));
+    assert_eq!(rt; head(&mut cache, 6)?, (49, 5));
+    assert_eq!(rt; head(&mut cache, 5)?, (100, 4));
+    assert_eq!(rt; head(&mut cache, 4)?, (100, 0));
+    assert!(rt; fill(&mut cache, table, &[(1008, bounds), (249_007, bounds)]).is_ok());
+    assert_eq!(rt; head(&mut cache, 7)?, (2, 0));
+    assert_eq!(rt; head(&mut cache, 6)?, (50, 5));
+    assert!(rt; get::<2, _, _>(&mut cache, table, 249_007)? == Some(bounds));
+    assert!(rt; get::<2, _, _>(&mut cache, table, 250_007)?.is_none());
     Ok(())
 }
 

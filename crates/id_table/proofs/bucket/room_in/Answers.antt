@@ -26,7 +26,7 @@ returns-then-not-has_bucket_head-clause-there g c = λ h chain stands.
     absurd (cc (is, none))
 
 pub returns-then-count_at-eq100-clause-full : goal.returns-then-count_at-eq100-clause-full
-returns-then-count_at-eq100-clause-full g c = λ h chain stands.
+returns-then-count_at-eq100-clause-full g c = λ h chain stands none.
     let page = pages c.args.cache.now c.args.first in
     let b = begins_at g.row.D (pages c.args.cache.now) c.args.first chain stands c.if-first-eq0.false in
     let is = bucket_bytes g.row.D page _ b.content (c.in_ok-page.ensures.bytes h (page_of_bucket g.row.D page b.content b.there)) b.there in
