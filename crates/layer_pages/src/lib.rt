@@ -7,8 +7,14 @@ mod inserting;
 pub mod laws;
 mod loading;
 mod making;
+mod removing;
+mod replacing;
+#[cfg(test)]
+mod tests;
 
 pub use freeing::free;
 pub use inserting::insert;
 pub use loading::load;
 pub use making::make;
+pub use removing::remove;
+pub use replacing::replace;
