@@ -7,3 +7,4 @@ pub mod MadeLemmas
 pub mod RemovedLemmas
 pub mod FreeLemmas
 pub mod LoadLemmas
+pub mod CheckLemmas

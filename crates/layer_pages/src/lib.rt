@@ -2,6 +2,7 @@
 //! (docs/FORMAT.md, "Trees of pages", "Identifier tables").
 #![tactic(auto)]
 
+mod checking;
 mod freeing;
 mod inserting;
 pub mod laws;
@@ -12,6 +13,7 @@ mod replacing;
 #[cfg(test)]
 mod tests;
 
+pub use checking::check;
 pub use freeing::free;
 pub use inserting::insert;
 pub use loading::load;

@@ -1,16 +1,17 @@
-//! Tests of layers that are made, loaded, changed and given up, of refused growths and of failed calls of the device.
+//! Tests of layers that are made, loaded, changed, checked and given up, of refused growths and of failed calls of the
+//! device.
 
 ghost use Rattle.std.specs.Prelude.{◌≡◌, IfOk};
 ghost use Rattle.page_cache.specs.Cache.{gate_of};
 ghost use Rattle.page_file.specs.declared.gate.Gate.TheVariants.{Open};
 ghost use Rattle.layer_pages.specs.Layers.{CanBeRoot};
 
-use crate::{free, insert, load, make, remove, replace};
+use crate::{check, free, insert, load, make, remove, replace};
 use block_device::{BlockDevice, FuseDevice, FuseMode, MemoryDevice};
 use box_math::BBox;
 use condense::Kept;
-use id_table::{check_table, get};
-use node_page::{Broken, Entry, Root, check_tree, leaf_lists};
+use id_table::{add, get};
+use node_page::{Broken, Entry, Root, leaf_lists};
 use page_cache::PageCache;
 use page_file::{Fault, create_pages, open_pages};
 use refusing::Refusing;
@@ -91,27 +92,26 @@ fn open_cache<B: BlockDevice + Drop, A: Allocator + Copy>(
     Ok(cache)
 }
 
-// Whether the tree and the table have the same objects, and the leaves these identifiers.
+// Whether a layer stands there, four to a node, whose leaves have these identifiers.
 fn stands<B: BlockDevice, A: Allocator + Copy>(
     alloc: Global,
     cache: &mut PageCache<B, A>,
     root: Root,
     leaves: &[&[u64]],
 ) -> Result<bool, Fault> {
-    let mut held = check_tree::<2, _, _, _>(alloc, cache, root, 4)?;
-    let mut listed = check_table::<2, _, _, _>(alloc, cache, DIRECTORY)?;
-    held.pairs.sort_unstable_by_key(|pair| pair.0);
-    listed.pairs.sort_unstable_by_key(|pair| pair.0);
-    if held.pairs.as_slice() != listed.pairs.as_slice() {
+    let lists = leaf_lists::<2, _, _, _>(alloc, cache, root)?;
+    if lists.len() != leaves.len() {
         return Ok(false);
     }
-    let lists = leaf_lists::<2, _, _, _>(alloc, cache, root)?;
+    let mut count = 0u64;
     for (list, want) in lists.iter().zip(leaves) {
         if list.as_slice() != *want {
             return Ok(false);
         }
+        count = count.saturating_add(want.len() as u64);
     }
-    Ok(lists.len() == leaves.len())
+    check::<2, _, _, _>(&alloc, cache, root, DIRECTORY, 4, count)?;
+    Ok(true)
 }
 
 // A change of the layer of the five points.
@@ -140,9 +140,28 @@ fn apply<B: BlockDevice, A: Allocator + Copy>(
             };
             insert(cache, FIVE, DIRECTORY, &object, 4, &mut waiting)
         }
-        Change::Remove => remove(cache, FIVE, DIRECTORY, 1, &at(0), 4, &mut waiting, &mut kept),
+        Change::Remove => remove(
+            cache,
+            FIVE,
+            DIRECTORY,
+            1,
+            &at(0),
+            4,
+            &mut waiting,
+            &mut kept,
+        ),
         Change::Replace => {
-            replace(cache, FIVE, DIRECTORY, 5, &at(10), &at(4), 4, &mut waiting, &mut kept)
+            replace(
+                cache,
+                FIVE,
+                DIRECTORY,
+                5,
+                &at(10),
+                &at(4),
+                4,
+                &mut waiting,
+                &mut kept,
+            )
         }
     }
 }
@@ -167,7 +186,10 @@ fn each_change_leaves_its_leaves(rt: HostRuntime) -> Result<(), Fail> {
         let mut cache = open_cache(rt.alloc(), five_points(rt.alloc())?)?;
         assert!(rt; stands(rt.alloc(), &mut cache, FIVE, &[&[1, 2], &[3, 4, 5]])?);
         let after = apply(rt.alloc(), &mut cache, change)?;
-        assert!(rt; is_changed(rt.alloc(), &mut cache, change, after)?, "{change:?}");
+        assert!(rt;
+            is_changed(rt.alloc(), &mut cache, change, after)?,
+            "{change:?}"
+        );
     }
     Ok(())
 }
@@ -212,8 +234,21 @@ fn an_object_that_is_not_there_changes_nothing(rt: HostRuntime) -> Result<(), Fa
 
 // The nine points from (0, 0) to (2, 2), the point (x, y) with the identifier 3x + y + 1.
 fn nine_points() -> [(u64, BBox<2>); 9] {
-    [(0, 0), (0, 1), (0, 2), (1, 0), (1, 1), (1, 2), (2, 0), (2, 1), (2, 2)]
-        .map(|(x, y)| (u64::from(3 * x + y + 1u8), point(i32::from(x), i32::from(y))))
+    [
+        (0, 0),
+        (0, 1),
+        (0, 2),
+        (1, 0),
+        (1, 1),
+        (1, 2),
+        (2, 0),
+        (2, 1),
+        (2, 2),
+    ]
+    .map(|(x, y)| (
+        u64::from(3 * x + y + 1u8),
+        point(i32::from(x), i32::from(y)),
+    ))
 }
 
 #[test]
@@ -223,8 +258,22 @@ fn nine_points_are_packed(rt: HostRuntime) -> Result<(), Fail> {
         return Err(Fail::from("make"));
     };
     let mut objects = nine_points();
-    let after = load(rt.alloc(), &mut cache, root, directory, objects.as_mut_slice(), 4)?;
-    assert!(rt; stands(rt.alloc(), &mut cache, after, &[&[1, 4, 2], &[5, 3], &[6, 7, 8, 9]])?);
+    let after = load(
+        rt.alloc(),
+        &mut cache,
+        root,
+        directory,
+        objects.as_mut_slice(),
+        4,
+    )?;
+    assert!(rt;
+        stands(
+            rt.alloc(),
+            &mut cache,
+            after,
+            &[&[1, 4, 2], &[5, 3], &[6, 7, 8, 9]]
+        )?
+    );
     assert!(rt; get::<2, _, _>(&mut cache, directory, 6)? == Some(point(1, 2)));
     Ok(())
 }
@@ -244,16 +293,22 @@ fn a_box_in_three_dimensions(rt: HostRuntime) -> Result<(), Fail> {
     };
     let root = insert(&mut cache, root, directory, &object, 4, &mut waiting)?;
     assert!(rt; get::<3, _, _>(&mut cache, directory, 1)? == Some(bounds));
-    remove(&mut cache, root, directory, 1, &bounds, 4, &mut waiting, &mut kept)?;
+    remove(
+        &mut cache,
+        root,
+        directory,
+        1,
+        &bounds,
+        4,
+        &mut waiting,
+        &mut kept,
+    )?;
     assert!(rt; get::<3, _, _>(&mut cache, directory, 1)?.is_none());
     Ok(())
 }
 
 // How many of the pages given out are live.
-fn live_pages(
-    alloc: Global,
-    cache: &mut PageCache<MemoryDevice, Global>,
-) -> Result<usize, Fault>
+fn live_pages(alloc: Global, cache: &mut PageCache<MemoryDevice, Global>) -> Result<usize, Fault>
     ensures open { gate_of cache.new ≡ gate_of cache.old }
 {
     let next = cache.next_number() as usize;
@@ -265,7 +320,10 @@ fn a_layer_given_up_leaves_the_pages_that_were_live(rt: HostRuntime) -> Result<(
     let mut cache = open_cache(rt.alloc(), five_points(rt.alloc())?)?;
     let before = live_pages(rt.alloc(), &mut cache)?;
     let (root, directory) = insert_line(rt.alloc(), &mut cache)?;
-    assert_eq!(rt; live_pages(rt.alloc(), &mut cache)?, before.saturating_add(9));
+    assert_eq!(rt;
+        live_pages(rt.alloc(), &mut cache)?,
+        before.saturating_add(9)
+    );
     free::<2, _, _>(&mut cache, root, directory)?;
     assert_eq!(rt; live_pages(rt.alloc(), &mut cache)?, before);
     assert!(rt; stands(rt.alloc(), &mut cache, FIVE, &[&[1, 2], &[3, 4, 5]])?);
@@ -340,4 +398,52 @@ fn a_failed_call_of_the_device_is_answered(rt: HostRuntime) -> Result<(), Fail> 
         assert!(rt; fail_calls(&rt, rt.alloc(), change)? > 0, "{change:?}");
     }
     Ok(())
+}
+
+#[test]
+fn a_layer_that_stands_has_its_pages(rt: HostRuntime) -> Result<(), Fail> {
+    let alloc = rt.alloc();
+    let mut cache = open_cache(alloc, five_points(alloc)?)?;
+    let pages = check::<2, _, _, _>(&alloc, &mut cache, FIVE, DIRECTORY, 4, 5)?;
+    assert_eq!(rt; pages.as_slice(), [10, 3, 9, 4, 5, 6, 7, 8, 11].as_slice());
+    Ok(())
+}
+
+// Why the layer of the five points is refused where it should have so many objects.
+fn refusal(alloc: Global, cache: &mut PageCache<MemoryDevice, Global>, count: u64) -> Option<Fault>
+    ensures open { gate_of cache.new ≡ gate_of cache.old }
+{
+    check::<2, _, _, _>(&alloc, cache, FIVE, DIRECTORY, 4, count).err()
+}
+
+#[test]
+fn each_difference_is_found(rt: HostRuntime) -> Result<(), Fail> {
+    let mut cache = open_cache(rt.alloc(), five_points(rt.alloc())?)?;
+    assert_eq!(rt; refusal(rt.alloc(), &mut cache, 4), Some(Fault::Damaged(2)));
+    assert_eq!(rt; refusal(rt.alloc(), &mut cache, 6), Some(Fault::Damaged(2)));
+    // the table has an object fewer, and then one with another box
+    id_table::remove::<2, _, _>(&mut cache, DIRECTORY, 3)?;
+    assert_eq!(rt; refusal(rt.alloc(), &mut cache, 5), Some(Fault::Damaged(4)));
+    add(&mut cache, DIRECTORY, 3, &at(7))?;
+    assert_eq!(rt; refusal(rt.alloc(), &mut cache, 5), Some(Fault::Damaged(4)));
+    id_table::remove::<2, _, _>(&mut cache, DIRECTORY, 3)?;
+    add(&mut cache, DIRECTORY, 3, &at(2))?;
+    assert_eq!(rt; refusal(rt.alloc(), &mut cache, 5), None);
+    Ok(())
+}
+
+#[test]
+fn a_check_refused_memory_answers_that(rt: HostRuntime) -> Result<(), Fail> {
+    let heap = Refusing::new(rt.alloc());
+    let mut cache = open_cache(rt.alloc(), five_points(rt.alloc())?)?;
+    for k in 0..100 {
+        heap.refuse_from(k);
+        let answer = check::<2, _, _, _>(&heap, &mut cache, FIVE, DIRECTORY, 4, 5);
+        if !heap.relent() {
+            assert!(rt; answer.is_ok() && k > 5, "{k}");
+            return Ok(());
+        }
+        assert!(rt; answer.err() == Some(Fault::Memory), "{k}");
+    }
+    Err(Fail::from("each time some growth was refused"))
 }
