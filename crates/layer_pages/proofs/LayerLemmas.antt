@@ -1,15 +1,23 @@
 -- Layers beside a change of pages, and changes of the parts of a layer in turn.
 use Rattle.std.proofs.Common.{◌≡◌, ◌∙◌, ℕ, ◌<◌, ◌≤◌, IsSome, ⊎_elim, arith}
-use Rattle.tree_node.specs.Trees.{occurs_in}
+use Rattle.std.specs.FinMap.{entries}
+use Rattle.std.specs.Prelude.{IsPermutation}
+use Rattle.tree_node.specs.Boxes.{RowHasBoxes}
+use Rattle.tree_node.specs.Shape.{HasShape}
+use Rattle.tree_node.specs.Trees.{Tree, objects_in, occurs_in}
+use Rattle.tree_node.specs.declared.node.Root.{Root}
 use Rattle.node_page.specs.Parts.{Moves, Part, both, no_page}
-use Rattle.node_page.specs.Standing.{PageMap}
+use Rattle.node_page.specs.Standing.{PageMap, Stands}
 use Rattle.node_page.proofs.ChangeLemmas.{trees_beside_stand}
 use Rattle.node_page.proofs.PartLemmas.{moves_beside, moves_in_turn, moves_same, none_or_some, not_new, staying_moves}
 use Rattle.node_page.proofs.StandingLemmas.{pages_are_there}
-use Rattle.id_table.specs.Table.{IdTable, IdsStand, chain_at, link_at, occurs_in_ids}
+use Rattle.id_table.specs.Table.{IdTable, IdsStand, chain_at, link_at, objects_of, occurs_in_ids, part_of}
 use Rattle.id_table.proofs.ReplaceLemmas.{chain_stays}
 use Rattle.id_table.proofs.TableLemmas.{chain_in_table, occurs_here, table_there}
+use Rattle.reinsert.specs.Inserted.{IsRootOf}
+use Rattle.layer_pages.specs.Changes.{BecomesLayer}
 use Rattle.layer_pages.specs.Laws.{LayersBesideStand, LayersStandInEqualPages, PagesOfALayerAreThere}
+use Rattle.layer_pages.specs.Layers.{IsLayerAt, LayerPages, Objects, part_of_layer}
 
 -- ---- tables
 
@@ -83,3 +91,44 @@ module _ (old mid new : PageMap) (was now a b : Part) (first : Moves old mid was
   -- what the first made shares no page with what the second changes
   pub made_apart : (n : ℕ) → 0 < now n → a n ≡ 0
   made_apart n here = omega (arith, here, first_beside.once n)
+
+-- ---- the tree of a layer is changed, and then its table
+
+module _ (dims most : ℕ) (old : PageMap) (root : Root) (directory : ℕ) (l : LayerPages) (objects : Objects) (is : IsLayerAt dims most old root directory l objects) where
+  pub root_of : IsRootOf root l.tree
+  root_of = record { page = is.tree.page_is; level = is.tree.level_is }
+
+  pub ids_live : (n : ℕ) → 0 < part_of l.ids n → IsSome (old n)
+  ids_live n here = table_there dims old l.ids n is.ids here
+
+  module _ (mid : PageMap) (now : Part) (tree : Moves old mid (λ n. occurs_in n l.tree) now) where
+    -- the table stands as it did
+    pub ids_still : IdsStand dims mid l.ids
+    ids_still = (ids_beside dims old mid (λ n. occurs_in n l.tree) now l.ids tree is.ids (λ n here. omega (arith, here, is.once n))).0
+
+    pub layer_moves : (new : PageMap) (ids : Part) → Moves mid new (part_of l.ids) ids → Moves old new (part_of_layer l) (both now ids)
+    layer_moves new ids table = both_change old mid new (λ n. occurs_in n l.tree) now (part_of l.ids) ids tree table ids_live is.once
+
+  -- a tree of the shape and a table of the same objects are the layer then
+  module _ (mid new : PageMap) (t : Tree) (ids : IdTable) (tree : Moves old mid (λ n. occurs_in n l.tree) (λ n. occurs_in n t)) (table : Moves mid new (part_of l.ids) (part_of ids)) where
+    pub layer_changed : (after : Root) (all : Objects) (IsSo : Tree → Type 0) → IsRootOf after t → Stands dims mid t → HasShape dims most t → RowHasBoxes dims t.row → ids.page ≡ l.ids.page → IdsStand dims new ids → objects_of ids ≡ all
+        → IsPermutation (objects_in t.row) (entries all) → IsSo t → BecomesLayer dims most old new (part_of_layer l) after directory all IsSo
+    layer_changed after all IsSo at stands shape boxes page ids_stand objects_are leaves is_so = record {
+      layer = record { tree = t; ids = ids };
+      stands = record {
+        tree = record {
+          page_is = at.page;
+          level_is = at.level;
+          stands = (trees_beside_stand dims mid new (part_of l.ids) (part_of ids) t table stands (made_apart old mid new (λ n. occurs_in n l.tree) (λ n. occurs_in n t) (part_of l.ids) (part_of ids) tree table ids_live is.once)).0;
+          shape = shape;
+        };
+        boxes = boxes;
+        directory_is = page ∙ is.directory_is;
+        ids = ids_stand;
+        leaves = leaves;
+        table = objects_are;
+        once = (layer_moves mid (λ n. occurs_in n t) tree new (part_of ids) table).once;
+      };
+      tree_is = is_so;
+      moves = layer_moves mid (λ n. occurs_in n t) tree new (part_of ids) table;
+    }

@@ -4,5 +4,7 @@ pub mod LayerLemmas
 pub mod AnswerLemmas
 pub mod FaultLemmas
 pub mod MadeLemmas
+pub mod RemovedLemmas
 pub mod FreeLemmas
 pub mod LoadLemmas
+pub mod CheckLemmas

@@ -23,28 +23,14 @@ use Rattle.id_table.specs.Changes.{AreNew, Fills, with_all}
 use Rattle.id_table.specs.Table.{Object, objects_of, part_of}
 use Rattle.id_table.proofs.TableLemmas.{occurs_here}
 use Rattle.bulk_load.specs.Loads.{Loads}
-use Rattle.reinsert.specs.Inserted.{IsRootOf}
 use Rattle.reinsert.proofs.LevelLemmas.{shape_bounds_level}
 use Rattle.layer_pages.specs.Changes.{BecomesLayer, BecomesTable, HasPacked, item_of_object}
 use Rattle.layer_pages.specs.Laws.{NewObjectsAreEntries}
 use Rattle.layer_pages.specs.Layers.{CanBeRoot, IsLayerAt, LayerPages, Objects, part_of_layer}
 use Rattle.layer_pages.proofs.LayerLemmas.{both_change, ids_beside, layers_beside, made_apart, pages_of_a_layer}
-use Rattle.layer_pages.proofs.ObjectLemmas.{all_are_new, entries_of_all, row_boxes}
+use Rattle.layer_pages.proofs.ObjectLemmas.{all_are_new, entries_of_all, no_entries, row_boxes}
 
 -- ---- the table
-
-abbrev none : Objects
-none = map.empty
-
-empty_list : (os : List Object) → length os ≡ 0 → os ≡ []
-empty_list [] is = refl
-empty_list (o ∷ os) is = absurd (omega (arith, is))
-
-no_entries : entries none ≡ []
-no_entries = empty_list (entries none) (sym (len-entries none) ∙ none_counted)
-  where
-    none_counted : len none ≡ 0
-    none_counted = len-empty nat_cmp Bounds
 
 pub new_objects_are_entries : NewObjectsAreEntries
 new_objects_are_entries pairs fresh = subst (λ (es : List Object). IsPermutation (es ++ pairs) (entries (with_all map.empty pairs))) no_entries (entries_of_all pairs map.empty fresh)
@@ -56,9 +42,6 @@ module _ (dims most : ℕ) (old : PageMap) (root : Root) (directory : ℕ) (l : 
 
   pub all_new : AreNew (objects_of l.ids) objects
   all_new = both_facts.0
-
-  pub root_is : IsRootOf root l.tree
-  root_is = record { page = is.tree.page_is; level = is.tree.level_is }
 
   module _ (mid : PageMap) (fills : Fills dims old mid l.ids objects) where
     pub tree_still : Stands dims mid l.tree

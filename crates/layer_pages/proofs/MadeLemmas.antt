@@ -1,10 +1,7 @@
 -- Layers that were made, or have an object more.
 use Rattle.std.proofs.Common.{◌≡◌, ◌∙◌, ℕ, ◌+◌, ◌<◌, ◌≤◌, false, Option, Some, None, List, [], ◌∷◌, length, refl, sym, ap, subst, arith}
 use Rattle.std.specs.FinMap as map
-use Rattle.std.specs.FinMap.{entries, len, len-empty, len-entries}
-use Rattle.std.specs.Ordering.{nat_cmp}
 use Rattle.std.specs.Prelude.{IsPermutation, IsSome}
-use Rattle.std.proofs.lemmas.List.Sorted.{IsPermutation-refl}
 use Rattle.box_math.specs.Bounds.{Bounds, IsBox}
 use Rattle.page_file.specs.Pages.{SameBut}
 use Rattle.tree_node.specs.Nodes.{NodeContent}
@@ -16,30 +13,16 @@ use Rattle.node_page.proofs.ChangeLemmas.{trees_beside_stand}
 use Rattle.node_page.proofs.PartLemmas.{moves_same, one_page_moves}
 use Rattle.id_table.specs.Changes.{Adds, Makes}
 use Rattle.id_table.specs.Table.{IdsStand, Object, objects_of, part_of}
-use Rattle.id_table.proofs.TableLemmas.{table_there}
 use Rattle.reinsert.specs.Inserted.{CanInsert, InsertsTo}
 use Rattle.reinsert.specs.Kept.{EntryHasShape}
 use Rattle.reinsert.proofs.ObjectLemmas.{insertion_keeps_objects}
 use Rattle.reinsert.proofs.ShapeLemmas.{insertion_keeps_shape}
 use Rattle.layer_pages.specs.Changes.{BecomesLayer, HasInserted, IsEmptyLeaf}
 use Rattle.layer_pages.specs.Layers.{IsLayerAt, LayerPages, Objects, part_of_layer}
-use Rattle.layer_pages.proofs.LayerLemmas.{both_change, ids_beside, made_apart}
-use Rattle.layer_pages.proofs.ObjectLemmas.{more_leaves}
+use Rattle.layer_pages.proofs.LayerLemmas.{both_change, ids_live, ids_still, layer_changed, root_of}
+use Rattle.layer_pages.proofs.ObjectLemmas.{more_leaves, no_objects}
 
 -- ---- an empty leaf and an empty table
-
-none_of_none : (os : List Object) → length os ≡ 0 → IsPermutation [] os
-none_of_none [] none = IsPermutation-refl []
-none_of_none (o ∷ os) none = absurd (omega (arith, none))
-
-abbrev none : Objects
-none = map.empty
-
-no_objects : IsPermutation [] (entries none)
-no_objects = none_of_none (entries none) (sym (len-entries none) ∙ none_counted)
-  where
-    none_counted : len none ≡ 0
-    none_counted = len-empty nat_cmp Bounds
 
 node_there : (dims : ℕ) (page : Option (List ℕ)) (c : NodeContent) → node_in dims page ≡ Some c → IsSome page
 node_there dims None c e = absurd (cc)
@@ -92,13 +75,13 @@ module _ (dims most : ℕ) (old : PageMap) (root : Root) (directory : ℕ) (l : 
 
   pub can_insert : CanInsert dims old root (record { bounds = bounds; reference = id }) 0 l.tree branch (part_of l.ids)
   can_insert = record {
-    at = record { page = is.tree.page_is; level = is.tree.level_is };
+    at = root_of dims most old root directory l objects is;
     stands = is.tree.stands;
     entry = refl;
     entry_stands = (refl, tt);
     fits = omega arith;
     apart = λ n. omega (arith, is.once n);
-    live = λ n here. table_there dims old l.ids n is.ids here;
+    live = ids_live dims most old root directory l objects is;
   }
 
   pub entry_has_shape : IsBox dims bounds → EntryHasShape dims most 0 branch
@@ -108,40 +91,16 @@ module _ (dims most : ℕ) (old : PageMap) (root : Root) (directory : ℕ) (l : 
     tree_moves : Moves old mid (λ n. occurs_in n l.tree) (λ n. occurs_in n to.new)
     tree_moves = moves_same old mid (λ n. occurs_in n l.tree + 0) (λ n. occurs_in n l.tree) (λ n. occurs_in n to.new) (λ n. occurs_in n to.new) (λ n. omega arith) (λ n. refl) to.moves
 
-    -- the table stands as it did
     pub ids_meanwhile : IdsStand dims mid l.ids
-    ids_meanwhile = (ids_beside dims old mid (λ n. occurs_in n l.tree) (λ n. occurs_in n to.new) l.ids tree_moves is.ids (λ n here. omega (arith, here, is.once n))).0
+    ids_meanwhile = ids_still dims most old root directory l objects is mid (λ n. occurs_in n to.new) tree_moves
 
     pub absent_meanwhile : map.contains_key objects id ≡ false → map.contains_key (objects_of l.ids) id ≡ false
     absent_meanwhile absent = subst (λ (m : Objects). map.contains_key m id ≡ false) (sym is.table) absent
 
-    module _ (new : PageMap) (ids : Adds dims mid new l.ids id bounds) where
-      ids_live : (n : ℕ) → 0 < part_of l.ids n → IsSome (old n)
-      ids_live n here = table_there dims old l.ids n is.ids here
-
-      all_change : Moves old new (part_of_layer l) (both (λ n. occurs_in n to.new) (part_of ids.table))
-      all_change = both_change old mid new (λ n. occurs_in n l.tree) (λ n. occurs_in n to.new) (part_of l.ids) (part_of ids.table) tree_moves ids.moves ids_live is.once
-
-      pub layer_inserted : 2 ≤ most → IsBox dims bounds → map.contains_key objects id ≡ false → BecomesLayer dims most old new (part_of_layer l) after directory (map.insert objects id bounds) (HasInserted dims most l id bounds)
-      layer_inserted two box absent =
-          let kept = insertion_keeps_shape dims most (part_of l.ids) branch 0 l.tree to.new to.insertion two (entry_has_shape box) is.boxes is.tree.shape in
-          record {
-            layer = record { tree = to.new; ids = ids.table };
-            stands = record {
-              tree = record {
-                page_is = to.at.page;
-                level_is = to.at.level;
-                stands = (trees_beside_stand dims mid new (part_of l.ids) (part_of ids.table) to.new ids.moves to.stands
-                    (made_apart old mid new (λ n. occurs_in n l.tree) (λ n. occurs_in n to.new) (part_of l.ids) (part_of ids.table) tree_moves ids.moves ids_live is.once)).0;
-                shape = kept.0;
-              };
-              boxes = kept.1;
-              directory_is = ids.page ∙ is.directory_is;
-              ids = ids.stands;
-              leaves = more_leaves _ _ objects id bounds (insertion_keeps_objects dims most (part_of l.ids) branch 0 l.tree to.new to.insertion) is.leaves absent;
-              table = ids.objects ∙ ap (λ (m : Objects). map.insert m id bounds) is.table;
-              once = all_change.once;
-            };
-            tree_is = to.insertion;
-            moves = all_change;
-          }
+    pub layer_inserted : (new : PageMap) → Adds dims mid new l.ids id bounds → 2 ≤ most → IsBox dims bounds → map.contains_key objects id ≡ false
+        → BecomesLayer dims most old new (part_of_layer l) after directory (map.insert objects id bounds) (HasInserted dims most l id bounds)
+    layer_inserted new ids two box absent =
+        let kept = insertion_keeps_shape dims most (part_of l.ids) branch 0 l.tree to.new to.insertion two (entry_has_shape box) is.boxes is.tree.shape in
+        layer_changed dims most old root directory l objects is mid new to.new ids.table tree_moves ids.moves after (map.insert objects id bounds) (HasInserted dims most l id bounds) to.at to.stands kept.0 kept.1 ids.page ids.stands
+        (ids.objects ∙ ap (λ (m : Objects). map.insert m id bounds) is.table)
+        (more_leaves _ _ objects id bounds (insertion_keeps_objects dims most (part_of l.ids) branch 0 l.tree to.new to.insertion) is.leaves absent) to.insertion

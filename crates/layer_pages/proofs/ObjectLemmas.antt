@@ -2,9 +2,9 @@
 use Rattle.std.proofs.Common.{◌≡◌, ◌∙◌, ℕ, zero, suc, ◌+◌, ◌<◌, ◌≤◌, Bool, true, false, cond, eqb, nat_lt, ◌&&◌, T, Option, Some, None, List, [], ◌∷◌, ◌++◌, length, get_or, All, refl, sym, ap, subst, ⊎_elim, arith}
 use Rattle.std.specs.Prelude.{IsPermutation, filter, is_some}
 use Rattle.std.specs.Cmp.{nat_cmp_total}
-use Rattle.std.specs.FinMap.{entries, entries-insert, entries_sorted, find, get, get-entries, contains_key, insert as map_insert, is_sorted, put, same_entries_map}
+use Rattle.std.specs.FinMap.{empty as empty_map, entries, entries-insert, entries_sorted, find, get, get-entries, get-insert, get-remove, contains_key, insert as map_insert, is_sorted, len, len-empty, len-entries, nat_cmp-IsAntisymmetric, put, remove as map_remove, same_entries_map, same_map}
 use Rattle.std.specs.FinMap.Entries.{below_all, by_order}
-use Rattle.std.specs.List.{insert}
+use Rattle.std.specs.List.{Contains, insert}
 use Rattle.std.specs.List.Sorted.{IsNonDecreasingBy}
 use Rattle.std.specs.Ordering.{nat_cmp, is_eq, is_lt, eq_by_cmp}
 use Rattle.std.specs.declared.cmp.Ordering.{Ordering}
@@ -28,6 +28,24 @@ use Rattle.layer_pages.specs.Layers.{Objects}
 -- an object: its identifier and its box
 abbrev Object : Type 0
 Object = ℕ × Bounds
+
+-- ---- no object
+
+abbrev none : Objects
+none = empty_map
+
+pub no_entries : entries none ≡ []
+no_entries = empty_list (entries none) (sym (len-entries none) ∙ none_counted)
+  where
+    empty_list : (os : List Object) → length os ≡ 0 → os ≡ []
+    empty_list [] is = refl
+    empty_list (o ∷ os) is = absurd (omega (arith, is))
+
+    none_counted : len none ≡ 0
+    none_counted = len-empty nat_cmp Bounds
+
+pub no_objects : IsPermutation [] (entries none)
+no_objects = subst (IsPermutation []) (sym no_entries) (IsPermutation-refl [])
 
 -- ---- an object with a new identifier
 
@@ -196,6 +214,74 @@ one_order (x ∷ xs) (y ∷ ys) up sorted same = same_list x y xs ys here (one_o
 
     rest : IsPermutation xs ys
     rest = equal_sums_permute xs ys (λ f. omega (arith, total-permutation f (x ∷ xs) (y ∷ ys) same, ap f here))
+
+-- ---- an object that goes
+
+same_key : (q k : ℕ) → q ≡ k → eq_by_cmp nat_cmp q k ≡ true
+same_key q k is = grind (arith, nat_tests)
+
+other_key : (q k : ℕ) → ¬ (q ≡ k) → eq_by_cmp nat_cmp q k ≡ false
+other_key q k other = grind (arith, nat_tests)
+
+pub gone : (m : Objects) (id : ℕ) → contains_key (map_remove m id) id ≡ false
+gone m id = ap is_some (get-remove nat_cmp_total m id id ∙ ap (λ b. cond b None (get m id)) (same_key id id refl))
+
+cond_twice : (b : Bool) (x y z : Option Bounds) → cond b x (cond b y z) ≡ cond b x z
+cond_twice true x y z = refl
+cond_twice false x y z = refl
+
+-- an object that is put where one went is one that is put over it
+pub put_anew : (m : Objects) (id : ℕ) (b : Bounds) → map_insert (map_remove m id) id b ≡ map_insert m id b
+put_anew m id b = same_map nat_cmp_total nat_cmp-IsAntisymmetric _ _ (λ q.
+    get-insert nat_cmp_total (map_remove m id) id b q ∙ ap (λ o. cond (eq_by_cmp nat_cmp q id) (Some b) o) (get-remove nat_cmp_total m id q)
+    ∙ cond_twice (eq_by_cmp nat_cmp q id) (Some b) None (get m q) ∙ sym (get-insert nat_cmp_total m id b q))
+
+-- put where it is, it changes nothing
+put_again : (m : Objects) (id : ℕ) (b : Bounds) → get m id ≡ Some b → map_insert m id b ≡ m
+put_again m id b there = same_map nat_cmp_total nat_cmp-IsAntisymmetric _ _ (λ q. get-insert nat_cmp_total m id b q ∙ as_before q)
+  where
+    as_before : (q : ℕ) → cond (eq_by_cmp nat_cmp q id) (Some b) (get m q) ≡ get m q
+    as_before q = ⊎_elim
+        (λ (is : q ≡ id). ap (λ c. cond c (Some b) (get m q)) (same_key q id is) ∙ sym (ap (get m) is ∙ there))
+        (λ (other : ¬ (q ≡ id)). ap (λ c. cond c (Some b) (get m q)) (other_key q id other))
+        (cases_eq q id)
+
+-- the entries of the map are the others and the one that goes
+one_entry_less : (m : Objects) (id : ℕ) (b : Bounds) → get m id ≡ Some b → IsPermutation ((id, b) ∷ entries (map_remove m id)) (entries m)
+one_entry_less m id b there =
+    subst (λ (n : Objects). IsPermutation ((id, b) ∷ entries (map_remove m id)) (entries n)) (put_anew m id b ∙ put_again m id b there)
+    (one_entry_more (map_remove m id) id b (gone m id))
+
+-- leaves without the object hold the map without it
+pub fewer_leaves : (leaves leaves' : List Object) (m : Objects) (id : ℕ) (b : Bounds) → IsPermutation ((id, b) ∷ leaves') leaves → IsPermutation leaves (entries m) → get m id ≡ Some b
+    → IsPermutation leaves' (entries (map_remove m id))
+fewer_leaves leaves leaves' m id b removed same there = equal_sums_permute leaves' (entries (map_remove m id)) (λ f.
+    let taken = total-permutation f ((id, b) ∷ leaves') leaves removed in
+    let all = total-permutation f leaves (entries m) same in
+    let less = total-permutation f ((id, b) ∷ entries (map_remove m id)) (entries m) (one_entry_less m id b there) in
+    omega (arith, taken, all, less))
+
+-- ---- an object in the leaves, and in the map
+
+pub object_there : (leaves : List Object) (m : Objects) (id : ℕ) (b : Bounds) → IsPermutation leaves (entries m) → get m id ≡ Some b → Contains leaves (id, b)
+object_there leaves m id b same there =
+    Contains-permutation (entries m) leaves (id, b) (IsPermutation-sym leaves (entries m) same)
+    (Contains-permutation ((id, b) ∷ entries (map_remove m id)) (entries m) (id, b) (one_entry_less m id b there) (0, omega arith, refl))
+
+found_at : (k : ℕ) (b : Bounds) (e : Object) (es : List Object) → T (is_sorted nat_cmp (e ∷ es)) → (Contains es (k, b) → find nat_cmp k es ≡ Some b) → (i : ℕ) → i < length (e ∷ es) → get_or (e ∷ es) i (k, b) ≡ (k, b)
+    → find nat_cmp k (e ∷ es) ≡ Some b
+found_at k b e es sorted rest zero lt is = ap (λ c. cond c (Some e.1) (find nat_cmp k es)) (same_key k e.0 (sym (ap (λ (o : Object). o.0) is))) ∙ ap (λ (o : Object). Some o.1) is
+found_at k b e es sorted rest (suc i) lt is =
+    let after = after_key e.0 es (sorted_first e es sorted) i (k, b) (omega (arith, lt)) in
+    let key = ap (λ (o : Object). o.0) is in
+    ap (λ c. cond c (Some e.1) (find nat_cmp k es)) (other_key k e.0 (λ same. omega (arith, same, after, key))) ∙ rest (i, omega (arith, lt), is)
+
+found : (k : ℕ) (b : Bounds) (es : List Object) → T (is_sorted nat_cmp es) → Contains es (k, b) → find nat_cmp k es ≡ Some b
+found k b [] sorted held = absurd (omega (arith, held.1))
+found k b (e ∷ es) sorted held = found_at k b e es sorted (found k b es (sorted_rest e es sorted)) held.0 held.1 held.2
+
+pub object_known : (leaves : List Object) (m : Objects) (id : ℕ) (b : Bounds) → IsPermutation leaves (entries m) → Contains leaves (id, b) → get m id ≡ Some b
+object_known leaves m id b same held = get-entries m id ∙ found id b (entries m) (entries_sorted m) (Contains-permutation leaves (entries m) (id, b) same held)
 
 -- ---- those that pass a test
 

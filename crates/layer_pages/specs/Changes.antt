@@ -9,6 +9,7 @@ use Rattle.node_page.specs.Parts.{Moves, Part}
 use Rattle.node_page.specs.Standing.{PageMap}
 use Rattle.id_table.specs.Table.{IdTable, IdsStand, objects_of, part_of}
 use Rattle.reinsert.specs.Insertion.{IsInsertion}
+use Rattle.condense.specs.Removal.{IsRemoval}
 use Rattle.bulk_load.specs.Packed.{IsPacked}
 use Rattle.layer_pages.specs.Layers.{IsLayerAt, LayerPages, Objects, part_of_layer}
 
@@ -29,6 +30,16 @@ pub record IsEmptyLeaf (t : Tree) : Type 0 where
 -- the tree of a layer after a lawful insertion of an object, with no page of the layer's table
 abbrev pub HasInserted : ℕ → ℕ → LayerPages → ℕ → Bounds → Tree → Type 0
 HasInserted dims most l id bounds t = IsInsertion dims most (part_of l.ids) (object bounds id) 0 l.tree t
+
+-- the tree of a layer after a lawful removal of an object, with no page of the layer's table
+abbrev pub HasRemoved : ℕ → ℕ → LayerPages → ℕ → Bounds → Tree → Type 0
+HasRemoved dims most l id bounds t = IsRemoval dims most (part_of l.ids) id bounds l.tree t
+
+-- the tree of a layer after an object has got another box: by a lawful removal, and then a lawful insertion
+pub record HasReplaced (dims most : ℕ) (l : LayerPages) (id : ℕ) (old new : Bounds) (t : Tree) : Type 0 where
+  pub between : LayerPages
+  pub removed : HasRemoved dims most l id old between.tree
+  pub inserted : HasInserted dims most between id new t
 
 -- an object as an entry of a leaf
 abbrev pub item_of_object : ℕ × Bounds → Item

@@ -2,13 +2,21 @@
 //! (docs/FORMAT.md, "Trees of pages", "Identifier tables").
 #![tactic(auto)]
 
+mod checking;
 mod freeing;
 mod inserting;
 pub mod laws;
 mod loading;
 mod making;
+mod removing;
+mod replacing;
+#[cfg(test)]
+mod tests;
 
+pub use checking::check;
 pub use freeing::free;
 pub use inserting::insert;
 pub use loading::load;
 pub use making::make;
+pub use removing::remove;
+pub use replacing::replace;

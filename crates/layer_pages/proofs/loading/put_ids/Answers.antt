@@ -1,5 +1,6 @@
 -- The table is filled, and then the old tree is freed.
 use Rattle.std.proofs.Common.{ℕ, ◌≤◌, List, None, sym, subst, arith}
+use Rattle.std.specs.FinMap as map
 use Rattle.std.specs.FinMap.{entries}
 use Rattle.std.specs.Prelude.{IsPermutation}
 use Rattle.std.proofs.lemmas.List.Sorted.{IsPermutation-sym, IsPermutation-trans}
@@ -12,7 +13,8 @@ use Rattle.node_page.specs.Faults.{IsNoDamage}
 use Rattle.reinsert.proofs.BrokenLemmas.{at_broken}
 use Rattle.layer_pages.specs.Layers.{Objects}
 use Rattle.layer_pages.proofs.FaultLemmas.{no_damage, of_device}
-use Rattle.layer_pages.proofs.LoadLemmas.{all_new, root_is, table_left, tree_still}
+use Rattle.layer_pages.proofs.LayerLemmas.{root_of}
+use Rattle.layer_pages.proofs.LoadLemmas.{all_new, table_left, tree_still}
 use Rattle.layer_pages.proofs.loading.put_ids.Goals as goal
 
 still_all : (old sorted : List Object) (all : Objects) → IsPermutation old sorted → IsPermutation old (entries all) → IsPermutation sorted (entries all)
@@ -39,7 +41,7 @@ returns-in-Ok-clause-sound g c = λ sound l most all is same.
     let still = still_all _ sorted all c.sort_unstable_by_key.ensures.permutation same in
     let fresh = all_new g.row.D most m c.args.root c.args.directory l is sorted all still in
     let filled = c.in_ok-fill.ensures.filled sound l.ids is.directory_is is.ids fresh in
-    c.free_tree.ensures.sound (c.fill.ensures.sound sound l.ids is.directory_is is.ids fresh) l.tree (root_is g.row.D most m c.args.root c.args.directory l is sorted all still)
+    c.free_tree.ensures.sound (c.fill.ensures.sound sound l.ids is.directory_is is.ids fresh) l.tree (root_of g.row.D most m c.args.root c.args.directory l map.empty is)
     (tree_still g.row.D most m c.args.root c.args.directory l is sorted all still (pages c.fill.new.cache) filled)
 
 pub returns-in-Ok-clause-put : goal.returns-in-Ok-clause-put
@@ -51,7 +53,7 @@ returns-in-Ok-clause-put g c = λ sound l most all is same.
     let fresh = all_new g.row.D most m c.args.root c.args.directory l is sorted all still in
     let filled = c.in_ok-fill.ensures.filled sound l.ids is.directory_is is.ids fresh in
     table_left g.row.D most m c.args.root c.args.directory l is sorted all still mid filled (pages c.free_tree.new.cache)
-    (c.in-Ok.ensures.freed (c.fill.ensures.sound sound l.ids is.directory_is is.ids fresh) l.tree (root_is g.row.D most m c.args.root c.args.directory l is sorted all still)
+    (c.in-Ok.ensures.freed (c.fill.ensures.sound sound l.ids is.directory_is is.ids fresh) l.tree (root_of g.row.D most m c.args.root c.args.directory l map.empty is)
     (tree_still g.row.D most m c.args.root c.args.directory l is sorted all still mid filled))
 
 pub returns-in-Err-clause-alters : goal.returns-in-Err-clause-alters
@@ -66,5 +68,5 @@ returns-in-Err-clause-faults g c = λ sound l most all is same.
     let filled = c.in_ok-fill.ensures.filled sound l.ids is.directory_is is.ids fresh in
     subst (λ (b : Broken). IsNoDamage c.free_tree.new.cache b.cause) (sym c.midway.ensures)
     (of_device c.free_tree.new.cache c.in-Err.broken.cause
-    (c.in-Err.ensures.faults (c.fill.ensures.sound sound l.ids is.directory_is is.ids fresh) l.tree (root_is g.row.D most m c.args.root c.args.directory l is sorted all still)
+    (c.in-Err.ensures.faults (c.fill.ensures.sound sound l.ids is.directory_is is.ids fresh) l.tree (root_of g.row.D most m c.args.root c.args.directory l map.empty is)
     (tree_still g.row.D most m c.args.root c.args.directory l is sorted all still (pages c.fill.new.cache) filled) c.requires.root.page.0))

@@ -1,0 +1,148 @@
+//! Layers checked: whether one stands.
+
+ghost use Rattle.std.specs.Prelude.{◌≡◌, ◌⊎◌, ◌++◌, ◌+◌, ◌*◌, ◌<◌, ◌≤◌, ◌↔◌, ℕ, true, All, IfErr, IfOk, IsPermutation};
+ghost use Rattle.std.specs.Prelude.{IsTrue, OnOk, length};
+ghost use Rattle.std.specs.FinMap as map;
+ghost use Rattle.box_math.specs.Bounds.{IsBox, IsDims};
+ghost use Rattle.page_file.specs.Fault.{IsDamage, IsOfDevice};
+ghost use Rattle.page_file.specs.declared.fault.Fault.TheVariants as fault;
+ghost use Rattle.page_cache.specs.Cache.{IsHonest, IsPageMap, given, looks_of, next_of, pages};
+ghost use Rattle.page_cache.specs.Calls.{Asks};
+ghost use Rattle.node_page.specs.Visits.{times_in};
+ghost use Rattle.layer_pages.specs.Checked.{AreOfLayer, AreOfOneLayer, IsCheckedLayer};
+ghost use Rattle.layer_pages.specs.Layers.{IsLayerAt, LayerPages, Objects};
+
+use block_device::BlockDevice;
+use box_math::BBox;
+use id_table::{TableFacts, check_table};
+use node_page::{Root, TreeFacts, Visits, check_tree};
+use page_cache::PageCache;
+use page_file::Fault;
+use std::alloc::Allocator;
+
+// The page that says how many objects each layer has.
+const CATALOG: u32 = 2;
+
+/// Checks the layer of `count` objects at a root and a directory, whose tree has nodes of at most `m_max` entries, and
+/// answers its pages.
+///
+/// On an honest device it answers so only where such a layer stands there; else it is `Damaged` with the number of a
+/// page: that of the catalog where there is another count of objects, and that of the directory where the table has
+/// others than the tree. Where such a layer stands, a refusal is `Memory` or `Device`. It makes no more than two looks
+/// for each page number that was given out, whatever the pages are. Map and gate stay, also after a refusal.
+pub fn check<'a, const D: usize, B: BlockDevice, A: Allocator + Copy, H: Allocator>(
+    alloc: &'a H,
+    cache: &mut PageCache<B, A>,
+    root: Root,
+    directory: u32,
+    m_max: u8,
+    count: u64,
+) -> Result<Vec<u32, &'a H>, Fault>
+    requires { IsDims D }
+    ensures asks { Asks cache.old cache.new result }
+    ensures layer { IsPageMap cache.old → IfOk result (λ list.
+        IsCheckedLayer D m_max (pages cache.old) root directory count list.items) }
+    ensures given_layer { IsHonest cache.old → IfOk result (λ list.
+        IsCheckedLayer D m_max (given cache.old) root directory count list.items) }
+    ensures stands { IsHonest cache.old → (l : LayerPages) (objects : Objects)
+        → IsLayerAt D m_max (pages cache.old) root directory l objects → map.len objects ≡ count
+        → IfErr result IsOfDevice }
+    ensures looks { looks_of cache.new ≤ looks_of cache.old + 2 * next_of cache.old }
+    ensures other_faults { IfErr result (λ f. IsOfDevice f ⊎ IsDamage f) }
+{
+    let tree = check_tree::<D, B, A, &H>(alloc, cache, root, m_max)?;
+    let table = check_table::<D, B, A, &H>(alloc, cache, directory)?;
+    let next = cache.next_number();
+    pages_of_both(alloc, next, directory, count, tree, table)
+}
+
+// The pages of a tree and a table, where they have the same objects, so many, and no page in common.
+fn pages_of_both<'a, const D: usize, H: Allocator>(
+    alloc: &'a H,
+    next: u32,
+    directory: u32,
+    count: u64,
+    tree: TreeFacts<D, &'a H>,
+    table: TableFacts<D, &'a H>,
+) -> Result<Vec<u32, &'a H>, Fault>
+    requires { IsDims D }
+    ensures joined { IfOk result (λ list. AreOfOneLayer D count tree.entry.pairs.items table.entry.pairs.items
+        tree.entry.pages.items table.entry.pages.items list.items) }
+    ensures stands { (objects : Objects) → AreOfLayer objects count next tree.entry.pairs.items
+        table.entry.pairs.items tree.entry.pages.items table.entry.pages.items
+        → IfErr result (λ f. f ≡ fault.Memory) }
+    ensures faults { IfErr result (λ f. (f ≡ fault.Memory) ⊎ IsDamage f) }
+{
+    let mut held = tree.pairs;
+    let mut listed = table.pairs;
+    if held.len() as u64 != count {
+        return Err(Fault::Damaged(CATALOG));
+    }
+    if !have_same(held.as_mut_slice(), listed.as_mut_slice()) {
+        return Err(Fault::Damaged(directory));
+    }
+    let mut visits = Visits::new(alloc, next)?;
+    visit_all(tree.pages.as_slice(), &mut visits)?;
+    visit_all(table.pages.as_slice(), &mut visits)?;
+    Ok(visits.into_pages())
+}
+
+// Whether both lists have the same objects. They are left in the order of identifiers.
+fn have_same<const D: usize>(held: &mut [(u64, BBox<D>)], listed: &mut [(u64, BBox<D>)]) -> bool
+    ensures same { result ≡ true → IsPermutation held.old listed.old }
+    ensures boxes { result ≡ true → All (λ object. IsBox D object.1) held.old }
+    ensures found { (objects : Objects) → IsPermutation held.old (map.entries objects)
+        → IsPermutation listed.old (map.entries objects) → result ≡ true }
+{
+    held.sort_unstable_by_key(
+        |object| -> u64
+            ensures { result ≡ object.entry.now.0 }
+        { object.0 },
+    );
+    listed.sort_unstable_by_key(
+        |object| -> u64
+            ensures { result ≡ object.entry.now.0 }
+        { object.0 },
+    );
+    are_equal(held, listed)
+}
+
+// Whether both lists are the same.
+fn are_equal<const D: usize>(held: &[(u64, BBox<D>)], listed: &[(u64, BBox<D>)]) -> bool
+    ensures equal { IsTrue result ↔ (held.now ≡ listed.now) }
+    ensures boxes { result ≡ true → All (λ object. IsBox D object.1) held.now }
+{
+    if held.len() != listed.len() {
+        return false;
+    }
+    for place in 0..held.len() {
+        if !is_same(&held[place], &listed[place]) {
+            return false;
+        }
+    }
+    true
+}
+
+// Whether both objects are the same.
+fn is_same<const D: usize>(object: &(u64, BBox<D>), other: &(u64, BBox<D>)) -> bool
+    ensures equal { IsTrue result ↔ (object.now ≡ other.now) }
+    ensures is_box { IsBox D object.now.1 }
+{
+    // a box that was looked at is known to be one
+    let _ = object.1.low();
+    object.0 == other.0 && object.1 == other.1
+}
+
+// Visits these pages.
+fn visit_all<H: Allocator + Copy>(pages: &[u32], visits: &mut Visits<H>) -> Result<(), Fault>
+    ensures added { OnOk result (visits.new.pages.items ≡ visits.old.pages.items ++ pages.now) }
+    ensures marks { length visits.new.marks.items ≡ length visits.old.marks.items }
+    ensures first { All (λ page. page < length visits.old.marks.items) pages.now
+        → ((n : ℕ) → times_in n (visits.old.pages.items ++ pages.now) ≤ 1) → IfErr result (λ f. f ≡ fault.Memory) }
+    ensures faults { IfErr result (λ f. (f ≡ fault.Memory) ⊎ IsDamage f) }
+{
+    for &page in pages {
+        visits.visit(page)?;
+    }
+    Ok(())
+}

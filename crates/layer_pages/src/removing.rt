@@ -1,0 +1,64 @@
+//! An object removed from a layer.
+
+ghost use Rattle.std.specs.Prelude.{◌≡◌, ◌≤◌, ℕ, Some, IfErr, IfOk};
+ghost use Rattle.std.specs.FinMap as map;
+ghost use Rattle.box_math.specs.Bounds.{IsDims};
+ghost use Rattle.page_file.specs.declared.gate.Gate.TheVariants.{Open};
+ghost use Rattle.page_cache.specs.Cache.{IsPageMap, gate_of, pages};
+ghost use Rattle.node_page.specs.Broken.{Alters};
+ghost use Rattle.node_page.specs.Faults.{IsNoDamage};
+ghost use Rattle.condense.specs.Removed.{IsRefused};
+ghost use Rattle.layer_pages.specs.Changes.{BecomesLayer, HasRemoved};
+ghost use Rattle.layer_pages.specs.Layers.{CanBeRoot, IsLayerAt, LayerPages, Objects, part_of_layer};
+
+use block_device::BlockDevice;
+use box_math::BBox;
+use condense::{Kept, remove_with};
+use node_page::{Broken, Root};
+use page_cache::PageCache;
+use reinsert::Waiting;
+use std::alloc::Allocator;
+
+/// Removes the object with that identifier, which the layer has with that box, and answers the root of its tree: by a
+/// lawful removal from the tree, whose nodes have at most `m_max` entries, and then from the identifier table. The gate
+/// has to be open.
+///
+/// With a sound map, where the pages stand for a layer at that root and directory, a refusal is `Memory` or `Device`,
+/// or `NoPages` where all page numbers are given out. One that is not `touched` leaves the map as it was; each one of
+/// the table is touched, since the tree was changed before it. Where the layer does not have the object with that box,
+/// that is `Damaged` with the root's page, untouched, unless memory or the device refused before.
+pub fn remove<const D: usize, B: BlockDevice, A: Allocator + Copy>(
+    cache: &mut PageCache<B, A>,
+    root: Root,
+    directory: u32,
+    id: u64,
+    bounds: &BBox<D>,
+    m_max: u8,
+    waiting: &mut Waiting<D>,
+    kept: &mut Kept<D>,
+) -> Result<Root, Broken>
+    requires dims { IsDims D }
+    requires open { gate_of cache.old ≡ Open }
+    requires most { (4 ≤ m_max) × (m_max ≤ 100) }
+    requires root { CanBeRoot root }
+    ensures alters { Alters cache.old cache.new result }
+    ensures root { IfOk result CanBeRoot }
+    ensures sound { IsPageMap cache.old → (l : LayerPages) (objects : Objects)
+        → IsLayerAt D m_max (pages cache.old) root directory l objects → IfOk result (λ _. IsPageMap cache.new) }
+    ensures removed { IsPageMap cache.old → (l : LayerPages) (objects : Objects)
+        → IsLayerAt D m_max (pages cache.old) root directory l objects → map.get objects id ≡ Some bounds.now
+        → IfOk result (λ after. BecomesLayer D m_max (pages cache.old) (pages cache.new) (part_of_layer l) after
+        directory (map.remove objects id) (HasRemoved D m_max l id bounds.now)) }
+    ensures absent { IsPageMap cache.old → (l : LayerPages) (objects : Objects)
+        → IsLayerAt D m_max (pages cache.old) root directory l objects → ¬ (map.get objects id ≡ Some bounds.now)
+        → IsRefused root.page result }
+    ensures faults { IsPageMap cache.old → (l : LayerPages) (objects : Objects)
+        → IsLayerAt D m_max (pages cache.old) root directory l objects → map.get objects id ≡ Some bounds.now
+        → IfErr result (λ b. IsNoDamage cache.new b.cause) }
+{
+    let after = remove_with(cache, root, id, bounds, usize::from(m_max), waiting, kept)?;
+    match id_table::remove::<D, B, A>(cache, directory, id) {
+        Ok(()) => Ok(after),
+        Err(broken) => Err(Broken::midway(broken.cause)),
+    }
+}

@@ -1,0 +1,71 @@
+//! An object of a layer that gets another box.
+
+ghost use Rattle.std.specs.Prelude.{◌≡◌, ◌≤◌, ℕ, Some, IfErr, IfOk};
+ghost use Rattle.std.specs.FinMap as map;
+ghost use Rattle.box_math.specs.Bounds.{IsDims};
+ghost use Rattle.page_file.specs.declared.gate.Gate.TheVariants.{Open};
+ghost use Rattle.page_cache.specs.Cache.{IsPageMap, gate_of, pages};
+ghost use Rattle.node_page.specs.Broken.{Alters};
+ghost use Rattle.node_page.specs.Faults.{IsNoDamage};
+ghost use Rattle.condense.specs.Removed.{IsRefused};
+ghost use Rattle.layer_pages.specs.Changes.{BecomesLayer, HasReplaced};
+ghost use Rattle.layer_pages.specs.Layers.{CanBeRoot, IsLayerAt, LayerPages, Objects, part_of_layer};
+
+use crate::inserting::insert;
+use crate::removing::remove;
+use block_device::BlockDevice;
+use box_math::BBox;
+use condense::Kept;
+use node_page::{Broken, Entry, Root};
+use page_cache::PageCache;
+use reinsert::Waiting;
+use std::alloc::Allocator;
+
+/// Gives the object with that identifier, which the layer has with the box `old`, the box `new`, and answers the root
+/// of its tree: by a lawful removal and then a lawful insertion. The gate has to be open.
+///
+/// With a sound map, where the pages stand for a layer at that root and directory, a refusal is `Memory` or `Device`,
+/// or `NoPages` where all page numbers are given out. One that is not `touched` leaves the map as it was; each one of
+/// the insertion is touched, since the object was removed before it. Where the layer does not have the object with the
+/// box `old`, that is `Damaged` with the root's page, untouched, unless memory or the device refused before.
+pub fn replace<const D: usize, B: BlockDevice, A: Allocator + Copy>(
+    cache: &mut PageCache<B, A>,
+    root: Root,
+    directory: u32,
+    id: u64,
+    old: &BBox<D>,
+    new: &BBox<D>,
+    m_max: u8,
+    waiting: &mut Waiting<D>,
+    kept: &mut Kept<D>,
+) -> Result<Root, Broken>
+    requires dims { IsDims D }
+    requires open { gate_of cache.old ≡ Open }
+    requires most { (4 ≤ m_max) × (m_max ≤ 100) }
+    requires root { CanBeRoot root }
+    ensures alters { Alters cache.old cache.new result }
+    ensures root { IfOk result CanBeRoot }
+    ensures sound { IsPageMap cache.old → (l : LayerPages) (objects : Objects)
+        → IsLayerAt D m_max (pages cache.old) root directory l objects → map.get objects id ≡ Some old.now
+        → IfOk result (λ _. IsPageMap cache.new) }
+    ensures replaced { IsPageMap cache.old → (l : LayerPages) (objects : Objects)
+        → IsLayerAt D m_max (pages cache.old) root directory l objects → map.get objects id ≡ Some old.now
+        → IfOk result (λ after. BecomesLayer D m_max (pages cache.old) (pages cache.new) (part_of_layer l) after
+        directory (map.insert objects id new.now) (HasReplaced D m_max l id old.now new.now)) }
+    ensures absent { IsPageMap cache.old → (l : LayerPages) (objects : Objects)
+        → IsLayerAt D m_max (pages cache.old) root directory l objects → ¬ (map.get objects id ≡ Some old.now)
+        → IsRefused root.page result }
+    ensures faults { IsPageMap cache.old → (l : LayerPages) (objects : Objects)
+        → IsLayerAt D m_max (pages cache.old) root directory l objects → map.get objects id ≡ Some old.now
+        → IfErr result (λ b. IsNoDamage cache.new b.cause) }
+{
+    let between = remove(cache, root, directory, id, old, m_max, waiting, kept)?;
+    let object = Entry {
+        bounds: *new,
+        reference: id,
+    };
+    match insert(cache, between, directory, &object, m_max, waiting) {
+        Ok(after) => Ok(after),
+        Err(broken) => Err(Broken::midway(broken.cause)),
+    }
+}
