@@ -42,7 +42,7 @@ while read -r name times what before; do
         printf "%-14s %9.1f %11.1f %7.2f\n", w, a, c, a / c
     }'
 done <<'WHAT'
-add 300000 add none
+add 300000 again remove
 get 1000000 get add
 remove 300000 remove add
 fill_1000000 1000000 fill-1000000 list-1000000

@@ -122,11 +122,20 @@ static uint64_t sum_of(uint32_t table, int times, uint64_t chains, uint64_t each
     return sum;
 }
 
+static void add_all(uint32_t table) {
+    for (uint64_t i = 0; i < 100000; i++) add(table, i * 7919 % 100000, box_of(i * 7919 % 100000));
+}
+
+static void remove_all(uint32_t table) {
+    for (uint64_t i = 0; i < 100000; i++) remove(table, i * 30011 % 100000);
+}
+
 static uint64_t three_tables(const std::string &what) {
     for (int k = 0; k < 3; k++) {
         uint32_t table = make();
-        for (uint64_t i = 0; what != "none" && i < 100000; i++) add(table, i * 7919 % 100000, box_of(i * 7919 % 100000));
-        for (uint64_t i = 0; what == "remove" && i < 100000; i++) remove(table, i * 30011 % 100000);
+        if (what != "none") add_all(table);
+        if (what == "remove" || what == "again") remove_all(table);
+        if (what == "again") add_all(table);
     }
     return what == "get" ? sum_of(3, 1000000, 1000, 100) : 0;
 }

@@ -2,21 +2,15 @@
 use Rattle.std.proofs.Common.{◌≡◌, ◌∙◌, ℕ, ◌+◌, ◌<◌, ◌≤◌, All, drop, is_some, rules, Bool, true, false, cond, eqb, Option, Some, None, IsSome, List, [], ◌∷◌, ◌++◌, length, sum_by, refl, sym, ap, subst, ⊎_elim, arith}
 use Rattle.std.proofs.lemmas.Bool.{cases_eq}
 use Rattle.std.proofs.lemmas.Bool.Decides.{nat_tests}
-use Rattle.std.proofs.lemmas.Cmp.{nat_cmp_total}
-use Rattle.std.proofs.lemmas.List.{append_assoc}
 use Rattle.std.proofs.lemmas.List.Elements.{All-cons, All-head, All-tail}
 use Rattle.std.specs.FinMap as map
-use Rattle.std.specs.FinMap.{get-insert, nat_cmp-IsAntisymmetric, same_map}
 use Rattle.std.specs.Ordering.{eq_by_cmp, nat_cmp}
 use Rattle.box_math.specs.Bounds.{Bounds}
-use Rattle.bucket_page.specs.Layout.{BucketContent, pushed}
-use Rattle.page_file.specs.Pages.{SameBut}
 use Rattle.node_page.specs.Standing.{PageMap}
-use Rattle.id_table.specs.Changes.{Adds}
-use Rattle.id_table.specs.Table.{Bucket, ChainStands, IdTable, IdsStand, IsFilled, Object, box_in, bucket_in, chain_at, class_of, entries_in, link_at, objects_of, occurs_in_chain, occurs_in_ids, times_in}
+use Rattle.id_table.specs.Table.{Bucket, ChainStands, IdTable, IdsStand, Object, box_in, chain_at, class_of, entries_in, link_at, objects_of, occurs_in_chain, occurs_in_ids, times_in}
 use Rattle.id_table.specs.Pages.{BeginsFull, HasObject, PutsBefore}
 use Rattle.node_page.proofs.PartLemmas.{there_not_missing}
-use Rattle.id_table.proofs.ReplaceLemmas.{Replaces, chain_stays, moves_with, other_chain, stands_with, this_chain, with_chain}
+use Rattle.id_table.proofs.ReplaceLemmas.{Replaces, chain_stays}
 use Rattle.id_table.proofs.TableLemmas.{chain_in_table, found_by_class, not_there, occurs_here, table_there}
 
 -- objects with one more, wherever it is put

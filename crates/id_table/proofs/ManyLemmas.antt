@@ -1,5 +1,5 @@
 -- A run of objects more in a chain, and in the table.
-use Rattle.std.proofs.Common.{◌≡◌, ◌∙◌, ℕ, ◌+◌, ◌<◌, ◌≤◌, All, drop, take, get_or, is_some, rules, Bool, true, false, cond, eqb, Option, Some, None, List, [], ◌∷◌, ◌++◌, length, sum_by, refl, sym, ap, subst, ⊎_elim, arith}
+use Rattle.std.proofs.Common.{◌≡◌, ◌∙◌, ℕ, ◌+◌, ◌<◌, ◌≤◌, All, get_or, is_some, rules, Bool, true, false, cond, eqb, Option, Some, None, List, [], ◌∷◌, ◌++◌, length, refl, sym, ap, subst, ⊎_elim, arith}
 use Rattle.std.proofs.lemmas.Bool.{cases_eq}
 use Rattle.std.proofs.lemmas.Bool.Decides.{nat_tests}
 use Rattle.std.proofs.lemmas.Cmp.{nat_cmp_total}
@@ -7,14 +7,14 @@ use Rattle.std.proofs.lemmas.List.{append_assoc}
 use Rattle.std.proofs.lemmas.List.Elements.{All-cons, All-head, All-tail}
 use Rattle.std.specs.FinMap as map
 use Rattle.std.specs.FinMap.{FinMap, get-from_entries, get-insert, nat_cmp-IsAntisymmetric, same_map}
-use Rattle.std.specs.Ordering.{eq_by_cmp, nat_cmp}
+use Rattle.std.specs.Ordering.{nat_cmp}
 use Rattle.box_math.specs.Bounds.{Bounds}
 use Rattle.bucket_page.specs.Layout.{BucketContent}
 use Rattle.page_file.specs.Pages.{SameBut}
 use Rattle.node_page.specs.Standing.{PageMap}
 use Rattle.id_table.specs.Changes.{AreNew, Fills, with_all}
 use Rattle.id_table.specs.Pages.{BeginsFull, PutsBefore, first_class, with_more}
-use Rattle.id_table.specs.Table.{Bucket, ChainStands, IdTable, IdsStand, IsFilled, Object, box_in, bucket_in, chain_at, class_of, entries_in, entries_of, link_at, objects_of, occurs_in_chain, occurs_in_ids, times_in}
+use Rattle.id_table.specs.Table.{Bucket, ChainStands, IdTable, IdsStand, IsFilled, Object, box_in, bucket_in, chain_at, class_of, entries_in, entries_of, link_at, objects_of, occurs_in_chain, times_in}
 use Rattle.id_table.proofs.AddLemmas.{all_both, not_in_chain, one_more, replaced_before, same_key, single_more, times_more}
 use Rattle.id_table.proofs.ReplaceLemmas.{Replaces, chain_stays, moves_with, other_chain, stands_with, this_chain, with_chain}
 use Rattle.id_table.proofs.TableLemmas.{chain_in_table, elsewhere, found_by_class, found_is, not_here, occurs_here}

@@ -176,10 +176,7 @@ fn put_alone<const D: usize, B: BlockDevice, A: Allocator + Copy>(
 }
 
 // The objects from the first one on that are of the chain, as many as a page has room for.
-fn run_of<const D: usize>(
-    class: usize,
-    objects: &[(u64, BBox<D>)],
-) -> ArrayVec<(u64, BBox<D>), 100>
+fn run_of<const D: usize>(class: usize, objects: &[(u64, BBox<D>)]) -> ArrayVec<(u64, BBox<D>), 100>
     requires some { 0 < length objects.now }
     requires first { class ≡ first_class objects.now }
     ensures taken { result.items ≡ take (length result.items) objects.now }

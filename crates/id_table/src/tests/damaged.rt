@@ -79,7 +79,14 @@ fn a_table_that_stands_has_its_objects_and_pages(rt: HostRuntime) -> Result<(), 
     let facts = check_table::<2, _, _, _>(rt.alloc(), &mut cache, 3)?;
     assert_eq!(rt; facts.pages.as_slice(), [3, 5, 7, 4, 6].as_slice());
     assert_eq!(rt; facts.pairs.len(), 203);
-    for (at, id) in [(0, 200_007), (1, 201_007), (2, 100_007), (102, 7), (201, 99_007), (202, 8)] {
+    for (at, id) in [
+        (0, 200_007),
+        (1, 201_007),
+        (2, 100_007),
+        (102, 7),
+        (201, 99_007),
+        (202, 8),
+    ] {
         assert!(rt;
             facts.pairs.get(at).is_some_and(|pair| pair.0 == id),
             "{at}"
@@ -147,11 +154,7 @@ fn damaged_buckets_are_found(rt: HostRuntime) -> Result<(), Fail> {
             6,
             with_head(alone, BUCKET_KIND, 2, 101),
         ),
-        (
-            "another dimension",
-            6,
-            with_head(alone, BUCKET_KIND, 3, 1),
-        ),
+        ("another dimension", 6, with_head(alone, BUCKET_KIND, 3, 1)),
         ("a node", 6, with_head(alone, NODE_KIND, 2, 1)),
         ("a low above its high", 6, outside_in),
     ] {

@@ -219,7 +219,10 @@ fn a_question_that_is_refused_touches_no_page(rt: HostRuntime) -> Result<(), Fai
             growths_of(rt.alloc(), call)?,
             device_calls_of(rt.alloc(), call)?,
         ] {
-            assert!(rt; untouched > 1 && touched == 0, "{call:?} {untouched} {touched}");
+            assert!(rt;
+                untouched > 1 && touched == 0,
+                "{call:?} {untouched} {touched}"
+            );
         }
     }
     Ok(())

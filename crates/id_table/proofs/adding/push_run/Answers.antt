@@ -1,7 +1,6 @@
 -- The goal of `push_run` that is proved by hand: an object more.
 use Rattle.std.proofs.Common.{◌≡◌, ◌∙◌, ◌+◌, ◌<◌, ◌++◌, ◌∷◌, [], Some, List, ap, arith, get_or, length, rules, subst, sym, take}
 use Rattle.std.proofs.lemmas.List.{append_assoc, get_or_default, take_more}
-use Rattle.bucket_page.specs.Layout.{BucketContent}
 use Rattle.id_table.specs.Pages.{with_more}
 use Rattle.id_table.specs.Table.{Object, class_of}
 use Rattle.id_table.proofs.BucketLemmas.{some_object}
