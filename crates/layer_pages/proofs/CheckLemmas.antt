@@ -1,5 +1,5 @@
 -- What a check of a layer finds: a tree and a table of the same objects, on pages of their own.
-use Rattle.std.proofs.Common.{Result, Ok, Err, IfErr, IfOk, ◌⊎◌, ◌≡◌, ◌∙◌, ℕ, zero, suc, ◌+◌, ◌<◌, ◌≤◌, Bool, true, false, cond, eqb, Option, Some, None, IsSome, List, [], ◌∷◌, ◌++◌, length, get_or, take, All, refl, sym, ap, subst, ⊎_elim, arith}
+use Rattle.std.proofs.Common.{Result, Ok, Err, IfErr, IfOk, ◌⊎◌, ◌≡◌, ◌∙◌, ℕ, suc, ◌+◌, ◌<◌, ◌≤◌, Bool, true, false, cond, eqb, Option, Some, None, IsSome, List, [], ◌∷◌, ◌++◌, length, get_or, not, All, refl, sym, ap, subst, ⊎_elim, arith}
 use Rattle.std.specs.Prelude.{IsPermutation, is_some}
 use Rattle.std.specs.Cmp.{nat_cmp_total}
 use Rattle.std.specs.FinMap.{contains_key, entries, entries_sorted, from_entries, get-from_entries, len, len-entries}
@@ -7,31 +7,37 @@ use Rattle.std.specs.List.{flat_map}
 use Rattle.std.specs.List.Sorted.{IsNonDecreasingBy}
 use Rattle.std.specs.Ordering.{nat_cmp}
 use Rattle.std.proofs.lemmas.Bool.{cases_eq}
-use Rattle.std.proofs.lemmas.List.Elements.{All-cons, All-nil}
+use Rattle.std.proofs.lemmas.Bool.Decides.{nat_tests}
 use Rattle.std.proofs.lemmas.List.Sorted.{IsPermutation-cons, IsPermutation-refl, IsPermutation-sym, IsPermutation-trans, length_permutation}
+use Rattle.block_bytes.specs.Kinds.{node_kind}
 use Rattle.box_math.specs.Bounds.{Bounds, IsBox}
+use Rattle.bucket_page.specs.Layout.{BucketContent}
+use Rattle.bucket_page.proofs.Reading.{spells as bucket_spells}
 use Rattle.page_file.specs.Fault.{IsDamage, faults_after}
+use Rattle.page_file.specs.Layout.{kind_of}
 use Rattle.page_file.specs.declared.fault.Fault.{Fault}
 use Rattle.page_file.specs.declared.fault.Fault.TheVariants as fault
-use Rattle.page_cache.specs.Cache.{given, next_of, pages}
+use Rattle.page_cache.specs.Cache.{given, pages}
 use Rattle.page_cache.specs.Calls.{Asks, AsksUntil}
 use Rattle.page_cache.specs.declared.cache.PageCache.{PageCache}
+use Rattle.tree_node.specs.Nodes.{NodeContent}
 use Rattle.tree_node.specs.Trees.{Tree, objects_in, occurs_in}
 use Rattle.tree_node.specs.declared.node.Root.{Root}
 use Rattle.tree_node.proofs.PositionLemmas.{total-append}
 use Rattle.node_page.specs.Checked.{IsCheckedTree, named_pages}
-use Rattle.node_page.specs.Standing.{PageMap, Stands}
-use Rattle.node_page.specs.Visits.{times_in as pages_in}
-use Rattle.node_page.proofs.GivenLemmas.{live_tree_is_given}
+use Rattle.node_page.specs.Standing.{PageMap, Stands, node_in}
+use Rattle.node_page.proofs.GivenLemmas.{live_tree_is_given, tree_carried}
+use Rattle.node_page.proofs.PartLemmas.{none_or_some}
+use Rattle.node_page.proofs.Reading.{spells as node_spells}
 use Rattle.node_page.proofs.StandingLemmas.{one_tree_stands, pages_are_there}
 use Rattle.id_table.specs.Checked.{IsCheckedTable}
-use Rattle.id_table.specs.Table.{Bucket, ChainStands, IdTable, IdsStand, Object, box_in, class_of, entries_in, entries_of, link_at, objects_of, occurs_in_ids, times_in}
+use Rattle.id_table.specs.Table.{Bucket, ChainStands, IdTable, IdsStand, IsDirectory, Object, box_in, bucket_in, class_of, entries_in, entries_of, link_at, objects_of, occurs_in_ids, times_in}
 use Rattle.id_table.proofs.AddLemmas.{none_times}
 use Rattle.id_table.proofs.CheckLemmas.{times-append}
-use Rattle.id_table.proofs.CheckedLemmas.{live_table_is_given, one_chain, was_given_out}
+use Rattle.id_table.proofs.CheckedLemmas.{live_table_is_given, one_chain, table_carried}
 use Rattle.id_table.proofs.FreeLemmas.{stands_same}
 use Rattle.id_table.proofs.TableLemmas.{elsewhere, found_is, occurs_here, table_there}
-use Rattle.layer_pages.specs.Checked.{AreOfLayer, AreOfOneLayer, IsCheckedLayer}
+use Rattle.layer_pages.specs.Checked.{AreOfOneLayer, IsCheckedLayer}
 use Rattle.layer_pages.specs.Layers.{IsLayerAt, LayerPages, Objects, part_of_layer}
 use Rattle.layer_pages.proofs.ObjectLemmas.{no_objects, one_entry_more, one_order, row_boxes}
 
@@ -105,6 +111,66 @@ one_table dims m s t at a b =
     (subst (λ (d : List ℕ). ChainStands dims m (link_at class d) (get_or t.chains class [])) (sym same) (b.chains class (omega (arith, lt, a.whole))))) in
     ap (λ (p : ℕ). record { page = p; chains = s.chains }) at ∙ ap (λ (cs : List (List Bucket)). record { page = t.page; chains = cs }) chains
 
+-- ---- no page of a tree is one of a table
+
+-- the pages that pass a test
+abbrev passing : (List ℕ → Bool) → Option (List ℕ) → Option (List ℕ)
+passing test None = None
+passing test (Some page) = cond (test page) (Some page) None
+
+passes : (test : List ℕ → Bool) (page : Option (List ℕ)) (bytes : List ℕ) → page ≡ Some bytes → test bytes ≡ true → passing test page ≡ Some bytes
+passes test page bytes is good = ap (passing test) is ∙ ap (λ (b : Bool). cond b (Some bytes) None) good
+
+abbrev is_node : List ℕ → Bool
+is_node page = eqb (kind_of page) node_kind
+
+abbrev is_other : List ℕ → Bool
+is_other page = not (eqb (kind_of page) node_kind)
+
+nodes_pass : (dims : ℕ) (page : Option (List ℕ)) (c : NodeContent) → node_in dims page ≡ Some c → node_in dims (passing is_node page) ≡ Some c
+nodes_pass dims None c is = absurd (cc)
+nodes_pass dims (Some page) c is = ap (node_in dims) (passes is_node (Some page) page refl (of_kind (kind_of page) (node_spells dims page c is).head.kind)) ∙ is
+  where
+    of_kind : (kind : ℕ) → kind ≡ node_kind → eqb kind node_kind ≡ true
+    of_kind kind is = grind (arith, nat_tests)
+
+other_kind : (kind : ℕ) → ¬ (kind ≡ node_kind) → not (eqb kind node_kind) ≡ true
+other_kind kind other = grind (arith, nat_tests)
+
+buckets_pass : (dims : ℕ) (page : Option (List ℕ)) (c : BucketContent) → bucket_in dims page ≡ Some c → bucket_in dims (passing is_other page) ≡ Some c
+buckets_pass dims None c is = absurd (cc)
+buckets_pass dims (Some page) c is =
+    let kind = (bucket_spells dims page c is).head.kind in
+    ap (bucket_in dims) (passes is_other (Some page) page refl (other_kind (kind_of page) (λ node. omega (arith, kind, node)))) ∙ is
+
+directories_pass : (dims : ℕ) (page : Option (List ℕ)) (bytes : List ℕ) → page ≡ Some bytes → IsDirectory dims bytes → passing is_other page ≡ Some bytes
+directories_pass dims page bytes is spelled = let kind = spelled.kind in passes is_other page bytes is (other_kind (kind_of bytes) (λ node. omega (arith, kind, node)))
+
+not_both : (page : Option (List ℕ)) → IsSome (passing is_node page) → IsSome (passing is_other page) → ⊥
+not_both None node other = absurd (cc)
+not_both (Some page) node other = case (eqb (kind_of page) node_kind) node other
+  where
+    case : (b : Bool) → IsSome (cond b (Some page) None) → IsSome (cond (not b) (Some page) None) → ⊥
+    case true node other = absurd (cc)
+    case false node other = absurd (cc)
+
+tree_apart : (dims : ℕ) (m : PageMap) (t : Tree) (ids : IdTable) (n : ℕ) → Stands dims m t → IdsStand dims m ids → 0 < occurs_in n t → 0 < occurs_in_ids n ids → ⊥
+tree_apart dims m t ids n tree table here there =
+    let at = tree_carried dims m (λ k. passing is_node (m k)) (λ k c is. nodes_pass dims (m k) c is) t.page t.level t.row (record { node = tree.root; below = tree.below }) in
+    not_both (m n)
+    (pages_are_there dims (λ k. passing is_node (m k)) t n (record { root = at.node; below = at.below; distinct = tree.distinct }) here)
+    (table_there dims (λ k. passing is_other (m k)) ids n
+    (table_carried dims m (λ k. passing is_other (m k)) (λ k c is. buckets_pass dims (m k) c is) (λ k page is spelled. directories_pass dims (m k) page is spelled) ids table) there)
+
+once_in_both : (dims : ℕ) (m : PageMap) (t : Tree) (ids : IdTable) (n : ℕ) → Stands dims m t → IdsStand dims m ids → occurs_in n t + occurs_in_ids n ids ≤ 1
+once_in_both dims m t ids n tree table = ⊎_elim
+    (λ (none : occurs_in n t ≡ 0). omega (arith, none, table.once n))
+    (λ (some : 0 < occurs_in n t). ⊎_elim
+    (λ (none : occurs_in_ids n ids ≡ 0). omega (arith, none, tree.distinct n))
+    (λ (also : 0 < occurs_in_ids n ids). absurd (tree_apart dims m t ids n tree table some also))
+    (none_or_some (occurs_in_ids n ids)))
+    (none_or_some (occurs_in n t))
+
 -- ---- a tree and a table that were checked
 
 module _ (dims most : ℕ) (m : PageMap) (root : Root) (directory : ℕ) (pairs listed : List Object) (held_pages listed_pages : List ℕ) (tree : IsCheckedTree dims most m root.page root.level pairs held_pages) (table : IsCheckedTable dims m directory listed listed_pages) where
@@ -112,10 +178,9 @@ module _ (dims most : ℕ) (m : PageMap) (root : Root) (directory : ℕ) (pairs 
   both_pages : (n : ℕ) → named_pages (held_pages ++ listed_pages) n ≡ part_of_layer (record { tree = tree.tree; ids = table.table }) n
   both_pages n = omega (arith, total-append (λ (page : ℕ). cond (eqb page n) 1 0) held_pages listed_pages, tree.pages_are n, table.pages_are n)
 
-  -- are a layer where they have the same objects and no page in common
-  pub layer_checked : (count : ℕ) → IsPermutation pairs listed → All (λ (object : Object). IsBox dims object.1) pairs → length pairs ≡ count → ((n : ℕ) → named_pages (held_pages ++ listed_pages) n ≤ 1)
-      → IsCheckedLayer dims most m root directory count (held_pages ++ listed_pages)
-  layer_checked count same boxes many once =
+  -- are a layer where they have the same objects
+  pub layer_checked : (count : ℕ) → IsPermutation pairs listed → All (λ (object : Object). IsBox dims object.1) pairs → length pairs ≡ count → IsCheckedLayer dims most m root directory count (held_pages ++ listed_pages)
+  layer_checked count same boxes many =
       let all = table_entries dims m table.table table.stands in
       let held = IsPermutation-trans pairs (entries_of table.table) (entries (objects_of table.table)) (subst (IsPermutation pairs) table.pairs_are same) all in
       record {
@@ -128,7 +193,7 @@ module _ (dims most : ℕ) (m : PageMap) (root : Root) (directory : ℕ) (pairs 
           ids = table.stands;
           leaves = subst (λ (os : List Object). IsPermutation os (entries (objects_of table.table))) tree.pairs_are held;
           table = refl;
-          once = λ n. omega (arith, both_pages n, once n);
+          once = λ n. once_in_both dims m tree.tree table.table n tree.stands table.stands;
         };
         count_is = len-entries (objects_of table.table) ∙ (let n = length_permutation pairs (entries (objects_of table.table)) held in omega (arith, n, many));
         pages_are = both_pages;
@@ -149,44 +214,14 @@ module _ (dims most : ℕ) (m : PageMap) (root : Root) (directory : ℕ) (pairs 
     listed_there = subst (λ (os : List Object). IsPermutation os (entries objects)) (sym (table.pairs_are ∙ ap entries_of table_same))
         (subst (λ (o : Objects). IsPermutation (entries_of l.ids) (entries o)) is.table (table_entries dims m l.ids is.ids))
 
-    pub pages_once : (n : ℕ) → named_pages (held_pages ++ listed_pages) n ≤ 1
-    pages_once n = omega (arith, both_pages n, is.once n, ap (λ (t : Tree). occurs_in n t) tree_same, ap (λ (t : IdTable). occurs_in_ids n t) table_same)
-
 -- ---- lists in the order of identifiers
 
 pub in_order : (objects sorted : List Object) (all : Objects) → IsPermutation objects sorted → IsNonDecreasingBy (λ (o : Object). o.0) sorted → IsPermutation objects (entries all) → sorted ≡ entries all
 in_order objects sorted all moved order same = one_order sorted (entries all) order (entries_sorted all) (IsPermutation-trans sorted objects (entries all) (IsPermutation-sym objects sorted moved) same)
 
--- ---- pages in turn
-
-more_later : (pages : List ℕ) (i d : ℕ) → i < length pages → pages_in (get_or pages i d) (take i pages) + 1 ≤ pages_in (get_or pages i d) pages
-more_later [] i d lt = absurd (omega (arith, lt))
-more_later (page ∷ pages) zero d lt = omega (arith, occurs_here page)
-more_later (page ∷ pages) (suc i) d lt = let rest = more_later pages i d (omega (arith, lt)) in omega (arith, rest)
-
--- a page of a list that has none twice is not among those before it
-pub first_time : (before pages : List ℕ) (i d : ℕ) → i < length pages → ((n : ℕ) → pages_in n (before ++ pages) ≤ 1) → pages_in (get_or pages i d) (before ++ take i pages) ≡ 0
-first_time before pages i d lt once =
-    let page = get_or pages i d in
-    let sum = total-append (λ (p : ℕ). cond (eqb p page) 1 0) before pages in
-    let front = total-append (λ (p : ℕ). cond (eqb p page) 1 0) before (take i pages) in
-    omega (arith, once page, sum, front, more_later pages i d lt)
-
--- ---- pages below the next number
-
-all_named : (P : ℕ → Type 0) (list : List ℕ) → ((n : ℕ) → 0 < pages_in n list → P n) → All P list
-all_named P [] each = All-nil P
-all_named P (page ∷ list) each = All-cons P page list (each page (omega (arith, occurs_here page))) (all_named P list (λ n here. each n (omega (arith, here))))
+-- ---- in the pages given out
 
 module _ {B A : Type 0} {m : _} where
-  pub tree_pages_below : (dims most : ℕ) (cache : PageCache B A m) (page level : ℕ) (pairs : List Object) (list : List ℕ) → IsCheckedTree dims most (given cache) page level pairs list → All (λ n. n < next_of cache) list
-  tree_pages_below dims most cache page level pairs list tree = all_named (λ n. n < next_of cache) list (λ n here.
-      (was_given_out cache n (pages_are_there dims (given cache) tree.tree n tree.stands (omega (arith, here, tree.pages_are n)))).1)
-
-  pub table_pages_below : (dims : ℕ) (cache : PageCache B A m) (directory : ℕ) (pairs : List Object) (list : List ℕ) → IsCheckedTable dims (given cache) directory pairs list → All (λ n. n < next_of cache) list
-  table_pages_below dims cache directory pairs list table = all_named (λ n. n < next_of cache) list (λ n here.
-      (was_given_out cache n (table_there dims (given cache) table.table n table.stands (omega (arith, here, table.pages_are n)))).1)
-
   -- a layer of live pages stands in those given out
   pub layer_given : (dims most : ℕ) (cache : PageCache B A m) (root : Root) (directory : ℕ) (l : LayerPages) (objects : Objects) → IsLayerAt dims most (pages cache) root directory l objects → IsLayerAt dims most (given cache) root directory l objects
   layer_given dims most cache root directory l objects is =
@@ -222,7 +257,7 @@ module _ (dims most : ℕ) (m : PageMap) (root : Root) (directory count : ℕ) (
   -- what was joined is a layer
   pub all_checked : {V : Type 0} (r : Result V Fault) (list_of : V → List ℕ) → IfOk r (λ v. AreOfOneLayer dims count held listed held_pages listed_pages (list_of v)) → IfOk r (λ v. IsCheckedLayer dims most m root directory count (list_of v))
   all_checked (Ok v) list_of a = subst (IsCheckedLayer dims most m root directory count) (sym a.pages_are)
-      (layer_checked dims most m root directory held listed held_pages listed_pages tree table count a.same a.boxes a.many (subst (λ (list : List ℕ). (n : ℕ) → named_pages list n ≤ 1) a.pages_are a.once))
+      (layer_checked dims most m root directory held listed held_pages listed_pages tree table count a.same a.boxes a.many)
   all_checked (Err f) list_of a = tt
 
 module _ {B A : Type 0} {m : _} where
@@ -233,33 +268,3 @@ module _ {B A : Type 0} {m : _} where
     where
       quiet : (n : ℕ) → faults_after f n ≡ n
       quiet n = ⊎_elim (λ (is : f ≡ fault.Memory). ap (λ (e : Fault). faults_after e n) is) (λ (is : IsDamage f). ap (λ (e : Fault). faults_after e n) is.1) either
-
-  -- what is found where a layer stands
-  pub all_there : (dims most : ℕ) (cache : PageCache B A m) (root : Root) (directory count next : ℕ) (held listed : List Object) (held_pages listed_pages : List ℕ) → IsCheckedTree dims most (given cache) root.page root.level held held_pages → IsCheckedTable dims (given cache) directory listed listed_pages
-      → (l : LayerPages) (objects : Objects) → IsLayerAt dims most (pages cache) root directory l objects → len objects ≡ count → next ≡ next_of cache → AreOfLayer objects count next held listed held_pages listed_pages
-  all_there dims most cache root directory count next held listed held_pages listed_pages tree table l objects is count_is next_is =
-      let given_is = layer_given dims most cache root directory l objects is in
-      record {
-        held_are = pairs_there dims most (given cache) root directory held listed held_pages listed_pages tree table l objects given_is;
-        listed_are = listed_there dims most (given cache) root directory held listed held_pages listed_pages tree table l objects given_is;
-        count_is = count_is;
-        held_below = subst (λ (limit : ℕ). All (λ n. n < limit) held_pages) (sym next_is) (tree_pages_below dims most cache root.page root.level held held_pages tree);
-        listed_below = subst (λ (limit : ℕ). All (λ n. n < limit) listed_pages) (sym next_is) (table_pages_below dims cache directory listed listed_pages table);
-        once = pages_once dims most (given cache) root directory held listed held_pages listed_pages tree table l objects given_is;
-      }
-
--- ---- what is joined
-
-pub many_there : (objects : Objects) (count next : ℕ) (held listed : List Object) (held_pages listed_pages : List ℕ) → AreOfLayer objects count next held listed held_pages listed_pages → length held ≡ count
-many_there objects count next held listed held_pages listed_pages are = omega (arith, length_permutation held (entries objects) are.held_are, len-entries objects, are.count_is)
-
-pub visited_first : (objects : Objects) (count next : ℕ) (held listed : List Object) (held_pages listed_pages : List ℕ) → AreOfLayer objects count next held listed held_pages listed_pages
-    → (marks : ℕ) (before list : List ℕ) → marks ≡ next → before ≡ [] → list ≡ held_pages → All (λ n. n < marks) list × ((n : ℕ) → pages_in n (before ++ list) ≤ 1)
-visited_first objects count next held listed held_pages listed_pages are marks before list marks_are none list_is = (
-  subst (λ (limit : ℕ). All (λ n. n < limit) list) (sym marks_are) (subst (All (λ n. n < next)) (sym list_is) are.held_below),
-  λ n. subst (λ (all : List ℕ). pages_in n all ≤ 1) (sym (ap (λ (xs : List ℕ). xs ++ list) none ∙ list_is)) (omega (arith, are.once n, total-append (λ (page : ℕ). cond (eqb page n) 1 0) held_pages listed_pages)),
-)
-
-pub joined_list : (all mid before first second held_pages listed_pages : List ℕ) → all ≡ mid ++ second → mid ≡ before ++ first → before ≡ [] → first ≡ held_pages → second ≡ listed_pages → all ≡ held_pages ++ listed_pages
-joined_list all mid before first second held_pages listed_pages added front none is others =
-    added ∙ ap (λ (xs : List ℕ). xs ++ second) (front ∙ ap (λ (xs : List ℕ). xs ++ first) none ∙ is) ∙ ap (λ (xs : List ℕ). held_pages ++ xs) others

@@ -1,5 +1,5 @@
 -- Layers with an object fewer, or with one that got another box.
-use Rattle.std.proofs.Common.{◌≡◌, ◌∙◌, ℕ, ◌≤◌, true, Result, Ok, Err, IsErrAnd, Some, ap, sym, subst}
+use Rattle.std.proofs.Common.{◌≡◌, ◌∙◌, ℕ, ◌≤◌, true, Some, ap, subst}
 use Rattle.std.specs.FinMap as map
 use Rattle.std.specs.List.{Contains}
 use Rattle.std.specs.Prelude.{is_some}
@@ -63,9 +63,3 @@ layer_replaced dims most old mid new between after directory l objects id was no
   tree_is = record { between = to.layer; removed = to.tree_is; inserted = into.tree_is };
   moves = moves_in_turn old mid new (part_of_layer l) (part_of_layer to.layer) (part_of_layer into.layer) to.moves into.moves;
 }
-
--- ---- what is answered
-
-pub refused_so : {T E : Type 0} (r : Result T E) (e : E) (P : E → Type 0) → IsErrAnd r (λ b. b ≡ e) → P e → IsErrAnd r P
-refused_so (Ok x) e P is p = elim is [ ]
-refused_so (Err b) e P is p = subst P (sym is) p

@@ -1,6 +1,6 @@
 -- What a check of the pages of a layer finds (our rule, docs/FORMAT.md, "Trees of pages" and "Identifier tables").
-use Rattle.std.specs.Prelude.{◌≡◌, ℕ, ◌<◌, ◌≤◌, List, ◌++◌, All, IsPermutation, length}
-use Rattle.std.specs.FinMap.{entries, len}
+use Rattle.std.specs.Prelude.{◌≡◌, ℕ, List, ◌++◌, All, IsPermutation, length}
+use Rattle.std.specs.FinMap.{len}
 use Rattle.box_math.specs.Bounds.{IsBox}
 use Rattle.tree_node.specs.declared.node.Root.{Root}
 use Rattle.node_page.specs.Checked.{named_pages}
@@ -19,21 +19,10 @@ pub record IsCheckedLayer (dims most : ℕ) (pages : PageMap) (root : Root) (dir
 
 -- ---- its steps
 
--- a tree and a table have the same objects, so many, with boxes, and the list has their pages, none of them twice
+-- a tree and a table have the same objects, so many, with boxes, and the list has the pages of both
 pub record AreOfOneLayer (dims count : ℕ) (held listed : List Object) (held_pages listed_pages list : List ℕ)
     : Type 0 where
   pub same : IsPermutation held listed
   pub boxes : All (λ object. IsBox dims object.1) held
   pub many : length held ≡ count
   pub pages_are : list ≡ held_pages ++ listed_pages
-  pub once : (n : ℕ) → named_pages list n ≤ 1
-
--- the objects and the pages of a tree and of a table are those of a layer of so many objects
-pub record AreOfLayer (objects : Objects) (count next : ℕ) (held listed : List Object)
-    (held_pages listed_pages : List ℕ) : Type 0 where
-  pub held_are : IsPermutation held (entries objects)
-  pub listed_are : IsPermutation listed (entries objects)
-  pub count_is : len objects ≡ count
-  pub held_below : All (λ page. page < next) held_pages
-  pub listed_below : All (λ page. page < next) listed_pages
-  pub once : (n : ℕ) → named_pages (held_pages ++ listed_pages) n ≤ 1

@@ -1,21 +1,19 @@
 //! Layers checked: whether one stands.
 
-ghost use Rattle.std.specs.Prelude.{◌≡◌, ◌⊎◌, ◌++◌, ◌+◌, ◌*◌, ◌<◌, ◌≤◌, ◌↔◌, ℕ, true, All, IfErr, IfOk, IsPermutation};
-ghost use Rattle.std.specs.Prelude.{IsTrue, OnOk, length};
+ghost use Rattle.std.specs.Prelude.{◌≡◌, ◌⊎◌, ◌+◌, ◌*◌, ◌≤◌, ◌↔◌, true, All, IfErr, IfOk, IsPermutation, IsTrue};
 ghost use Rattle.std.specs.FinMap as map;
 ghost use Rattle.box_math.specs.Bounds.{IsBox, IsDims};
 ghost use Rattle.page_file.specs.Fault.{IsDamage, IsOfDevice};
 ghost use Rattle.page_file.specs.declared.fault.Fault.TheVariants as fault;
 ghost use Rattle.page_cache.specs.Cache.{IsHonest, IsPageMap, given, looks_of, next_of, pages};
 ghost use Rattle.page_cache.specs.Calls.{Asks};
-ghost use Rattle.node_page.specs.Visits.{times_in};
-ghost use Rattle.layer_pages.specs.Checked.{AreOfLayer, AreOfOneLayer, IsCheckedLayer};
+ghost use Rattle.layer_pages.specs.Checked.{AreOfOneLayer, IsCheckedLayer};
 ghost use Rattle.layer_pages.specs.Layers.{IsLayerAt, LayerPages, Objects};
 
 use block_device::BlockDevice;
 use box_math::BBox;
 use id_table::{TableFacts, check_table};
-use node_page::{Root, TreeFacts, Visits, check_tree};
+use node_page::{Root, TreeFacts, check_tree};
 use page_cache::PageCache;
 use page_file::Fault;
 use std::alloc::Allocator;
@@ -52,14 +50,12 @@ pub fn check<'a, const D: usize, B: BlockDevice, A: Allocator + Copy, H: Allocat
 {
     let tree = check_tree::<D, B, A, &H>(alloc, cache, root, m_max)?;
     let table = check_table::<D, B, A, &H>(alloc, cache, directory)?;
-    let next = cache.next_number();
-    pages_of_both(alloc, next, directory, count, tree, table)
+    pages_of_both(directory, count, tree, table)
 }
 
-// The pages of a tree and a table, where they have the same objects, so many, and no page in common.
+// The pages of a tree and a table, where both have the same objects, so many. No page is in both, since those of a tree
+// are of another kind.
 fn pages_of_both<'a, const D: usize, H: Allocator>(
-    alloc: &'a H,
-    next: u32,
     directory: u32,
     count: u64,
     tree: TreeFacts<D, &'a H>,
@@ -68,9 +64,9 @@ fn pages_of_both<'a, const D: usize, H: Allocator>(
     requires { IsDims D }
     ensures joined { IfOk result (λ list. AreOfOneLayer D count tree.entry.pairs.items table.entry.pairs.items
         tree.entry.pages.items table.entry.pages.items list.items) }
-    ensures stands { (objects : Objects) → AreOfLayer objects count next tree.entry.pairs.items
-        table.entry.pairs.items tree.entry.pages.items table.entry.pages.items
-        → IfErr result (λ f. f ≡ fault.Memory) }
+    ensures stands { (objects : Objects) → map.len objects ≡ count
+        → IsPermutation tree.entry.pairs.items (map.entries objects)
+        → IsPermutation table.entry.pairs.items (map.entries objects) → IfErr result (λ f. f ≡ fault.Memory) }
     ensures faults { IfErr result (λ f. (f ≡ fault.Memory) ⊎ IsDamage f) }
 {
     let mut held = tree.pairs;
@@ -81,10 +77,9 @@ fn pages_of_both<'a, const D: usize, H: Allocator>(
     if !have_same(held.as_mut_slice(), listed.as_mut_slice()) {
         return Err(Fault::Damaged(directory));
     }
-    let mut visits = Visits::new(alloc, next)?;
-    visit_all(tree.pages.as_slice(), &mut visits)?;
-    visit_all(table.pages.as_slice(), &mut visits)?;
-    Ok(visits.into_pages())
+    let mut pages = tree.pages;
+    pages.extend_from_slice(table.pages.as_slice())?;
+    Ok(pages)
 }
 
 // Whether both lists have the same objects. They are left in the order of identifiers.
@@ -131,18 +126,4 @@ fn is_same<const D: usize>(object: &(u64, BBox<D>), other: &(u64, BBox<D>)) -> b
     // a box that was looked at is known to be one
     let _ = object.1.low();
     object.0 == other.0 && object.1 == other.1
-}
-
-// Visits these pages.
-fn visit_all<H: Allocator + Copy>(pages: &[u32], visits: &mut Visits<H>) -> Result<(), Fault>
-    ensures added { OnOk result (visits.new.pages.items ≡ visits.old.pages.items ++ pages.now) }
-    ensures marks { length visits.new.marks.items ≡ length visits.old.marks.items }
-    ensures first { All (λ page. page < length visits.old.marks.items) pages.now
-        → ((n : ℕ) → times_in n (visits.old.pages.items ++ pages.now) ≤ 1) → IfErr result (λ f. f ≡ fault.Memory) }
-    ensures faults { IfErr result (λ f. (f ≡ fault.Memory) ⊎ IsDamage f) }
-{
-    for &page in pages {
-        visits.visit(page)?;
-    }
-    Ok(())
 }

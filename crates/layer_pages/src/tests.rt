@@ -184,7 +184,6 @@ fn is_changed<B: BlockDevice, A: Allocator + Copy>(
 fn each_change_leaves_its_leaves(rt: HostRuntime) -> Result<(), Fail> {
     for change in [Change::Insert, Change::Remove, Change::Replace] {
         let mut cache = open_cache(rt.alloc(), five_points(rt.alloc())?)?;
-        assert!(rt; stands(rt.alloc(), &mut cache, FIVE, &[&[1, 2], &[3, 4, 5]])?);
         let after = apply(rt.alloc(), &mut cache, change)?;
         assert!(rt;
             is_changed(rt.alloc(), &mut cache, change, after)?,
@@ -206,28 +205,39 @@ fn a_removed_object_has_no_box(rt: HostRuntime) -> Result<(), Fail> {
     Ok(())
 }
 
+// Removes an object from the layer of the five points.
+fn remove_at(
+    alloc: Global,
+    cache: &mut PageCache<MemoryDevice, Global>,
+    id: u64,
+    bounds: &BBox<2>,
+) -> Result<Root, Broken>
+    requires open { gate_of cache.old ≡ Open }
+    ensures open { gate_of cache.new ≡ Open }
+{
+    let mut waiting = Waiting::make(alloc)?;
+    let mut kept = Kept::make(alloc)?;
+    remove(
+        cache,
+        FIVE,
+        DIRECTORY,
+        id,
+        bounds,
+        4,
+        &mut waiting,
+        &mut kept,
+    )
+}
+
 #[test]
 fn an_object_that_is_not_there_changes_nothing(rt: HostRuntime) -> Result<(), Fail> {
     let mut cache = open_cache(rt.alloc(), five_points(rt.alloc())?)?;
-    let mut waiting = Waiting::make(rt.alloc())?;
-    let mut kept = Kept::make(rt.alloc())?;
     let absent = Err(Broken {
         cause: Fault::Damaged(10),
         touched: false,
     });
-    for (id, x) in [(9, 0), (1, 1)] {
-        let answer = remove(
-            &mut cache,
-            FIVE,
-            DIRECTORY,
-            id,
-            &at(x),
-            4,
-            &mut waiting,
-            &mut kept,
-        );
-        assert!(rt; answer == absent, "{id}");
-    }
+    assert!(rt; remove_at(rt.alloc(), &mut cache, 9, &at(0)) == absent);
+    assert!(rt; remove_at(rt.alloc(), &mut cache, 1, &at(1)) == absent);
     assert!(rt; stands(rt.alloc(), &mut cache, FIVE, &[&[1, 2], &[3, 4, 5]])?);
     Ok(())
 }
@@ -235,20 +245,16 @@ fn an_object_that_is_not_there_changes_nothing(rt: HostRuntime) -> Result<(), Fa
 // The nine points from (0, 0) to (2, 2), the point (x, y) with the identifier 3x + y + 1.
 fn nine_points() -> [(u64, BBox<2>); 9] {
     [
-        (0, 0),
-        (0, 1),
-        (0, 2),
-        (1, 0),
-        (1, 1),
-        (1, 2),
-        (2, 0),
-        (2, 1),
-        (2, 2),
+        (1, point(0, 0)),
+        (2, point(0, 1)),
+        (3, point(0, 2)),
+        (4, point(1, 0)),
+        (5, point(1, 1)),
+        (6, point(1, 2)),
+        (7, point(2, 0)),
+        (8, point(2, 1)),
+        (9, point(2, 2)),
     ]
-    .map(|(x, y)| (
-        u64::from(3 * x + y + 1u8),
-        point(i32::from(x), i32::from(y)),
-    ))
 }
 
 #[test]

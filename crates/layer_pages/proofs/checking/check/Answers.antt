@@ -8,7 +8,7 @@ use Rattle.page_cache.specs.Calls.{asks_and_refuses, asks_in_turn}
 use Rattle.node_page.proofs.NodeLemmas.{at_error}
 use Rattle.id_table.proofs.BucketLemmas.{if_err}
 use Rattle.id_table.proofs.FreeLemmas.{stands_same}
-use Rattle.layer_pages.proofs.CheckLemmas.{all_checked, all_there, quiet_asks, table_on}
+use Rattle.layer_pages.proofs.CheckLemmas.{all_checked, layer_given, listed_there, pairs_there, quiet_asks, table_on}
 use Rattle.layer_pages.proofs.checking.check.Goals as goal
 
 pub returns-in_err-table-clause-asks : goal.returns-in_err-table-clause-asks
@@ -53,8 +53,10 @@ returns-clause-stands g c = λ h l objects is count_is.
     let old = given c.args.cache.now in
     let held = c.in_ok-tree.tree in
     let listed = c.in_ok-table.table in
+    let given_is = layer_given g.row.D c.args.m_max c.args.cache.now c.args.root c.args.directory l objects is in
+    let tree = c.in_ok-tree.ensures.given_tree h in
+    let table = table_on g.row.D (given c.check_tree.new.cache) old c.args.directory listed.pairs.items listed.pages.items (λ n. sym (a.map.given_stay h n)) (c.in_ok-table.ensures.given_table (a.gate.honest.0 h)) in
     if_err c.pages_of_both.result (λ f. f ≡ fault.Memory) IsOfDevice (λ f is. inl is)
-    (c.pages_of_both.ensures.stands objects
-    (all_there g.row.D c.args.m_max c.args.cache.now c.args.root c.args.directory c.args.count c.next_number-next.result held.pairs.items listed.pairs.items held.pages.items listed.pages.items (c.in_ok-tree.ensures.given_tree h)
-    (table_on g.row.D (given c.check_tree.new.cache) old c.args.directory listed.pairs.items listed.pages.items (λ n. sym (a.map.given_stay h n)) (c.in_ok-table.ensures.given_table (a.gate.honest.0 h)))
-    l objects is count_is (c.next_number-next.ensures ∙ c.in_ok-table.ensures.asks.map.next ∙ a.map.next)))
+    (c.pages_of_both.ensures.stands objects count_is
+    (pairs_there g.row.D c.args.m_max old c.args.root c.args.directory held.pairs.items listed.pairs.items held.pages.items listed.pages.items tree table l objects given_is)
+    (listed_there g.row.D c.args.m_max old c.args.root c.args.directory held.pairs.items listed.pairs.items held.pages.items listed.pages.items tree table l objects given_is))

@@ -11,10 +11,11 @@ use Rattle.node_page.specs.declared.broken.Broken.{Broken}
 use Rattle.id_table.specs.Table.{part_of}
 use Rattle.node_page.specs.Faults.{IsNoDamage}
 use Rattle.reinsert.proofs.BrokenLemmas.{at_broken}
+use Rattle.condense.proofs.RemoveLemmas.{refused_so}
 use Rattle.layer_pages.specs.Changes.{BecomesLayer, HasRemoved}
 use Rattle.layer_pages.specs.Layers.{IsLayerAt, part_of_layer}
 use Rattle.layer_pages.proofs.FaultLemmas.{of_device}
-use Rattle.layer_pages.proofs.RemovedLemmas.{can_remove, ids_between, in_a_leaf, in_no_leaf, in_table, layer_removed, refused_so}
+use Rattle.layer_pages.proofs.RemovedLemmas.{can_remove, ids_between, in_a_leaf, in_no_leaf, in_table, layer_removed}
 use Rattle.layer_pages.proofs.removing.remove.Goals as goal
 
 pub returns-in_err-after-clause-absent : goal.returns-in_err-after-clause-absent

@@ -10,8 +10,9 @@ use Rattle.node_page.specs.Broken.{alters_and_breaks, made_alters}
 use Rattle.node_page.specs.declared.broken.Broken.{Broken}
 use Rattle.node_page.specs.Faults.{IsNoDamage}
 use Rattle.reinsert.proofs.BrokenLemmas.{at_broken}
+use Rattle.condense.proofs.RemoveLemmas.{refused_so}
 use Rattle.layer_pages.proofs.ObjectLemmas.{gone}
-use Rattle.layer_pages.proofs.RemovedLemmas.{layer_replaced, refused_so}
+use Rattle.layer_pages.proofs.RemovedLemmas.{layer_replaced}
 use Rattle.layer_pages.proofs.replacing.replace.Goals as goal
 
 pub returns-in_err-between-clause-absent : goal.returns-in_err-between-clause-absent
