@@ -23,12 +23,12 @@ a_gate_that_is_open : gate_block 0 ≡ codes "RSTARGAT" ++ replicate 4088 0
 unfolding gate_block put_number zeros
 a_gate_that_is_open = refl
 
--- version 0, next 5, first 4 and count 1, and another one of large numbers
-a_header : header_block (numbers 5 4 1) ≡ codes "RSTARHDR" ++ 0 ∷ 0 ∷ 0 ∷ 0 ∷ 0 ∷ 0 ∷ 0 ∷ 5 ∷ 0 ∷ 0 ∷ 0 ∷ 4 ∷ 0 ∷ 0 ∷ 0 ∷ 1 ∷ replicate 4072 0
+-- version 1, next 5, first 4 and count 1, and another one of large numbers
+a_header : header_block (numbers 5 4 1) ≡ codes "RSTARHDR" ++ 0 ∷ 1 ∷ 0 ∷ 0 ∷ 0 ∷ 0 ∷ 0 ∷ 5 ∷ 0 ∷ 0 ∷ 0 ∷ 4 ∷ 0 ∷ 0 ∷ 0 ∷ 1 ∷ replicate 4072 0
 unfolding header_block put_number zeros
 a_header = refl
 
-a_header_is_big_endian : header_block (numbers 0x80000000 0x7fffffff 0x01020304) ≡ codes "RSTARHDR" ++ 0 ∷ 0 ∷ 0 ∷ 0 ∷ 128 ∷ 0 ∷ 0 ∷ 0 ∷ 127 ∷ 255 ∷ 255 ∷ 255 ∷ 1 ∷ 2 ∷ 3 ∷ 4 ∷ replicate 4072 0
+a_header_is_big_endian : header_block (numbers 0x80000000 0x7fffffff 0x01020304) ≡ codes "RSTARHDR" ++ 0 ∷ 1 ∷ 0 ∷ 0 ∷ 128 ∷ 0 ∷ 0 ∷ 0 ∷ 127 ∷ 255 ∷ 255 ∷ 255 ∷ 1 ∷ 2 ∷ 3 ∷ 4 ∷ replicate 4072 0
 unfolding header_block put_number zeros
 a_header_is_big_endian = refl
 
@@ -71,11 +71,11 @@ another_text_is_no_gate : IsShutGate (codes "RSTARHDR" ++ 1 ∷ []) → ⊥
 unfolding number_at
 another_text_is_no_gate h = let no = h.text in absurd (omega (arith, no))
 
-a_header_is_read : IsHeader (numbers 5 4 1) (header 0 5 4 1)
+a_header_is_read : IsHeader (numbers 5 4 1) (header 1 5 4 1)
 unfolding number_at
 a_header_is_read = record { text = refl; version_is = refl; next_is = refl; first_is = refl; count_is = refl }
 
-no_other_numbers_are_read : (h : Header) → IsHeader h (header 0 5 4 1) → h ≡ numbers 5 4 1
+no_other_numbers_are_read : (h : Header) → IsHeader h (header 1 5 4 1) → h ≡ numbers 5 4 1
 unfolding number_at
 no_other_numbers_are_read h is = ap (λ n. numbers n h.first h.count) (sym is.next_is) ∙ ap (λ n. numbers 5 n h.count) (sym is.first_is) ∙ ap (λ n. numbers 5 4 n) (sym is.count_is)
 
@@ -83,9 +83,9 @@ a_gate_is_no_header : (h : Header) → IsHeader h gate → ⊥
 unfolding number_at
 a_gate_is_no_header h is = let no = is.text in absurd (omega (arith, no))
 
-version_1_is_not_known : (h : Header) → IsHeader h (header 1 5 4 1) → ⊥
+version_0_is_not_known : (h : Header) → IsHeader h (header 0 5 4 1) → ⊥
 unfolding number_at
-version_1_is_not_known h is = let no = is.version_is in absurd (omega (arith, no))
+version_0_is_not_known h is = let no = is.version_is in absurd (omega (arith, no))
 
 kinds_and_links_are_read : map (λ page. kind_of page ∷ link_of page ∷ []) ((5 ∷ 1 ∷ 1 ∷ 1 ∷ 0 ∷ 0 ∷ 1 ∷ 0 ∷ []) ∷ (4 ∷ []) ∷ []) ≡ (5 ∷ 256 ∷ []) ∷ (4 ∷ 0 ∷ []) ∷ []
 unfolding number_at
@@ -116,15 +116,15 @@ the_first_check_that_fails_is_answered = refl
 where_none_fails_none_is_answered : map first_fault ([] ∷ ((false, NotAStore) ∷ []) ∷ []) ≡ None ∷ None ∷ []
 where_none_fails_none_is_answered = refl
 
-opened : map failed_check ((gate ∷ header 0 3 0 0 ∷ [] ∷ []) ∷ (gate ∷ header 0 4 3 1 ∷ [] ∷ [] ∷ []) ∷ (gate ∷ header 0 3 0 0 ∷ [] ∷ [] ∷ []) ∷ []) ≡ None ∷ None ∷ None ∷ []
+opened : map failed_check ((gate ∷ header 1 3 0 0 ∷ [] ∷ []) ∷ (gate ∷ header 1 4 3 1 ∷ [] ∷ [] ∷ []) ∷ (gate ∷ header 1 3 0 0 ∷ [] ∷ [] ∷ []) ∷ []) ≡ None ∷ None ∷ None ∷ []
 unfolding failed_check gate_checks header_checks number_at
 opened = refl
 
-fewer_than_3_blocks_are_no_store : map failed_check ([] ∷ (gate ∷ header 0 3 0 0 ∷ []) ∷ (open_gate ∷ header 1 3 0 0 ∷ []) ∷ []) ≡ replicate 3 (Some NotAStore)
+fewer_than_3_blocks_are_no_store : map failed_check ([] ∷ (gate ∷ header 1 3 0 0 ∷ []) ∷ (open_gate ∷ header 0 3 0 0 ∷ []) ∷ []) ≡ replicate 3 (Some NotAStore)
 unfolding failed_check gate_checks header_checks number_at
 fewer_than_3_blocks_are_no_store = refl
 
-a_wrong_gate_before_an_open_one : failed_check ((codes "RSTARGAX" ++ 0 ∷ []) ∷ header 1 3 0 0 ∷ [] ∷ []) ≡ Some NotAStore
+a_wrong_gate_before_an_open_one : failed_check ((codes "RSTARGAX" ++ 0 ∷ []) ∷ header 0 3 0 0 ∷ [] ∷ []) ≡ Some NotAStore
 unfolding failed_check gate_checks header_checks number_at
 a_wrong_gate_before_an_open_one = refl
 
@@ -132,19 +132,19 @@ an_open_gate_before_a_wrong_header : map (λ first. failed_check (first ∷ [] �
 unfolding failed_check gate_checks header_checks number_at
 an_open_gate_before_a_wrong_header = refl
 
-a_wrong_header_before_an_unknown_version : failed_check (gate ∷ (codes "RSTARHDX" ++ 0 ∷ 1 ∷ []) ∷ [] ∷ []) ≡ Some NotAStore
+a_wrong_header_before_an_unknown_version : failed_check (gate ∷ (codes "RSTARHDX" ++ 0 ∷ 0 ∷ []) ∷ [] ∷ []) ≡ Some NotAStore
 unfolding failed_check gate_checks header_checks number_at
 a_wrong_header_before_an_unknown_version = refl
 
-an_unknown_version_before_bad_numbers : map (λ version. failed_check (gate ∷ header version 9 9 9 ∷ [] ∷ [])) (1 ∷ 255 ∷ []) ≡ replicate 2 (Some WrongVersion)
+an_unknown_version_before_bad_numbers : map (λ version. failed_check (gate ∷ header version 9 9 9 ∷ [] ∷ [])) (0 ∷ 2 ∷ 255 ∷ []) ≡ replicate 3 (Some WrongVersion)
 unfolding failed_check gate_checks header_checks number_at
 an_unknown_version_before_bad_numbers = refl
 
-next_beyond_the_blocks_is_damage : map (λ next. failed_check (gate ∷ header 0 next 0 0 ∷ [] ∷ [] ∷ [])) (2 ∷ 3 ∷ 4 ∷ 5 ∷ []) ≡ Some (Damaged 1) ∷ None ∷ None ∷ Some (Damaged 1) ∷ []
+next_beyond_the_blocks_is_damage : map (λ next. failed_check (gate ∷ header 1 next 0 0 ∷ [] ∷ [] ∷ [])) (2 ∷ 3 ∷ 4 ∷ 5 ∷ []) ≡ Some (Damaged 1) ∷ None ∷ None ∷ Some (Damaged 1) ∷ []
 unfolding failed_check gate_checks header_checks number_at
 next_beyond_the_blocks_is_damage = refl
 
-numbers_at_odds_are_damage : failed_check (gate ∷ header 0 3 0 1 ∷ [] ∷ []) ≡ Some (Damaged 1)
+numbers_at_odds_are_damage : failed_check (gate ∷ header 1 3 0 1 ∷ [] ∷ []) ≡ Some (Damaged 1)
 unfolding failed_check gate_checks header_checks number_at
 numbers_at_odds_are_damage = refl
 
@@ -153,7 +153,7 @@ unfolding failed_check
 no_blocks_are_refused = refl
 
 abbrev pub closed : Blocks
-closed = gate ∷ header 0 3 0 0 ∷ [] ∷ []
+closed = gate ∷ header 1 3 0 0 ∷ [] ∷ []
 
 pub a_closed_file_is_not_refused : IsRefused closed → ⊥
 unfolding failed_check gate_checks header_checks number_at

@@ -26,7 +26,7 @@ free next = 5 ∷ 0 ∷ 0 ∷ 0 ∷ 0 ∷ 0 ∷ 0 ∷ next ∷ []
 
 -- pages 2 to 5 were given out, of which 4 and then 3 are free; page 6 is none yet
 abbrev blocks : Blocks
-blocks = gate ∷ header 0 6 4 2 ∷ (1 ∷ []) ∷ free 0 ∷ free 3 ∷ (7 ∷ []) ∷ (8 ∷ []) ∷ []
+blocks = gate ∷ header 1 6 4 2 ∷ (1 ∷ []) ∷ free 0 ∷ free 3 ∷ (7 ∷ []) ∷ (8 ∷ []) ∷ []
 
 free_pages_name_the_next : map (λ count. chain blocks count 4) (0 ∷ 1 ∷ 2 ∷ 3 ∷ []) ≡ [] ∷ (4 ∷ []) ∷ (4 ∷ 3 ∷ []) ∷ (4 ∷ 3 ∷ []) ∷ []
 unfolding number_at
@@ -121,10 +121,10 @@ how_many_blocks_there_are_counts h = absurd (cc)
 
 -- blocks that differ from the closed ones in the gate, and in block 2
 abbrev gate_torn : Blocks
-gate_torn = (8 ∷ []) ∷ header 0 3 0 0 ∷ [] ∷ []
+gate_torn = (8 ∷ []) ∷ header 1 3 0 0 ∷ [] ∷ []
 
 abbrev page_torn : Blocks
-page_torn = gate ∷ header 0 3 0 0 ∷ (8 ∷ []) ∷ []
+page_torn = gate ∷ header 1 3 0 0 ∷ (8 ∷ []) ∷ []
 
 behind_a_shut_gate_a_stop_leaves_what_is_read : (StopNow Shut closed closed) × (StopSince Shut closed closed)
 behind_a_shut_gate_a_stop_leaves_what_is_read = (refl, refl)
@@ -178,7 +178,7 @@ no_outcome_with_another_page h = let same : SameButGate page_torn closed = h.2 �
 an_outcome_that_was_not_torn : TornFrom 2 (λ c. c ≡ closed) closed
 an_outcome_that_was_not_torn = (closed, refl, inl refl)
 
-an_outcome_with_a_torn_page : TornFrom 2 (λ c. c ≡ closed) (gate ∷ header 0 3 0 0 ∷ zeros ∷ [])
+an_outcome_with_a_torn_page : TornFrom 2 (λ c. c ≡ closed) (gate ∷ header 1 3 0 0 ∷ zeros ∷ [])
 unfolding zeros
 an_outcome_with_a_torn_page = (closed, refl, inr (zeros, repeated_block 0 (omega arith), refl))
 

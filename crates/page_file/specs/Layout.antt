@@ -15,7 +15,7 @@ header_text = 0x5253544152484452
 
 -- the version that is written, and the only one that is known
 abbrev pub version : ℕ
-version = 0
+version = 1
 
 -- block 0, the gate: open (0) or shut (1)
 unfoldable pub gate_block : ℕ → List ℕ

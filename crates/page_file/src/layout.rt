@@ -16,7 +16,7 @@ pub const GATE_TEXT: u64 = 0x5253_5441_5247_4154;
 pub const HEADER_TEXT: u64 = 0x5253_5441_5248_4452;
 
 /// The version that is written, and the only one that is read.
-pub const VERSION: u16 = 0;
+pub const VERSION: u16 = 1;
 
 /// The gate's block, open (0) or shut (1).
 #[tactic(auto, unfolding(crate::specs::Layout::gate_block))]

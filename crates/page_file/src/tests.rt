@@ -108,7 +108,7 @@ fn blocks_are_those_of_the_format(rt: HostRuntime) -> Result<(), Fail> {
     assert!(rt;
         begins(
             &header,
-            b"RSTARHDR\x00\x00\x00\x00\x00\x00\x00\x05\x00\x00\x00\x04\x00\x00\x00\x01\x00\x00"
+            b"RSTARHDR\x00\x01\x00\x00\x00\x00\x00\x05\x00\x00\x00\x04\x00\x00\x00\x01\x00\x00"
         )
     );
     let free = block_of(&mut device, 4)?;
@@ -138,7 +138,7 @@ fn opening_answers_the_first_check_that_fails(rt: HostRuntime) -> Result<(), Fai
         (0, 8, b"\x00", Some(Fault::NotClosed)),
         (0, 8, b"\x02", Some(Fault::NotClosed)),
         (1, 7, b"r", Some(Fault::NotAStore)),
-        (1, 8, b"\x00\x09", Some(Fault::WrongVersion)),
+        (1, 8, b"\x00\x00", Some(Fault::WrongVersion)),
         (1, 15, b"\x02", Some(Fault::Damaged(1))),
         (1, 15, b"\x06", Some(Fault::Damaged(1))),
         (
