@@ -6,5 +6,9 @@ pub mod Faults
 pub mod Entries
 pub mod Keeping
 pub mod Changes
+pub mod Rules
+pub mod Unmade
+pub mod Closings
 pub mod Located
 pub mod Questions
+pub mod StubQuestions

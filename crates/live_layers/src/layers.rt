@@ -8,6 +8,8 @@ mod find;
 mod locate;
 mod open;
 mod questions;
+mod reopening;
+mod stubs;
 
 use arrayvec::ArrayVec;
 use block_device::BlockDevice;

@@ -10,5 +10,6 @@ mod question;
 mod search;
 mod unmade;
 
+pub use faults::as_refusal;
 pub use layers::Layers;
 pub use unmade::Unmade;
