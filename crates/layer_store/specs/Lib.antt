@@ -1,5 +1,4 @@
--- The files of definitions, and of the laws that callers cite.
+-- The files of definitions.
 pub mod Faults
 pub mod Starting
 pub mod Representation
-pub mod Laws

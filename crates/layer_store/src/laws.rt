@@ -16,19 +16,19 @@ use block_device::BlockDevice;
 use std::alloc::Allocator;
 
 /// Blocks are an image of at most one table.
-#[tactic(auto, using(crate::specs::Laws::an_image_is_of_one_table))]
+#[tactic(auto, using(live_layers::proofs::OneTable::an_image_is_of_one_table))]
 pub fn an_image_is_of_one_table()
     ensures { (blocks : Blocks) (t u : Table) → IsImage blocks t → IsImage blocks u → t ≡ u }
 {}
 
 /// No check of opening refuses an image.
-#[tactic(auto, using(crate::specs::Laws::an_image_is_not_refused))]
+#[tactic(auto, using(live_layers::proofs::OneTable::an_image_is_not_refused))]
 pub fn an_image_is_not_refused()
     ensures { (blocks : Blocks) (t : Table) (f : Fault) → IsImage blocks t → OpeningRefuses blocks f → ⊥ }
 {}
 
 /// Opening refuses blocks in one way, so it is known which fault is answered.
-#[tactic(auto, using(crate::specs::Laws::blocks_are_refused_in_one_way))]
+#[tactic(auto, using(live_layers::proofs::OneTable::blocks_are_refused_in_one_way))]
 pub fn blocks_are_refused_in_one_way()
     ensures { (blocks : Blocks) (f g : Fault) → OpeningRefuses blocks f → OpeningRefuses blocks g → f ≡ g }
 {}

@@ -12,3 +12,5 @@ pub mod Results
 pub mod OpenLemmas
 pub mod LocateLemmas
 pub mod AskLemmas
+pub mod OneTable
+pub mod ClosingLemmas

@@ -1,0 +1,1 @@
+-- What a store that is made or opened begins with.
