@@ -31,8 +31,8 @@ pub this_one : (ts : List Table) (t : Table) (c : Blocks) → IsImage c t → Is
 this_one ts t c image = inr (t, (0, omega arith, refl), image)
 
 pub images_among : (ts us : List Table) (c : Blocks) → ((t : Table) → Contains ts t → Contains us t) → IsRefusedOrImageOf ts c → IsRefusedOrImageOf us c
-pub images_among ts us c among (inl refused) = inl refused
-pub images_among ts us c among (inr (u, there, image)) = inr (u, among u there, image)
+images_among ts us c among (inl refused) = inl refused
+images_among ts us c among (inr (u, there, image)) = inr (u, among u there, image)
 
 -- blocks in which the pages of an image are found, whatever their gate
 pub image_aside : (blocks c : Blocks) (t : Table) → IsImage blocks t → SameButGate c blocks → IsRefused c ⊎ IsImage c t
