@@ -12,3 +12,4 @@ pub mod Results
 pub mod OpenLemmas
 pub mod LocateLemmas
 pub mod AskLemmas
+pub mod ReplyLemmas

@@ -78,8 +78,8 @@ impl<B: BlockDevice, A: Allocator + Copy> Layers<B, A> {
     }
 
     /// The k objects of a layer that are nearest to the point, or all of fewer: identifiers with squared distances, by
-    /// distance, and of equal distances by identifier. So many are 1 to 1,000,000. The root of the layer's tree is looked
-    /// at, and each other node that is no farther than the kth of them, or each where there are fewer.
+    /// distance, and of equal distances by identifier. So many are 1 to 1,000,000. The root of the layer's tree is
+    /// looked at, and each other node that is no farther than the kth of them, or each where there are fewer.
     ///
     /// Refused, in this order, by BadName, NoLayer, WrongDims and BadCount.
     pub fn nearest(

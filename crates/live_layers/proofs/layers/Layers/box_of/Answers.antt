@@ -7,7 +7,8 @@ use Rattle.layer_pages.specs.Layers.{Objects}
 use Rattle.plain_table.specs.Step.{first_refusal, missing_refusals, object_row}
 use Rattle.plain_table.specs.Step.Answer.{Boxes, Refused}
 use Rattle.plain_table.specs.Table.{layer_at}
-use Rattle.live_layers.proofs.AskLemmas.{device_refuses, object_missing, reply_failed, risen_of}
+use Rattle.live_layers.proofs.AskLemmas.{device_refuses, risen_of}
+use Rattle.live_layers.proofs.ReplyLemmas.{object_missing, reply_failed}
 use Rattle.live_layers.proofs.KeepLemmas.{sound_kept}
 use Rattle.live_layers.proofs.LocateLemmas.{stands_with}
 use Rattle.live_layers.proofs.layers.Layers.box_of.Goals as goal

@@ -8,7 +8,7 @@ use Rattle.plain_table.specs.declared.refusal.Refusal.{Refusal}
 use Rattle.plain_table.specs.Table.{layer_at}
 use Rattle.std.specs.FinMap.{len}
 use Rattle.std.specs.Prelude.{Option, []}
-use Rattle.live_layers.proofs.AskLemmas.{err_count, refused}
+use Rattle.live_layers.proofs.ReplyLemmas.{err_count, refused}
 use Rattle.live_layers.proofs.LocateLemmas.{count_here}
 use Rattle.live_layers.proofs.layers.Layers.count.Goals as goal
 

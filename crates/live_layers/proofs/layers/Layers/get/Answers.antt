@@ -3,7 +3,7 @@ use Rattle.std.proofs.Common.{◌∙◌, inl}
 use Rattle.plain_table.specs.Commands.Command.{Get}
 use Rattle.plain_table.specs.Step.{missing_refusals}
 use Rattle.plain_table.specs.Table.{layer_at}
-use Rattle.live_layers.proofs.AskLemmas.{err_box, refused}
+use Rattle.live_layers.proofs.ReplyLemmas.{err_box, refused}
 use Rattle.live_layers.proofs.layers.Layers.get.Goals as goal
 
 pub returns-in_err-place-clause-answered : goal.returns-in_err-place-clause-answered

@@ -1,6 +1,6 @@
 -- The layer of the name is found or not.
 use Rattle.std.proofs.Common.{◌∙◌, sym}
-use Rattle.live_layers.proofs.AskLemmas.{bad_name, is_named, none_named}
+use Rattle.live_layers.proofs.ReplyLemmas.{bad_name, is_named, none_named}
 use Rattle.live_layers.proofs.layers.Layers.named.Goals as goal
 
 pub returns-then-not-is_layer_name-clause-unnamed : goal.returns-then-not-is_layer_name-clause-unnamed

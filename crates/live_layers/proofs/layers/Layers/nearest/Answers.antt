@@ -1,5 +1,5 @@
 -- A name that no layer has is refused as the table refuses it, and the layer that is named answers for the table.
-use Rattle.std.proofs.Common.{◌∙◌, ap, inl, subst, sym}
+use Rattle.std.proofs.Common.{◌∙◌, inl, subst, sym}
 use Rattle.std.specs.Prelude.{OnOk}
 use Rattle.nearest.specs.Nearest.{is_searched}
 use Rattle.plain_table.specs.Answers.{distances_answer}
@@ -14,7 +14,7 @@ use Rattle.page_cache.specs.Cache.{next_of}
 use Rattle.store_law.specs.Lawful.{IsSpent, MayWrite}
 use Rattle.live_layers.specs.Changes.{IsAnswered, Rose}
 use Rattle.live_layers.specs.Keeping.{LooksAtTree}
-use Rattle.live_layers.proofs.AskLemmas.{err_distances, refused, replied}
+use Rattle.live_layers.proofs.ReplyLemmas.{err_distances, refused, replied}
 use Rattle.live_layers.proofs.layers.Layers.nearest.Goals as goal
 
 pub returns-in_err-place-clause-answered : goal.returns-in_err-place-clause-answered

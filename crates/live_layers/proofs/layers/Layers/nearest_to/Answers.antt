@@ -13,7 +13,8 @@ use Rattle.plain_table.specs.declared.refusal.Refusal.{Refusal}
 use Rattle.plain_table.specs.declared.refusal.Refusal.TheVariants as refusal
 use Rattle.std.specs.Prelude.{Option, ◌==◌}
 use Rattle.tree_node.specs.Searches.{admitted, counted}
-use Rattle.live_layers.proofs.AskLemmas.{device_refuses, good_count, nearest_same, reply_failed, risen_of, tested_same}
+use Rattle.live_layers.proofs.AskLemmas.{device_refuses, risen_of, tested_same}
+use Rattle.live_layers.proofs.ReplyLemmas.{good_count, nearest_same, reply_failed}
 use Rattle.live_layers.proofs.KeepLemmas.{sound_kept}
 use Rattle.live_layers.proofs.LocateLemmas.{stands_with}
 use Rattle.live_layers.proofs.layers.Layers.nearest_to.Goals as goal

@@ -1,5 +1,5 @@
 -- The query is refused as the table refuses it, or what is found in the tree is its answer.
-use Rattle.std.proofs.Common.{◌≡◌, ◌∙◌, ℕ, List, ap, sym, map as each}
+use Rattle.std.proofs.Common.{◌≡◌, ◌∙◌, ℕ, ap, map as each}
 use Rattle.std.specs.FinMap.{entries}
 use Rattle.std.specs.Prelude.{filter}
 use Rattle.box_math.specs.Bounds.{Bounds}
@@ -9,7 +9,8 @@ use Rattle.plain_table.specs.Step.{first_refusal, query_refusals, range_rows}
 use Rattle.plain_table.specs.Step.Answer.{Boxes}
 use Rattle.plain_table.specs.Table.{layer_at}
 use Rattle.live_layers.specs.Changes.{Rose}
-use Rattle.live_layers.proofs.AskLemmas.{err_boxes, looks_same, reply_failed, rows_replied, three_rows}
+use Rattle.live_layers.proofs.AskLemmas.{three_rows}
+use Rattle.live_layers.proofs.ReplyLemmas.{err_boxes, looks_same, reply_failed, rows_replied}
 use Rattle.live_layers.proofs.layers.Layers.range_in_space.Goals as goal
 
 pub returns-in_err-rows-clause-replied : goal.returns-in_err-rows-clause-replied
