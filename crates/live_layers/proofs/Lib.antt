@@ -14,3 +14,4 @@ pub mod LocateLemmas
 pub mod AskLemmas
 pub mod OneTable
 pub mod ClosingLemmas
+pub mod ReplyLemmas

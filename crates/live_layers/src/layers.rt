@@ -6,6 +6,7 @@ ghost use Rattle.live_layers.specs.Catalog.{AreLayers};
 mod closing;
 mod find;
 mod locate;
+mod named;
 mod open;
 mod questions;
 mod reopening;

@@ -4,9 +4,10 @@
 
 mod catalog;
 mod faults;
+mod given;
+pub mod laws;
 mod layers;
 mod located;
-mod question;
 mod search;
 mod unmade;
 

@@ -3,8 +3,17 @@ use Rattle.std.proofs.Common.{◌≡◌, ◌∙◌, List, get_or, ap, arith}
 use Rattle.std.proofs.lemmas.List.{length-map}
 use Rattle.catalog_page.specs.Layout.{record_of}
 use Rattle.catalog_page.specs.declared.layer_record.LayerRecord.{LayerRecord}
-use Rattle.live_layers.proofs.LocateLemmas.{can_be_root, fanout_fits, located_here}
+use Rattle.live_layers.proofs.LocateLemmas.{can_be_root, dims_fit, fanout_fits, located_here}
 use Rattle.live_layers.proofs.layers.Layers.locate.Goals as goal
+
+pub returns-clause-dims : goal.returns-clause-dims
+returns-clause-dims g c =
+    let kept = c.args.self.now in
+    let items = kept.records.items in
+    let place = c.args.place in
+    let r = c.index-deref-place.result in
+    let is : r ≡ get_or items place r = c.index-deref-place.is ∙ ap (λ (xs : List LayerRecord). get_or xs place r) c.deref.ensures.0 in
+    dims_fit items place r is (omega (arith, c.requires, length-map items record_of)) kept.are_layers
 
 pub returns-clause-fanout : goal.returns-clause-fanout
 returns-clause-fanout g c =
