@@ -101,7 +101,7 @@ three_rows (r ∷ rs) = ap (λ (xs : List (ℕ × Bounds)). r ∷ xs) (three_row
 pub not_there : (t : Table) (name : List ℕ) (place : ℕ) → Belongs t name place → contains_key t name ≡ false
 not_there t name place belongs = ap is_some (get-entries t name ∙ belongs.absent)
 
-named_there : (t : Table) (name : List ℕ) (place : ℕ) → Finds t name place → contains_key t name ≡ true
+pub named_there : (t : Table) (name : List ℕ) (place : ℕ) → Finds t name place → contains_key t name ≡ true
 named_there t name place finds = ap is_some (get-entries t name ∙ finds.stands.found (name, no_layer))
 
 -- where it is there, only the box may be refused

@@ -6,5 +6,8 @@ pub mod Faults
 pub mod Entries
 pub mod Keeping
 pub mod Changes
+pub mod Begun
+pub mod Rules
+pub mod Inserting
 pub mod Located
 pub mod Questions

@@ -3,9 +3,12 @@
 ghost use Rattle.catalog_page.specs.Layout.{records_of};
 ghost use Rattle.live_layers.specs.Catalog.{AreLayers};
 
+mod beginning;
 mod closing;
 mod find;
+mod inserting;
 mod locate;
+mod noting;
 mod open;
 mod questions;
 
