@@ -15,3 +15,9 @@ pub mod AskLemmas
 pub mod OneTable
 pub mod ClosingLemmas
 pub mod ReplyLemmas
+pub mod BegunLemmas
+pub mod ChangeLemmas
+pub mod ReplaceLemmas
+pub mod NoteLemmas
+pub mod InsertLemmas
+pub mod AddLemmas

@@ -9,6 +9,7 @@ pub mod Changes
 pub mod Rules
 pub mod Unmade
 pub mod Closings
+pub mod Begun
+pub mod Inserting
 pub mod Located
 pub mod Questions
-pub mod StubQuestions

@@ -4,7 +4,7 @@ ghost use Rattle.std.specs.Prelude.{◌≡◌, Err, OnOk};
 ghost use Rattle.live_layers.specs.Faults.{HasRefusalCause};
 ghost use Rattle.live_layers.specs.Image.{MayRemain};
 ghost use Rattle.live_layers.specs.Keeping.{LooksAtTree};
-ghost use Rattle.live_layers.specs.StubQuestions.{is_admitted};
+ghost use Rattle.live_layers.specs.Questions.{is_admitted};
 ghost use Rattle.nearest.specs.Nearest.{is_searched};
 ghost use Rattle.plain_table.specs.Answers.{box_answer, boxes_answer, distances_answer};
 ghost use Rattle.plain_table.specs.Boxes.{given_point, point_dims};

@@ -1,6 +1,6 @@
 //! Questions, answered from the records, the trees and the identifier tables of the layers.
 
-ghost use Rattle.std.specs.Prelude.{◌≡◌, OnOk};
+ghost use Rattle.std.specs.Prelude.{◌≡◌, false, IfErr, OnOk};
 ghost use Rattle.nearest.specs.Nearest.{is_searched};
 ghost use Rattle.page_cache.specs.Cache.{KeepsGate, KeepsMap, device_of, looks_of};
 ghost use Rattle.plain_table.specs.Answers.{box_answer, boxes_answer, count_answer, distances_answer};
@@ -8,10 +8,11 @@ ghost use Rattle.plain_table.specs.Boxes.{given_point, point_dims};
 ghost use Rattle.plain_table.specs.Commands.Command.{Count, Get, Nearest, Range};
 ghost use Rattle.plain_table.specs.Step.{nearest_rows, reply_of};
 ghost use Rattle.plain_table.specs.Table.{Table, layer_at};
+ghost use Rattle.store_law.specs.Lawful.{blames_device};
 ghost use Rattle.tree_node.specs.Searches.{admitted};
 ghost use Rattle.live_layers.specs.Changes.{IsAnswered};
 ghost use Rattle.live_layers.specs.Faults.{HasRefusalCause};
-ghost use Rattle.live_layers.specs.Keeping.{IsSound, LooksAtTree, cache_of};
+ghost use Rattle.live_layers.specs.Keeping.{IsSound, IsWritten, LooksAtTree, cache_of};
 ghost use Rattle.live_layers.specs.Questions.{is_admitted};
 
 mod boxes;
@@ -35,6 +36,7 @@ impl<B: BlockDevice, A: Allocator + Copy> Layers<B, A> {
             (admitted (is_admitted (layer_at t name.now).dims query))) }
         ensures gate { KeepsGate (cache_of self.old) (cache_of self.new) }
         ensures map { KeepsMap (cache_of self.old) (cache_of self.new) }
+        ensures written { IsWritten self.old → IsWritten self.new }
         ensures cause { HasRefusalCause (B.faults (device_of (cache_of self.old)))
             (B.faults (device_of (cache_of self.new))) result }
     {
@@ -55,6 +57,7 @@ impl<B: BlockDevice, A: Allocator + Copy> Layers<B, A> {
             IsAnswered self.old self.new t (Get name.now id) (box_answer id result) }
         ensures gate { KeepsGate (cache_of self.old) (cache_of self.new) }
         ensures map { KeepsMap (cache_of self.old) (cache_of self.new) }
+        ensures written { IsWritten self.old → IsWritten self.new }
         ensures cause { HasRefusalCause (B.faults (device_of (cache_of self.old)))
             (B.faults (device_of (cache_of self.new))) result }
     {
@@ -71,7 +74,8 @@ impl<B: BlockDevice, A: Allocator + Copy> Layers<B, A> {
     ///
     /// Refused, in this order, by BadName and NoLayer.
     pub fn count(&self, name: &[u8]) -> Result<u64, Refusal>
-        ensures { (t : Table) → IsSound self.now t → count_answer result ≡ reply_of t (Count name.now) }
+        ensures answered { (t : Table) → IsSound self.now t → count_answer result ≡ reply_of t (Count name.now) }
+        ensures cause { IfErr result (λ refusal. blames_device refusal ≡ false) }
     {
         let place = self.named(name)?;
         Ok(self.records[place].count)
@@ -95,6 +99,7 @@ impl<B: BlockDevice, A: Allocator + Copy> Layers<B, A> {
             (nearest_rows (layer_at t name.now) k point)))) }
         ensures gate { KeepsGate (cache_of self.old) (cache_of self.new) }
         ensures map { KeepsMap (cache_of self.old) (cache_of self.new) }
+        ensures written { IsWritten self.old → IsWritten self.new }
         ensures cause { HasRefusalCause (B.faults (device_of (cache_of self.old)))
             (B.faults (device_of (cache_of self.new))) result }
     {

@@ -18,7 +18,7 @@ ghost use Rattle.tree_node.specs.Searches.{admitted, counted};
 ghost use Rattle.tree_node.specs.Trees.{Tree};
 ghost use Rattle.live_layers.specs.Changes.{Rose};
 ghost use Rattle.live_layers.specs.Faults.{HasRefusalCause};
-ghost use Rattle.live_layers.specs.Keeping.{IsSound, LooksAtTree, cache_of};
+ghost use Rattle.live_layers.specs.Keeping.{IsSound, IsWritten, LooksAtTree, cache_of};
 ghost use Rattle.live_layers.specs.Located.{IsLocated};
 ghost use Rattle.live_layers.specs.Questions.{IsReply, admits, is_admitted};
 
@@ -51,6 +51,7 @@ impl<B: BlockDevice, A: Allocator + Copy> Layers<B, A> {
         ensures sound { (t : Table) → IsSound self.old t → IsSound self.new t }
         ensures gate { KeepsGate (cache_of self.old) (cache_of self.new) }
         ensures map { KeepsMap (cache_of self.old) (cache_of self.new) }
+        ensures written { IsWritten self.old → IsWritten self.new }
         ensures cause { HasRefusalCause (B.faults (device_of (cache_of self.old)))
             (B.faults (device_of (cache_of self.new))) result }
     {
@@ -74,6 +75,7 @@ impl<B: BlockDevice, A: Allocator + Copy> Layers<B, A> {
         ensures sound { (t : Table) → IsSound self.old t → IsSound self.new t }
         ensures gate { KeepsGate (cache_of self.old) (cache_of self.new) }
         ensures map { KeepsMap (cache_of self.old) (cache_of self.new) }
+        ensures written { IsWritten self.old → IsWritten self.new }
         ensures cause { HasRefusalCause (B.faults (device_of (cache_of self.old)))
             (B.faults (device_of (cache_of self.new))) result }
     {
@@ -100,6 +102,7 @@ impl<B: BlockDevice, A: Allocator + Copy> Layers<B, A> {
         ensures sound { (t : Table) → IsSound self.old t → IsSound self.new t }
         ensures gate { KeepsGate (cache_of self.old) (cache_of self.new) }
         ensures map { KeepsMap (cache_of self.old) (cache_of self.new) }
+        ensures written { IsWritten self.old → IsWritten self.new }
         ensures cause { HasRefusalCause (B.faults (device_of (cache_of self.old)))
             (B.faults (device_of (cache_of self.new))) result }
     {
@@ -127,6 +130,7 @@ impl<B: BlockDevice, A: Allocator + Copy> Layers<B, A> {
         ensures stands { IsHonest (cache_of self.old) → (t : Tree) (most : ℕ) →
             IsTreeAt D most (pages (cache_of self.old)) root t → IfErr result IsOfDevice }
         ensures sound { (t : Table) → IsSound self.old t → IsSound self.new t }
+        ensures written { IsWritten self.old → IsWritten self.new }
     {
         match query {
             Query::Window(bounds) => window(self.alloc, &mut self.cache, root, bounds),

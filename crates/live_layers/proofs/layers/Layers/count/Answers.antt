@@ -12,13 +12,13 @@ use Rattle.live_layers.proofs.ReplyLemmas.{err_count, refused}
 use Rattle.live_layers.proofs.LocateLemmas.{count_here}
 use Rattle.live_layers.proofs.layers.Layers.count.Goals as goal
 
-pub returns-in_err-place : goal.returns-in_err-place
-returns-in_err-place g c = λ t sound.
+pub returns-in_err-place-clause-answered : goal.returns-in_err-place-clause-answered
+returns-in_err-place-clause-answered g c = λ t sound.
     let r = c.in_err-place.field-0.0 in
     err_count c.from_residual.result r c.from_residual.ensures.1 ∙ refused t (Count c.args.name.now) r (c.in_err-place.ensures.unnamed t sound [])
 
-pub returns : goal.returns
-returns g c = λ t sound.
+pub returns-clause-answered : goal.returns-clause-answered
+returns-clause-answered g c = λ t sound.
     let kept = c.args.self.now in
     let name = c.args.name.now in
     let place = c.in_ok-place.place in
