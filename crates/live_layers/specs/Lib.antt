@@ -9,5 +9,6 @@ pub mod Changes
 pub mod Begun
 pub mod Rules
 pub mod Inserting
+pub mod Creating
 pub mod Located
 pub mod Questions
