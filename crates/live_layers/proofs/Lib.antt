@@ -21,3 +21,4 @@ pub mod ReplaceLemmas
 pub mod NoteLemmas
 pub mod InsertLemmas
 pub mod AddLemmas
+pub mod CreateLemmas

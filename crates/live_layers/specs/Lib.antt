@@ -11,5 +11,6 @@ pub mod Unmade
 pub mod Closings
 pub mod Begun
 pub mod Inserting
+pub mod Creating
 pub mod Located
 pub mod Questions

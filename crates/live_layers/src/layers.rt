@@ -5,6 +5,7 @@ ghost use Rattle.live_layers.specs.Catalog.{AreLayers};
 
 mod beginning;
 mod closing;
+mod creating;
 mod find;
 mod inserting;
 mod locate;
