@@ -14,7 +14,6 @@ mod noting;
 mod open;
 mod questions;
 mod reopening;
-mod stubs;
 
 use arrayvec::ArrayVec;
 use block_device::BlockDevice;
