@@ -1,6 +1,6 @@
 -- A change of layers is a step of their store.
 use Rattle.std.proofs.Common.{◌≡◌, ◌≤◌, ◌^◌, ◌<◌, ℕ, List, Bool, true, false, not, sym, ap, subst, arith}
-use Rattle.std.specs.Prelude.{Option, Some, None, is_some, Result, Ok, Err}
+use Rattle.std.specs.Prelude.{Option, Some, None, is_some, Result, Ok, Err, OnOk}
 use Rattle.block_device.specs.Device.{LeavesOnly}
 use Rattle.live_layers.specs.Changes.{ChangeLeaves, IsChanged}
 use Rattle.live_layers.specs.Faults.{HasRefusalCause, HasUnmadeCause}
@@ -74,3 +74,10 @@ pub refused_goes_on : {D A : Type 0} {m : _} (old mid : Layers D A m) (t : Table
 refused_goes_on old mid t c made r reply admitted is e =
     let h = subst (λ (x : Result (Unit {0}) Unmade). IsChanged old mid t c x) e is in
     change_goes_on _ _ t c (refusal_of t c) r reply admitted h.1
+
+-- what a change that is made does to the layers it does to those of the store
+pub on_told : {L : Type 0} {mid new : L} (made : Result (Unit {0}) Unmade) (result : Result (Unit {0}) Refusal) (P : L → Type 0) → result ≡ told made → new ≡ mid → OnOk made (P mid) → OnOk result (P new)
+on_told (Ok u) (Ok v) P answered same h = subst P (sym same) h
+on_told (Ok u) (Err r) P answered same h = tt
+on_told (Err why) (Ok v) P answered same h = absurd (cc)
+on_told (Err why) (Err r) P answered same h = tt

@@ -1,6 +1,6 @@
 -- The steps of a store: alive, failed, and failing.
 use Rattle.std.proofs.Common.{◌≡◌, ◌∙◌, ◌≤◌, ◌<◌, ◌⊎◌, ℕ, Bool, true, false, not, cond, ◌^◌, refl, sym, ap, subst, arith, inl, inr}
-use Rattle.std.specs.Prelude.{Option, Some, None, is_some, Result, Ok, Err}
+use Rattle.std.specs.Prelude.{Option, Some, None, is_some, Result, Ok, Err, IfErr}
 use Rattle.std.proofs.Math.Nat.{le-min}
 use Rattle.block_device.specs.Device.{HasRisen, one_more}
 use Rattle.live_layers.specs.Changes.{IsAnswered, IsChanged, IsFaultOfChange}
@@ -73,6 +73,11 @@ told_count (unmade.Broken fault.NoPages) before = refl
 pub told_cause : (before now : ℕ) (made : Result (Unit {0}) Unmade) → HasUnmadeCause before now made → HasRefusalCause before now (told made)
 told_cause before now (Ok u) cause = record { ok = cause.made; refused = tt }
 told_cause before now (Err why) cause = record { ok = tt; refused = cause.unmade ∙ told_count why before }
+
+-- a refusal that blames no device leaves it
+pub blames_none : {T : Type 0} (now : ℕ) (result : Result T Refusal) → IfErr result (λ r. blames_device r ≡ false) → HasRefusalCause now now result
+blames_none now (Ok v) blameless = record { ok = refl; refused = tt }
+blames_none now (Err r) blameless = record { ok = tt; refused = sym (ap (λ (blamed : Bool). cond blamed (one_more now) now) blameless) }
 
 -- it does not fall
 blamed_grows : (blamed : Bool) (before : ℕ) → before < 2 ^ 64 → before ≤ cond blamed (one_more before) before
@@ -224,23 +229,36 @@ module _ {D A : Type 0} {m : _} where
           subst (λ (x : Answer). Reaches Represents new (λ s'. LawfulStep s (Asks c) x s')) (sym answered)
           (step old new c (done_answer (told made)) s (Alive t) led.state e represents led.is led.honest (leaves t s.stops sound (what_is_kept old s represents).leaves) led.lawful (more t sound))
 
+  -- a command that leaves the table of a live store
+  pub takes_asked : (old new : Store D A m) (c : Command) (a : Answer) → old.failed ≡ false → new.failed ≡ false → ((t : Table) (stops : Stops) → after_command t stops c a ≡ stops)
+      → ((t : Table) → IsSound old.layers t → IsSound new.layers t × LawfulFrom (Rose old new) (Spent new) t c a (Alive t)) → ((t : Table) (stops : Stops) → IsSound old.layers t → Leaves (cache_in old) stops → Leaves (cache_in new) stops) → NoFewer old new
+      → Takes Represents old new (λ s s'. LawfulStep s (Asks c) a s')
+  takes_asked old new c a going goes quiet lawful leaves more = λ s represents. go s represents s.state refl (what_is_kept old s represents).is.state
+    where
+      go : (s : SessionState) → Represents old s → (state : StoreState) → s.state ≡ state → IsInState old state → Reaches Represents new (λ s'. LawfulStep s (Asks c) a s')
+      go s represents Dead e dead = absurd (not_both old.failed (is_dead old dead) going)
+      go s represents (Alive t) e alive =
+          let sound = (is_alive old t alive).1 in
+          let h = lawful t sound in
+          step old new c a s (Alive t) (Alive t) e represents (alive_so new t goes h.0) h.0.map.honest
+          (subst (Leaves (cache_in new)) (sym (quiet t s.stops)) (leaves t s.stops sound (what_is_kept old s represents).leaves)) h.1 more
+
   -- a question of a live store
   pub takes_question : (old new : Store D A m) (c : Command) (a : Answer) → old.failed ≡ false → new.failed ≡ false → MayGiveUp c → ((t : Table) → after t c ≡ t) → ((t : Table) (stops : Stops) → after_command t stops c a ≡ stops)
       → ((t : Table) → IsSound old.layers t → IsAnswered old.layers new.layers t c a) → ((t : Table) (stops : Stops) → IsSound old.layers t → Leaves (cache_in old) stops → Leaves (cache_in new) stops) → NoFewer old new
       → Takes Represents old new (λ s s'. LawfulStep s (Asks c) a s')
-  takes_question old new c a going goes may stays quiet answered leaves more = λ s represents. go s represents s.state refl (what_is_kept old s represents).is.state
+  takes_question old new c a going goes may stays quiet answered leaves more =
+      takes_asked old new c a going goes quiet (λ t sound. let h = answered t sound in (h.0, lawful t h.1)) leaves more
     where
       lawful : (t : Table) → (a ≡ reply_of t c) ⊎ RefusedBy (IsFault (Rose old new) (Spent new × MayWrite t c)) a → LawfulFrom (Rose old new) (Spent new) t c a (Alive t)
       lawful t (inl as_table) = inl (as_table, ap Alive (sym (stays t)))
       lawful t (inr faulty) = inr (inl (faulty, may, refl))
 
-      go : (s : SessionState) → Represents old s → (state : StoreState) → s.state ≡ state → IsInState old state → Reaches Represents new (λ s'. LawfulStep s (Asks c) a s')
-      go s represents Dead e dead = absurd (not_both old.failed (is_dead old dead) going)
-      go s represents (Alive t) e alive =
-          let sound = (is_alive old t alive).1 in
-          let h = answered t sound in
-          step old new c a s (Alive t) (Alive t) e represents (alive_so new t goes h.0) h.0.map.honest
-          (subst (Leaves (cache_in new)) (sym (quiet t s.stops)) (leaves t s.stops sound (what_is_kept old s represents).leaves)) (lawful t h.1) more
+  -- a command that the store answers as the table does, without a call
+  pub takes_reply : (store : Store D A m) (c : Command) (a : Answer) → store.failed ≡ false → ((t : Table) → after t c ≡ t) → ((t : Table) (stops : Stops) → after_command t stops c a ≡ stops)
+      → ((t : Table) → IsSound store.layers t → a ≡ reply_of t c) → Takes Represents store store (λ s s'. LawfulStep s (Asks c) a s')
+  takes_reply store c a going stays quiet replied =
+      takes_asked store store c a going going quiet (λ t sound. (sound, inl (replied t sound, ap Alive (sym (stays t))))) (λ t stops sound was. was) (omega arith, omega arith)
 
 -- the refusal of a change that may change the table is no end of the store
 pub change_goes_on : (rose spent : Type 0) (t : Table) (c : Command) (why : Option Refusal) (r : Refusal) → reply_of t c ≡ refused_or why Done → not (is_some why) ≡ true

@@ -6,9 +6,9 @@ ghost use Rattle.live_layers.specs.Image.{MayRemain};
 ghost use Rattle.live_layers.specs.Keeping.{LooksAtTree};
 ghost use Rattle.live_layers.specs.Questions.{is_admitted};
 ghost use Rattle.nearest.specs.Nearest.{is_searched};
-ghost use Rattle.plain_table.specs.Answers.{box_answer, boxes_answer, distances_answer};
+ghost use Rattle.plain_table.specs.Answers.{box_answer, boxes_answer, count_answer, distances_answer};
 ghost use Rattle.plain_table.specs.Boxes.{given_point, point_dims};
-ghost use Rattle.plain_table.specs.Commands.Command.{Get, Nearest, Range};
+ghost use Rattle.plain_table.specs.Commands.Command.{Count, Get, Nearest, Range};
 ghost use Rattle.plain_table.specs.Step.{nearest_rows};
 ghost use Rattle.plain_table.specs.Table.{Table, layer_at};
 ghost use Rattle.plain_table.specs.declared.refusal.Refusal.TheVariants as refusal;
@@ -41,6 +41,22 @@ impl<D: BlockDevice, A: Allocator + Copy> Store<D, A> {
             return Err(FAILED);
         }
         self.layers.get(layer, id)
+    }
+
+    /// How many objects a layer has, by its record. It takes no memory, and makes no call of the device.
+    ///
+    /// Refused, in this order, by BadName and NoLayer.
+    pub fn count(&mut self, layer: &[u8]) -> Result<u64, Refusal>
+        ensures step { Takes Represents self.old self.new
+            (λ s s'. LawfulStep s (Asks (Count layer.now)) (count_answer result) s') }
+        ensures same { self.new ≡ self.old }
+        ensures dead { IsInState self.old Dead → result ≡ Err (refusal.StoreFailed 19) }
+        ensures cause { HasRefusalCause (D.faults (device_in self.old)) (D.faults (device_in self.new)) result }
+    {
+        if self.failed {
+            return Err(FAILED);
+        }
+        self.layers.count(layer)
     }
 
     /// The objects of a layer that the query seeks, ascending by identifier. It looks at the root of the layer's tree, and

@@ -1,12 +1,16 @@
 -- A change of the layers is a step of the store.
-use Rattle.std.proofs.Common.{◌≡◌, refl, true, false}
-use Rattle.page_cache.specs.Cache.{device_of}
+use Rattle.std.proofs.Common.{refl}
+use Rattle.live_layers.specs.Keeping.{ChangesTree}
+use Rattle.live_layers.specs.Rules.{HasGained}
+use Rattle.plain_table.specs.Boxes.{given_bounds}
+use Rattle.plain_table.specs.Table.{layer_at}
+use Rattle.live_layers.specs.declared.layers.Layers.{Layers}
 use Rattle.plain_table.specs.Commands.Command.{Insert}
 use Rattle.plain_table.specs.Step.{changed, changes, refusal_of}
 use Rattle.layer_store.specs.Representation.{device_in}
-use Rattle.layer_store.proofs.ChangeLemmas.{cause_told, quiet_told, refused_goes_on, stays, step_told, stops_told}
+use Rattle.layer_store.proofs.ChangeLemmas.{cause_told, on_told, quiet_told, refused_goes_on, stays, step_told, stops_told}
 use Rattle.layer_store.proofs.StopLemmas.{change_leaves}
-use Rattle.layer_store.proofs.StoreLemmas.{alive_in, is_dead, not_both, takes_nothing}
+use Rattle.layer_store.proofs.StoreLemmas.{alive_in, alive_with, is_dead, not_both, takes_nothing}
 use Rattle.layer_store.proofs.store.changes.Store.insert.Goals as goal
 
 pub returns-then-self-clause-step : goal.returns-then-self-clause-step
@@ -49,3 +53,8 @@ pub returns-clause-cause : goal.returns-clause-cause
 returns-clause-cause g c =
     let made = c.insert-made in
     cause_told c.args.self.now c.tell.new.self made.new.self (Insert c.args.layer.now c.args.id c.args.bounds) made.result c.tell.result c.if-self.false c.tell.ensures.told (c.tell.ensures.failed c.if-self.false) c.tell.ensures.layers made.ensures.cause
+
+pub returns-clause-tree : goal.returns-clause-tree
+returns-clause-tree g c = λ t represents.
+    let made = c.insert-made in
+    on_told made.result c.tell.result (λ (l : Layers _ _ _). ChangesTree c.args.self.now.layers l c.args.layer.now (HasGained (layer_at t c.args.layer.now) c.args.id (given_bounds c.args.bounds))) c.tell.ensures.told c.tell.ensures.layers (made.ensures.tree t (alive_with c.args.self.now t represents).1)
