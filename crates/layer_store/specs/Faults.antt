@@ -1,30 +1,7 @@
--- The refusals that faults of a file are, and what they say of its device.
-use Rattle.std.specs.Prelude.{ℕ, ◌≡◌, ◌⊎◌, if◌then◌else◌, Result, OnOk, IfErr}
-use Rattle.block_device.specs.Device.{one_more}
-use Rattle.page_file.specs.declared.fault.Fault.{Fault}
-use Rattle.page_file.specs.declared.fault.Fault.TheVariants as fault
-use Rattle.store_law.specs.Lawful.{blames_device}
+-- What a start or a closing is refused by.
+use Rattle.std.specs.Prelude.{◌≡◌, ◌⊎◌}
 use Rattle.plain_table.specs.declared.refusal.Refusal.{Refusal}
 use Rattle.plain_table.specs.declared.refusal.Refusal.TheVariants as refusal
-
--- of the same name
-abbrev pub as_refusal : Fault → Refusal
-as_refusal fault.Memory = refusal.Memory
-as_refusal fault.Device = refusal.Device
-as_refusal (fault.Damaged page) = refusal.Damaged page
-as_refusal fault.NotClosed = refusal.NotClosed
-as_refusal fault.NotAStore = refusal.NotAStore
-as_refusal fault.WrongVersion = refusal.WrongVersion
-as_refusal fault.NoPages = refusal.NoPages
-
--- how often the device has failed after a refusal: once more with one that says so, and no more with another
-abbrev pub faults_after_refusal : Refusal → ℕ → ℕ
-faults_after_refusal r before = if blames_device r then one_more before else before
-
--- the count of the device's faults rises by one with a refusal that says so, and with nothing else
-pub record HasRefusalCause {T : Type 0} (before now : ℕ) (result : Result T Refusal) : Type 0 where
-  pub ok : OnOk result (now ≡ before)
-  pub refused : IfErr result (λ r. now ≡ faults_after_refusal r before)
 
 -- want of memory, or a device that failed
 abbrev pub IsMemoryOrDevice : Refusal → Type 0

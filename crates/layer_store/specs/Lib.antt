@@ -1,8 +1,4 @@
--- The files of definitions, and of the laws that callers cite.
-pub mod Catalog
-pub mod Image
-pub mod Laws
+-- The files of definitions.
 pub mod Faults
-pub mod StoredTable
 pub mod Starting
 pub mod Representation

@@ -1,54 +1,55 @@
 -- What a store represents, and the device and blocks that it has.
-use Rattle.std.specs.Prelude.{ℕ, ◌≡◌, true, [], ◌∷◌, if◌then◌else◌}
-use Rattle.block_device.specs.Device.{Blocks}
-use Rattle.list_table.specs.InMemory.{AnsweredInMemory}
-use Rattle.page_file.specs.File.{blocks_of, device_of, gate_of, next_of}
-use Rattle.page_file.specs.declared.file.PageFile.{PageFile}
-use Rattle.page_file.specs.declared.gate.Gate.TheVariants.{Shut}
-use Rattle.plain_table.specs.Commands.{Command}
-use Rattle.plain_table.specs.Step.{Answer}
-use Rattle.plain_table.specs.Step.Answer.{Refused}
+use Rattle.std.specs.Prelude.{ℕ, ◌≡◌, true, false, [], ◌∷◌}
+use Rattle.block_device.specs.Device.{Blocks, LeavesOnly}
+use Rattle.live_layers.specs.Keeping as keeping
+use Rattle.live_layers.specs.Keeping.{IsSound, Leaves, cache_of}
+use Rattle.live_layers.specs.declared.layers.Layers.{Layers}
+use Rattle.page_cache.specs.Cache.{IsHonest, KeepsGate, KeepsMap, blocks_of, device_of, looks_of, next_of}
+use Rattle.page_cache.specs.declared.cache.PageCache.{PageCache}
 use Rattle.plain_table.specs.Table.{Table}
-use Rattle.plain_table.specs.declared.refusal.Refusal.TheVariants as refusal
 use Rattle.store_law.specs.Sessions.{Reaches, SessionState}
 use Rattle.store_law.specs.States.{StoreState}
 use Rattle.store_law.specs.States.StoreState.{Alive, Dead}
 use Rattle.store_law.specs.Stops.{Stops, tables_left}
 use Rattle.store_law.specs.Stops.AfterStop.{Surely, Perhaps}
-use Rattle.layer_store.specs.StoredTable.{IsSound, Leaves}
 use Rattle.layer_store.specs.declared.store.Store.{Store}
 
--- the blocks on its device
-abbrev pub blocks_in : {D A : Type 0} {m : _} → Store D A m → Blocks
-blocks_in store = blocks_of store.stored.file
+-- its layers, and the cache of their pages
+abbrev pub layers_in : {D A : Type 0} {m : _} → Store D A m → Layers D A m
+layers_in store = store.layers
 
--- its device
+abbrev pub cache_in : {D A : Type 0} {m : _} → Store D A m → PageCache D A m
+cache_in store = cache_of store.layers
+
+-- its device, and the blocks on it
 abbrev pub device_in : {D A : Type 0} {m : _} → Store D A m → D
-device_in store = device_of store.stored.file
+device_in store = device_of (cache_in store)
 
--- its file of pages
-abbrev pub file_in : {D A : Type 0} {m : _} → Store D A m → PageFile D m
-file_in store = store.stored.file
+abbrev pub blocks_in : {D A : Type 0} {m : _} → Store D A m → Blocks
+blocks_in store = blocks_of (cache_in store)
 
--- It is settled: its gate is shut after its pages came to hold its table, so nothing is to be written.
+-- how many nodes its questions have looked at, and other pages
+abbrev pub looks_in : {D A : Type 0} {m : _} → Store D A m → ℕ
+looks_in store = looks_of (cache_in store)
+
+-- It is settled: its gate is shut over its table, so nothing is to be written.
 unfoldable pub IsSettled : {D A : Type 0} {m : _} → Store D A m → Type 0
-IsSettled store = (gate_of store.stored.file ≡ Shut) × (store.stored.written ≡ true)
+IsSettled store = keeping.IsSettled store.layers
 
--- The store is in this state: dead once it failed, else alive with the table that it answers from, which is one in
--- memory. It is said of any store, sound or not.
+-- The store is in this state: dead once it failed, else alive with the table that its layers hold.
 unfoldable pub IsInState : {D A : Type 0} {m : _} → Store D A m → StoreState → Type 0
-IsInState store state = state ≡ (if store.failed then Dead else Alive store.stored.table)
+IsInState store (Alive t) = (store.failed ≡ false) × IsSound store.layers t
+IsInState store Dead = store.failed ≡ true
 
 -- the state of a session is the store's: its state, the faults of its device, and the page numbers given out
 pub record IsOfStore {D A : Type 0} {m : _} (store : Store D A m) (s : SessionState) : Type 0 where
   pub state : IsInState store s.state
   pub faults : s.faults ≡ m.faults (device_in store)
-  pub next : s.next ≡ next_of (file_in store)
+  pub next : s.next ≡ next_of (cache_in store)
 
--- The session's state is the store's, and the store is sound: its device is honest, its map of pages is whole, and holds
--- the table where that was written; and stops leave what the session's state says.
+-- The session's state is the store's, its device is honest, and stops leave what the session's state says.
 unfoldable pub Represents : {D A : Type 0} {m : _} → Store D A m → SessionState → Type 0
-Represents store s = IsOfStore store s × IsSound store.stored × Leaves store.stored.file s.stops
+Represents store s = IsOfStore store s × IsHonest (cache_in store) × Leaves (cache_in store) s.stops
 
 -- the store is sound and alive, and represents the table
 abbrev pub RepresentsTable : {D A : Type 0} {m : _} → Store D A m → Table → Type 0
@@ -75,7 +76,14 @@ resting_on s moment t = record { state = s.state; stops = record { now = Perhaps
 abbrev pub HasFailed : {D A : Type 0} {m : _} → Store D A m → Type 0
 HasFailed store = Reaches Represents store (λ s. s.state ≡ Dead)
 
--- What a store of either state answers from a table in memory: a live one goes on, and a dead one stays dead.
-abbrev pub AnswersInMemory : StoreState → Command → Answer → StoreState → Type 0
-AnswersInMemory (Alive t) c a new = (u : Table) × (new ≡ Alive u) × AnsweredInMemory t c a u
-AnswersInMemory Dead c a new = (a ≡ Refused (refusal.StoreFailed 19)) × (new ≡ Dead)
+-- ---- a command
+
+-- stops at each moment of a command left blocks that have P
+abbrev pub StopsLeave : {D A : Type 0} {m : _} → Store D A m → Store D A m → (Blocks → Type 0) → Type 0
+StopsLeave {m = m} old new P = LeavesOnly m.moment m.left_since (device_in old) (device_in new) P
+
+-- a question keeps the gate with its moment, and the map of pages; what was settled is so still
+pub record KeepsStore {D A : Type 0} {m : _} (old new : Store D A m) : Type 0 where
+  pub gate : KeepsGate (cache_in old) (cache_in new)
+  pub map : KeepsMap (cache_in old) (cache_in new)
+  pub settled : IsSettled old → IsSettled new

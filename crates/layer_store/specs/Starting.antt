@@ -1,10 +1,10 @@
 -- What refuses the opening of a store. Our rule, docs/COMMANDS.md and docs/FORMAT.md, "Opening".
 use Rattle.std.specs.Prelude.{ℕ, ◌≡◌, Bool, ◌&&◌, nat_le}
 use Rattle.block_device.specs.Device.{Blocks}
+use Rattle.live_layers.specs.Faults.{as_refusal}
+use Rattle.live_layers.specs.Image.{OpeningRefuses}
 use Rattle.page_file.specs.declared.fault.Fault.{Fault}
 use Rattle.plain_table.specs.declared.refusal.Refusal.{Refusal}
-use Rattle.layer_store.specs.Faults.{as_refusal}
-use Rattle.layer_store.specs.Image.{OpeningRefuses}
 
 -- a cache holds 8 to 4096 pages
 abbrev pub is_cache : ℕ → Bool

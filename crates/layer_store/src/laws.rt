@@ -1,13 +1,13 @@
-//! What follows from the definitions of pages and images: each law is the contract of a function that does nothing.
-ghost use Rattle.std.specs.Prelude.{◌≡◌, ◌≤◌, ◌∷◌, ℕ};
+//! What follows from the definitions of images and of what a store represents: each law is the contract of a function that
+//! does nothing.
+ghost use Rattle.std.specs.Prelude.{◌≡◌, ◌∷◌, ℕ};
 ghost use Rattle.block_device.specs.Device.{Blocks, LeavesOnly};
-ghost use Rattle.object_chain.specs.Chain.{KeepsPages, PageMap};
+ghost use Rattle.live_layers.specs.Image.{IsImage, MayRemain, IsRefusedOrImageOf, OpeningRefuses};
 ghost use Rattle.page_file.specs.declared.fault.Fault.{Fault};
 ghost use Rattle.plain_table.specs.Table.{Table};
 ghost use Rattle.store_law.specs.Sessions.{SessionState};
 ghost use Rattle.store_law.specs.States.{StoreState};
 ghost use Rattle.store_law.specs.Stops.{tables_left};
-ghost use Rattle.layer_store.specs.Image.{Holds, IsImage, MayRemain, IsRefusedOrImageOf, OpeningRefuses};
 ghost use Rattle.layer_store.specs.Representation.{IsInState, IsOfStore, Represents};
 ghost use Rattle.layer_store.specs.Representation.{blocks_in, device_in, from_now, resting_on};
 ghost use Rattle.layer_store.specs.declared.store.Store.{Store};
@@ -16,25 +16,21 @@ use block_device::BlockDevice;
 use std::alloc::Allocator;
 
 /// Blocks are an image of at most one table.
+#[tactic(auto, using(live_layers::proofs::OneTable::an_image_is_of_one_table))]
 pub fn an_image_is_of_one_table()
     ensures { (blocks : Blocks) (t u : Table) → IsImage blocks t → IsImage blocks u → t ≡ u }
 {}
 
 /// No check of opening refuses an image.
+#[tactic(auto, using(live_layers::proofs::OneTable::an_image_is_not_refused))]
 pub fn an_image_is_not_refused()
     ensures { (blocks : Blocks) (t : Table) (f : Fault) → IsImage blocks t → OpeningRefuses blocks f → ⊥ }
 {}
 
 /// Opening refuses blocks in one way, so it is known which fault is answered.
+#[tactic(auto, using(live_layers::proofs::OneTable::blocks_are_refused_in_one_way))]
 pub fn blocks_are_refused_in_one_way()
     ensures { (blocks : Blocks) (f g : Fault) → OpeningRefuses blocks f → OpeningRefuses blocks g → f ≡ g }
-{}
-
-/// A table that pages hold stays where those pages stay, and more may be given out.
-#[tactic(auto, using(crate::specs::Laws::a_held_table_stays))]
-pub fn a_held_table_stays()
-    ensures { (old new : PageMap) (next after : ℕ) (t : Table) → KeepsPages old new → next ≤ after →
-        Holds old next t → Holds new after t }
 {}
 
 /// A stop between two calls leaves of a store what the state of its session says, and one at any moment since the
@@ -61,12 +57,10 @@ pub fn a_session_state_is_of_its_store<D: BlockDevice, A: Allocator>()
     ensures { (store : Store D A ⟦<D as BlockDevice>⟧) (s : SessionState) → Represents store s → IsOfStore store s }
 {}
 
-/// A store is in one state. While it answers from a table in memory, any store is in one, also on a device that is not
-/// honest.
+/// A store is in at most one state: it is not both alive and dead, and its pages hold one table.
 pub fn a_store_is_in_one_state<D: BlockDevice, A: Allocator>()
-    ensures one { (store : Store D A ⟦<D as BlockDevice>⟧) (s t : StoreState) → IsInState store s →
+    ensures { (store : Store D A ⟦<D as BlockDevice>⟧) (s t : StoreState) → IsInState store s →
         IsInState store t → s ≡ t }
-    ensures some { (store : Store D A ⟦<D as BlockDevice>⟧) → (s : StoreState) × IsInState store s }
 {}
 
 /// Each moment may be taken for the beginning: the tables so far are then those that a stop now may leave.

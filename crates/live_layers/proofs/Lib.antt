@@ -12,3 +12,13 @@ pub mod Results
 pub mod OpenLemmas
 pub mod LocateLemmas
 pub mod AskLemmas
+pub mod OneTable
+pub mod ClosingLemmas
+pub mod ReplyLemmas
+pub mod BegunLemmas
+pub mod ChangeLemmas
+pub mod ReplaceLemmas
+pub mod NoteLemmas
+pub mod InsertLemmas
+pub mod AddLemmas
+pub mod CreateLemmas

@@ -3,6 +3,8 @@ use Rattle.std.proofs.Common.{◌≡◌, ◌∙◌, ℕ, ◌<◌, ◌≤◌, ◌
 use Rattle.std.specs.Cmp.{first_so, second_so}
 use Rattle.std.proofs.lemmas.Bool.Decides.{nat_tests}
 use Rattle.std.proofs.lemmas.List.{get_or-map, length-map}
+use Rattle.std.specs.FinMap.{len, len-entries}
+use Rattle.box_math.specs.Bounds.{IsDims}
 use Rattle.catalog_page.specs.Layout.{Record, record_of, records_of}
 use Rattle.catalog_page.specs.declared.layer_record.LayerRecord.{LayerRecord}
 use Rattle.layer_pages.specs.Layers.{CanBeRoot, IsLayerAt}
@@ -13,6 +15,7 @@ use Rattle.live_layers.specs.Keeping.{Finds, IsSound}
 use Rattle.live_layers.specs.Layers.{Reading, root_of}
 use Rattle.live_layers.specs.Located.{IsLocated}
 use Rattle.live_layers.specs.declared.layers.Layers.{Layers}
+use Rattle.live_layers.specs.declared.located.Located.{Located}
 use Rattle.live_layers.proofs.CatalogGood.{good_parts, not_more}
 use Rattle.live_layers.proofs.HoldLemmas.{here, here_layer, here_named, here_row, here_stands, in_records}
 
@@ -25,12 +28,27 @@ page_says next n e = (low, below)
     below : n < next
     below = grind (arith, nat_tests)
 
+two_or_three : (dims : ℕ) → is_dims dims ≡ true → IsDims dims
+two_or_three dims e = (low, high)
+  where
+    low : 2 ≤ dims
+    low = grind (arith, nat_tests)
+
+    high : dims ≤ 3
+    high = grind (arith, nat_tests)
+
 module _ (items : List LayerRecord) (place : ℕ) (r : LayerRecord) (is : r ≡ get_or items place r) (lt : place < length items) (each : AreLayers (map record_of items)) where
   record_good : is_layer_record (2 ^ 31) (record_of r) ≡ true
   record_good =
       let there = each place (record_of r) (omega (arith, lt, length-map items record_of)) in
       let same : get_or (map record_of items) place (record_of r) ≡ record_of r = get_or-map record_of items place r (record_of r) lt ∙ ap record_of (sym is) in
       subst (λ (x : Record). is_layer_record (2 ^ 31) x ≡ true) same there
+
+  pub dims_fit : IsDims r.dims
+  dims_fit =
+      let parts = good_parts (2 ^ 31) (record_of r) record_good in
+      let named = first_so (is_layer_name r.name.items && is_dims r.dims) (is_fanout r.fanout) parts.layer in
+      two_or_three r.dims (second_so (is_layer_name r.name.items) (is_dims r.dims) named)
 
   pub fanout_fits : (4 ≤ r.fanout) × (r.fanout ≤ 100)
   fanout_fits =
@@ -57,6 +75,12 @@ module _ {D A : Type 0} {m : _} (kept : Layers D A m) (t : Table) (name : List �
   pub layer_is : layer_at t name ≡ reading.layer
   layer_is = here_layer (pages kept.cache) (next_of kept.cache) (records_of kept.records) t sound.holds name place finds
 
+  -- it has as many objects as its record says
+  pub count_here : len (layer_at t name).objects ≡ r.count
+  count_here =
+      let stands = here_stands (pages kept.cache) (next_of kept.cache) (records_of kept.records) t sound.holds name place finds in
+      ap (λ (l : Layer). len l.objects) layer_is ∙ len-entries reading.layer.objects ∙ stands.count ∙ ap (λ (x : Record). x.count) (sym row_is)
+
   pub located_here : IsLocated kept t name (record { dims = r.dims; fanout = r.fanout; root = record { page = r.root; level = r.level }; directory = r.directory })
   located_here =
       let stands = here_stands (pages kept.cache) (next_of kept.cache) (records_of kept.records) t sound.holds name place finds in
@@ -73,3 +97,9 @@ module _ {D A : Type 0} {m : _} (kept : Layers D A m) (t : Table) (name : List �
           tree = stands.at.tree;
         };
       }
+
+-- the layer stands with the axes that are known
+pub stands_with : {D A : Type 0} {m : _} (kept : Layers D A m) (t : Table) (name : List ℕ) (there : Located) (located : IsLocated kept t name there) (axes : ℕ) → there.dims ≡ axes
+    → IsLayerAt axes there.fanout (pages kept.cache) there.root there.directory located.layer (layer_at t name).objects
+stands_with kept t name there located axes e =
+    subst (λ (d : ℕ). IsLayerAt d there.fanout (pages kept.cache) there.root there.directory located.layer (layer_at t name).objects) e located.stands

@@ -1,5 +1,6 @@
 -- What a stop leaves of the blocks under a cache: a refusal, or an image.
 use Rattle.std.proofs.Common.{◌≡◌, ◌∙◌, ◌⊎◌, suc, List, [], ◌∷◌, drop, Some, refl, sym, ap, subst, arith, inl, inr, ⊎_elim}
+use Rattle.std.specs.List.{Contains}
 use Rattle.std.specs.Prelude.{option_and_then}
 use Rattle.block_device.specs.Device.{Blocks, LeavesOnly, Only}
 use Rattle.block_device.specs.Moments.{leaves_then, leaves_weaker, started}
@@ -15,8 +16,10 @@ use Rattle.page_file.specs.Stops.{SameButGate, StopSince}
 use Rattle.page_file.specs.declared.gate.Gate.{Gate}
 use Rattle.page_file.specs.declared.gate.Gate.TheVariants.{Shut, Open, Unsure}
 use Rattle.plain_table.specs.Table.{Table}
+use Rattle.store_law.specs.Stops.{AfterStop, Stops, tables_left}
+use Rattle.store_law.specs.Stops.AfterStop.{Surely, Perhaps}
 use Rattle.live_layers.specs.Image.{IsImage, IsRefusedOrImageOf}
-use Rattle.live_layers.specs.Keeping.{RestLeavesOneOf}
+use Rattle.live_layers.specs.Keeping.{Leaves, LeavesAtRest, RestLeavesOneOf}
 use Rattle.live_layers.specs.Layers.{Holds, catalog_in}
 use Rattle.live_layers.proofs.KeepLemmas.{same_pages_hold}
 
@@ -26,6 +29,10 @@ or_this ts t c (inr (u, (i, lt, is), image)) = inr (u, (suc i, omega (arith, lt)
 
 pub this_one : (ts : List Table) (t : Table) (c : Blocks) → IsImage c t → IsRefusedOrImageOf (t ∷ ts) c
 this_one ts t c image = inr (t, (0, omega arith, refl), image)
+
+pub images_among : (ts us : List Table) (c : Blocks) → ((t : Table) → Contains ts t → Contains us t) → IsRefusedOrImageOf ts c → IsRefusedOrImageOf us c
+images_among ts us c among (inl refused) = inl refused
+images_among ts us c among (inr (u, there, image)) = inr (u, among u there, image)
 
 -- blocks in which the pages of an image are found, whatever their gate
 pub image_aside : (blocks c : Blocks) (t : Table) → IsImage blocks t → SameButGate c blocks → IsRefused c ⊎ IsImage c t
@@ -38,7 +45,7 @@ image_aside blocks c t image same = ⊎_elim (λ (refused : IsRefused c). inl re
 })) (aside_passes c blocks same)
 
 -- what a stop leaves by such a gate
-by_gate : (gate : Gate) (shown c : Blocks) (ts : List Table) → (¬ (gate ≡ Open) → SameButGate c shown → IsRefusedOrImageOf ts c) → StopSince gate shown c → IsRefusedOrImageOf ts c
+pub by_gate : (gate : Gate) (shown c : Blocks) (ts : List Table) → (¬ (gate ≡ Open) → SameButGate c shown → IsRefusedOrImageOf ts c) → StopSince gate shown c → IsRefusedOrImageOf ts c
 by_gate Shut shown c ts rests stop = rests (λ e. cc) (ap (drop 1) stop)
 by_gate Open shown c ts rests stop = inl stop
 by_gate Unsure shown c ts rests (inl refused) = inl refused
@@ -122,3 +129,25 @@ module _ {D A : Type 0} {m : _} where
   pub kept_rests : (old new : PageCache D A m) (ts : List Table) → IsHonest old → KeepsGate old new → RestLeavesOneOf old ts → RestLeavesOneOf new ts
   kept_rests old new ts honest keeps rests = λ closed c same.
       let was : ¬ (gate_of old ≡ Open) = λ opened. closed (keeps.gate ∙ opened) in rests was c (same ∙ ap (drop 1) (keeps.blocks honest was))
+
+  -- so stops leave of it what they left before
+  pub leaves_kept : (old new : PageCache D A m) (stops : Stops) → IsHonest old → KeepsGate old new → Leaves old stops → Leaves new stops
+  leaves_kept old new stops honest keeps leaves = record {
+    now = rests stops.now leaves.now;
+    begun = omega (arith, leaves.begun, (keeps.stops honest).later);
+    so_far = λ c left. ⊎_elim (leaves.so_far c) (λ stop. images_among (tables_left stops.now) stops.so_far c leaves.among (left_now stops.now c leaves.now stop)) ((keeps.stops honest).before stops.since c leaves.begun left);
+    among = leaves.among;
+  }
+    where
+      closed : gate_of old ≡ Shut → ¬ (gate_of old ≡ Open)
+      closed shut opened = let no : Shut ≡ Open = sym shut ∙ opened in absurd (cc)
+
+      rests : (now : AfterStop) → LeavesAtRest old now → LeavesAtRest new now
+      rests (Surely t) at = (keeps.gate ∙ at.0, subst (λ (blocks : Blocks). IsImage blocks t) (sym (keeps.blocks honest (closed at.0))) at.1)
+      rests (Perhaps ts) at = kept_rests old new ts honest keeps at
+
+      left_now : (now : AfterStop) (c : Blocks) → LeavesAtRest old now → StopSince (gate_of old) (blocks_of old) c → IsRefusedOrImageOf (tables_left now) c
+      left_now (Surely t) c at stop =
+          let same : c ≡ blocks_of old = subst (λ (gate : Gate). StopSince gate (blocks_of old) c) at.0 stop in
+          this_one [] t c (subst (λ (blocks : Blocks). IsImage blocks t) (sym same) at.1)
+      left_now (Perhaps ts) c at stop = by_gate (gate_of old) (blocks_of old) c ts (λ shut same. at shut c same) stop

@@ -31,6 +31,10 @@ records_in kept = records_of kept.records
 abbrev pub IsWritten : {D A : Type 0} {m : _} → Layers D A m → Type 0
 IsWritten kept = kept.written ≡ true
 
+-- nothing is to be written at all: the gate is shut, too
+abbrev pub IsSettled : {D A : Type 0} {m : _} → Layers D A m → Type 0
+IsSettled kept = (gate_of kept.cache ≡ Shut) × IsWritten kept
+
 -- The layers are sound with this table: with their records the pages of an honest device hold it, and page 2 spells them
 -- where they were written.
 pub record IsSound {D A : Type 0} {m : _} (kept : Layers D A m) (t : Table) : Type 0 where

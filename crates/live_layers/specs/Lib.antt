@@ -6,5 +6,11 @@ pub mod Faults
 pub mod Entries
 pub mod Keeping
 pub mod Changes
+pub mod Rules
+pub mod Unmade
+pub mod Closings
+pub mod Begun
+pub mod Inserting
+pub mod Creating
 pub mod Located
 pub mod Questions

@@ -1,61 +1,62 @@
--- What questions of a box ask of a layer, and what they are answered (our rule, docs/COMMANDS.md; the nodes that are looked
--- at: Guttman 1984; Beckmann, Kriegel, Schneider and Seeger 1990).
-use Rattle.std.specs.Prelude.{ℕ, ◌≡◌, ◌⊎◌, Bool, not, ◌==◌, List, [], ◌∷◌, Option, None, Some, Result, Ok, Err, Vec, map, filter}
-use Rattle.std.specs.FinMap.{entries}
-use Rattle.box_math.specs.Bounds.{Bounds, meets_test, within_test}
-use Rattle.plain_table.specs.Answers.{row_of}
-use Rattle.plain_table.specs.Boxes.{is_ordered}
-use Rattle.plain_table.specs.Step.{box_refusals, first_refusal, layer_refusals}
-use Rattle.plain_table.specs.Table.{Layer, Table, layer_at}
-use Rattle.plain_table.specs.declared.boxes.AnyBox.{AnyBox}
-use Rattle.plain_table.specs.declared.boxes.RawBox.{RawBox}
+-- What questions ask of a layer, and what they are answered (our rule, docs/COMMANDS.md; the nodes that are looked at: Guttman
+-- 1984; Beckmann, Kriegel, Schneider and Seeger 1990).
+use Rattle.std.specs.Prelude.{ℕ, ◌≡◌, ◌⊎◌, Bool, List, [], ◌∷◌, Option, Some, Result, Ok, Err, Vec}
+use Rattle.box_math.specs.Bounds.{Bounds, holds_test, meets_test, within_test}
+use Rattle.plain_table.specs.Boxes.{given_bounds, given_point}
+use Rattle.plain_table.specs.Step.{Answer, first_refusal, layer_refusals, refused_or}
+use Rattle.plain_table.specs.Step.Answer.{Boxes, Refused}
+use Rattle.plain_table.specs.Table.{Table}
+use Rattle.plain_table.specs.declared.queries.Query.{Query}
+use Rattle.plain_table.specs.declared.queries.Query.TheVariants as query
+use Rattle.plain_table.specs.declared.queries.RawQuery.{RawQuery}
+use Rattle.plain_table.specs.declared.queries.RawQuery.TheVariants.{Window, Inside, Around, Point}
 use Rattle.plain_table.specs.declared.refusal.Refusal.{Refusal}
-use Rattle.plain_table.specs.declared.refusal.Refusal.TheVariants as refusal
-use Rattle.store_law.specs.Lawful.{IsFault}
-use Rattle.live_layers.specs.Changes.{Rose}
-use Rattle.live_layers.specs.Keeping.{IsSound}
-use Rattle.live_layers.specs.declared.layers.Layers.{Layers}
-use Rattle.live_layers.specs.declared.question.Question.{Question}
-use Rattle.live_layers.specs.declared.question.Question.TheVariants.{Window, Inside, Around}
+use Rattle.store_law.specs.Lawful.{IsFault, RefusedBy}
 
--- whether a question of a box seeks an object with the other box: one that meets it, lies in it, or encloses it
-abbrev pub is_sought : Question → ℕ → Bounds → Bounds → Bool
-is_sought Window dims box b = meets_test dims b box
-is_sought Inside dims box b = within_test dims b box
-is_sought Around dims box b = within_test dims box b
+-- ---- names
 
--- whether it looks into a node with the other box
-abbrev pub is_admitted : Question → ℕ → Bounds → Bounds → Bool
-is_admitted Window dims box b = meets_test dims b box
-is_admitted Inside dims box b = meets_test dims b box
-is_admitted Around dims box b = within_test dims box b
+-- a layer has this name, so what is asked of it is refused only for what the layer is
+abbrev pub IsNamed : Table → List ℕ → Type 0
+IsNamed t name = (more : List (Bool × Refusal)) → first_refusal (layer_refusals t name more) ≡ first_refusal more
 
--- the refusal of a question of a box, if there is one: as of a window
-abbrev pub box_refusal : Table → List ℕ → RawBox → Option Refusal
-box_refusal t name box = first_refusal (layer_refusals t name (box_refusals (layer_at t name).dims box []))
+-- whatever is asked of this name is refused so: it is none, or no layer has it
+abbrev pub IsUnnamed : Table → List ℕ → Refusal → Type 0
+IsUnnamed t name why = (more : List (Bool × Refusal)) → first_refusal (layer_refusals t name more) ≡ Some why
 
--- the same of a box of so many axes, of the layer that is there
-abbrev pub bounds_refusal : ℕ → Bounds → Layer → Option Refusal
-bounds_refusal dims box layer = first_refusal ((not (dims == layer.dims), refusal.WrongDims) ∷ (not (is_ordered dims box), refusal.BadBox) ∷ [])
+-- ---- ranges
 
--- the objects that it seeks in a layer, ascending by identifier
-abbrev pub rows_sought : Question → Layer → Bounds → List (ℕ × Bounds)
-rows_sought question layer box = filter (λ row. is_sought question layer.dims box row.1) (entries layer.objects)
+-- a query whose axes are known, as it was given
+abbrev pub given_query : {D : ℕ} → RawQuery → Query D
+given_query (Window window) = query.Window (given_bounds window)
+given_query (Inside window) = query.Inside (given_bounds window)
+given_query (Around inner) = query.Around (given_bounds inner)
+given_query (Point point) = query.Point (given_point point)
 
--- the rows of an answer as lows and highs
-abbrev pub shown_of : {A : Type 0} → Result (Vec (ℕ × AnyBox) A) Refusal → Result (List (ℕ × Bounds)) Refusal
-shown_of (Ok rows) = Ok (map row_of rows.items)
-shown_of (Err r) = Err r
+-- whether a query looks into a node with this box, in a layer of so many axes
+abbrev pub is_admitted : ℕ → RawQuery → Bounds → Bool
+is_admitted dims (Window window) b = meets_test dims b (given_bounds window)
+is_admitted dims (Inside window) b = meets_test dims b (given_bounds window)
+is_admitted dims (Around inner) b = within_test dims (given_bounds inner) b
+is_admitted dims (Point point) b = holds_test dims b (given_point point)
 
-abbrev pub rows_of : {A : Type 0} → Result (Vec (ℕ × Bounds) A) Refusal → Result (List (ℕ × Bounds)) Refusal
-rows_of (Ok rows) = Ok rows.items
-rows_of (Err r) = Err r
+-- the same of a query whose axes are known
+abbrev pub admits : {D : ℕ} → Query D → Bounds → Bool
+admits {D} (query.Window window) b = meets_test D b window
+admits {D} (query.Inside window) b = meets_test D b window
+admits {D} (query.Around inner) b = within_test D inner b
+admits {D} (query.Point point) b = holds_test D b point
 
--- these rows are answered where nothing refuses the question, or it is refused so, or by a fault
-abbrev pub IsRowsOr : Type 0 → Option Refusal → List (ℕ × Bounds) → Result (List (ℕ × Bounds)) Refusal → Type 0
-IsRowsOr rose why rows (Ok shown) = (why ≡ None) × (shown ≡ rows)
-IsRowsOr rose why rows (Err r) = (why ≡ Some r) ⊎ IsFault rose ⊥ r
+-- ---- answers
 
--- a question was answered so, and the layers are sound with the table as it was
-abbrev pub IsShown : {D A : Type 0} {m : _} → Layers D A m → Layers D A m → Table → Option Refusal → List (ℕ × Bounds) → Result (List (ℕ × Bounds)) Refusal → Type 0
-IsShown old new t why rows shown = IsSound new t × IsRowsOr (Rose old new) why rows shown
+-- the answers that a box and rows of boxes of a known dimension are
+abbrev pub bounds_answer : ℕ → Result Bounds Refusal → Answer
+bounds_answer id (Ok b) = Boxes ((id, b) ∷ [])
+bounds_answer id (Err r) = Refused r
+
+abbrev pub rows_answer : {A : Type 0} → Result (Vec (ℕ × Bounds) A) Refusal → Answer
+rows_answer (Ok rows) = Boxes rows.items
+rows_answer (Err r) = Refused r
+
+-- it is answered so where nothing refuses the question, and else refused so; or a fault refuses it
+abbrev pub IsReply : Type 0 → Option Refusal → Answer → Answer → Type 0
+IsReply rose why answer a = (a ≡ refused_or why answer) ⊎ RefusedBy (IsFault rose ⊥) a

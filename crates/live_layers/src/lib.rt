@@ -4,11 +4,13 @@
 
 mod catalog;
 mod faults;
+mod given;
+pub mod laws;
 mod layers;
 mod located;
-mod question;
 mod search;
 mod unmade;
 
+pub use faults::as_refusal;
 pub use layers::Layers;
 pub use unmade::Unmade;

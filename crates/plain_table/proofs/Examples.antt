@@ -9,7 +9,7 @@ use Rattle.std.specs.declared.cmp.Ordering.{Ordering}
 use Rattle.box_math.specs.Bounds.{Bounds, holds_test, meets_test, ordered_test, within_test}
 use Rattle.plain_table.specs.Commands.Command.{Create, Insert, Get, Count, Range, Nearest, Reopen}
 use Rattle.plain_table.specs.Refusals.{refusal_number, refusal_name}
-use Rattle.plain_table.specs.Step.{reply_of, after}
+use Rattle.plain_table.specs.Step.{reply_of, after, changes}
 use Rattle.plain_table.specs.Step.Answer.{Done, Refused, Boxes, Counted, Distances}
 use Rattle.plain_table.specs.Table.{Table, Layer, is_layer_name, is_dims, is_fanout, object_count}
 use Rattle.plain_table.specs.declared.boxes.RawBox.{RawBox}
@@ -118,6 +118,12 @@ refusals_are_named = refl
 
 pub create_is_done : reply_of (table []) (Create a 2 4) ≡ Done
 create_is_done = rw (get-from_sorted {X = Layer} (slice_cmp nat_cmp) [] a tt, len_of {X = Layer} (slice_cmp nat_cmp) [] tt) refl
+
+pub create_changes_the_table : changes (table []) (Create a 2 4) ≡ true
+create_changes_the_table = rw (get-from_sorted {X = Layer} (slice_cmp nat_cmp) [] a tt, len_of {X = Layer} (slice_cmp nat_cmp) [] tt) refl
+
+pub a_refused_create_does_not : changes (table touching) (Create a 3 100) ≡ false
+a_refused_create_does_not = rw touching_at refl
 
 pub create_makes_an_empty_layer : after (table []) (Create a 2 4) ≡ table empty_layer
 create_makes_an_empty_layer = rw (get-from_sorted {X = Layer} (slice_cmp nat_cmp) [] a tt, len_of {X = Layer} (slice_cmp nat_cmp) [] tt, ← no_objects) (put_into (slice_cmp nat_cmp) nat_list_cmp_total [] a (layer 2 4 []) tt tt)

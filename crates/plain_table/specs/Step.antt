@@ -1,5 +1,5 @@
 -- What a command answers and what it changes, on the plain table. Our rule, docs/COMMANDS.md.
-use Rattle.std.specs.Prelude.{ℕ, Bool, not, ◌==◌, nat_le, List, [], ◌∷◌, if◌then◌else◌, Option, Some, None, filter, take, unwrap_or}
+use Rattle.std.specs.Prelude.{ℕ, Bool, false, not, ◌==◌, nat_le, List, [], ◌∷◌, if◌then◌else◌, Option, Some, None, is_some, filter, take, unwrap_or}
 use Rattle.std.specs.FinMap as map
 use Rattle.box_math.specs.Bounds.{Bounds}
 use Rattle.plain_table.specs.Boxes.{dims_of, given_bounds, given_point, is_ordered, point_dims}
@@ -75,6 +75,10 @@ refusals_of t Reopen = []
 abbrev pub refusal_of : Table → Command → Option Refusal
 refusal_of t c = first_refusal (refusals_of t c)
 
+-- no refusal of the command's conditions holds
+abbrev pub is_admitted : Table → Command → Bool
+is_admitted t c = not (is_some (refusal_of t c))
+
 -- the table after a command that was not refused
 abbrev pub changed : Table → Command → Table
 changed t (Create name dims fanout) = map.insert t name (record { dims = dims; fanout = fanout; objects = map.empty })
@@ -113,6 +117,12 @@ refused_or None answer = answer
 abbrev pub kept_or : Option Refusal → Table → Table → Table
 kept_or (Some r) old new = old
 kept_or None old new = new
+
+-- the command changes the table
+abbrev pub changes : Table → Command → Bool
+changes t (Create name dims fanout) = is_admitted t (Create name dims fanout)
+changes t (Insert name id box) = is_admitted t (Insert name id box)
+changes t c = false
 
 -- what a command is answered
 abbrev pub reply_of : Table → Command → Answer

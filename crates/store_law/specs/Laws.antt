@@ -1,10 +1,10 @@
 -- What follows from the law of a store.
-use Rattle.std.proofs.Common.{◌≡◌, ◌∙◌, ℕ, ◌≤◌, ◌++◌, List, [], ◌∷◌, Bool, true, false, not, ◌&&◌, cond, Some, inl, inr, refl, sym, ap, subst, arith}
+use Rattle.std.proofs.Common.{◌≡◌, ◌∙◌, ◌≤◌, ◌++◌, List, [], ◌∷◌, Bool, true, false, not, ◌&&◌, cond, Some, inl, inr, refl, sym, ap, subst, arith}
 use Rattle.std.specs.List.{list_all}
 use Rattle.plain_table.specs.Commands.{Command, MayGiveUp}
 use Rattle.plain_table.specs.Commands.Command.{Create, Insert, Get, Count, Range, Nearest, Reopen}
 use Rattle.plain_table.specs.Laws.{the_refusal_of_a_reply}
-use Rattle.plain_table.specs.Step.{Answer, after, first_refusal, refusals_of, reply_of}
+use Rattle.plain_table.specs.Step.{Answer, after, changes, first_refusal, refusals_of, reply_of}
 use Rattle.plain_table.specs.Step.Answer.{Refused}
 use Rattle.plain_table.specs.Table.{Table}
 use Rattle.plain_table.specs.declared.queries.RawQuery.TheVariants as query
@@ -94,10 +94,14 @@ a_dead_store_stays_dead old new [] (a ∷ as') e p = elim p [ ]
 a_dead_store_stays_dead old new (r ∷ rs) [] e p = elim p [ ]
 
 -- stops are told from the same moment on
+either_beginning : (b : Bool) (x y : Stops) → x.since ≡ y.since → (cond b x y).since ≡ y.since
+either_beginning true x y e = e
+either_beginning false x y e = refl
+
 same_beginning : (state : StoreState) (old : Stops) (r : Request) (a : Answer) → (after_request state old r a).since ≡ old.since
 same_beginning state old BadCommand a = refl
-same_beginning (Alive t) old (Asks (Create name dims fanout)) a = refl
-same_beginning (Alive t) old (Asks (Insert name id box)) a = refl
+same_beginning (Alive t) old (Asks (Create name dims fanout)) a = either_beginning (changes t (Create name dims fanout)) _ old refl
+same_beginning (Alive t) old (Asks (Insert name id box)) a = either_beginning (changes t (Insert name id box)) _ old refl
 same_beginning (Alive t) old (Asks (Get name id)) a = refl
 same_beginning (Alive t) old (Asks (Count name)) a = refl
 same_beginning (Alive t) old (Asks (Range name query)) a = refl

@@ -11,6 +11,15 @@ use std::test::Fail;
 
 type Fused = FuseDevice<MemoryDevice>;
 
+// How many calls an opening makes: a sync, and gate, header and catalog read.
+const OPENING: u64 = 4;
+
+// More calls than a test makes.
+const MOST: u64 = 400;
+
+// How many pages a store caches where pages are to leave its cache.
+const FEW: u32 = 8;
+
 // The device of the scene, closed, of whose calls the one after so many fails.
 fn closed_scene(alloc: Global, passes: u64) -> Result<Fused, Refusal> {
     let mut store = new_store(alloc, CACHE)?;
@@ -49,8 +58,8 @@ fn a_making_that_fails_leaves_no_wrong_table(rt: HostRuntime) -> Result<(), Fail
             ),
         }
     }
-    // the gate, header and catalog, the gate again, and three syncs
-    assert_eq!(rt; faults, 7);
+    // the gate, header and catalog, the gate again, and three syncs; and the catalog read
+    assert_eq!(rt; faults, 8);
     Ok(())
 }
 
@@ -74,28 +83,80 @@ fn an_opening_that_fails_leaves_the_blocks(rt: HostRuntime) -> Result<(), Fail> 
             }
         }
     }
-    // a sync, gate, header and catalog, and three pages
-    assert_eq!(rt; faults, 7);
+    // a sync, gate, header and catalog
+    assert_eq!(rt; faults, OPENING);
     Ok(())
 }
 
-// The store has failed: each command says so, and its device, which comes back with a closing, has the table.
-fn check_failed(
-    rt: &impl Abort,
-    alloc: Global,
-    store: Store<Fused>,
-    table: &ListTable<Global>,
-) -> Result<(), Refusal> {
+// The store has failed: each command says so, and its device comes back with a closing.
+fn failed_device(rt: &impl Abort, store: Store<Fused>) -> MemoryDevice {
     let mut store = store;
     let failed = Refusal::StoreFailed(19);
     assert_eq!(rt; change_store(&mut store, point(1)), Err(failed));
     assert_eq!(rt; store.window(b"a", PLANE).err(), Some(failed));
+    assert_eq!(rt; store.count(b"a"), Err(failed));
     assert_eq!(rt; store.reopen(), Err(failed));
     let (refusal, device) = closed(store);
     assert_eq!(rt; refusal, Some(failed));
-    let mut store = opened(alloc, device, CACHE)?;
-    assert!(rt; represents_table(&mut store, table));
+    device.into_inner()
+}
+
+// One more object inserted into the scene where the call after so many fails, with eight cached pages: it is made, or it
+// isn't and is made the second time, or it ends the store.
+fn inserting(
+    rt: &impl Abort,
+    alloc: Global,
+    before: &ListTable<Global>,
+    after: &ListTable<Global>,
+    passes: u64,
+) -> Result<Result<(), Refusal>, Refusal> {
+    let mut store = opened(alloc, closed_scene(alloc, passes)?, FEW)?;
+    let answer = change_store(&mut store, point(200));
+    if answer == Err(Refusal::StoreFailed(17)) {
+        let device = failed_device(rt, store);
+        let refusal = opened(alloc, device, FEW).err();
+        assert_eq!(rt; refusal, Some(Refusal::NotClosed));
+        return Ok(answer);
+    }
+    if answer == Err(Refusal::Device) {
+        assert!(rt; represents_table(&mut store, before), "{passes}");
+        assert_eq!(rt; change_store(&mut store, point(200)), Ok(()));
+    }
+    assert!(rt; represents_table(&mut store, after), "{passes}");
+    Ok(answer)
+}
+
+#[test]
+fn a_change_that_fails_is_not_made_or_ends_the_store(rt: HostRuntime) -> Result<(), Fail> {
+    let (before, after) = (scene_table(rt.alloc())?, larger_table(rt.alloc())?);
+    let mut faults = 0;
+    for passes in OPENING..MOST {
+        match inserting(&rt, rt.alloc(), &before, &after, passes)? {
+            Ok(()) => break,
+            Err(refusal) => {
+                // the first call reads a page
+                assert!(rt; passes > OPENING || refusal == Refusal::Device);
+                faults += 1;
+            }
+        }
+    }
+    assert!(rt; 0 < faults && faults < MOST - OPENING);
     Ok(())
+}
+
+// The scene with one more object.
+fn larger_table(alloc: Global) -> Result<ListTable<Global>, Refusal> {
+    let mut table = scene_table(alloc)?;
+    change_table(&mut table, point(200))?;
+    Ok(table)
+}
+
+// A store of the scene with one more object, of whose calls the one after so many fails; none where that is one of those
+// before.
+fn changed_scene(alloc: Global, passes: u64) -> Result<Option<Store<Fused>>, Refusal> {
+    let mut store = opened(alloc, closed_scene(alloc, passes)?, FEW)?;
+    let answer = change_store(&mut store, point(200));
+    Ok(answer.is_ok().then_some(store))
 }
 
 // What reopening a changed store answers where the call after so many fails. The table is not lost by it.
@@ -103,56 +164,56 @@ fn reopening(
     rt: &impl Abort,
     alloc: Global,
     table: &ListTable<Global>,
-    passes: u64,
+    store: Store<Fused>,
 ) -> Result<Result<(), Refusal>, Refusal> {
-    let mut store = opened(alloc, closed_scene(alloc, passes)?, CACHE)?;
-    change_store(&mut store, point(200))?;
+    let mut store = store;
     let answer = store.reopen();
     if answer == Err(Refusal::StoreFailed(17)) {
-        check_failed(rt, alloc, store, table)?;
+        let device = failed_device(rt, store);
+        let mut store = opened(alloc, device, FEW)?;
+        assert!(rt; represents_table(&mut store, table));
         return Ok(answer);
     }
-    assert!(rt; represents_table(&mut store, table), "{passes}");
+    assert!(rt; represents_table(&mut store, table));
     if answer.is_err() {
+        assert_eq!(rt; answer, Err(Refusal::Device));
         assert_eq!(rt; store.reopen(), Ok(()));
-        assert!(rt; represents_table(&mut store, table), "{passes}");
-        // Once the catalog is written, the table is not written again.
-        if passes >= 16 {
-            assert_eq!(rt; device_of(store)?.blocks(), 9, "{passes}");
-        }
+        assert!(rt; represents_table(&mut store, table));
     }
     Ok(answer)
 }
 
-// After the 7 calls of the opening come 13 of the closing (the gate with its sync, three pages each made and written,
-// the catalog, the header and the gate each with a sync), and 7 of an opening.
 #[test]
 fn a_reopening_that_fails_loses_nothing(rt: HostRuntime) -> Result<(), Fail> {
-    let mut table = scene_table(rt.alloc())?;
-    change_table(&mut table, point(200))?;
-    for passes in 7..60 {
-        let wanted = match passes {
-            7..=19 => Err(Refusal::Device),
-            20..=26 => Err(Refusal::StoreFailed(17)),
-            _ => Ok(()),
+    let table = larger_table(rt.alloc())?;
+    let (mut refused, mut failed) = (0, 0);
+    for passes in OPENING..MOST {
+        let Some(store) = changed_scene(rt.alloc(), passes)? else {
+            continue;
         };
-        let answer = reopening(&rt, rt.alloc(), &table, passes)?;
-        assert_eq!(rt; answer, wanted, "{passes}");
+        match reopening(&rt, rt.alloc(), &table, store)? {
+            Ok(()) => break,
+            Err(Refusal::Device) => refused += 1,
+            Err(_) => failed += 1,
+        }
     }
+    // an opening makes four calls
+    assert!(rt; 0 < refused && refused < MOST - OPENING);
+    assert_eq!(rt; failed, OPENING);
     Ok(())
 }
 
 #[test]
 fn a_closing_that_fails_leaves_no_wrong_table(rt: HostRuntime) -> Result<(), Fail> {
-    let before = scene_table(rt.alloc())?;
-    let mut after = scene_table(rt.alloc())?;
-    change_table(&mut after, point(200))?;
-    for passes in 7..60 {
-        let mut store = opened(rt.alloc(), closed_scene(rt.alloc(), passes)?, CACHE)?;
-        change_store(&mut store, point(200))?;
+    let (before, after) = (scene_table(rt.alloc())?, larger_table(rt.alloc())?);
+    let mut is_done = false;
+    for passes in OPENING..MOST {
+        let Some(store) = changed_scene(rt.alloc(), passes)? else {
+            continue;
+        };
         let (refusal, device) = closed(store);
-        let is_done = passes >= 20;
-        assert_eq!(rt; refusal, (!is_done).then_some(Refusal::Device), "{passes}");
+        is_done = refusal.is_none();
+        assert!(rt; is_done || refusal == Some(Refusal::Device));
         match opened(rt.alloc(), device.into_inner(), CACHE) {
             Ok(opened) => {
                 let mut store = opened;
@@ -161,6 +222,10 @@ fn a_closing_that_fails_leaves_no_wrong_table(rt: HostRuntime) -> Result<(), Fai
             }
             Err(refusal) => assert!(rt; !is_done && refusal == Refusal::NotClosed),
         }
+        if is_done {
+            break;
+        }
     }
+    assert!(rt; is_done);
     Ok(())
 }

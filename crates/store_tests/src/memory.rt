@@ -4,8 +4,7 @@
 //! both from one.
 
 use crate::changes::{
-    Change, SCENE, change_store, change_table, point, represents_table, scene_change, scene_table,
-    set_scene,
+    Change, change_store, change_table, point, represents_table, scene_table, set_scene,
 };
 use crate::fixture::{CACHE, PLANE, are_same_blocks, closed, copy_of, device_of, opened};
 use block_device::MemoryDevice;
@@ -38,55 +37,78 @@ fn scene<'a>(lists: &'a Heap, blocks: &'a Heap) -> Result<Lean<'a>, Refusal> {
     Ok(store)
 }
 
-// Refuses the growths of a change from each one on, until none is refused and the change is made. After each refusal
-// the store represents the table before it. How often it was refused.
-fn refusals_of_change(
-    rt: &impl Abort,
-    due: &Heap,
-    store: &mut Lean<'_>,
-    table: &mut ListTable<Global>,
-    change: Change,
-) -> u32 {
-    for k in 0..MOST {
-        due.refuse_from(k);
-        let answer = change_store(store, change);
-        if !due.relent() {
-            assert_eq!(rt; answer, change_table(table, change));
-            assert!(rt; represents_table(store, table), "{change:?}");
-            return k;
-        }
-        assert_eq!(rt; answer, Err(Refusal::Memory));
-        assert!(rt; represents_table(store, table), "{change:?}");
-    }
-    MOST
+// The store has failed: each command says so, and its device comes back with a closing.
+fn failed_device<'a>(rt: &impl Abort, store: Lean<'a>) -> MemoryDevice<&'a Heap> {
+    let mut store = store;
+    let failed = Refusal::StoreFailed(19);
+    assert_eq!(rt; store.create(b"a", 9, 9), Err(failed));
+    assert_eq!(rt; change_store(&mut store, point(1)), Err(failed));
+    assert_eq!(rt; store.window(b"a", PLANE).err(), Some(failed));
+    assert_eq!(rt; store.count(b"a"), Err(failed));
+    assert_eq!(rt; store.get(b"a", 1), Err(failed));
+    assert_eq!(rt; store.reopen(), Err(failed));
+    let (refusal, device) = closed(store);
+    assert_eq!(rt; refusal, Some(failed));
+    device
 }
 
-// Whether some change was refused.
-fn try_changes(
+// Makes a change of the scene with growths refused from number `k` on: it is made, or it isn't, or it ends the store.
+// Whether some were refused.
+fn is_change_refused(
     rt: &impl Abort,
     alloc: Global,
+    change: Change,
     lists: &Heap,
     blocks: &Heap,
     due: &Heap,
+    k: u32,
 ) -> Result<bool, Refusal> {
-    let mut store = made(lists, blocks)?;
-    let mut table = ListTable::new(alloc);
-    let mut is_refused = false;
-    for k in 0..SCENE {
-        let refusals = refusals_of_change(rt, due, &mut store, &mut table, scene_change(k));
-        assert!(rt; refusals < MOST);
-        is_refused |= refusals > 0;
+    let mut store = scene(lists, blocks)?;
+    due.refuse_from(k);
+    let answer = change_store(&mut store, change);
+    let is_refused = due.relent();
+    if answer == Err(Refusal::StoreFailed(16)) {
+        let device = failed_device(rt, store);
+        let refusal = opened(lists, device, CACHE).err();
+        assert_eq!(rt; refusal, Some(Refusal::NotClosed));
+        return Ok(is_refused);
     }
+    let mut table = scene_table(alloc)?;
+    let mut wanted = Err(Refusal::Memory);
+    if !is_refused {
+        wanted = change_table(&mut table, change);
+    }
+    assert_eq!(rt; answer, wanted, "{change:?} {k}");
+    assert!(rt; represents_table(&mut store, &table), "{change:?} {k}");
     Ok(is_refused)
 }
 
+// How many of the growths of a change are refused, each from one on.
+fn refusals_of_change(
+    rt: &impl Abort,
+    alloc: Global,
+    change: Change,
+    lists: &Heap,
+    blocks: &Heap,
+    due: &Heap,
+) -> Result<u32, Refusal> {
+    for k in 0..MOST {
+        if !is_change_refused(rt, alloc, change, lists, blocks, due, k)? {
+            return Ok(k);
+        }
+    }
+    Ok(MOST)
+}
+
 #[test]
-fn a_change_refused_memory_is_not_made(rt: HostRuntime) -> Result<(), Fail> {
+fn a_change_refused_memory_is_not_made_or_ends_the_store(rt: HostRuntime) -> Result<(), Fail> {
     let (lists, blocks) = (Refusing::new(rt.alloc()), Refusing::new(rt.alloc()));
-    assert!(rt; try_changes(&rt, rt.alloc(), &lists, &blocks, &lists)?);
-    assert!(rt; try_changes(&rt, rt.alloc(), &lists, &lists, &lists)?);
-    // no block is written
-    assert!(rt; !try_changes(&rt, rt.alloc(), &lists, &blocks, &blocks)?);
+    for change in [point(200), Change::Create(1, 2, 4), point(1)] {
+        let of_lists = refusals_of_change(&rt, rt.alloc(), change, &lists, &blocks, &lists)?;
+        let of_blocks = refusals_of_change(&rt, rt.alloc(), change, &lists, &blocks, &blocks)?;
+        let of_either = refusals_of_change(&rt, rt.alloc(), change, &lists, &lists, &lists)?;
+        assert!(rt; of_lists < MOST && of_blocks < MOST && of_either < MOST);
+    }
     Ok(())
 }
 
@@ -112,37 +134,13 @@ fn a_window_refused_memory_answers_that(rt: HostRuntime) -> Result<(), Fail> {
 }
 
 #[test]
-fn a_count_and_an_object_take_no_memory(rt: HostRuntime) -> Result<(), Fail> {
+fn a_count_takes_no_memory(rt: HostRuntime) -> Result<(), Fail> {
     let heap = Refusing::new(rt.alloc());
     let mut store = scene(&heap, &heap)?;
     heap.refuse_from(0);
     let count = store.count(b"a");
-    let bounds = store.get(b"c", u64::MAX);
     assert!(rt; !heap.relent());
     assert_eq!(rt; count, Ok(101));
-    assert!(rt; bounds.is_ok());
-    Ok(())
-}
-
-// The store has failed: each command says so, and its device, which comes back with a closing, has the table.
-fn check_failed(
-    rt: &impl Abort,
-    lists: &Heap,
-    store: Lean<'_>,
-    table: &ListTable<Global>,
-) -> Result<(), Refusal> {
-    let mut store = store;
-    let failed = Refusal::StoreFailed(19);
-    assert_eq!(rt; store.create(b"a", 9, 9), Err(failed));
-    assert_eq!(rt; change_store(&mut store, point(1)), Err(failed));
-    assert_eq!(rt; store.window(b"a", PLANE).err(), Some(failed));
-    assert_eq!(rt; store.count(b"a"), Err(failed));
-    assert_eq!(rt; store.get(b"a", 1), Err(failed));
-    assert_eq!(rt; store.reopen(), Err(failed));
-    let (refusal, device) = closed(store);
-    assert_eq!(rt; refusal, Some(failed));
-    let mut store = opened(lists, device, CACHE)?;
-    assert!(rt; represents_table(&mut store, table));
     Ok(())
 }
 
@@ -160,7 +158,8 @@ fn is_reopening_refused(
     let answer = store.reopen();
     let is_refused = due.relent();
     if answer == Err(Refusal::StoreFailed(16)) {
-        check_failed(rt, lists, store, table)?;
+        let mut store = opened(lists, failed_device(rt, store), CACHE)?;
+        assert!(rt; represents_table(&mut store, table), "{k}");
         return Ok(is_refused);
     }
     let wanted = if is_refused {
@@ -256,8 +255,15 @@ fn is_making_refused(rt: &impl Abort, alloc: Global, heap: &Heap, k: u32) -> boo
         Err((refusal, device)) => {
             assert!(rt; is_refused);
             assert_eq!(rt; refusal, Refusal::Memory);
-            let refusal = opened(heap, device, CACHE).err();
-            assert!(rt; refusal == Some(Refusal::NotAStore) || refusal == Some(Refusal::NotClosed));
+            match opened(heap, device, CACHE) {
+                Ok(opened) => {
+                    let mut store = opened;
+                    assert!(rt; represents_table(&mut store, &table));
+                }
+                Err(refusal) => assert!(rt;
+                    refusal == Refusal::NotAStore || refusal == Refusal::NotClosed
+                ),
+            }
         }
     }
     is_refused

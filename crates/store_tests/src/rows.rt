@@ -88,9 +88,8 @@ fn comparisons_say_no(rt: HostRuntime) -> Result<(), Fail> {
     assert!(rt; !are_same_blocks(&mut device, &mut longer)?);
     assert!(rt; !are_same_blocks(&mut longer, &mut device)?);
     let mut store = opened(rt.alloc(), image(rt.alloc())?, CACHE)?;
-    assert!(rt; !crate::images::answers(&mut store, 2)?);
-    store.insert(b"a", 2020, plane(FAR))?;
-    assert!(rt; !crate::images::answers(&mut store, 1)?);
+    store.insert(b"a", 2, plane(FAR))?;
+    assert!(rt; !crate::images::answers(&mut store)?);
     Ok(())
 }
 

@@ -1,13 +1,13 @@
-//! The records written into the catalog, and the gate shut behind all pages.
+//! The records written into the catalog, the gate shut behind all pages, and the layers closed.
 
-ghost use Rattle.std.specs.Prelude.{◌≡◌, ◌↔◌, List, ◌∷◌, IsOk, IfErr, OnOk};
-ghost use Rattle.block_device.specs.Device.{LeavesOnly};
-ghost use Rattle.page_file.specs.Fault.{HasCause, IsOfDevice};
+ghost use Rattle.std.specs.Prelude.{◌≡◌, ◌⊎◌, ◌↔◌, List, ◌∷◌, Ok, IsOk, IfErr, IfOk, OnOk};
+ghost use Rattle.block_device.specs.Device.{LeavesOnly, Only};
+ghost use Rattle.page_file.specs.Fault.{HasCause, IsDamage, IsOfDevice, faults_after};
 ghost use Rattle.page_file.specs.declared.gate.Gate.TheVariants.{Shut};
-ghost use Rattle.page_cache.specs.Cache.{IsHonest, IsPageMap, blocks_of, device_of, gate_of, next_of};
+ghost use Rattle.page_cache.specs.Cache.{IsHonest, IsPageMap, IsUnchanged, blocks_of, device_of, gate_of, next_of};
 ghost use Rattle.plain_table.specs.Table.{Table};
 ghost use Rattle.live_layers.specs.Image.{IsImage, IsRefusedOrImageOf};
-ghost use Rattle.live_layers.specs.Keeping.{IsSound, IsWritten, RestLeavesOneOf, cache_of};
+ghost use Rattle.live_layers.specs.Keeping.{IsSettled, IsSound, IsWritten, RestLeavesOneOf, cache_of};
 
 use crate::layers::{CATALOG, Layers};
 use block_bytes::zero_block;
@@ -32,6 +32,7 @@ impl<B: BlockDevice, A: Allocator + Copy> Layers<B, A> {
         ensures next { next_of (cache_of self.new) ≡ next_of (cache_of self.old) }
         ensures honest { IsHonest (cache_of self.old) ↔ IsHonest (cache_of self.new) }
         ensures faults { IsPageMap (cache_of self.old) → IfErr result IsOfDevice }
+        ensures other_faults { IfErr result (λ f. IsOfDevice f ⊎ IsDamage f) }
         ensures cause { HasCause (B.faults (device_of (cache_of self.old))) (B.faults (device_of (cache_of self.new)))
             result }
     {
@@ -56,6 +57,11 @@ impl<B: BlockDevice, A: Allocator + Copy> Layers<B, A> {
             LeavesOnly B.moment B.left_since (device_of (cache_of self.old)) (device_of (cache_of self.new))
             (IsRefusedOrImageOf (t ∷ ts)) }
         ensures closed { (t : Table) → IsSound self.old t → OnOk result (IsImage (blocks_of (cache_of self.new)) t) }
+        ensures rests { (ts : List Table) (t : Table) → IsSound self.old t → RestLeavesOneOf (cache_of self.old) ts →
+            RestLeavesOneOf (cache_of self.new) (t ∷ ts) }
+
+        // Where nothing is to be written, nothing is done.
+        ensures was_settled { IsSettled self.old → IsUnchanged (cache_of self.old) (cache_of self.new) × IsOk result }
 
         ensures sound { (t : Table) → IsSound self.old t → IsSound self.new t }
         ensures shut { OnOk result (gate_of (cache_of self.new) ≡ Shut) }
@@ -63,10 +69,57 @@ impl<B: BlockDevice, A: Allocator + Copy> Layers<B, A> {
         ensures next { next_of (cache_of self.new) ≡ next_of (cache_of self.old) }
         ensures honest { IsHonest (cache_of self.old) ↔ IsHonest (cache_of self.new) }
         ensures faults { (t : Table) → IsSound self.old t → IfErr result IsOfDevice }
+        ensures other_faults { IfErr result (λ f. IsOfDevice f ⊎ IsDamage f) }
         ensures cause { HasCause (B.faults (device_of (cache_of self.old))) (B.faults (device_of (cache_of self.new)))
             result }
     {
         self.write()?;
         self.cache.settle()
+    }
+
+    /// Settles the layers, and hands the device back. Its blocks are then an image of the table.
+    ///
+    /// Refused, which on an honest device with sound layers is by `Memory` or `Device`, the device comes back: a stop
+    /// leaves of it what one at rest left, or an image of the table.
+    pub fn close(self) -> Result<B, (Fault, B)>
+        ensures closed { (t : Table) → IsSound self t → IfOk result (λ device. IsImage (B.shown device) t) }
+        ensures durable { (t : Table) → IsSound self t →
+            IfOk result (λ device. Only (B.shown device) (B.may_leave device)) }
+        ensures stops { (ts : List Table) (t : Table) → IsSound self t → RestLeavesOneOf (cache_of self) ts →
+            IfOk result (λ device. LeavesOnly B.moment B.left_since (device_of (cache_of self)) device
+            (IsRefusedOrImageOf (t ∷ ts))) }
+        ensures refused_stops { (ts : List Table) (t : Table) → IsSound self t → RestLeavesOneOf (cache_of self) ts →
+            IfErr result (λ e. LeavesOnly B.moment B.left_since (device_of (cache_of self)) e.1
+            (IsRefusedOrImageOf (t ∷ ts))) }
+        ensures was_settled { IsSettled self → result ≡ Ok (device_of (cache_of self)) }
+
+        ensures faults { (t : Table) → IsSound self t → IfErr result (λ e. IsOfDevice e.0) }
+        ensures other_faults { IfErr result (λ e. IsOfDevice e.0 ⊎ IsDamage e.0) }
+        ensures no_fault { IfOk result (λ device. B.faults device ≡ B.faults (device_of (cache_of self))) }
+        ensures cause { IfErr result (λ e. B.faults e.1 ≡ faults_after e.0 (B.faults (device_of (cache_of self)))) }
+        ensures honest { IfOk result (λ device. IsHonest (cache_of self) ↔ B.honest device) }
+        ensures refused_honest { IfErr result (λ e. IsHonest (cache_of self) ↔ B.honest e.1) }
+    {
+        let mut layers = self;
+        let settled = layers.settle();
+        let device = layers.abandon();
+        match settled {
+            Ok(()) => Ok(device),
+            Err(fault) => Err((fault, device)),
+        }
+    }
+
+    /// The device as it is, without a call of it. What was not settled may be lost.
+    pub fn abandon(self) -> B
+        ensures { result ≡ device_of (cache_of self) }
+    {
+        let Layers {
+            alloc: _,
+            cache,
+            records: _,
+            object_count: _,
+            written: _,
+        } = self;
+        cache.abandon()
     }
 }

@@ -6,6 +6,7 @@ ghost use Rattle.catalog_page.specs.Layout.{record_of, records_of};
 ghost use Rattle.page_file.specs.Fault.{IsDamage, IsOfDevice, faults_after};
 ghost use Rattle.page_file.specs.Stops.{AddsOnly, StopSince};
 ghost use Rattle.page_file.specs.declared.fault.Fault.TheVariants as fault;
+ghost use Rattle.page_file.specs.declared.gate.Gate.TheVariants.{Open};
 ghost use Rattle.page_cache.specs.Cache.{IsHonest, LiesIn, blocks_of, device_of, gate_of, next_of, pages};
 ghost use Rattle.page_cache.specs.Calls.{Asks, AsksUntil};
 ghost use Rattle.plain_table.specs.Table.{Table, most_objects};
@@ -45,6 +46,8 @@ impl<B: BlockDevice, A: Allocator + Copy> Layers<B, A> {
         ensures asks { IfOk result (λ layers. AsksUntil cache (cache_of layers) None) }
         ensures refused_stops { IfErr result (λ e. IsHonest cache →
             AddsOnly B.moment B.left_since (device_of cache) e.1 (StopSince (gate_of cache) (blocks_of cache))) }
+        ensures refused_blocks { IfErr result (λ e. IsHonest cache → ¬ (gate_of cache ≡ Open) →
+            B.shown e.1 ≡ blocks_of cache) }
         ensures cause { IfErr result (λ e. B.faults e.1 ≡ faults_after e.0 (B.faults (device_of cache))) }
         ensures refused_honest { IfErr result (λ e. IsHonest cache → B.honest e.1) }
     {
@@ -66,7 +69,7 @@ impl<B: BlockDevice, A: Allocator + Copy> Layers<B, A> {
 }
 
 // Reads and checks the catalog.
-fn read_catalog<B: BlockDevice, A: Allocator + Copy>(
+pub(super) fn read_catalog<B: BlockDevice, A: Allocator + Copy>(
     cache: &mut PageCache<B, A>,
 ) -> Result<ArrayVec<LayerRecord, 60>, Fault>
     ensures asks { Asks cache.old cache.new result }
@@ -100,7 +103,7 @@ fn decode_catalog<B: BlockDevice, A: Allocator + Copy>(
 }
 
 // How many objects the layers of a good catalog have together.
-fn count_of(records: &[LayerRecord]) -> u64
+pub(super) fn count_of(records: &[LayerRecord]) -> u64
     requires { objects_named (each record_of records.now) ≤ most_objects }
     ensures { result ≡ objects_named (each record_of records.now) }
 {

@@ -1,130 +1,120 @@
-//! Questions of a box, answered from the tree of a layer.
+//! Questions, answered from the records, the trees and the identifier tables of the layers.
 
-ghost use Rattle.std.specs.Prelude.{◌≡◌, ◌<◌, ℕ, List, OnOk, IfOk, map as each};
-ghost use Rattle.page_cache.specs.Cache.{KeepsGate, KeepsMap, device_of};
-ghost use Rattle.plain_table.specs.Boxes.{dims_of, given_bounds};
+ghost use Rattle.std.specs.Prelude.{◌≡◌, false, IfErr, OnOk};
+ghost use Rattle.nearest.specs.Nearest.{is_searched};
+ghost use Rattle.page_cache.specs.Cache.{KeepsGate, KeepsMap, device_of, looks_of};
+ghost use Rattle.plain_table.specs.Answers.{box_answer, boxes_answer, count_answer, distances_answer};
+ghost use Rattle.plain_table.specs.Boxes.{given_point, point_dims};
+ghost use Rattle.plain_table.specs.Commands.Command.{Count, Get, Nearest, Range};
+ghost use Rattle.plain_table.specs.Step.{nearest_rows, reply_of};
 ghost use Rattle.plain_table.specs.Table.{Table, layer_at};
+ghost use Rattle.store_law.specs.Lawful.{blames_device};
 ghost use Rattle.tree_node.specs.Searches.{admitted};
+ghost use Rattle.live_layers.specs.Changes.{IsAnswered};
 ghost use Rattle.live_layers.specs.Faults.{HasRefusalCause};
-ghost use Rattle.live_layers.specs.Keeping.{IsSound, LooksAtTree, cache_of};
-ghost use Rattle.live_layers.specs.Questions.{IsShown, box_refusal, is_admitted, rows_sought, shown_of};
-ghost use Rattle.live_layers.specs.declared.question.Question.TheVariants as ask;
+ghost use Rattle.live_layers.specs.Keeping.{IsSound, IsWritten, LooksAtTree, cache_of};
+ghost use Rattle.live_layers.specs.Questions.{is_admitted};
 
-mod ask;
+mod boxes;
+mod nearest;
+mod range;
 
 use crate::layers::Layers;
-use crate::question::Question;
 use block_device::BlockDevice;
-use box_math::BBox;
-use plain_table::{AnyBox, RawBox, Refusal, is_layer_name};
-use std::alloc::{AllocError, Allocator};
+use plain_table::{AnyBox, RawPoint, RawQuery, Refusal};
+use std::alloc::Allocator;
 
 impl<B: BlockDevice, A: Allocator + Copy> Layers<B, A> {
-    /// The objects of a layer whose boxes meet the window, also where they only touch, ascending by identifier.
+    /// The objects of a layer that the query seeks, ascending by identifier. The root of the layer's tree is looked at,
+    /// and each other node whose box the query admits.
     ///
     /// Refused, in this order, by BadName, NoLayer, WrongDims and BadBox.
-    pub fn window(&mut self, name: &[u8], bounds: RawBox) -> Result<Vec<(u64, AnyBox), A>, Refusal>
-        ensures shown { (t : Table) → IsSound self.old t → IsShown self.old self.new t (box_refusal t name.now bounds)
-            (rows_sought ask.Window (layer_at t name.now) (given_bounds bounds)) (shown_of result) }
+    pub fn range(&mut self, name: &[u8], query: RawQuery) -> Result<Vec<(u64, AnyBox), A>, Refusal>
+        ensures answered { (t : Table) → IsSound self.old t →
+            IsAnswered self.old self.new t (Range name.now query) (boxes_answer result) }
         ensures looks { (t : Table) → IsSound self.old t → OnOk result (LooksAtTree self.old self.new name.now
-            (admitted (is_admitted ask.Window (dims_of bounds) (given_bounds bounds)))) }
+            (admitted (is_admitted (layer_at t name.now).dims query))) }
         ensures gate { KeepsGate (cache_of self.old) (cache_of self.new) }
         ensures map { KeepsMap (cache_of self.old) (cache_of self.new) }
+        ensures written { IsWritten self.old → IsWritten self.new }
         ensures cause { HasRefusalCause (B.faults (device_of (cache_of self.old)))
             (B.faults (device_of (cache_of self.new))) result }
     {
-        self.ask(Question::Window, name, bounds)
-    }
-
-    /// The objects of a layer whose boxes are within the window, ascending by identifier. The nodes that meet it are
-    /// looked at.
-    ///
-    /// Refused, in this order, by BadName, NoLayer, WrongDims and BadBox.
-    pub fn inside(&mut self, name: &[u8], bounds: RawBox) -> Result<Vec<(u64, AnyBox), A>, Refusal>
-        ensures shown { (t : Table) → IsSound self.old t → IsShown self.old self.new t (box_refusal t name.now bounds)
-            (rows_sought ask.Inside (layer_at t name.now) (given_bounds bounds)) (shown_of result) }
-        ensures looks { (t : Table) → IsSound self.old t → OnOk result (LooksAtTree self.old self.new name.now
-            (admitted (is_admitted ask.Inside (dims_of bounds) (given_bounds bounds)))) }
-        ensures gate { KeepsGate (cache_of self.old) (cache_of self.new) }
-        ensures map { KeepsMap (cache_of self.old) (cache_of self.new) }
-        ensures cause { HasRefusalCause (B.faults (device_of (cache_of self.old)))
-            (B.faults (device_of (cache_of self.new))) result }
-    {
-        self.ask(Question::Inside, name, bounds)
-    }
-
-    /// The objects of a layer whose boxes enclose the given one, ascending by identifier.
-    ///
-    /// Refused, in this order, by BadName, NoLayer, WrongDims and BadBox.
-    pub fn around(&mut self, name: &[u8], bounds: RawBox) -> Result<Vec<(u64, AnyBox), A>, Refusal>
-        ensures shown { (t : Table) → IsSound self.old t → IsShown self.old self.new t (box_refusal t name.now bounds)
-            (rows_sought ask.Around (layer_at t name.now) (given_bounds bounds)) (shown_of result) }
-        ensures looks { (t : Table) → IsSound self.old t → OnOk result (LooksAtTree self.old self.new name.now
-            (admitted (is_admitted ask.Around (dims_of bounds) (given_bounds bounds)))) }
-        ensures gate { KeepsGate (cache_of self.old) (cache_of self.new) }
-        ensures map { KeepsMap (cache_of self.old) (cache_of self.new) }
-        ensures cause { HasRefusalCause (B.faults (device_of (cache_of self.old)))
-            (B.faults (device_of (cache_of self.new))) result }
-    {
-        self.ask(Question::Around, name, bounds)
-    }
-
-    // What a question of a box seeks in a layer, ascending by identifier.
-    fn ask(
-        &mut self,
-        question: Question,
-        name: &[u8],
-        bounds: RawBox,
-    ) -> Result<Vec<(u64, AnyBox), A>, Refusal>
-        ensures shown { (t : Table) → IsSound self.old t → IsShown self.old self.new t (box_refusal t name.now bounds)
-            (rows_sought question (layer_at t name.now) (given_bounds bounds)) (shown_of result) }
-        ensures looks { (t : Table) → IsSound self.old t → OnOk result (LooksAtTree self.old self.new name.now
-            (admitted (is_admitted question (dims_of bounds) (given_bounds bounds)))) }
-        ensures gate { KeepsGate (cache_of self.old) (cache_of self.new) }
-        ensures map { KeepsMap (cache_of self.old) (cache_of self.new) }
-        ensures cause { HasRefusalCause (B.faults (device_of (cache_of self.old)))
-            (B.faults (device_of (cache_of self.new))) result }
-    {
-        if !is_layer_name(name) {
-            return Err(Refusal::BadName);
-        }
-        let Ok(place) = self.find(name) else {
-            return Err(Refusal::NoLayer);
-        };
+        let place = self.named(name)?;
         let located = self.locate(place);
-        match bounds {
-            RawBox::Two(low, high) => {
-                let rows = self.ask_box::<2>(question, &located, low, high)?;
-                Ok(two_axes(self.alloc, &rows)?)
-            }
-            RawBox::Three(low, high) => {
-                let rows = self.ask_box::<3>(question, &located, low, high)?;
-                Ok(three_axes(self.alloc, &rows)?)
-            }
+        if located.dims == 2 {
+            self.range_in_plane(&located, query)
+        } else {
+            self.range_in_space(&located, query)
         }
     }
-}
 
-// Rows with two axes, as rows of either dimension.
-fn two_axes<A: Allocator + Copy>(
-    alloc: A,
-    rows: &[(u64, BBox<2>)],
-) -> Result<Vec<(u64, AnyBox), A>, AllocError>
-    ensures { IfOk result (λ all. all.items ≡ each (λ row. (row.0, AnyBox.Two row.1)) rows.now) }
-{
-    rows.iter()
-        .map(|row| (row.0, AnyBox::Two(row.1)))
-        .collect(alloc)
-}
+    /// The box of the object with that identifier, by the layer's identifier table.
+    ///
+    /// Refused, in this order, by BadName, NoLayer and NoObject.
+    pub fn get(&mut self, name: &[u8], id: u64) -> Result<AnyBox, Refusal>
+        ensures answered { (t : Table) → IsSound self.old t →
+            IsAnswered self.old self.new t (Get name.now id) (box_answer id result) }
+        ensures gate { KeepsGate (cache_of self.old) (cache_of self.new) }
+        ensures map { KeepsMap (cache_of self.old) (cache_of self.new) }
+        ensures written { IsWritten self.old → IsWritten self.new }
+        ensures cause { HasRefusalCause (B.faults (device_of (cache_of self.old)))
+            (B.faults (device_of (cache_of self.new))) result }
+    {
+        let place = self.named(name)?;
+        let located = self.locate(place);
+        if located.dims == 2 {
+            Ok(AnyBox::Two(self.box_of::<2>(&located, id)?))
+        } else {
+            Ok(AnyBox::Three(self.box_of::<3>(&located, id)?))
+        }
+    }
 
-// Rows with three axes, as rows of either dimension.
-fn three_axes<A: Allocator + Copy>(
-    alloc: A,
-    rows: &[(u64, BBox<3>)],
-) -> Result<Vec<(u64, AnyBox), A>, AllocError>
-    ensures { IfOk result (λ all. all.items ≡ each (λ row. (row.0, AnyBox.Three row.1)) rows.now) }
-{
-    rows.iter()
-        .map(|row| (row.0, AnyBox::Three(row.1)))
-        .collect(alloc)
+    /// How many objects a layer has, by its record. It takes no memory and makes no call of the device.
+    ///
+    /// Refused, in this order, by BadName and NoLayer.
+    pub fn count(&self, name: &[u8]) -> Result<u64, Refusal>
+        ensures answered { (t : Table) → IsSound self.now t → count_answer result ≡ reply_of t (Count name.now) }
+        ensures cause { IfErr result (λ refusal. blames_device refusal ≡ false) }
+    {
+        let place = self.named(name)?;
+        Ok(self.records[place].count)
+    }
+
+    /// The k objects of a layer that are nearest to the point, or all of fewer: identifiers with squared distances, by
+    /// distance, and of equal distances by identifier. So many are 1 to 1,000,000. The root of the layer's tree is
+    /// looked at, and each other node that is no farther than the kth of them, or each where there are fewer.
+    ///
+    /// Refused, in this order, by BadName, NoLayer, WrongDims and BadCount.
+    pub fn nearest(
+        &mut self,
+        name: &[u8],
+        k: u64,
+        point: RawPoint,
+    ) -> Result<Vec<(u64, u128), A>, Refusal>
+        ensures answered { (t : Table) → IsSound self.old t →
+            IsAnswered self.old self.new t (Nearest name.now k point) (distances_answer result) }
+        ensures looks { (t : Table) → IsSound self.old t → OnOk result (LooksAtTree self.old self.new name.now
+            (admitted (is_searched (point_dims point) k (given_point point)
+            (nearest_rows (layer_at t name.now) k point)))) }
+        ensures gate { KeepsGate (cache_of self.old) (cache_of self.new) }
+        ensures map { KeepsMap (cache_of self.old) (cache_of self.new) }
+        ensures written { IsWritten self.old → IsWritten self.new }
+        ensures cause { HasRefusalCause (B.faults (device_of (cache_of self.old)))
+            (B.faults (device_of (cache_of self.new))) result }
+    {
+        let place = self.named(name)?;
+        let located = self.locate(place);
+        match point {
+            RawPoint::Two(point) => self.nearest_to::<2>(&located, k, &point),
+            RawPoint::Three(point) => self.nearest_to::<3>(&located, k, &point),
+        }
+    }
+
+    /// How many pages were looked at so far. The count stays at u64::MAX.
+    pub fn looks(&self) -> u64
+        ensures { result ≡ looks_of (cache_of self.now) }
+    {
+        self.cache.looks()
+    }
 }

@@ -1,6 +1,6 @@
--- The goals of `an_image_is_of_one_table` that are proved by hand.
-use Rattle.layer_store.specs.Laws.{an_image_is_of_one_table}
+-- The goal of `an_image_is_of_one_table` that is proved by hand.
+use Rattle.live_layers.proofs.OneTable as one
 use Rattle.layer_store.proofs.laws.an_image_is_of_one_table.Goals as goal
 
 pub returns : goal.returns
-returns c = an_image_is_of_one_table
+returns c = λ blocks t u h k. one.an_image_is_of_one_table blocks t u h k

@@ -1,21 +1,20 @@
--- The goals of `Store::count` that are proved by hand.
-use Rattle.std.proofs.Common.{refl}
+-- A count of the layers is a step of the store.
+use Rattle.std.proofs.Common.{Ok, Err, Result, ℕ, refl}
 use Rattle.plain_table.specs.Answers.{count_answer}
 use Rattle.plain_table.specs.Commands.Command.{Count}
-use Rattle.layer_store.proofs.StoreLemmas.{answers_in_memory, answers_nothing, cause_in_memory, takes_in_memory, takes_nothing}
+use Rattle.plain_table.specs.Step.{refusal_of}
+use Rattle.layer_store.proofs.QuestionLemmas.{kept_or_same}
+use Rattle.layer_store.proofs.StoreLemmas.{blames_none, is_dead, not_both, takes_nothing, takes_reply}
 use Rattle.layer_store.proofs.store.Store.count.Goals as goal
 
 pub returns-then-self-clause-step : goal.returns-then-self-clause-step
 returns-then-self-clause-step g c = takes_nothing c.args.self.now (Count c.args.layer.now) c.if-self.true
 
 pub returns-clause-step : goal.returns-clause-step
-returns-clause-step g c = takes_in_memory c.args.self.now c.args.self.now (Count c.args.layer.now) (count_answer c.count.result) c.if-self.false c.if-self.false c.count.ensures refl (λ written. (written, refl)) (λ stops. refl)
+returns-clause-step g c = takes_reply c.args.self.now (Count c.args.layer.now) (count_answer c.count.result) c.if-self.false (λ t. kept_or_same (refusal_of t (Count c.args.layer.now)) t) (λ t stops. refl) c.count.ensures.answered
+
+pub returns-clause-dead : goal.returns-clause-dead
+returns-clause-dead g c = λ dead. absurd (not_both _ (is_dead c.args.self.now dead) c.if-self.false)
 
 pub returns-clause-cause : goal.returns-clause-cause
-returns-clause-cause g c = cause_in_memory _ _ c.count.result count_answer c.args.self.now.stored.table c.args.self.now.stored.table (Count c.args.layer.now) (λ r. refl) c.count.ensures refl
-
-pub returns-then-self-clause-in_memory : goal.returns-then-self-clause-in_memory
-returns-then-self-clause-in_memory g c = answers_nothing c.args.self.now (Count c.args.layer.now) c.if-self.true
-
-pub returns-clause-in_memory : goal.returns-clause-in_memory
-returns-clause-in_memory g c = answers_in_memory c.args.self.now c.args.self.now (Count c.args.layer.now) (count_answer c.count.result) c.if-self.false c.if-self.false c.count.ensures
+returns-clause-cause g c = blames_none _ c.count.result c.count.ensures.cause

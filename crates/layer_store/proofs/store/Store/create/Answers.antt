@@ -1,26 +1,58 @@
--- The goals of `Store::create` that are proved by hand.
-use Rattle.std.proofs.Common.{refl, ap}
-use Rattle.page_file.specs.File.{device_of}
-use Rattle.page_file.specs.declared.file.PageFile.{PageFile}
-use Rattle.plain_table.specs.Answers.{done_answer}
+-- A change of the layers is a step of the store.
+use Rattle.std.proofs.Common.{refl}
+use Rattle.layer_pages.specs.Changes.{IsEmptyLeaf}
+use Rattle.live_layers.specs.Creating.{BringsTree}
+use Rattle.live_layers.specs.declared.layers.Layers.{Layers}
 use Rattle.plain_table.specs.Commands.Command.{Create}
-use Rattle.layer_store.proofs.StoreLemmas.{answers_in_memory, answers_nothing, cause_in_memory, still_settled, takes_in_memory, takes_nothing}
+use Rattle.plain_table.specs.Step.{changed, changes, refusal_of}
+use Rattle.layer_store.specs.Representation.{device_in}
+use Rattle.layer_store.proofs.ChangeLemmas.{cause_told, on_told, quiet_told, refused_goes_on, stays, step_told, stops_told}
+use Rattle.layer_store.proofs.StopLemmas.{change_leaves}
+use Rattle.layer_store.proofs.StoreLemmas.{alive_in, alive_with, is_dead, not_both, takes_nothing}
 use Rattle.layer_store.proofs.store.Store.create.Goals as goal
 
 pub returns-then-self-clause-step : goal.returns-then-self-clause-step
 returns-then-self-clause-step g c = takes_nothing c.args.self.now (Create c.args.layer.now c.args.dims c.args.fanout) c.if-self.true
 
 pub returns-clause-step : goal.returns-clause-step
-returns-clause-step g c = takes_in_memory c.args.self.now (record { stored = c.create.new.self; failed = c.args.self.now.failed }) (Create c.args.layer.now c.args.dims c.args.fanout) (done_answer c.create.result) c.if-self.false c.if-self.false c.create.ensures.table c.create.ensures.file c.create.ensures.written (λ stops. refl)
+returns-clause-step g c =
+    let old = c.args.self.now in
+    let made = c.create-made in
+    step_told old c.tell.new.self made.new.self (Create c.args.layer.now c.args.dims c.args.fanout) made.result c.tell.result c.if-self.false c.tell.ensures.told (c.tell.ensures.failed c.if-self.false) c.tell.ensures.layers tt
+    made.ensures.changed
+    (λ t stops sound was. change_leaves old.layers made.new.self t (Create c.args.layer.now c.args.dims c.args.fanout) stops sound.map.honest was (changes t (Create c.args.layer.now c.args.dims c.args.fanout)) made.result
+    (made.ensures.leaves t sound) (λ unchanged. stays (refusal_of t (Create c.args.layer.now c.args.dims c.args.fanout)) t (changed t (Create c.args.layer.now c.args.dims c.args.fanout)) unchanged)
+    (λ r is admitted. refused_goes_on old.layers made.new.self t (Create c.args.layer.now c.args.dims c.args.fanout) made.result r refl admitted (made.ensures.changed t sound) is))
+    (λ t sound. made.ensures.next) (g.met.D.BlockDevice.faults_fit (device_in old)) made.ensures.cause
+
+pub returns-then-self-clause-stops : goal.returns-then-self-clause-stops
+returns-then-self-clause-stops g c = λ s t represents alive. absurd (not_both _ c.if-self.true (alive_in c.args.self.now s t represents alive).0)
+
+pub returns-clause-stops : goal.returns-clause-stops
+returns-clause-stops g c =
+    let made = c.create-made in
+    stops_told c.args.self.now c.tell.new.self made.new.self (Create c.args.layer.now c.args.dims c.args.fanout) made.result c.tell.result c.if-self.false c.tell.ensures.told (c.tell.ensures.failed c.if-self.false) c.tell.ensures.layers made.ensures.leaves
+
+pub returns-then-self-clause-quiet : goal.returns-then-self-clause-quiet
+returns-then-self-clause-quiet g c = λ s t represents alive unchanged. absurd (not_both _ c.if-self.true (alive_in c.args.self.now s t represents alive).0)
+
+pub returns-clause-quiet : goal.returns-clause-quiet
+returns-clause-quiet g c = λ s t represents alive unchanged.
+    let made = c.create-made in
+    let old = c.args.self.now in
+    quiet_told old c.tell.new.self made.new.self (Create c.args.layer.now c.args.dims c.args.fanout) made.result c.tell.result c.if-self.false c.tell.ensures.told (c.tell.ensures.failed c.if-self.false) c.tell.ensures.layers
+    (λ b left. g.met.D.BlockDevice.only_now (device_in old) b (alive_in old s t represents alive).1.map.honest left) made.ensures.leaves s t represents alive
+    (stays (refusal_of t (Create c.args.layer.now c.args.dims c.args.fanout)) t (changed t (Create c.args.layer.now c.args.dims c.args.fanout)) unchanged)
+
+pub returns-clause-dead : goal.returns-clause-dead
+returns-clause-dead g c = λ dead. absurd (not_both _ (is_dead c.args.self.now dead) c.if-self.false)
 
 pub returns-clause-cause : goal.returns-clause-cause
-returns-clause-cause g c = cause_in_memory _ _ c.create.result done_answer c.args.self.now.stored.table c.create.new.self.table (Create c.args.layer.now c.args.dims c.args.fanout) (λ r. refl) c.create.ensures.table (ap (λ (file : PageFile _ _). g.D.BlockDevice.faults (device_of file)) c.create.ensures.file)
+returns-clause-cause g c =
+    let made = c.create-made in
+    cause_told c.args.self.now c.tell.new.self made.new.self (Create c.args.layer.now c.args.dims c.args.fanout) made.result c.tell.result c.if-self.false c.tell.ensures.told (c.tell.ensures.failed c.if-self.false) c.tell.ensures.layers made.ensures.cause
 
-pub returns-clause-still_settled : goal.returns-clause-still_settled
-returns-clause-still_settled g c = still_settled c.args.self.now (record { stored = c.create.new.self; failed = c.args.self.now.failed }) c.create.result c.create.ensures.file c.create.ensures.refused
-
-pub returns-then-self-clause-in_memory : goal.returns-then-self-clause-in_memory
-returns-then-self-clause-in_memory g c = answers_nothing c.args.self.now (Create c.args.layer.now c.args.dims c.args.fanout) c.if-self.true
-
-pub returns-clause-in_memory : goal.returns-clause-in_memory
-returns-clause-in_memory g c = answers_in_memory c.args.self.now (record { stored = c.create.new.self; failed = c.args.self.now.failed }) (Create c.args.layer.now c.args.dims c.args.fanout) (done_answer c.create.result) c.if-self.false c.if-self.false c.create.ensures.table
+pub returns-clause-tree : goal.returns-clause-tree
+returns-clause-tree g c = λ t represents.
+    let made = c.create-made in
+    on_told made.result c.tell.result (λ (l : Layers _ _ _). BringsTree c.args.self.now.layers l c.args.layer.now IsEmptyLeaf) c.tell.ensures.told c.tell.ensures.layers (made.ensures.tree t (alive_with c.args.self.now t represents).1)

@@ -1,21 +1,36 @@
--- The goals of `Store::nearest` that are proved by hand.
+-- A question of the layers is a step of the store.
 use Rattle.std.proofs.Common.{refl}
 use Rattle.plain_table.specs.Answers.{distances_answer}
 use Rattle.plain_table.specs.Commands.Command.{Nearest}
-use Rattle.layer_store.proofs.StoreLemmas.{answers_in_memory, answers_nothing, cause_in_memory, takes_in_memory, takes_nothing}
+use Rattle.plain_table.specs.Step.{refusal_of}
+use Rattle.layer_store.specs.Representation.{device_in}
+use Rattle.layer_store.proofs.QuestionLemmas.{keeps_asked, kept_or_same, nothing_asked, step_asked, stops_asked}
+use Rattle.layer_store.proofs.StoreLemmas.{alive_with, is_dead, not_both, takes_nothing}
 use Rattle.layer_store.proofs.store.Store.nearest.Goals as goal
 
 pub returns-then-self-clause-step : goal.returns-then-self-clause-step
 returns-then-self-clause-step g c = takes_nothing c.args.self.now (Nearest c.args.layer.now c.args.k c.args.point) c.if-self.true
 
 pub returns-clause-step : goal.returns-clause-step
-returns-clause-step g c = takes_in_memory c.args.self.now c.args.self.now (Nearest c.args.layer.now c.args.k c.args.point) (distances_answer c.nearest.result) c.if-self.false c.if-self.false c.nearest.ensures refl (λ written. (written, refl)) (λ stops. refl)
+returns-clause-step g c =
+    step_asked c.args.self.now c.nearest.new.self (Nearest c.args.layer.now c.args.k c.args.point) c.nearest.result (distances_answer) c.if-self.false tt (λ t. kept_or_same (refusal_of t (Nearest c.args.layer.now c.args.k c.args.point)) t) (λ t stops. refl)
+    (g.met.D.BlockDevice.faults_fit (device_in c.args.self.now)) c.nearest.ensures.cause c.nearest.ensures.gate c.nearest.ensures.map c.nearest.ensures.answered
 
-pub returns-clause-cause : goal.returns-clause-cause
-returns-clause-cause g c = cause_in_memory _ _ c.nearest.result distances_answer c.args.self.now.stored.table c.args.self.now.stored.table (Nearest c.args.layer.now c.args.k c.args.point) (λ r. refl) c.nearest.ensures refl
+pub returns-then-self-clause-kept : goal.returns-then-self-clause-kept
+returns-then-self-clause-kept g c = nothing_asked c.args.self.now
 
-pub returns-then-self-clause-in_memory : goal.returns-then-self-clause-in_memory
-returns-then-self-clause-in_memory g c = answers_nothing c.args.self.now (Nearest c.args.layer.now c.args.k c.args.point) c.if-self.true
+pub returns-clause-kept : goal.returns-clause-kept
+returns-clause-kept g c = keeps_asked c.args.self.now c.nearest.new.self c.nearest.ensures.gate c.nearest.ensures.map c.nearest.ensures.written
 
-pub returns-clause-in_memory : goal.returns-clause-in_memory
-returns-clause-in_memory g c = answers_in_memory c.args.self.now c.args.self.now (Nearest c.args.layer.now c.args.k c.args.point) (distances_answer c.nearest.result) c.if-self.false c.if-self.false c.nearest.ensures
+pub returns-then-self-clause-stops : goal.returns-then-self-clause-stops
+returns-then-self-clause-stops g c = λ s represents. stops_asked c.args.self.now c.args.self.now s represents (λ honest b left. g.met.D.BlockDevice.only_now (device_in c.args.self.now) b honest left) (nothing_asked c.args.self.now)
+
+pub returns-clause-stops : goal.returns-clause-stops
+returns-clause-stops g c = λ s represents. stops_asked c.args.self.now (record { layers = c.nearest.new.self; failed = c.args.self.now.failed }) s represents (λ honest b left. g.met.D.BlockDevice.only_now (device_in c.args.self.now) b honest left)
+    (keeps_asked c.args.self.now c.nearest.new.self c.nearest.ensures.gate c.nearest.ensures.map c.nearest.ensures.written)
+
+pub returns-clause-dead : goal.returns-clause-dead
+returns-clause-dead g c = λ dead. absurd (not_both _ (is_dead c.args.self.now dead) c.if-self.false)
+
+pub returns-clause-looks : goal.returns-clause-looks
+returns-clause-looks g c = λ t represents. c.nearest.ensures.looks t (alive_with c.args.self.now t represents).1

@@ -6,7 +6,8 @@ use Rattle.page_cache.specs.Cache.{blocks_of, device_of}
 use Rattle.page_file.specs.Stops.{SameButGate}
 use Rattle.live_layers.specs.Image.{IsRefusedOrImageOf}
 use Rattle.live_layers.proofs.KeepLemmas.{kept_catalog, kept_table, sound_kept}
-use Rattle.live_layers.proofs.StopLemmas.{image_of, or_this, table_closed}
+use Rattle.live_layers.proofs.ClosingLemmas.{rests_on_more}
+use Rattle.live_layers.proofs.StopLemmas.{image_of, or_this, rests_on_table, table_closed}
 use Rattle.live_layers.proofs.Results.{on_ok}
 use Rattle.live_layers.proofs.layers.Layers.settle.Goals as goal
 
@@ -37,3 +38,15 @@ returns-clause-closed g c = λ t sound.
 
 pub returns-clause-sound : goal.returns-clause-sound
 returns-clause-sound g c = λ t sound. sound_kept c.write.new.self _ t c.settle.ensures.map refl refl (λ w. w) (c.write.ensures.sound t sound)
+
+pub returns-in_err-write-clause-rests : goal.returns-in_err-write-clause-rests
+returns-in_err-write-clause-rests g c = λ ts t sound rests. rests_on_more c.write.new.self.cache ts t (c.write.ensures.rests ts sound.map.honest rests)
+
+pub returns-clause-rests : goal.returns-clause-rests
+returns-clause-rests g c = λ ts t sound rests.
+    let mid = c.write.new.self in
+    let new = c.settle.new.self in
+    let before = c.write.ensures.sound t sound in
+    let keeps = c.settle.ensures.map in
+    let spelled = kept_catalog mid.cache new (records_of mid.records) before.map.honest keeps (before.catalog c.in_ok-write.ensures.written) in
+    rests_on_table new ts (records_of mid.records) t (keeps.sound.0 before.map) spelled (kept_table mid.cache new (records_of mid.records) t before.map.honest keeps before.holds)

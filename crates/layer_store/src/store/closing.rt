@@ -1,0 +1,97 @@
+//! The closing of a store, and its reopening.
+
+ghost use Rattle.std.specs.Prelude.{◌≡◌, ◌⊎◌, ◌∷◌, Ok, Err, IsOk, IfOk, IfErr};
+ghost use Rattle.block_device.specs.Device.{LeavesOnly, Only};
+ghost use Rattle.live_layers.specs.Faults.{HasRefusalCause, faults_after_refusal};
+ghost use Rattle.live_layers.specs.Image.{IsImage, IsRefusedOrImageOf};
+ghost use Rattle.plain_table.specs.Answers.{done_answer};
+ghost use Rattle.plain_table.specs.Commands.Command.{Reopen};
+ghost use Rattle.plain_table.specs.Table.{Table};
+ghost use Rattle.plain_table.specs.declared.refusal.Refusal.TheVariants as refusal;
+ghost use Rattle.store_law.specs.Sessions.{LawfulStep, SessionState, Takes};
+ghost use Rattle.store_law.specs.States.Request.{Asks};
+ghost use Rattle.store_law.specs.States.StoreState.{Alive, Dead};
+ghost use Rattle.store_law.specs.Stops.{tables_left};
+ghost use Rattle.layer_store.specs.Faults.{IsMemoryOrDevice};
+ghost use Rattle.layer_store.specs.Representation.{HasFailed, IsInState, IsSettled, Represents, RepresentsTable};
+ghost use Rattle.layer_store.specs.Representation.{StopsLeave, blocks_in, device_in};
+
+use crate::store::{FAILED, Store};
+use block_device::BlockDevice;
+use live_layers::as_refusal;
+use plain_table::Refusal;
+use std::alloc::Allocator;
+
+impl<D: BlockDevice, A: Allocator + Copy> Store<D, A> {
+    /// Closes the table into the file, forgets what is held of it, and reads gate, header and catalog again. The blocks
+    /// are then an image of the table.
+    ///
+    /// Refused while closing it answers `Memory` or `Device`, and the store goes on. Refused afterwards it answers
+    /// `StoreFailed` with the number of the fault, the store has failed, and the blocks are an image of its table.
+    pub fn reopen(&mut self) -> Result<(), Refusal>
+        ensures step { Takes Represents self.old self.new (λ s s'. LawfulStep s (Asks Reopen) (done_answer result) s') }
+        ensures closed { (t : Table) → RepresentsTable self.old t → IsOk result ⊎ HasFailed self.new →
+            IsImage (blocks_in self.new) t }
+
+        // A stop leaves what one before the call leaves, or an image of the table; and after a closing that is finished
+        // nothing but what is read.
+        ensures stops { (s : SessionState) (t : Table) → Represents self.old s → s.state ≡ Alive t →
+            StopsLeave self.old self.new (IsRefusedOrImageOf (t ∷ tables_left s.stops.now)) }
+        ensures durable { (t : Table) → RepresentsTable self.old t → IsOk result ⊎ HasFailed self.new →
+            Only (blocks_in self.new) (D.may_leave (device_in self.new)) }
+
+        // One that is settled is only read: a stop leaves the blocks as they are.
+        ensures now_settled { IsOk result → IsSettled self.new }
+        ensures quiet { (t : Table) → RepresentsTable self.old t → IsSettled self.old →
+            StopsLeave self.old self.new (λ c. c ≡ blocks_in self.old) }
+
+        // One that has failed stays so, on any device.
+        ensures dead { IsInState self.old Dead → (result ≡ Err (refusal.StoreFailed 19)) × (self.new ≡ self.old) }
+        ensures cause { HasRefusalCause (D.faults (device_in self.old)) (D.faults (device_in self.new)) result }
+    {
+        if self.failed {
+            return Err(FAILED);
+        }
+        let closed = self.layers.reopen();
+        self.tell(closed)
+    }
+
+    /// Closes the table into the file, and hands the device back.
+    ///
+    /// Closed, its blocks are an image of the table. Refused it answers `Memory` or `Device`, and the device comes back:
+    /// then a stop leaves of it blocks that opening refuses, or an image of a table that was closed before, or of this
+    /// one. A store that failed answers `StoreFailed(19)`, and the device comes back as it is.
+    pub fn close(self) -> Result<D, (Refusal, D)>
+        ensures closed { (t : Table) → RepresentsTable self t → IfOk result (λ device. IsImage (D.shown device) t) }
+
+        // A stop leaves what one before the call leaves, or an image of the table; and after a closing that is finished
+        // nothing but what is read.
+        ensures stops { (s : SessionState) (t : Table) → Represents self s → s.state ≡ Alive t → IfOk result (λ device.
+            LeavesOnly D.moment D.left_since (device_in self) device
+            (IsRefusedOrImageOf (t ∷ tables_left s.stops.now))) }
+        ensures refused_stops { (s : SessionState) (t : Table) → Represents self s → s.state ≡ Alive t →
+            IfErr result (λ e.
+            LeavesOnly D.moment D.left_since (device_in self) e.1 (IsRefusedOrImageOf (t ∷ tables_left s.stops.now))) }
+        ensures durable { (t : Table) → RepresentsTable self t →
+            IfOk result (λ device. Only (D.shown device) (D.may_leave device)) }
+
+        // Of one that is settled already the device comes back as it is.
+        ensures quiet { (t : Table) → RepresentsTable self t → IsSettled self → result ≡ Ok (device_in self) }
+
+        ensures refused { (t : Table) → RepresentsTable self t → IfErr result (λ e. IsMemoryOrDevice e.0) }
+        ensures dead { IsInState self Dead → result ≡ Err (refusal.StoreFailed 19, device_in self) }
+        ensures failed { HasFailed self → result ≡ Err (refusal.StoreFailed 19, device_in self) }
+        ensures no_fault { IfOk result (λ device. D.faults device ≡ D.faults (device_in self)) }
+        ensures cause { IfErr result (λ e. D.faults e.1 ≡ faults_after_refusal e.0 (D.faults (device_in self))) }
+        ensures honest { IfOk result (λ device. D.honest (device_in self) → D.honest device) }
+        ensures refused_honest { IfErr result (λ e. D.honest (device_in self) → D.honest e.1) }
+    {
+        if self.failed {
+            return Err((FAILED, self.layers.abandon()));
+        }
+        match self.layers.close() {
+            Ok(device) => Ok(device),
+            Err((fault, device)) => Err((as_refusal(fault), device)),
+        }
+    }
+}

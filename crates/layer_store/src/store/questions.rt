@@ -1,0 +1,192 @@
+//! The commands that only ask.
+
+ghost use Rattle.std.specs.Prelude.{◌≡◌, Err, OnOk};
+ghost use Rattle.live_layers.specs.Faults.{HasRefusalCause};
+ghost use Rattle.live_layers.specs.Image.{MayRemain};
+ghost use Rattle.live_layers.specs.Keeping.{LooksAtTree};
+ghost use Rattle.live_layers.specs.Questions.{is_admitted};
+ghost use Rattle.nearest.specs.Nearest.{is_searched};
+ghost use Rattle.plain_table.specs.Answers.{box_answer, boxes_answer, count_answer, distances_answer};
+ghost use Rattle.plain_table.specs.Boxes.{given_point, point_dims};
+ghost use Rattle.plain_table.specs.Commands.Command.{Count, Get, Nearest, Range};
+ghost use Rattle.plain_table.specs.Step.{nearest_rows};
+ghost use Rattle.plain_table.specs.Table.{Table, layer_at};
+ghost use Rattle.plain_table.specs.declared.refusal.Refusal.TheVariants as refusal;
+ghost use Rattle.store_law.specs.Sessions.{LawfulStep, SessionState, Takes};
+ghost use Rattle.store_law.specs.States.Request.{Asks};
+ghost use Rattle.store_law.specs.States.StoreState.{Dead};
+ghost use Rattle.tree_node.specs.Searches.{admitted};
+ghost use Rattle.layer_store.specs.Representation.{IsInState, KeepsStore, Represents, RepresentsTable, StopsLeave};
+ghost use Rattle.layer_store.specs.Representation.{device_in, layers_in, looks_in};
+
+use crate::store::{FAILED, Store};
+use block_device::BlockDevice;
+use plain_table::{AnyBox, RawBox, RawPoint, RawQuery, Refusal};
+use std::alloc::Allocator;
+
+impl<D: BlockDevice, A: Allocator + Copy> Store<D, A> {
+    /// The box of the object with that identifier, by the layer's identifier table.
+    ///
+    /// Refused, in this order, by BadName, NoLayer and NoObject.
+    pub fn get(&mut self, layer: &[u8], id: u64) -> Result<AnyBox, Refusal>
+        ensures step { Takes Represents self.old self.new
+            (λ s s'. LawfulStep s (Asks (Get layer.now id)) (box_answer id result) s') }
+        ensures kept { KeepsStore self.old self.new }
+        ensures stops { (s : SessionState) → Represents self.old s →
+            StopsLeave self.old self.new (MayRemain s.stops.now) }
+        ensures dead { IsInState self.old Dead → (result ≡ Err (refusal.StoreFailed 19)) × (self.new ≡ self.old) }
+        ensures cause { HasRefusalCause (D.faults (device_in self.old)) (D.faults (device_in self.new)) result }
+    {
+        if self.failed {
+            return Err(FAILED);
+        }
+        self.layers.get(layer, id)
+    }
+
+    /// How many objects a layer has, by its record. It takes no memory, and makes no call of the device.
+    ///
+    /// Refused, in this order, by BadName and NoLayer.
+    pub fn count(&mut self, layer: &[u8]) -> Result<u64, Refusal>
+        ensures step { Takes Represents self.old self.new
+            (λ s s'. LawfulStep s (Asks (Count layer.now)) (count_answer result) s') }
+        ensures same { self.new ≡ self.old }
+        ensures dead { IsInState self.old Dead → result ≡ Err (refusal.StoreFailed 19) }
+        ensures cause { HasRefusalCause (D.faults (device_in self.old)) (D.faults (device_in self.new)) result }
+    {
+        if self.failed {
+            return Err(FAILED);
+        }
+        self.layers.count(layer)
+    }
+
+    /// The objects of a layer that the query seeks, ascending by identifier. It looks at the root of the layer's tree, and
+    /// at each other node whose box the query admits.
+    ///
+    /// Refused, in this order, by BadName, NoLayer, WrongDims and BadBox.
+    pub fn range(&mut self, layer: &[u8], query: RawQuery) -> Result<Vec<(u64, AnyBox), A>, Refusal>
+        ensures step { Takes Represents self.old self.new
+            (λ s s'. LawfulStep s (Asks (Range layer.now query)) (boxes_answer result) s') }
+        ensures looks { (t : Table) → RepresentsTable self.old t →
+            OnOk result (LooksAtTree (layers_in self.old) (layers_in self.new) layer.now
+            (admitted (is_admitted (layer_at t layer.now).dims query))) }
+        ensures kept { KeepsStore self.old self.new }
+        ensures stops { (s : SessionState) → Represents self.old s →
+            StopsLeave self.old self.new (MayRemain s.stops.now) }
+        ensures dead { IsInState self.old Dead → (result ≡ Err (refusal.StoreFailed 19)) × (self.new ≡ self.old) }
+        ensures cause { HasRefusalCause (D.faults (device_in self.old)) (D.faults (device_in self.new)) result }
+    {
+        if self.failed {
+            return Err(FAILED);
+        }
+        self.layers.range(layer, query)
+    }
+
+    /// The k objects of a layer that are nearest to the point, or all of fewer: identifiers with squared distances, by
+    /// distance, and of equal distances by identifier. So many are 1 to 1,000,000. It looks at the root of the layer's
+    /// tree, and at each other node that is no farther than the kth of them, or at each where there are fewer.
+    ///
+    /// Refused, in this order, by BadName, NoLayer, WrongDims and BadCount.
+    pub fn nearest(
+        &mut self,
+        layer: &[u8],
+        k: u64,
+        point: RawPoint,
+    ) -> Result<Vec<(u64, u128), A>, Refusal>
+        ensures step { Takes Represents self.old self.new
+            (λ s s'. LawfulStep s (Asks (Nearest layer.now k point)) (distances_answer result) s') }
+        ensures looks { (t : Table) → RepresentsTable self.old t →
+            OnOk result (LooksAtTree (layers_in self.old) (layers_in self.new) layer.now
+            (admitted (is_searched (point_dims point) k (given_point point)
+            (nearest_rows (layer_at t layer.now) k point)))) }
+        ensures kept { KeepsStore self.old self.new }
+        ensures stops { (s : SessionState) → Represents self.old s →
+            StopsLeave self.old self.new (MayRemain s.stops.now) }
+        ensures dead { IsInState self.old Dead → (result ≡ Err (refusal.StoreFailed 19)) × (self.new ≡ self.old) }
+        ensures cause { HasRefusalCause (D.faults (device_in self.old)) (D.faults (device_in self.new)) result }
+    {
+        if self.failed {
+            return Err(FAILED);
+        }
+        self.layers.nearest(layer, k, point)
+    }
+
+    /// The objects of a layer whose boxes meet the window (boxes that touch meet), ascending by identifier.
+    ///
+    /// Refused, in this order, by BadName, NoLayer, WrongDims and BadBox.
+    pub fn window(&mut self, layer: &[u8], bounds: RawBox) -> Result<Vec<(u64, AnyBox), A>, Refusal>
+        ensures step { Takes Represents self.old self.new
+            (λ s s'. LawfulStep s (Asks (Range layer.now (RawQuery.Window bounds))) (boxes_answer result) s') }
+        ensures looks { (t : Table) → RepresentsTable self.old t →
+            OnOk result (LooksAtTree (layers_in self.old) (layers_in self.new) layer.now
+            (admitted (is_admitted (layer_at t layer.now).dims (RawQuery.Window bounds)))) }
+        ensures kept { KeepsStore self.old self.new }
+        ensures stops { (s : SessionState) → Represents self.old s →
+            StopsLeave self.old self.new (MayRemain s.stops.now) }
+        ensures dead { IsInState self.old Dead → (result ≡ Err (refusal.StoreFailed 19)) × (self.new ≡ self.old) }
+        ensures cause { HasRefusalCause (D.faults (device_in self.old)) (D.faults (device_in self.new)) result }
+    {
+        self.range(layer, RawQuery::Window(bounds))
+    }
+
+    /// The objects of a layer whose boxes lie within the window, ascending by identifier.
+    ///
+    /// Refused, in this order, by BadName, NoLayer, WrongDims and BadBox.
+    pub fn inside(&mut self, layer: &[u8], bounds: RawBox) -> Result<Vec<(u64, AnyBox), A>, Refusal>
+        ensures step { Takes Represents self.old self.new
+            (λ s s'. LawfulStep s (Asks (Range layer.now (RawQuery.Inside bounds))) (boxes_answer result) s') }
+        ensures looks { (t : Table) → RepresentsTable self.old t →
+            OnOk result (LooksAtTree (layers_in self.old) (layers_in self.new) layer.now
+            (admitted (is_admitted (layer_at t layer.now).dims (RawQuery.Inside bounds)))) }
+        ensures kept { KeepsStore self.old self.new }
+        ensures stops { (s : SessionState) → Represents self.old s →
+            StopsLeave self.old self.new (MayRemain s.stops.now) }
+        ensures dead { IsInState self.old Dead → (result ≡ Err (refusal.StoreFailed 19)) × (self.new ≡ self.old) }
+        ensures cause { HasRefusalCause (D.faults (device_in self.old)) (D.faults (device_in self.new)) result }
+    {
+        self.range(layer, RawQuery::Inside(bounds))
+    }
+
+    /// The objects of a layer whose boxes enclose the box, ascending by identifier.
+    ///
+    /// Refused, in this order, by BadName, NoLayer, WrongDims and BadBox.
+    pub fn around(&mut self, layer: &[u8], bounds: RawBox) -> Result<Vec<(u64, AnyBox), A>, Refusal>
+        ensures step { Takes Represents self.old self.new
+            (λ s s'. LawfulStep s (Asks (Range layer.now (RawQuery.Around bounds))) (boxes_answer result) s') }
+        ensures looks { (t : Table) → RepresentsTable self.old t →
+            OnOk result (LooksAtTree (layers_in self.old) (layers_in self.new) layer.now
+            (admitted (is_admitted (layer_at t layer.now).dims (RawQuery.Around bounds)))) }
+        ensures kept { KeepsStore self.old self.new }
+        ensures stops { (s : SessionState) → Represents self.old s →
+            StopsLeave self.old self.new (MayRemain s.stops.now) }
+        ensures dead { IsInState self.old Dead → (result ≡ Err (refusal.StoreFailed 19)) × (self.new ≡ self.old) }
+        ensures cause { HasRefusalCause (D.faults (device_in self.old)) (D.faults (device_in self.new)) result }
+    {
+        self.range(layer, RawQuery::Around(bounds))
+    }
+
+    /// The objects of a layer whose boxes hold the point, ascending by identifier.
+    ///
+    /// Refused, in this order, by BadName, NoLayer and WrongDims.
+    pub fn point(&mut self, layer: &[u8], point: RawPoint) -> Result<Vec<(u64, AnyBox), A>, Refusal>
+        ensures step { Takes Represents self.old self.new
+            (λ s s'. LawfulStep s (Asks (Range layer.now (RawQuery.Point point))) (boxes_answer result) s') }
+        ensures looks { (t : Table) → RepresentsTable self.old t →
+            OnOk result (LooksAtTree (layers_in self.old) (layers_in self.new) layer.now
+            (admitted (is_admitted (layer_at t layer.now).dims (RawQuery.Point point)))) }
+        ensures kept { KeepsStore self.old self.new }
+        ensures stops { (s : SessionState) → Represents self.old s →
+            StopsLeave self.old self.new (MayRemain s.stops.now) }
+        ensures dead { IsInState self.old Dead → (result ≡ Err (refusal.StoreFailed 19)) × (self.new ≡ self.old) }
+        ensures cause { HasRefusalCause (D.faults (device_in self.old)) (D.faults (device_in self.new)) result }
+    {
+        self.range(layer, RawQuery::Point(point))
+    }
+
+    /// How many nodes questions have looked at so far, with the pages that other commands have. The count stays at
+    /// u64::MAX.
+    pub fn looks(&self) -> u64
+        ensures { result ≡ looks_in self.now }
+    {
+        self.layers.looks()
+    }
+}

@@ -1,0 +1,87 @@
+-- What a closing of live layers leaves, and what a reading behind it finds.
+use Rattle.std.proofs.Common.{◌≡◌, ◌∙◌, ◌⊎◌, List, ◌∷◌, Some, sym, ap, subst, arith, inl, inr, ⊎_elim}
+use Rattle.std.specs.Prelude.{option_and_then}
+use Rattle.block_device.specs.Device.{Blocks, LeavesOnly}
+use Rattle.block_device.specs.Moments.{leaves_weaker}
+use Rattle.catalog_page.specs.Layout.{Record, records_at, records_of}
+use Rattle.page_cache.specs.Cache.{IsHonest, IsUnchanged, KeepsGate, KeepsMap, blocks_of, device_of, gate_of, next_of, pages}
+use Rattle.page_cache.specs.declared.cache.PageCache.{PageCache}
+use Rattle.page_file.specs.Fault.{IsOfDevice}
+use Rattle.page_file.specs.Laws.{stops_of_a_run_go_on}
+use Rattle.page_file.specs.Stops.{SameButGate, StopSince}
+use Rattle.page_file.specs.declared.fault.Fault.{Fault}
+use Rattle.page_file.specs.declared.fault.Fault.TheVariants as fault
+use Rattle.page_file.specs.declared.gate.Gate.{Gate}
+use Rattle.page_file.specs.declared.gate.Gate.TheVariants.{Open, Shut}
+use Rattle.plain_table.specs.Table.{Table}
+use Rattle.live_layers.specs.Catalog.{objects_named}
+use Rattle.live_layers.specs.Changes.{IsFaultOfChange}
+use Rattle.live_layers.specs.Image.{IsImage, IsRefusedOrImageOf}
+use Rattle.live_layers.specs.Keeping.{IsSound, IsWritten, RestLeavesOneOf}
+use Rattle.live_layers.specs.Layers.{Holds, catalog_in}
+use Rattle.live_layers.specs.declared.layers.Layers.{Layers}
+use Rattle.live_layers.proofs.HoldLemmas.{counted, few_objects}
+use Rattle.live_layers.proofs.KeepLemmas.{kept_catalog, kept_table}
+use Rattle.live_layers.proofs.StopLemmas.{image_aside, or_this, this_one}
+
+-- a fault of the device breaks a closing off
+pub breaks_off : (rose spent : Type 0) (f : Fault) → IsOfDevice f → (f ≡ fault.Device → rose) → IsFaultOfChange rose spent f
+breaks_off rose spent f (inl e) risen = subst (IsFaultOfChange rose spent) (sym e) tt
+breaks_off rose spent f (inr e) risen = subst (IsFaultOfChange rose spent) (sym e) (risen e)
+
+shut_is_not_open : (gate : Gate) → gate ≡ Shut → gate ≡ Open → ⊥
+shut_is_not_open gate shut opened = let no : Shut ≡ Open = sym shut ∙ opened in absurd (cc)
+
+module _ {D A : Type 0} {m : _} where
+  -- where nothing was done the gate is kept
+  pub unchanged_keeps_gate : (old new : PageCache D A m) → IsUnchanged old new → KeepsGate old new
+  unchanged_keeps_gate old new same = record {
+    gate = same.gate;
+    honest = (λ h. subst m.honest (sym same.device) h, λ h. subst m.honest same.device h);
+    blocks = λ h closed. ap m.shown same.device;
+    stops = λ h. record {
+      later = let e = ap m.moment same.device in omega (arith, e);
+      before = λ t c le left. inl (subst (λ (d : D). m.left_since d t c) same.device left);
+    };
+  }
+
+  -- blocks that are read behind a shut gate stay
+  pub read_image : (mid new : PageCache D A m) (t : Table) → IsHonest mid → gate_of mid ≡ Shut → KeepsGate mid new → IsImage (blocks_of mid) t → IsImage (blocks_of new) t
+  read_image mid new t honest shut keeps image = subst (λ (blocks : Blocks). IsImage blocks t) (sym (keeps.blocks honest (λ opened. shut_is_not_open (gate_of mid) shut opened))) image
+
+  -- an image that is read behind its shut gate leaves no more
+  pub then_read : (old : D) (mid new : PageCache D A m) (ts : List Table) (t : Table) → IsHonest mid → gate_of mid ≡ Shut → IsImage (blocks_of mid) t → LeavesOnly m.moment m.left_since old (device_of mid) (IsRefusedOrImageOf (t ∷ ts)) → KeepsGate mid new
+      → LeavesOnly m.moment m.left_since old (device_of new) (IsRefusedOrImageOf (t ∷ ts))
+  then_read old mid new ts t honest shut image closed keeps =
+      leaves_weaker m.moment m.left_since old (device_of new) (λ c. IsRefusedOrImageOf (t ∷ ts) c ⊎ StopSince (gate_of mid) (blocks_of mid) c) (IsRefusedOrImageOf (t ∷ ts))
+      (λ c. ⊎_elim (λ (p : IsRefusedOrImageOf (t ∷ ts) c). p)
+      (λ stop. this_one ts t c (subst (λ (blocks : Blocks). IsImage blocks t) (sym (subst (λ (gate : Gate). StopSince gate (blocks_of mid) c) shut stop)) image)))
+      (stops_of_a_run_go_on old mid.file new.file (IsRefusedOrImageOf (t ∷ ts)) honest closed keeps)
+
+  -- a cache whose blocks are an image of the table rests on it, and one that rested on others on these and one more
+  pub rests_on_closed : (cache : PageCache D A m) (ts : List Table) (t : Table) → IsImage (blocks_of cache) t → RestLeavesOneOf cache (t ∷ ts)
+  rests_on_closed cache ts t image = λ closed c same. ⊎_elim (λ refused. inl refused) (λ there. this_one ts t c there) (image_aside (blocks_of cache) c t image same)
+
+  pub rests_on_more : (cache : PageCache D A m) (ts : List Table) (t : Table) → RestLeavesOneOf cache ts → RestLeavesOneOf cache (t ∷ ts)
+  rests_on_more cache ts t rests = λ closed c same. or_this ts t c (rests closed c same)
+
+  -- the catalog of the same map
+  pub catalog_before : (old new : PageCache D A m) (records : List Record) → IsHonest old → KeepsMap old new → catalog_in (pages new) ≡ Some records → catalog_in (pages old) ≡ Some records
+  catalog_before old new records honest keeps spelled = ap (option_and_then records_at) (sym (keeps.pages_stay honest 2)) ∙ spelled
+
+  -- layers whose records were read again, of a map that stays and spells those that they had
+  pub read_sound : (old new : Layers D A m) (t : Table) → IsSound old t → IsWritten old → KeepsMap old.cache new.cache → catalog_in (pages old.cache) ≡ Some (records_of new.records) → new.object_count ≡ objects_named (records_of new.records) → IsSound new t
+  read_sound old new t sound written keeps spelled count =
+      let honest = sound.map.honest in
+      let rs = records_of new.records in
+      let both : Some (records_of old.records) ≡ Some rs = sym (sound.catalog written) ∙ spelled in
+      let same : records_of old.records ≡ rs = cc in
+      let held : Holds (pages old.cache) (next_of old.cache) rs t = subst (λ (rs : List Record). Holds (pages old.cache) (next_of old.cache) rs t) same sound.holds in
+      let number = count ∙ counted (pages old.cache) (next_of old.cache) rs t held in
+      record {
+        map = keeps.sound.0 sound.map;
+        holds = kept_table old.cache new.cache rs t honest keeps held;
+        counted = number;
+        within = omega (arith, number, few_objects (pages old.cache) (next_of old.cache) rs t held);
+        catalog = λ w. kept_catalog old.cache new.cache rs honest keeps spelled;
+      }

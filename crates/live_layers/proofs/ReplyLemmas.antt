@@ -1,0 +1,138 @@
+-- What questions are answered of the layer of a name: as the table answers them, or a fault.
+use Rattle.std.proofs.Common.{◌≡◌, ◌∙◌, ◌⊎◌, ℕ, List, [], ◌∷◌, Bool, true, false, not, cond, Option, Some, None, refl, sym, ap, subst, inl, inr}
+use Rattle.std.specs.Prelude.{IsErrAnd, Ok, Err, Result, Vec, ◌==◌, ◌-◌, ℤ, filter, nat_lt, nat_le, ◌&&◌, ◌||◌, is_some, unwrap_or}
+use Rattle.std.specs.FinMap.{entries, get}
+use Rattle.box_math.specs.Bounds.{Bounds}
+use Rattle.nearest.specs.Nearest.{nearest_first, put_nearest_first, with_distances}
+use Rattle.page_file.specs.declared.fault.Fault.TheVariants as fault
+use Rattle.plain_table.specs.Answers.{box_answer, boxes_answer, count_answer, distances_answer}
+use Rattle.plain_table.specs.Commands.{Command}
+use Rattle.plain_table.specs.Nearest.{by_distance, in_order, is_count, put_in_order}
+use Rattle.plain_table.specs.Queries.{is_sought, seeks}
+use Rattle.plain_table.specs.Step.{Answer, answer_of, first_refusal, missing_refusals, object_row, query_refusals, range_rows, refusal_of, refused_or, reply_of}
+use Rattle.plain_table.specs.Step.Answer.{Boxes, Refused}
+use Rattle.plain_table.specs.Table.{Layer, Table, is_layer_name, no_box}
+use Rattle.plain_table.specs.declared.boxes.AnyBox.{AnyBox}
+use Rattle.plain_table.specs.declared.queries.Query.{Query}
+use Rattle.plain_table.specs.declared.queries.RawQuery.{RawQuery}
+use Rattle.plain_table.specs.declared.queries.RawQuery.TheVariants.{Window, Inside, Around, Point}
+use Rattle.plain_table.specs.declared.refusal.Refusal.{Refusal}
+use Rattle.plain_table.specs.declared.refusal.Refusal.TheVariants as refusal
+use Rattle.store_law.specs.Lawful.{IsFault, RefusedBy}
+use Rattle.tree_node.specs.Searches.{admitted}
+use Rattle.live_layers.specs.Keeping.{Belongs, Finds, LooksAtTree}
+use Rattle.live_layers.specs.Questions.{IsNamed, IsReply, IsUnnamed, admits, given_query, is_admitted}
+use Rattle.live_layers.specs.declared.layers.Layers.{Layers}
+use Rattle.live_layers.proofs.AskLemmas.{named_there, not_there}
+
+-- ---- the layer of a name
+
+pub is_named : (t : Table) (name : List ℕ) (place : ℕ) → is_layer_name name ≡ true → Finds t name place → IsNamed t name
+is_named t name place good finds = λ more. let there = named_there t name place finds in rw (good, there) refl
+
+pub bad_name : (t : Table) (name : List ℕ) → is_layer_name name ≡ false → IsUnnamed t name refusal.BadName
+bad_name t name e = λ more. rw e refl
+
+pub none_named : (t : Table) (name : List ℕ) (place : ℕ) → is_layer_name name ≡ true → Belongs t name place → IsUnnamed t name refusal.NoLayer
+none_named t name place good belongs = λ more. let absent = not_there t name place belongs in rw (good, absent) refl
+
+-- ---- replies
+
+-- what is answered of a layer of the name is what the table answers, or a fault
+pub replied : (rose spent : Type 0) (t : Table) (c : Command) (why : Option Refusal) (a : Answer) → refusal_of t c ≡ why → IsReply rose why (answer_of t c) a → (a ≡ reply_of t c) ⊎ RefusedBy (IsFault rose spent) a
+replied rose spent t c why a e (inl is) = inl (is ∙ ap (λ (o : Option Refusal). refused_or o (answer_of t c)) (sym e))
+replied rose spent t c why a e (inr failed) = inr (weaker a failed)
+  where
+    fault_of : (r : Refusal) → IsFault rose ⊥ r → IsFault rose spent r
+    fault_of refusal.Memory h = tt
+    fault_of refusal.Device h = h
+    fault_of refusal.NoPages h = absurd h
+    fault_of r h = absurd h
+
+    weaker : (a : Answer) → RefusedBy (IsFault rose ⊥) a → RefusedBy (IsFault rose spent) a
+    weaker (Refused r) h = fault_of r h
+    weaker a h = absurd h
+
+-- a fault
+pub reply_failed : (rose : Type 0) (why : Option Refusal) (answer a : Answer) (r : Refusal) → IsFault rose ⊥ r → a ≡ Refused r → IsReply rose why answer a
+reply_failed rose why answer a r failed is = inr (subst (RefusedBy (IsFault rose ⊥)) (sym is) failed)
+
+-- the answers of a refusal that is known
+pub err_boxes : {A : Type 0} (result : Result (Vec (ℕ × AnyBox) A) Refusal) (r : Refusal) → IsErrAnd result (λ e. e ≡ r) → boxes_answer result ≡ Refused r
+err_boxes (Ok rows) r is = absurd is
+err_boxes (Err e) r is = ap Refused is
+
+pub err_box : (id : ℕ) (result : Result AnyBox Refusal) (r : Refusal) → IsErrAnd result (λ e. e ≡ r) → box_answer id result ≡ Refused r
+err_box id (Ok box) r is = absurd is
+err_box id (Err e) r is = ap Refused is
+
+pub err_count : (result : Result ℕ Refusal) (r : Refusal) → IsErrAnd result (λ e. e ≡ r) → count_answer result ≡ Refused r
+err_count (Ok count) r is = absurd is
+err_count (Err e) r is = ap Refused is
+
+pub err_distances : {A : Type 0} (result : Result (Vec (ℕ × ℕ) A) Refusal) (r : Refusal) → IsErrAnd result (λ e. e ≡ r) → distances_answer result ≡ Refused r
+err_distances (Ok rows) r is = absurd is
+err_distances (Err e) r is = ap Refused is
+
+-- a command refused by the table
+pub refused : (t : Table) (c : Command) (r : Refusal) → refusal_of t c ≡ Some r → Refused r ≡ reply_of t c
+refused t c r e = ap (λ (o : Option Refusal). refused_or o (answer_of t c)) (sym e)
+
+-- ---- ranges
+
+module _ (D : ℕ) where
+  -- a query whose axes are known seeks and admits the same
+  seeks_same : (query : RawQuery) → seeks {D = D} (given_query query) ≡ is_sought D query
+  seeks_same (Window window) = refl
+  seeks_same (Inside window) = refl
+  seeks_same (Around inner) = refl
+  seeks_same (Point point) = refl
+
+  admits_same : (query : RawQuery) → admits {D = D} (given_query query) ≡ is_admitted D query
+  admits_same (Window window) = refl
+  admits_same (Inside window) = refl
+  admits_same (Around inner) = refl
+  admits_same (Point point) = refl
+
+  -- the nodes that it admits
+  nodes_same : (layer : Layer) (query : RawQuery) (asked : Query D) → layer.dims ≡ D → asked ≡ given_query query → admitted (admits asked) ≡ admitted (is_admitted layer.dims query)
+  nodes_same layer query asked dims is = ap (λ (q : Query D). admitted (admits q)) is ∙ ap admitted (admits_same query) ∙ ap (λ (d : ℕ). admitted (is_admitted d query)) (sym dims)
+
+  pub looks_same : {B A : Type 0} {m : _} (old new : Layers B A m) (name : List ℕ) (layer : Layer) (query : RawQuery) (asked : Query D) → layer.dims ≡ D → asked ≡ given_query query
+      → LooksAtTree old new name (admitted (admits asked)) → LooksAtTree old new name (admitted (is_admitted layer.dims query))
+  looks_same old new name layer query asked dims is looks = subst (LooksAtTree old new name) (nodes_same layer query asked dims is) looks
+
+  -- the rows that it is answered
+  pub rows_replied : (rose : Type 0) (layer : Layer) (query : RawQuery) (asked : Query D) (rows : List (ℕ × Bounds)) → layer.dims ≡ D → first_refusal (query_refusals D query) ≡ None → asked ≡ given_query query
+      → rows ≡ filter (λ row. seeks asked row.1) (entries layer.objects) → IsReply rose (first_refusal (query_refusals layer.dims query)) (Boxes (range_rows layer query)) (Boxes rows)
+  rows_replied rose layer query asked rows dims good is found =
+      let none : first_refusal (query_refusals layer.dims query) ≡ None = ap (λ (d : ℕ). first_refusal (query_refusals d query)) dims ∙ good in
+      let same : rows ≡ range_rows layer query =
+      found ∙ ap (λ (q : Query D). filter (λ row. seeks q row.1) (entries layer.objects)) is
+      ∙ ap (λ (test : Bounds → Bool). filter (λ row. test row.1) (entries layer.objects)) (seeks_same query)
+      ∙ ap (λ (d : ℕ). filter (λ row. is_sought d query row.1) (entries layer.objects)) (sym dims) in
+      inl (ap Boxes same ∙ ap (λ (o : Option Refusal). refused_or o (Boxes (range_rows layer query))) (sym none))
+
+-- ---- one object
+
+pub object_missing : (rose : Type 0) (layer : Layer) (id : ℕ) → get layer.objects id ≡ None → IsReply rose (first_refusal (missing_refusals layer id)) (Boxes (object_row layer id ∷ [])) (Refused refusal.NoObject)
+object_missing rose layer id e =
+    inl (ap (λ (o : Option Bounds). refused_or (first_refusal ((not (is_some o), refusal.NoObject) ∷ [])) (Boxes ((id, unwrap_or o no_box) ∷ []))) (sym e))
+
+-- ---- the nearest
+
+same_place : (x : ℕ × ℕ) (xs : List (ℕ × ℕ)) → put_nearest_first x xs ≡ put_in_order x xs
+same_place x [] = refl
+same_place x (y ∷ ys) = ap (λ (zs : List (ℕ × ℕ)). cond (nat_lt x.1 y.1 || (x.1 == y.1 && nat_le x.0 y.0)) (x ∷ y ∷ ys) (y ∷ zs)) (same_place x ys)
+
+same_order : (xs : List (ℕ × ℕ)) → nearest_first xs ≡ in_order xs
+same_order [] = refl
+same_order (x ∷ xs) = same_place x (nearest_first xs) ∙ ap (put_in_order x) (same_order xs)
+
+-- a point of as many axes as the layer has, and a number that may be asked for
+pub good_count : (dims k : ℕ) (layer : Layer) → (dims == layer.dims) ≡ true → is_count k ≡ true → first_refusal ((not (dims == layer.dims), refusal.WrongDims) ∷ (not (is_count k), refusal.BadCount) ∷ []) ≡ None
+good_count dims k layer e f = rw (e, f) refl
+
+-- the nearest first of the tree's crate are those of the table
+pub nearest_same : (dims : ℕ) (point : List ℤ) (objects : List (ℕ × Bounds)) → nearest_first (with_distances dims point objects) ≡ by_distance dims point objects
+nearest_same dims point objects = same_order (with_distances dims point objects)

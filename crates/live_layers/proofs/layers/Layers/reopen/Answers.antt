@@ -1,0 +1,48 @@
+-- A closing that is finished, or refused, and what is read behind it.
+use Rattle.std.proofs.Common.{◌∙◌}
+use Rattle.page_cache.specs.Laws.{the_gate_is_kept_in_turn}
+use Rattle.live_layers.specs.Closings.{ClosingLeaves}
+use Rattle.live_layers.proofs.ClosingLemmas.{read_image, rests_on_closed, then_read, unchanged_keeps_gate}
+use Rattle.live_layers.proofs.layers.Layers.reopen.Goals as goal
+
+pub returns-in-Err-clause-leaves : goal.returns-in-Err-clause-leaves
+returns-in-Err-clause-leaves g c = λ t sound. record {
+  stops = λ ts rests. c.in-Err.ensures.stops ts t sound rests;
+  rests = λ ts rests. c.in-Err.ensures.rests ts t sound rests;
+  closed = λ begun. absurd begun;
+  quiet = λ settled. unchanged_keeps_gate c.args.self.now.cache c.settle.new.self.cache (c.in-Err.ensures.was_settled settled).0;
+}
+
+pub returns-in-Ok-clause-leaves : goal.returns-in-Ok-clause-leaves
+returns-in-Ok-clause-leaves g c = λ t sound.
+    let old = c.args.self.now in
+    let mid = c.settle.new.self in
+    let new = c.read_again.new.self in
+    let settled = c.in_default.ensures in
+    let honest = (settled.sound t sound).map.honest in
+    let image = settled.closed t sound in
+    let gate = c.in-Ok.ensures.gate in
+    let there = read_image mid.cache new.cache t honest settled.shut gate image in
+    record {
+      stops = λ ts rests. then_read _ mid.cache new.cache ts t honest settled.shut image (settled.stops ts t sound rests) gate;
+      rests = λ ts rests. rests_on_closed new.cache ts t there;
+      closed = λ begun. (gate.gate ∙ settled.shut, there);
+      quiet = λ was. the_gate_is_kept_in_turn old.cache mid.cache new.cache (unchanged_keeps_gate old.cache mid.cache (settled.was_settled was).0) gate;
+    }
+
+pub returns-in-Err-read_again-clause-leaves : goal.returns-in-Err-read_again-clause-leaves
+returns-in-Err-read_again-clause-leaves g c = λ t sound.
+    let old = c.args.self.now in
+    let mid = c.settle.new.self in
+    let new = c.read_again.new.self in
+    let settled = c.in_default.ensures in
+    let honest = (settled.sound t sound).map.honest in
+    let image = settled.closed t sound in
+    let gate = c.in-Err-read_again.ensures.gate in
+    let there = read_image mid.cache new.cache t honest settled.shut gate image in
+    record {
+      stops = λ ts rests. then_read _ mid.cache new.cache ts t honest settled.shut image (settled.stops ts t sound rests) gate;
+      rests = λ ts rests. rests_on_closed new.cache ts t there;
+      closed = λ begun. (gate.gate ∙ settled.shut, there);
+      quiet = λ was. the_gate_is_kept_in_turn old.cache mid.cache new.cache (unchanged_keeps_gate old.cache mid.cache (settled.was_settled was).0) gate;
+    }

@@ -1,0 +1,166 @@
+//! Range queries of the tree of a layer.
+
+ghost use Rattle.std.specs.Prelude.{◌≡◌, ℕ, List, IfOk, IfErr, OnOk, filter, map as each};
+ghost use Rattle.std.specs.FinMap.{entries};
+ghost use Rattle.box_math.specs.Bounds.{IsDims};
+ghost use Rattle.node_page.specs.Rooted.{IsTreeAt};
+ghost use Rattle.page_cache.specs.Cache.{IsHonest, KeepsGate, KeepsMap, device_of, looks_of, pages};
+ghost use Rattle.page_cache.specs.Calls.{Asks};
+ghost use Rattle.page_file.specs.Fault.{IsOfDevice};
+ghost use Rattle.plain_table.specs.Answers.{boxes_answer};
+ghost use Rattle.plain_table.specs.Queries.{seeks};
+ghost use Rattle.plain_table.specs.Step.{first_refusal, query_refusals, range_rows};
+ghost use Rattle.plain_table.specs.Step.Answer.{Boxes};
+ghost use Rattle.plain_table.specs.Table.{Table, layer_at};
+ghost use Rattle.range_query.specs.Queries.{IsRangeAnswer};
+ghost use Rattle.store_law.specs.Lawful.{IsFault};
+ghost use Rattle.tree_node.specs.Searches.{admitted, counted};
+ghost use Rattle.tree_node.specs.Trees.{Tree};
+ghost use Rattle.live_layers.specs.Changes.{Rose};
+ghost use Rattle.live_layers.specs.Faults.{HasRefusalCause};
+ghost use Rattle.live_layers.specs.Keeping.{IsSound, IsWritten, LooksAtTree, cache_of};
+ghost use Rattle.live_layers.specs.Located.{IsLocated};
+ghost use Rattle.live_layers.specs.Questions.{IsReply, admits, is_admitted};
+
+use crate::faults::as_refusal;
+use crate::given::{in_plane, in_space};
+use crate::layers::Layers;
+use crate::located::Located;
+use block_device::BlockDevice;
+use box_math::BBox;
+use node_page::Root;
+use page_file::Fault;
+use plain_table::{AnyBox, Query, RawQuery, Refusal};
+use range_query::{around, inside, point, window};
+use std::alloc::{AllocError, Allocator};
+
+impl<B: BlockDevice, A: Allocator + Copy> Layers<B, A> {
+    // The objects that a query seeks in the layer that stands there, which has two axes. Refused, in this order, by
+    // WrongDims and BadBox.
+    pub(crate) fn range_in_plane(
+        &mut self,
+        located: &Located,
+        query: RawQuery,
+    ) -> Result<Vec<(u64, AnyBox), A>, Refusal>
+        requires { located.now.dims ≡ 2 }
+        ensures replied { (t : Table) (name : List ℕ) → IsSound self.old t → IsLocated self.old t name located.now →
+            IsReply (Rose self.old self.new) (first_refusal (query_refusals (layer_at t name).dims query))
+            (Boxes (range_rows (layer_at t name) query)) (boxes_answer result) }
+        ensures looks { (t : Table) (name : List ℕ) → IsSound self.old t → IsLocated self.old t name located.now →
+            OnOk result (LooksAtTree self.old self.new name (admitted (is_admitted (layer_at t name).dims query))) }
+        ensures sound { (t : Table) → IsSound self.old t → IsSound self.new t }
+        ensures gate { KeepsGate (cache_of self.old) (cache_of self.new) }
+        ensures map { KeepsMap (cache_of self.old) (cache_of self.new) }
+        ensures written { IsWritten self.old → IsWritten self.new }
+        ensures cause { HasRefusalCause (B.faults (device_of (cache_of self.old)))
+            (B.faults (device_of (cache_of self.new))) result }
+    {
+        let asked = in_plane(query)?;
+        let rows = self.seek::<2>(located, &asked)?;
+        Ok(two_axes(self.alloc, &rows)?)
+    }
+
+    // The same in a layer of three axes.
+    pub(crate) fn range_in_space(
+        &mut self,
+        located: &Located,
+        query: RawQuery,
+    ) -> Result<Vec<(u64, AnyBox), A>, Refusal>
+        requires { located.now.dims ≡ 3 }
+        ensures replied { (t : Table) (name : List ℕ) → IsSound self.old t → IsLocated self.old t name located.now →
+            IsReply (Rose self.old self.new) (first_refusal (query_refusals (layer_at t name).dims query))
+            (Boxes (range_rows (layer_at t name) query)) (boxes_answer result) }
+        ensures looks { (t : Table) (name : List ℕ) → IsSound self.old t → IsLocated self.old t name located.now →
+            OnOk result (LooksAtTree self.old self.new name (admitted (is_admitted (layer_at t name).dims query))) }
+        ensures sound { (t : Table) → IsSound self.old t → IsSound self.new t }
+        ensures gate { KeepsGate (cache_of self.old) (cache_of self.new) }
+        ensures map { KeepsMap (cache_of self.old) (cache_of self.new) }
+        ensures written { IsWritten self.old → IsWritten self.new }
+        ensures cause { HasRefusalCause (B.faults (device_of (cache_of self.old)))
+            (B.faults (device_of (cache_of self.new))) result }
+    {
+        let asked = in_space(query)?;
+        let rows = self.seek::<3>(located, &asked)?;
+        Ok(three_axes(self.alloc, &rows)?)
+    }
+
+    // The objects that a query of D axes seeks in the layer that stands there, which has as many.
+    fn seek<const D: usize>(
+        &mut self,
+        located: &Located,
+        query: &Query<D>,
+    ) -> Result<Vec<(u64, BBox<D>), A>, Refusal>
+        requires dims { IsDims D }
+        requires axes { located.now.dims ≡ D }
+        ensures rows { (t : Table) (name : List ℕ) → IsSound self.old t → IsLocated self.old t name located.now →
+            IfOk result (λ rows. rows.items
+            ≡ filter (λ row. seeks query.now row.1) (entries (layer_at t name).objects)) }
+        ensures looks { (t : Table) (name : List ℕ) → IsSound self.old t → IsLocated self.old t name located.now →
+            OnOk result (LooksAtTree self.old self.new name (admitted (admits query.now))) }
+        ensures fault { (t : Table) (name : List ℕ) → IsSound self.old t → IsLocated self.old t name located.now →
+            IfErr result (IsFault (Rose self.old self.new) ⊥) }
+        ensures sound { (t : Table) → IsSound self.old t → IsSound self.new t }
+        ensures gate { KeepsGate (cache_of self.old) (cache_of self.new) }
+        ensures map { KeepsMap (cache_of self.old) (cache_of self.new) }
+        ensures written { IsWritten self.old → IsWritten self.new }
+        ensures cause { HasRefusalCause (B.faults (device_of (cache_of self.old)))
+            (B.faults (device_of (cache_of self.new))) result }
+    {
+        match self.seek_in_tree(located.root, query) {
+            Ok(rows) => Ok(rows),
+            Err(fault) => Err(as_refusal(fault)),
+        }
+    }
+
+    // What it seeks in the tree at a root.
+    fn seek_in_tree<const D: usize>(
+        &mut self,
+        root: Root,
+        query: &Query<D>,
+    ) -> Result<Vec<(u64, BBox<D>), A>, Fault>
+        requires { IsDims D }
+        ensures asks { Asks (cache_of self.old) (cache_of self.new) result }
+        ensures rows { IsHonest (cache_of self.old) → (t : Tree) (most : ℕ) →
+            IsTreeAt D most (pages (cache_of self.old)) root t →
+            IfOk result (λ rows. IsRangeAnswer (seeks query.now) t rows.items) }
+        ensures looks { IsHonest (cache_of self.old) → (t : Tree) (most : ℕ) →
+            IsTreeAt D most (pages (cache_of self.old)) root t →
+            OnOk result (looks_of (cache_of self.new) ≡
+            counted (looks_of (cache_of self.old)) (admitted (admits query.now) t)) }
+        ensures stands { IsHonest (cache_of self.old) → (t : Tree) (most : ℕ) →
+            IsTreeAt D most (pages (cache_of self.old)) root t → IfErr result IsOfDevice }
+        ensures sound { (t : Table) → IsSound self.old t → IsSound self.new t }
+        ensures written { IsWritten self.old → IsWritten self.new }
+    {
+        match query {
+            Query::Window(bounds) => window(self.alloc, &mut self.cache, root, bounds),
+            Query::Inside(bounds) => inside(self.alloc, &mut self.cache, root, bounds),
+            Query::Around(bounds) => around(self.alloc, &mut self.cache, root, bounds),
+            Query::Point(place) => point(self.alloc, &mut self.cache, root, place),
+        }
+    }
+}
+
+// Rows with two axes, as rows of either dimension.
+fn two_axes<A: Allocator + Copy>(
+    alloc: A,
+    rows: &[(u64, BBox<2>)],
+) -> Result<Vec<(u64, AnyBox), A>, AllocError>
+    ensures { IfOk result (λ all. all.items ≡ each (λ row. (row.0, AnyBox.Two row.1)) rows.now) }
+{
+    rows.iter()
+        .map(|row| (row.0, AnyBox::Two(row.1)))
+        .collect(alloc)
+}
+
+// Rows with three axes, as rows of either dimension.
+fn three_axes<A: Allocator + Copy>(
+    alloc: A,
+    rows: &[(u64, BBox<3>)],
+) -> Result<Vec<(u64, AnyBox), A>, AllocError>
+    ensures { IfOk result (λ all. all.items ≡ each (λ row. (row.0, AnyBox.Three row.1)) rows.now) }
+{
+    rows.iter()
+        .map(|row| (row.0, AnyBox::Three(row.1)))
+        .collect(alloc)
+}

@@ -1,0 +1,67 @@
+//! The layers closed, and read again from the same device.
+
+ghost use Rattle.std.specs.Prelude.{◌≡◌, ◌⊎◌, ◌↔◌, IfErr, IsOk};
+ghost use Rattle.page_file.specs.Fault.{HasCause, IsOfDevice};
+ghost use Rattle.page_file.specs.declared.fault.Fault.TheVariants as fault;
+ghost use Rattle.page_file.specs.declared.gate.Gate.TheVariants.{Shut};
+ghost use Rattle.page_cache.specs.Cache.{IsHonest, KeepsGate, device_of, gate_of, next_of};
+ghost use Rattle.plain_table.specs.Commands.Command.{Reopen};
+ghost use Rattle.plain_table.specs.Table.{Table};
+ghost use Rattle.live_layers.specs.Changes.{IsChanged};
+ghost use Rattle.live_layers.specs.Closings.{ClosingLeaves};
+ghost use Rattle.live_layers.specs.Keeping.{IsSettled, IsSound, IsWritten, cache_of};
+ghost use Rattle.live_layers.specs.Faults.{HasUnmadeCause};
+
+use crate::faults::as_refusal;
+use crate::layers::Layers;
+use crate::layers::open::{count_of, read_catalog};
+use crate::unmade::Unmade;
+use block_device::BlockDevice;
+use page_file::Fault;
+use std::alloc::Allocator;
+
+impl<B: BlockDevice, A: Allocator + Copy> Layers<B, A> {
+    /// Settles the layers, forgets what is held of their pages, and reads gate, header and catalog again: the table
+    /// stays.
+    ///
+    /// Refused while settling, on an honest device with sound layers by `Memory` or `Device`, they go on. A fault met
+    /// afterwards breaks it off: the blocks are then an image of the table.
+    pub fn reopen(&mut self) -> Result<(), Unmade>
+        ensures changed { (t : Table) → IsSound self.old t → IsChanged self.old self.new t Reopen result }
+        ensures leaves { (t : Table) → IsSound self.old t → ClosingLeaves self.old self.new t result }
+        ensures settled { IsOk result → IsSettled self.new }
+        ensures next { IsHonest (cache_of self.old) →
+            next_of (cache_of self.new) ≡ next_of (cache_of self.old) }
+        ensures honest { IsHonest (cache_of self.old) ↔ IsHonest (cache_of self.new) }
+        ensures cause { HasUnmadeCause (B.faults (device_of (cache_of self.old)))
+            (B.faults (device_of (cache_of self.new))) result }
+    {
+        if let Err(fault) = self.settle() {
+            return Err(Unmade::Refused(as_refusal(fault)));
+        }
+        match self.read_again() {
+            Ok(()) => Ok(()),
+            Err(fault) => Err(Unmade::Broken(fault)),
+        }
+    }
+
+    // Reads gate, header and catalog again, of layers that are settled. No page is held afterwards.
+    fn read_again(&mut self) -> Result<(), Fault>
+        requires { gate_of (cache_of self.old) ≡ Shut }
+        ensures gate { KeepsGate (cache_of self.old) (cache_of self.new) }
+        ensures sound { (t : Table) → IsSound self.old t → IsWritten self.old → IsSound self.new t }
+        ensures written { IsWritten self.old → IsWritten self.new }
+        ensures next { IsHonest (cache_of self.old) →
+            next_of (cache_of self.new) ≡ next_of (cache_of self.old) }
+        ensures faults { (t : Table) → IsSound self.old t → IsWritten self.old → IfErr result IsOfDevice }
+        ensures never { IfErr result (λ f. ¬ (f ≡ fault.NoPages)) }
+        ensures cause { HasCause (B.faults (device_of (cache_of self.old))) (B.faults (device_of (cache_of self.new)))
+            result }
+    {
+        self.cache.check_again()?;
+        let records = read_catalog(&mut self.cache)?;
+        self.object_count = count_of(&records);
+        self.records = records;
+        Ok(())
+    }
+}
