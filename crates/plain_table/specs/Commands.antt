@@ -8,6 +8,10 @@ use Rattle.plain_table.specs.declared.queries.RawQuery.{RawQuery}
 pub data Command : Type 0 where
   Create : List ℕ → ℕ → ℕ → Command
   Insert : List ℕ → ℕ → RawBox → Command
+  Load : List ℕ → List (ℕ × RawBox) → Command
+  Move : List ℕ → ℕ → RawBox → Command
+  Delete : List ℕ → ℕ → Command
+  Drop : List ℕ → Command
   Get : List ℕ → ℕ → Command
   Count : List ℕ → Command
   Range : List ℕ → RawQuery → Command

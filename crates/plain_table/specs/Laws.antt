@@ -1,7 +1,7 @@
 -- What follows from the definitions of the plain table, for the crates that stand on it.
 use Rattle.std.proofs.Common.{◌≡◌, Option, Some, None, refl, sym}
 use Rattle.plain_table.specs.Commands.{Command}
-use Rattle.plain_table.specs.Commands.Command.{Create, Insert, Get, Count, Range, Nearest, Reopen}
+use Rattle.plain_table.specs.Commands.Command.{Create, Insert, Load, Move, Delete, Drop, Get, Count, Range, Nearest, Reopen}
 use Rattle.plain_table.specs.Step.{after, answer_of, changed, kept_or, refused_or, refusal_of, reply_of}
 use Rattle.plain_table.specs.Step.Answer.{Refused}
 use Rattle.plain_table.specs.Table.{Table}
@@ -11,6 +11,10 @@ unchanged : (o : Option Refusal) (t : Table) (c : Command) (r : Refusal) → Ref
 unchanged (Some x) t c r e = refl
 unchanged None t (Create name dims fanout) r e = absurd (cc)
 unchanged None t (Insert name id box) r e = absurd (cc)
+unchanged None t (Load name objects) r e = absurd (cc)
+unchanged None t (Move name id box) r e = absurd (cc)
+unchanged None t (Delete name id) r e = absurd (cc)
+unchanged None t (Drop name) r e = absurd (cc)
 unchanged None t (Get name id) r e = refl
 unchanged None t (Count name) r e = refl
 unchanged None t (Range name query) r e = refl
@@ -25,6 +29,10 @@ the_refusal : (o : Option Refusal) (t : Table) (c : Command) (r : Refusal) → R
 the_refusal (Some x) t c r e = cc
 the_refusal None t (Create name dims fanout) r e = absurd (cc)
 the_refusal None t (Insert name id box) r e = absurd (cc)
+the_refusal None t (Load name objects) r e = absurd (cc)
+the_refusal None t (Move name id box) r e = absurd (cc)
+the_refusal None t (Delete name id) r e = absurd (cc)
+the_refusal None t (Drop name) r e = absurd (cc)
 the_refusal None t (Get name id) r e = absurd (cc)
 the_refusal None t (Count name) r e = absurd (cc)
 the_refusal None t (Range name query) r e = absurd (cc)

@@ -6,6 +6,7 @@ pub mod Codes
 pub mod Commands
 pub mod Queries
 pub mod Nearest
+pub mod Loads
 pub mod Step
 pub mod Answers
 pub mod Laws
