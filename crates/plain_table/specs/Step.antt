@@ -8,7 +8,7 @@ use Rattle.plain_table.specs.Commands.Command.{Create, Insert, Load, Move, Delet
 use Rattle.plain_table.specs.Loads.{GivenObjects, are_ordered, have_dims, ids_of, least_repeated, with_objects}
 use Rattle.plain_table.specs.Nearest.{by_distance, is_count}
 use Rattle.plain_table.specs.Queries.{is_sought}
-use Rattle.plain_table.specs.Table.{Table, Layer, is_layer_name, is_dims, is_fanout, most_layers, most_objects, object_count, layer_at, box_at, with_object, without_object}
+use Rattle.plain_table.specs.Table.{Table, Layer, is_layer_name, is_dims, is_fanout, most_layers, most_objects, object_count, layer_at, object_box, with_object, without_object}
 use Rattle.plain_table.specs.declared.boxes.RawBox.{RawBox}
 use Rattle.plain_table.specs.declared.boxes.RawPoint.{RawPoint}
 use Rattle.plain_table.specs.declared.queries.RawQuery.{RawQuery}
@@ -105,7 +105,7 @@ changed t c = t
 
 -- the object of that identifier, with its box
 abbrev pub object_row : Layer → ℕ → ℕ × Bounds
-object_row layer id = (id, box_at layer id)
+object_row layer id = (id, object_box layer id)
 
 -- the objects of a layer that a query seeks, ascending by identifier
 abbrev pub range_rows : Layer → RawQuery → List (ℕ × Bounds)
@@ -145,7 +145,7 @@ abbrev pub changes : Table → Command → Bool
 changes t (Create name dims fanout) = is_admitted t (Create name dims fanout)
 changes t (Insert name id box) = is_admitted t (Insert name id box)
 changes t (Load name objects) = is_admitted t (Load name objects) && nat_lt 0 (length objects)
-changes t (Move name id box) = is_admitted t (Move name id box) && not (same_bounds (box_at (layer_at t name) id) (given_bounds box))
+changes t (Move name id box) = is_admitted t (Move name id box) && not (same_bounds (object_box (layer_at t name) id) (given_bounds box))
 changes t (Delete name id) = is_admitted t (Delete name id)
 changes t (Drop name) = is_admitted t (Drop name)
 changes t c = false

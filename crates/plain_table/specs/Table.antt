@@ -66,8 +66,8 @@ abbrev pub no_box : Bounds
 no_box = record { low = []; high = [] }
 
 -- the box of the object of that identifier
-abbrev pub box_at : Layer → ℕ → Bounds
-box_at layer id = unwrap_or (map.get layer.objects id) no_box
+abbrev pub object_box : Layer → ℕ → Bounds
+object_box layer id = unwrap_or (map.get layer.objects id) no_box
 
 -- the layer with an object more, or with another box for it
 abbrev pub with_object : Layer → ℕ → Bounds → Layer
