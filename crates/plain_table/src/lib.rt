@@ -2,6 +2,7 @@
 #![tactic(auto)]
 
 mod boxes;
+pub mod laws;
 mod limits;
 mod names;
 mod queries;
