@@ -8,11 +8,12 @@ use Rattle.std.specs.FinMap.{IsAntisymmetric, put, is_sorted, find, from_entries
 use Rattle.std.specs.FinMap.Entries.{find-where_key, is_sorted-where_key, where_key}
 use Rattle.std.specs.declared.cmp.Ordering.{Ordering}
 use Rattle.box_math.specs.Bounds.{Bounds, holds_test, meets_test, ordered_test, within_test}
-use Rattle.plain_table.specs.Commands.Command.{Create, Insert, Load, Move, Delete, Drop, Get, Count, Range, Nearest, Reopen}
+use Rattle.plain_table.specs.Commands.Command.{Create, Insert, Load, Move, Delete, Drop, Get, Count, Range, Nearest, Join, Layers, Dump, Check, Reopen}
+use Rattle.plain_table.specs.Listings.DumpLine.{CreateLine, InsertLine}
 use Rattle.plain_table.specs.Loads.{given_object}
 use Rattle.plain_table.specs.Refusals.{refusal_number, refusal_name}
 use Rattle.plain_table.specs.Step.{reply_of, after, changes}
-use Rattle.plain_table.specs.Step.Answer.{Done, Refused, Boxes, Counted, Distances}
+use Rattle.plain_table.specs.Step.Answer.{Done, Refused, Boxes, Counted, Distances, Pairs, Listed, Dumped}
 use Rattle.plain_table.specs.Table.{Table, Layer, is_layer_name, is_dims, is_fanout, object_count}
 use Rattle.plain_table.specs.declared.boxes.RawBox.{RawBox}
 use Rattle.plain_table.specs.declared.boxes.RawBox.TheVariants.{Two, Three}
@@ -521,7 +522,64 @@ nearest_of_too_many = rw touching_at refl
 wrong_dims_before_bad_count : reply_of (table touching) (Nearest a 0 (point.Three (in_space 1 1 1))) ≡ Refused refusal.WrongDims
 wrong_dims_before_bad_count = rw touching_at refl
 
--- ---- reopen
+-- ---- join
+
+-- points on a line, squares that touch, and boxes in space
+abbrev three_layers : List (List ℕ × Layer)
+three_layers = (a, layer 2 4 squares) ∷ (codes "c", layer 3 4 extremes) ∷ (codes "l", layer 2 4 loaded_points) ∷ []
+
+squares_at : get (table three_layers) a ≡ Some (layer 2 4 squares)
+squares_at = get-from_sorted (slice_cmp nat_cmp) three_layers a tt
+
+extremes_at : get (table three_layers) (codes "c") ≡ Some (layer 3 4 extremes)
+extremes_at = get-from_sorted (slice_cmp nat_cmp) three_layers (codes "c") tt
+
+points_at : get (table three_layers) (codes "l") ≡ Some (layer 2 4 loaded_points)
+points_at = get-from_sorted (slice_cmp nat_cmp) three_layers (codes "l") tt
+
+-- each pair in both orders
+join_of_a_layer_with_itself : reply_of (table three_layers) (Join a a) ≡ Pairs ((1, 1) ∷ (1, 2) ∷ (2, 1) ∷ (2, 2) ∷ [])
+unfolding meets_test
+join_of_a_layer_with_itself = rw (squares_at, entries-from_sorted nat_cmp squares tt) refl
+
+join_of_points_and_squares : reply_of (table three_layers) (Join (codes "l") a) ≡ Pairs ((1, 1) ∷ (2, 1) ∷ [])
+unfolding meets_test
+join_of_points_and_squares = rw (points_at, squares_at, entries-from_sorted nat_cmp squares tt, entries-from_sorted nat_cmp loaded_points tt) refl
+
+join_of_squares_and_points : reply_of (table three_layers) (Join a (codes "l")) ≡ Pairs ((1, 1) ∷ (1, 2) ∷ [])
+unfolding meets_test
+join_of_squares_and_points = rw (points_at, squares_at, entries-from_sorted nat_cmp squares tt, entries-from_sorted nat_cmp loaded_points tt) refl
+
+join_of_plane_and_space : reply_of (table three_layers) (Join a (codes "c")) ≡ Refused refusal.DimsDiffer
+join_of_plane_and_space = rw (squares_at, extremes_at) refl
+
+join_with_no_layer : reply_of (table touching) (Join a (codes "q")) ≡ Refused refusal.NoLayer
+join_with_no_layer = rw (touching_at, get-from_sorted (slice_cmp nat_cmp) touching (codes "q") tt) refl
+
+join_bad_name_before_no_layer : (t : Table) → reply_of t (Join (codes "q") (codes "A")) ≡ Refused refusal.BadName
+join_bad_name_before_no_layer t = refl
+
+-- ---- layers and dump
+
+listing_of_one_layer : reply_of (table touching) Layers ≡ Listed (record { name = a; dims = 2; fanout = 4; count = 2 } ∷ [])
+listing_of_one_layer = rw (entries-from_sorted (slice_cmp nat_cmp) touching tt, len_of nat_cmp squares tt) refl
+
+listing_of_no_layer : reply_of (table []) Layers ≡ Listed []
+listing_of_no_layer = rw (entries-from_sorted {X = Layer} (slice_cmp nat_cmp) [] tt) refl
+
+dump_of_one_layer : reply_of (table touching) Dump
+    ≡ Dumped (CreateLine a 2 4 ∷ InsertLine a 1 (bounds (at 0 0) (at 1 1)) ∷ InsertLine a 2 (bounds (at 1 1) (at 2 2)) ∷ [])
+dump_of_one_layer = rw (entries-from_sorted (slice_cmp nat_cmp) touching tt, entries-from_sorted nat_cmp squares tt) refl
+
+-- by name, and an empty layer has one line
+dump_of_two_layers : reply_of (table ((a, layer 3 100 []) ∷ (codes "b", layer 2 4 squares) ∷ [])) Dump
+    ≡ Dumped (CreateLine a 3 100 ∷ CreateLine (codes "b") 2 4 ∷ InsertLine (codes "b") 1 (bounds (at 0 0) (at 1 1)) ∷ InsertLine (codes "b") 2 (bounds (at 1 1) (at 2 2)) ∷ [])
+dump_of_two_layers = rw (entries-from_sorted (slice_cmp nat_cmp) ((a, layer 3 100 []) ∷ (codes "b", layer 2 4 squares) ∷ []) tt, entries-from_sorted {X = Bounds} nat_cmp [] tt, entries-from_sorted nat_cmp squares tt) refl
+
+-- ---- check and reopen
+
+check_is_done : (t : Table) → reply_of t Check ≡ Done
+check_is_done t = refl
 
 reopen_is_done : (t : Table) → reply_of t Reopen ≡ Done
 reopen_is_done t = refl

@@ -16,10 +16,15 @@ pub data Command : Type 0 where
   Count : List ℕ → Command
   Range : List ℕ → RawQuery → Command
   Nearest : List ℕ → ℕ → RawPoint → Command
+  Join : List ℕ → List ℕ → Command
+  Layers : Command
+  Dump : Command
+  Check : Command
   Reopen : Command
 
 -- A command that may give up: answered by a fault of memory, of the device or of page numbers in the place of what the
--- table answers. A count takes nothing that could be refused.
+-- table answers. A count and a listing of the layers take nothing that could be refused.
 abbrev pub MayGiveUp : Command → Type 0
 MayGiveUp (Count name) = ⊥
+MayGiveUp Layers = ⊥
 MayGiveUp c = Unit {0}

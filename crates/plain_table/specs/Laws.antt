@@ -14,7 +14,7 @@ use lib.Pointwise.{pointwise}
 use Rattle.box_math.specs.Bounds.{Bounds}
 use Rattle.plain_table.specs.Boxes.{given_bounds, same_bounds}
 use Rattle.plain_table.specs.Commands.{Command}
-use Rattle.plain_table.specs.Commands.Command.{Create, Insert, Load, Move, Delete, Drop, Get, Count, Range, Nearest, Reopen}
+use Rattle.plain_table.specs.Commands.Command.{Create, Insert, Load, Move, Delete, Drop, Get, Count, Range, Nearest, Join, Layers, Dump, Check, Reopen}
 use Rattle.plain_table.specs.Loads.{given_object}
 use Rattle.plain_table.specs.Step.{after, answer_of, changed, changes, first_refusal, is_admitted, kept_or, refused_or, refusal_of, refusals_of, reply_of}
 use Rattle.plain_table.specs.Step.Answer.{Refused}
@@ -33,6 +33,10 @@ unchanged None t (Get name id) r e = refl
 unchanged None t (Count name) r e = refl
 unchanged None t (Range name query) r e = refl
 unchanged None t (Nearest name k point) r e = refl
+unchanged None t (Join first second) r e = refl
+unchanged None t Layers r e = refl
+unchanged None t Dump r e = refl
+unchanged None t Check r e = refl
 unchanged None t Reopen r e = refl
 
 -- a command that is refused changes nothing
@@ -51,6 +55,10 @@ the_refusal None t (Get name id) r e = absurd (cc)
 the_refusal None t (Count name) r e = absurd (cc)
 the_refusal None t (Range name query) r e = absurd (cc)
 the_refusal None t (Nearest name k point) r e = absurd (cc)
+the_refusal None t (Join first second) r e = absurd (cc)
+the_refusal None t Layers r e = absurd (cc)
+the_refusal None t Dump r e = absurd (cc)
+the_refusal None t Check r e = absurd (cc)
 the_refusal None t Reopen r e = absurd (cc)
 
 -- a reply that refuses shows the first refusal whose condition holds
@@ -173,6 +181,10 @@ module _ (t : Table) where
   a_change_makes_another_table (Count name) h e = absurd (cc)
   a_change_makes_another_table (Range name query) h e = absurd (cc)
   a_change_makes_another_table (Nearest name k point) h e = absurd (cc)
+  a_change_makes_another_table (Join first second) h e = absurd (cc)
+  a_change_makes_another_table Layers h e = absurd (cc)
+  a_change_makes_another_table Dump h e = absurd (cc)
+  a_change_makes_another_table Check h e = absurd (cc)
   a_change_makes_another_table Reopen h e = absurd (cc)
 
   -- a layer that is there, put in again with the same objects
@@ -233,4 +245,8 @@ module _ (t : Table) where
   no_change_leaves_the_table (Count name) h = same_table (refusal_of t (Count name))
   no_change_leaves_the_table (Range name query) h = same_table (refusal_of t (Range name query))
   no_change_leaves_the_table (Nearest name k point) h = same_table (refusal_of t (Nearest name k point))
+  no_change_leaves_the_table (Join first second) h = same_table (refusal_of t (Join first second))
+  no_change_leaves_the_table Layers h = refl
+  no_change_leaves_the_table Dump h = refl
+  no_change_leaves_the_table Check h = refl
   no_change_leaves_the_table Reopen h = refl

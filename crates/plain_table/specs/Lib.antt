@@ -7,6 +7,7 @@ pub mod Commands
 pub mod Queries
 pub mod Nearest
 pub mod Loads
+pub mod Listings
 pub mod Step
 pub mod Answers
 pub mod Laws

@@ -1,10 +1,11 @@
 -- What a command answers and what it changes, on the plain table. Our rule, docs/COMMANDS.md.
-use Rattle.std.specs.Prelude.{ℕ, ◌+◌, Bool, false, not, ◌&&◌, ◌==◌, nat_le, nat_lt, List, [], ◌∷◌, length, if◌then◌else◌, Option, Some, None, is_some, filter, take, unwrap_or}
+use Rattle.std.specs.Prelude.{ℕ, ◌+◌, Bool, false, not, ◌&&◌, ◌==◌, nat_le, nat_lt, List, [], ◌∷◌, length, if◌then◌else◌, Option, Some, None, is_some, filter, flat_map, map as each, take, unwrap_or}
 use Rattle.std.specs.FinMap as map
-use Rattle.box_math.specs.Bounds.{Bounds}
+use Rattle.box_math.specs.Bounds.{Bounds, meets_test}
 use Rattle.plain_table.specs.Boxes.{dims_of, given_bounds, given_point, is_ordered, point_dims, same_bounds}
 use Rattle.plain_table.specs.Commands.{Command}
-use Rattle.plain_table.specs.Commands.Command.{Create, Insert, Load, Move, Delete, Drop, Get, Count, Range, Nearest, Reopen}
+use Rattle.plain_table.specs.Commands.Command.{Create, Insert, Load, Move, Delete, Drop, Get, Count, Range, Nearest, Join, Layers, Dump, Check, Reopen}
+use Rattle.plain_table.specs.Listings.{DumpLine, LayerLine, all_layers, all_lines}
 use Rattle.plain_table.specs.Loads.{GivenObjects, are_ordered, have_dims, ids_of, least_repeated, with_objects}
 use Rattle.plain_table.specs.Nearest.{by_distance, is_count}
 use Rattle.plain_table.specs.Queries.{is_sought}
@@ -23,6 +24,9 @@ pub data Answer : Type 0 where
   Boxes : List (ℕ × Bounds) → Answer
   Counted : ℕ → Answer
   Distances : List (ℕ × ℕ) → Answer
+  Pairs : List (ℕ × ℕ) → Answer
+  Listed : List LayerLine → Answer
+  Dumped : List DumpLine → Answer
 
 -- the first refusal whose condition holds
 abbrev pub first_refusal : List (Bool × Refusal) → Option Refusal
@@ -69,6 +73,14 @@ query_refusals dims (query.Point point) = point_refusals dims point []
 abbrev pub nearest_refusals : ℕ → ℕ → RawPoint → List (Bool × Refusal)
 nearest_refusals dims k point = point_refusals dims point ((not (is_count k), refusal.BadCount) ∷ [])
 
+-- Two names of which one is none, or one that no layer has, or of layers with different numbers of axes. Both names are tried
+-- before it is asked whether there are such layers.
+abbrev pub join_refusals : Table → List ℕ → List ℕ → List (Bool × Refusal)
+join_refusals t first second =
+    (not (is_layer_name first && is_layer_name second), refusal.BadName)
+    ∷ (not (map.contains_key t first && map.contains_key t second), refusal.NoLayer)
+    ∷ (not ((layer_at t first).dims == (layer_at t second).dims), refusal.DimsDiffer) ∷ []
+
 -- the refusals of a command, in the order in which they are tried
 abbrev pub refusals_of : Table → Command → List (Bool × Refusal)
 refusals_of t (Create name dims fanout) =
@@ -83,6 +95,10 @@ refusals_of t (Get name id) = layer_refusals t name (missing_refusals (layer_at 
 refusals_of t (Count name) = layer_refusals t name []
 refusals_of t (Range name query) = layer_refusals t name (query_refusals (layer_at t name).dims query)
 refusals_of t (Nearest name k point) = layer_refusals t name (nearest_refusals (layer_at t name).dims k point)
+refusals_of t (Join first second) = join_refusals t first second
+refusals_of t Layers = []
+refusals_of t Dump = []
+refusals_of t Check = []
 refusals_of t Reopen = []
 
 -- the refusal of a command, if there is one
@@ -116,6 +132,13 @@ range_rows layer query = filter (λ row. is_sought layer.dims query row.1) (map.
 abbrev pub nearest_rows : Layer → ℕ → RawPoint → List (ℕ × ℕ)
 nearest_rows layer k point = take k (by_distance layer.dims (given_point point) (map.entries layer.objects))
 
+-- all pairs of an object of one layer and an object of another whose boxes meet: their identifiers, ascending by the first and
+-- then by the second
+abbrev pub join_rows : Layer → Layer → List (ℕ × ℕ)
+join_rows first second =
+    flat_map (λ object. each (λ other. (object.0, other.0)) (filter (λ other. meets_test first.dims object.1 other.1) (map.entries second.objects)))
+    (map.entries first.objects)
+
 -- the answer to a command that was not refused
 abbrev pub answer_of : Table → Command → Answer
 answer_of t (Create name dims fanout) = Done
@@ -128,6 +151,10 @@ answer_of t (Get name id) = Boxes (object_row (layer_at t name) id ∷ [])
 answer_of t (Count name) = Counted (map.len (layer_at t name).objects)
 answer_of t (Range name query) = Boxes (range_rows (layer_at t name) query)
 answer_of t (Nearest name k point) = Distances (nearest_rows (layer_at t name) k point)
+answer_of t (Join first second) = Pairs (join_rows (layer_at t first) (layer_at t second))
+answer_of t Layers = Listed (all_layers t)
+answer_of t Dump = Dumped (all_lines t)
+answer_of t Check = Done
 answer_of t Reopen = Done
 
 -- the refusal, if there is one, and else the answer
