@@ -5,7 +5,8 @@ use Rattle.std.specs.Fmt.{digits}
 use Rattle.plain_table.specs.Commands.Command.{Create, Insert, Get, Count, Range, Nearest, Reopen}
 use Rattle.store_law.specs.States.{Request}
 use Rattle.store_law.specs.States.Request.{BadCommand, Asks}
-use Rattle.plain_table.specs.Step.Answer.{Done, Refused, Boxes, Counted, Distances}
+use Rattle.plain_table.specs.Step.Answer.{Done, Refused, Boxes, Counted, Distances, Pairs, Listed, Dumped}
+use Rattle.plain_table.specs.Listings.DumpLine.{CreateLine, InsertLine}
 use Rattle.plain_table.specs.declared.boxes.RawBox.TheVariants.{Two, Three}
 use Rattle.plain_table.specs.declared.boxes.RawPoint.TheVariants as point
 use Rattle.plain_table.specs.declared.queries.RawQuery.TheVariants.{Window, Inside, Around, Point}
@@ -208,6 +209,18 @@ a_number_is_one_row = refl
 distances_have_identifiers : answer_text (Distances ((1, 0) ∷ (18446744073709551615, 55340232195358851075) ∷ [])) ≡ codes "ok 2\n1 0\n18446744073709551615 55340232195358851075\n"
 unfolding digits
 distances_have_identifiers = refl
+
+pairs_have_two_identifiers : answer_text (Pairs ((1, 2) ∷ (18446744073709551615, 0) ∷ [])) ≡ codes "ok 2\n1 2\n18446744073709551615 0\n"
+unfolding digits
+pairs_have_two_identifiers = refl
+
+layers_have_names_and_numbers : answer_text (Listed (record { name = a; dims = 2; fanout = 4; count = 2 } ∷ record { name = codes "a_9"; dims = 3; fanout = 100; count = 1073741824 } ∷ [])) ≡ codes "ok 2\na 2 4 2\na_9 3 100 1073741824\n"
+unfolding digits
+layers_have_names_and_numbers = refl
+
+a_dump_has_lines_of_commands : answer_text (Dumped (CreateLine a 2 4 ∷ InsertLine a 1 (record { low = negsuc 0 ∷ pos 2 ∷ []; high = pos 3 ∷ pos 4 ∷ [] }) ∷ [])) ≡ codes "ok 2\ncreate a 2 4\ninsert a 1 -1 2 3 4\n"
+unfolding digits
+a_dump_has_lines_of_commands = refl
 
 refusals_have_numbers_and_names : texts_of (Refused refusal.BadName ∷ Refused refusal.NoObject ∷ Refused refusal.BadLine ∷ Refused refusal.NoPages ∷ [])
     ≡ codes "fail 1 BadName\nfail 10 NoObject\nfail 24 BadLine\nfail 25 NoPages\n"

@@ -1,9 +1,11 @@
 -- One write after another.
-use Rattle.std.proofs.Common.{◌≡◌, ℕ, ◌+◌, ◌<◌, List, ◌∷◌, ◌++◌, length, take, drop, suc, get_or, flat_map, Option, Some, None, Result, Ok, Err, sym, ap, ◌∙◌, append_assoc, length-append, arith}
+use Rattle.std.proofs.Common.{◌≡◌, ℕ, ◌+◌, ◌<◌, List, ◌∷◌, ◌++◌, length, take, drop, suc, get_or, flat_map, map, Option, Some, None, Result, Ok, Err, sym, ap, ap₂, ◌∙◌, append_assoc, length-append, arith}
 use Rattle.std.specs.Io.KnownBytes.{Appends}
-use Rattle.std.proofs.lemmas.List.{take-append-le, take-append-drop, take_all}
+use Rattle.std.proofs.lemmas.List.{length-map, take-append-le, take-append-drop, take_all}
 use Rattle.std.proofs.lemmas.List.Concat.{flat_map-append}
+use Rattle.std.proofs.lemmas.List.Folds.{flat_map-map}
 use Rattle.std.proofs.Math.Seq.{take-append-add, take-add, drop-cons}
+use Rattle.command_shell.specs.Texts.{count_text}
 use Rattle.command_shell.specs.Writing.{AppendsFront, AppendsSome, Writes}
 
 pub appends_more : (a b c : Option (List ℕ)) (x y : List ℕ) → Appends a b x → Appends b c y → Appends a c (x ++ y)
@@ -39,6 +41,10 @@ pub front_of_all : {X : Type 0} (f : X → List ℕ) (a b c : Option (List ℕ))
 front_of_all f a b c xs i d x h e p q =
     let whole : flat_map f xs ≡ (flat_map f (take i xs) ++ f x) ++ flat_map f (drop (suc i) xs) = ap (flat_map f) (sym (take-append-drop i xs) ∙ ap (λ t. take i xs ++ t) (drop-cons xs i d h)) ∙ flat_map-append f (take i xs) (get_or xs i d ∷ drop (suc i) xs) ∙ ap (λ y. flat_map f (take i xs) ++ (f y ++ flat_map f (drop (suc i) xs))) (sym e) ∙ sym (append_assoc (flat_map f (take i xs)) (f x) _) in
     rw whole (front_more a c (flat_map f (take i xs) ++ f x) _ (front_then a b c (flat_map f (take i xs)) (f x) p q))
+
+-- the rows of values are those of what the values are seen as
+pub mapped_rows : {X Y : Type 0} (f : X → Y) (text : Y → List ℕ) (xs : List X) → count_text (length xs) ++ flat_map (λ x. text (f x)) xs ≡ count_text (length (map f xs)) ++ flat_map text (map f xs)
+mapped_rows f text xs = sym (ap₂ (λ n t. count_text n ++ t) (length-map xs f) (flat_map-map text f xs))
 
 -- what writing functions need
 pub ruleset writing = (front_more, front_then, writes_then, appends_more)

@@ -2,7 +2,7 @@
 use Rattle.std.specs.Prelude.{ℕ, ◌≡◌, ◌⊎◌, Bool, true, false, List, [], ◌∷◌, Option, Some, None}
 use Rattle.std.specs.Io.KnownBytes.{Keeps}
 use Rattle.block_device.specs.Device.{Blocks}
-use Rattle.layer_store.specs.Image.{IsImage, IsRefusedOrImageOf}
+use Rattle.live_layers.specs.Image.{IsImage, IsRefusedOrImageOf}
 use Rattle.store_law.specs.States.{StoreState}
 use Rattle.store_law.specs.States.StoreState.{Alive, Dead}
 use Rattle.plain_table.specs.Table.{Table}

@@ -2,10 +2,12 @@
 use Rattle.std.specs.Prelude.{ℕ, List, [], ◌∷◌, ◌++◌, length, codes, decimal, flat_map, map, ℤ}
 use Rattle.std.specs.Fmt.{signed_decimal}
 use Rattle.box_math.specs.Bounds.{Bounds}
-use Rattle.plain_table.specs.Answers.{row_of}
+use Rattle.plain_table.specs.Answers.{line_of_layer, line_of_row, row_of}
+use Rattle.plain_table.specs.Listings.{DumpLine, LayerLine}
+use Rattle.plain_table.specs.Listings.DumpLine.{CreateLine, InsertLine}
 use Rattle.plain_table.specs.Refusals.{refusal_name, refusal_number}
 use Rattle.plain_table.specs.Step.{Answer}
-use Rattle.plain_table.specs.Step.Answer.{Done, Refused, Boxes, Counted, Distances}
+use Rattle.plain_table.specs.Step.Answer.{Done, Refused, Boxes, Counted, Distances, Pairs, Listed, Dumped}
 use Rattle.plain_table.specs.declared.refusal.Refusal.{Refusal}
 use Rattle.plain_table.specs.declared.refusal.Refusal.TheVariants as refusal
 use Rattle.command_shell.specs.Lines.{newline}
@@ -51,9 +53,18 @@ count_text n = codes "ok " ++ decimal n ++ newline ∷ []
 abbrev pub number_text : ℕ → List ℕ
 number_text n = decimal n ++ newline ∷ []
 
--- the row of an object and its squared distance
-abbrev pub distance_text : ℕ × ℕ → List ℕ
-distance_text row = decimal row.0 ++ space ∷ decimal row.1 ++ newline ∷ []
+-- the row of two numbers: an object and its squared distance, or two objects
+abbrev pub pair_text : ℕ × ℕ → List ℕ
+pair_text row = decimal row.0 ++ space ∷ decimal row.1 ++ newline ∷ []
+
+-- the row of a layer: its name, its axes, its fanout and how many objects it has
+abbrev pub layer_text : LayerLine → List ℕ
+layer_text l = l.name ++ space ∷ decimal l.dims ++ space ∷ decimal l.fanout ++ space ∷ decimal l.count ++ newline ∷ []
+
+-- a row of a dump: the line of a command
+abbrev pub dump_text : DumpLine → List ℕ
+dump_text (CreateLine name dims fanout) = codes "create " ++ name ++ space ∷ decimal dims ++ space ∷ decimal fanout ++ newline ∷ []
+dump_text (InsertLine name id box) = codes "insert " ++ name ++ space ∷ decimal id ++ bounds_text box ++ newline ∷ []
 
 -- the text of an answer
 abbrev pub answer_text : Answer → List ℕ
@@ -61,7 +72,10 @@ answer_text Done = codes "ok\n"
 answer_text (Refused r) = refusal_text r
 answer_text (Boxes rows) = count_text (length rows) ++ flat_map row_text rows
 answer_text (Counted n) = count_text 1 ++ number_text n
-answer_text (Distances rows) = count_text (length rows) ++ flat_map distance_text rows
+answer_text (Distances rows) = count_text (length rows) ++ flat_map pair_text rows
+answer_text (Pairs rows) = count_text (length rows) ++ flat_map pair_text rows
+answer_text (Listed rows) = count_text (length rows) ++ flat_map layer_text rows
+answer_text (Dumped rows) = count_text (length rows) ++ flat_map dump_text rows
 
 -- the texts of answers, one after the other
 abbrev pub texts_of : List Answer → List ℕ
@@ -75,6 +89,9 @@ reply_answer (reply.Object id box) = Boxes (row_of (id, box) ∷ [])
 reply_answer (reply.Boxes rows) = Boxes (map row_of rows.items)
 reply_answer (reply.Count n) = Counted n
 reply_answer (reply.Distances rows) = Distances rows.items
+reply_answer (reply.Pairs rows) = Pairs rows.items
+reply_answer (reply.Layers layers) = Listed (map line_of_layer layers.items)
+reply_answer (reply.Dump rows) = Dumped (map line_of_row rows.items)
 
 -- what the program says where its store was refused: at its making, or at its closing
 abbrev pub told_refusal : Refusal → List ℕ

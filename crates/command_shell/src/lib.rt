@@ -11,6 +11,7 @@ mod parse;
 mod program;
 mod replies;
 mod reply_line;
+mod rows;
 mod session;
 #[cfg(test)]
 mod tests;

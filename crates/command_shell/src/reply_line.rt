@@ -13,7 +13,7 @@ use std::io;
 use std::io::{ErrorKind, Write};
 use std::marker::Model;
 
-// Every line fits: a number has at most 20 digits, and a box is at most six coordinates of 12 bytes.
+// Every line fits: a name has at most 24 bytes, a number 20 digits, and a box six coordinates of 12 bytes.
 const CAPACITY: usize = 128;
 
 /// The bytes of a line so far, without its newline. Contracts see the list of them.
@@ -79,7 +79,7 @@ impl ReplyLine {
 
     /// Appends the lows of a box, and then its highs.
     pub fn push_box(&mut self, bounds: &AnyBox)
-        requires { length self.old ≤ 40 }
+        requires { length self.old ≤ 55 }
         ensures text { self.new ≡ self.old ++ bounds_text (bounds_of bounds.now) }
         ensures room { length self.new ≤ length self.old + 72 }
     {
@@ -91,7 +91,7 @@ impl ReplyLine {
 
     fn push_corners(&mut self, low: &[i32], high: &[i32])
         requires few { (length low.now ≤ 3) × (length high.now ≤ 3) }
-        requires room { length self.old ≤ 40 }
+        requires room { length self.old ≤ 55 }
         ensures text { self.new ≡ self.old ++ coordinates_text low.now ++ coordinates_text high.now }
         ensures room { length self.new ≤ length self.old + 72 }
     {
@@ -101,7 +101,7 @@ impl ReplyLine {
 
     fn push_coordinates(&mut self, coordinates: &[i32])
         requires few { length coordinates.now ≤ 3 }
-        requires room { length self.old ≤ 76 }
+        requires room { length self.old ≤ 91 }
         ensures text { self.new ≡ self.old ++ coordinates_text coordinates.now }
         ensures room { length self.new ≤ length self.old + 12 * length coordinates.now }
     {
@@ -111,7 +111,7 @@ impl ReplyLine {
     }
 
     fn push_coordinate(&mut self, coordinate: i32)
-        requires { length self.old ≤ 100 }
+        requires { length self.old ≤ 115 }
         ensures text { self.new ≡ self.old ++ coordinate_text coordinate }
         ensures room { length self.new ≤ length self.old + 12 }
     {

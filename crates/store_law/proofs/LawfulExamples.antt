@@ -6,7 +6,7 @@ use Rattle.std.specs.Ordering.{nat_cmp}
 use Rattle.std.specs.FinMap.{entries, entries-from_sorted}
 use Rattle.block_device.specs.Device.{HasRisen}
 use Rattle.plain_table.specs.Commands.{Command, MayGiveUp}
-use Rattle.plain_table.specs.Commands.Command.{Create, Count, Range, Reopen}
+use Rattle.plain_table.specs.Commands.Command.{Create, Count, Range, Layers, Reopen}
 use Rattle.store_law.specs.Sessions.{SessionState, LawfulAnswer, LawfulStep, Session}
 use Rattle.store_law.specs.States.{StoreState, Request}
 use Rattle.store_law.specs.Stops.{Stops, after_request}
@@ -116,6 +116,11 @@ a_count_wants_no_memory : (s' : SessionState) → LawfulAnswer (live (table touc
 a_count_wants_no_memory s' (inl h) = let no = h.0 ∙ count_of_two_objects in absurd (cc)
 a_count_wants_no_memory s' (inr (inl h)) = h.1
 a_count_wants_no_memory s' (inr (inr h)) = absurd h.0
+
+a_listing_wants_no_memory : (s' : SessionState) → LawfulAnswer (live none 0 3) (Asks Layers) (Refused refusal.Memory) s' → ⊥
+a_listing_wants_no_memory s' (inl h) = let no = h.0 in absurd (cc)
+a_listing_wants_no_memory s' (inr (inl h)) = h.1
+a_listing_wants_no_memory s' (inr (inr h)) = absurd h.0
 
 -- another number of objects
 a_count_is_exact : (s' : SessionState) (n : ℕ) → LawfulAnswer (live (table touching) 0 3) (Asks (Count a)) (Counted n) s' → n ≡ 2

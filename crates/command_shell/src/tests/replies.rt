@@ -1,8 +1,10 @@
 //! The texts of replies.
 
 use crate::{Reply, write_reply};
+use arrayvec::ArrayVec;
 use box_math::BBox;
 use layer_store::{AnyBox, Refusal};
+use plain_table::{DumpRow, LayerInfo, LayerName};
 use std::alloc::Global;
 use std::test::Fail;
 
@@ -86,5 +88,48 @@ fn writes_numbers(rt: HostRuntime) -> Result<(), Fail> {
     distances.push((u64::MAX, 55_340_232_195_358_851_075))?;
     let text = b"ok 2\n1 0\n18446744073709551615 55340232195358851075\n";
     assert!(rt; is_written(rt.alloc(), &Reply::Distances(distances), text));
+    Ok(())
+}
+
+// A name of a layer.
+fn named(bytes: &[u8]) -> LayerName {
+    let mut name = LayerName::new();
+    let _ = name.try_extend_from_slice(bytes);
+    name
+}
+
+#[test]
+fn writes_pairs(rt: HostRuntime) -> Result<(), Fail> {
+    let mut pairs = Vec::new(rt.alloc());
+    pairs.push((1, 2))?;
+    pairs.push((u64::MAX, 0))?;
+    let text = b"ok 2\n1 2\n18446744073709551615 0\n";
+    assert!(rt; is_written(rt.alloc(), &Reply::Pairs(pairs), text));
+    Ok(())
+}
+
+// The longest rows, of a name of 24 bytes.
+#[test]
+fn writes_layers_and_dumps(rt: HostRuntime) -> Result<(), Fail> {
+    let name = b"abcdefghijklmnopqrstuvwx";
+    let mut layers = ArrayVec::new();
+    layers.push(LayerInfo {
+        name: named(name),
+        dims: 3,
+        fanout: 100,
+        count: u64::MAX,
+    });
+    let reply: Reply = Reply::Layers(layers);
+    let text = b"ok 1\nabcdefghijklmnopqrstuvwx 3 100 18446744073709551615\n";
+    assert!(rt; is_written(rt.alloc(), &reply, text));
+    let mut rows = Vec::new(rt.alloc());
+    rows.push(DumpRow::Create(named(name), 2, 4))?;
+    if let Some(bounds) = BBox::try_new([i32::MIN; 3], [i32::MIN; 3]) {
+        rows.push(DumpRow::Insert(named(name), u64::MAX, AnyBox::Three(bounds)))?;
+    }
+    let text = b"ok 2\ncreate abcdefghijklmnopqrstuvwx 2 4\n\
+          insert abcdefghijklmnopqrstuvwx 18446744073709551615 \
+          -2147483648 -2147483648 -2147483648 -2147483648 -2147483648 -2147483648\n";
+    assert!(rt; is_written(rt.alloc(), &Reply::Dump(rows), text));
     Ok(())
 }

@@ -10,7 +10,7 @@ use Rattle.layer_store.specs.Representation.{HasFailed, Represents, RepresentsTa
 use Rattle.store_law.specs.Stops.{tables_left}
 use Rattle.layer_store.specs.declared.store.Store.{Store}
 use Rattle.layer_store.proofs.StopLemmas.{left_by_closing, left_so_far}
-use Rattle.layer_store.specs.Image.{IsRefusedOrImageOf}
+use Rattle.live_layers.specs.Image.{IsRefusedOrImageOf}
 use Rattle.store_law.specs.Laws.{a_session_keeps_its_beginning}
 use Rattle.command_shell.specs.Runs.{Runs, TellsEnd, with_last}
 use Rattle.command_shell.specs.declared.session.RunEnd.{RunEnd}
