@@ -99,7 +99,7 @@ sorted_first e es h = first_of (below_all nat_cmp e.0 es) (is_sorted nat_cmp es)
 sorted_rest : (e : Object) (es : List Object) → T (is_sorted nat_cmp (e ∷ es)) → T (is_sorted nat_cmp es)
 sorted_rest e es h = second_of (below_all nat_cmp e.0 es) (is_sorted nat_cmp es) h
 
-sorted_rises : (es : List Object) → T (is_sorted nat_cmp es) → IsNonDecreasingBy (λ (o : Object). o.0) es
+pub sorted_rises : (es : List Object) → T (is_sorted nat_cmp es) → IsNonDecreasingBy (λ (o : Object). o.0) es
 sorted_rises [] s i j d le lt = absurd (omega (arith, lt))
 sorted_rises (e ∷ es) s zero zero d le lt = omega arith
 sorted_rises (e ∷ es) s zero (suc j) d le lt = let after = after_key e.0 es (sorted_first e es s) j d (omega (arith, lt)) in omega (arith, after)

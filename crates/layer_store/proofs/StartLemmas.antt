@@ -1,1 +1,110 @@
--- What a store that is made or opened begins with.
+-- A new file holds the empty table, and what is read of a file behind its shut gate.
+use Rattle.std.proofs.Common.{◌≡◌, ◌∙◌, ◌⊎◌, ◌<◌, ◌≤◌, ℕ, List, [], length, true, false, Option, Some, None, refl, sym, ap, subst, arith, inl, inr, ⊎_elim}
+use Rattle.std.specs.Prelude.{IsSome, option_and_then}
+use Rattle.std.specs.FinMap.{empty, empty_of_len, entries, entries-from_sorted, from_sorted, len-entries}
+use Rattle.std.specs.Cmp.Lexicographic.{slice_cmp}
+use Rattle.std.specs.Ordering.{nat_cmp}
+use Rattle.std.proofs.lemmas.Bool.{cases_eq}
+use Rattle.std.proofs.lemmas.Bool.Decides.{nat_tests}
+use Rattle.block_device.specs.Device.{Blocks, LeavesOnly}
+use Rattle.block_device.specs.Moments.{leaves_weaker}
+use Rattle.catalog_page.specs.Layout.{records_at}
+use Rattle.catalog_page.proofs.Named.{begins_empty}
+use Rattle.live_layers.specs.Image.{HasNoCatalog, IsImage}
+use Rattle.live_layers.specs.Layers.{Holds, catalog_in, in_use}
+use Rattle.live_layers.proofs.StopLemmas.{shut_is_durable}
+use Rattle.node_page.specs.Standing.{PageMap}
+use Rattle.page_cache.specs.Cache.{gate_of}
+use Rattle.page_file.specs.File.{IsNewFile}
+use Rattle.page_file.specs.Laws.{a_run_goes_on}
+use Rattle.page_file.specs.Layout.{catalog_block}
+use Rattle.page_file.specs.Opening.{IsRefused}
+use Rattle.page_file.specs.Pages.{next_in, pages_in}
+use Rattle.page_file.specs.Stops.{AddsOnly, StopSince}
+use Rattle.page_file.specs.declared.gate.Gate.TheVariants.{Shut}
+use Rattle.plain_table.specs.Table.{Layer, Table}
+use Rattle.store_law.specs.States.StoreState.{Alive}
+use Rattle.layer_store.specs.Representation.{BeginsWith, IsInState, IsSettled, blocks_in, cache_in, device_in}
+use Rattle.layer_store.specs.declared.store.Store.{Store}
+use Rattle.layer_store.proofs.StopLemmas.{closed_leaves}
+use Rattle.layer_store.proofs.StoreLemmas.{begins, is_alive, is_settled}
+
+-- ---- the empty table
+
+no_entries : entries (empty {X = Layer} {R = slice_cmp nat_cmp}) ≡ []
+no_entries =
+    let none = empty_of_len (from_sorted {X = Layer} {R = slice_cmp nat_cmp} []) (len-entries (from_sorted {X = Layer} {R = slice_cmp nat_cmp} []) ∙ ap length (entries-from_sorted {X = Layer} (slice_cmp nat_cmp) [] tt)) in
+    ap entries (sym none) ∙ entries-from_sorted {X = Layer} (slice_cmp nat_cmp) [] tt
+
+the_catalog_alone : (n : ℕ) → in_use [] n ≤ 1
+the_catalog_alone n = grind (arith, nat_tests)
+
+its_page : (n : ℕ) → 0 < in_use [] n → 2 ≡ n
+its_page n some = ⊎_elim (λ (e : 2 ≡ n). e) (λ (ne : ¬ (2 ≡ n)). let none : in_use [] n ≡ 0 = grind (arith, nat_tests) in absurd (omega (arith, some, none))) (cases_eq 2 n)
+
+counted_once : in_use [] 2 ≡ 1
+counted_once = refl
+
+some_page : (page : Option (List ℕ)) (bytes : List ℕ) → page ≡ Some bytes → IsSome page
+some_page None bytes e = absurd (cc)
+some_page (Some b) bytes e = refl
+
+none_is_some : (page : Option (List ℕ)) → page ≡ None → IsSome page → ⊥
+none_is_some None e some = cc
+none_is_some (Some b) e some = cc
+
+-- a new file holds it
+nothing_held : (pages : PageMap) (next : ℕ) → pages 2 ≡ Some catalog_block → ((k : ℕ) → ¬ (k ≡ 2) → pages k ≡ None) → Holds pages next [] empty
+nothing_held pages next there others = record {
+  layers = [];
+  rows = refl;
+  table = sym no_entries;
+  stand = tt;
+  used = record {
+    once = the_catalog_alone;
+    live = λ n some. subst (λ (k : ℕ). IsSome (pages k)) (its_page n some) (some_page (pages 2) catalog_block there);
+    used = λ n some. ⊎_elim (λ (e : 2 ≡ n). subst (λ (k : ℕ). 0 < in_use [] k) e (omega (arith, counted_once)))
+        (λ (ne : ¬ (2 ≡ n)). absurd (none_is_some (pages n) (others n (λ e. ne (sym e))) some)) (cases_eq 2 n);
+  };
+  good = refl;
+}
+
+-- its blocks are an image of the empty table
+pub new_image : (blocks : Blocks) → IsNewFile blocks → IsImage blocks empty
+unfolding catalog_block
+new_image blocks new = record {
+  passes = new.passes;
+  free = new.sound;
+  records = [];
+  spelled = ap (option_and_then records_at) new.catalog ∙ begins_empty;
+  holds = nothing_held (pages_in blocks) (next_in blocks) new.catalog new.others;
+}
+
+-- what is left while a file is made
+pub new_left : {D : Type 0} (moment : D → ℕ) (left_since : D → ℕ → Blocks → Type 0) (old new : D) (Q : Blocks → Type 0) → LeavesOnly moment left_since old new (λ c. IsRefused c ⊎ (Q c × IsNewFile c)) → LeavesOnly moment left_since old new (λ c. IsRefused c ⊎ IsImage c empty)
+new_left moment left_since old new Q = leaves_weaker moment left_since old new (λ c. IsRefused c ⊎ (Q c × IsNewFile c)) (λ c. IsRefused c ⊎ IsImage c empty) (λ c. ⊎_elim (λ refused. inl refused) (λ made. inr (new_image c made.1)))
+
+-- ---- a file that is read
+
+pub some_is_not_none : {X : Type 0} {a : X} → None ≡ Some a → ⊥
+some_is_not_none e = absurd (cc)
+
+-- blocks that have P are read behind a shut gate
+pub then_read : {D : Type 0} (moment : D → ℕ) (left_since : D → ℕ → Blocks → Type 0) (old mid new : D) (shown : Blocks) (P : Blocks → Type 0) → P shown → LeavesOnly moment left_since old mid P → AddsOnly moment left_since mid new (StopSince Shut shown) → LeavesOnly moment left_since old new P
+then_read moment left_since old mid new shown P there before more =
+    leaves_weaker moment left_since old new (λ c. P c ⊎ StopSince Shut shown c) P (λ c. ⊎_elim (λ (p : P c). p) (λ stop. subst P (sym stop) there))
+    (a_run_goes_on moment left_since old mid new P (StopSince Shut shown) before more)
+
+-- no catalog of a map is none of the same map
+pub same_catalog : (a b : PageMap) (m n : ℕ) → ((k : ℕ) → b k ≡ a k) → n ≡ m → HasNoCatalog a m → HasNoCatalog b n
+same_catalog a b m n pages next none = subst (λ (k : ℕ). HasNoCatalog b k) (sym next) (subst (λ (p : PageMap). HasNoCatalog p m) (λ i k. sym (pages k) i) none)
+
+module _ {D A : Type 0} {m : _} where
+  pub shut_store : (store : Store D A m) → IsSettled store → m.honest (device_in store) → (c : Blocks) → m.may_leave (device_in store) c → c ≡ blocks_in store
+  shut_store store settled honest = shut_is_durable (cache_in store) honest (is_settled store settled).0
+
+  -- a store of which stops since that moment left an image of its table, or a refusal
+  pub begins_so : (store : Store D A m) (moment : ℕ) (t : Table) → IsInState store (Alive t) → IsSettled store → IsImage (blocks_in store) t → moment ≤ m.moment (device_in store)
+      → ((c : Blocks) → m.left_since (device_in store) moment c → IsRefused c ⊎ IsImage c t) → BeginsWith store moment t
+  begins_so store moment t alive settled image begun stops =
+      begins store moment t alive (is_alive store t alive).1.map.honest (closed_leaves (cache_in store) moment t (is_settled store settled).0 image begun stops)

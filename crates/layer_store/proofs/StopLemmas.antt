@@ -1,5 +1,5 @@
 -- What stops leave of a store.
-use Rattle.std.proofs.Common.{◌≡◌, ◌∙◌, ◌≤◌, zero, suc, List, [], ◌∷◌, Bool, true, false, cond, refl, sym, ap, subst, arith, inl, inr, ⊎_elim}
+use Rattle.std.proofs.Common.{◌≡◌, ◌∙◌, ◌≤◌, ℕ, zero, suc, List, [], ◌∷◌, Bool, true, false, cond, refl, sym, ap, subst, arith, inl, inr, ⊎_elim}
 use Rattle.std.specs.Prelude.{◌⊎◌, Result, Ok, Err}
 use Rattle.std.specs.List.{Contains}
 use Rattle.block_device.specs.Device.{Blocks, LeavesOnly}
@@ -24,6 +24,7 @@ use Rattle.plain_table.specs.Answers.{done_answer}
 use Rattle.plain_table.specs.Commands.{Command}
 use Rattle.plain_table.specs.Commands.Command.{Reopen}
 use Rattle.plain_table.specs.Step.{after}
+use Rattle.plain_table.specs.Step.Answer.{Refused}
 use Rattle.plain_table.specs.Table.{Table}
 use Rattle.plain_table.specs.declared.refusal.Refusal.{Refusal}
 use Rattle.store_law.specs.Sessions.{SessionState}
@@ -55,6 +56,12 @@ either_among t ts us among u (suc k, lt, is) = contains_more u t us (among u (k,
 
 same_list : (t : Table) (ts : List Table) → Contains ts t → Contains ts t
 same_list t ts there = there
+
+-- what is left where a change or a closing gave up
+gave_up : (r : Refusal) (left : AfterStop) → is_end r ≡ false → Perhaps (tables_left left) ≡ after_change left (Refused r)
+gave_up r left e = sym (ap (λ (b : Bool). cond b (Perhaps []) (Perhaps (tables_left left))) e)
+refused_closing : (t : Table) (r : Refusal) (left : AfterStop) → is_end r ≡ false → Perhaps (t ∷ tables_left left) ≡ after_closing t left (Refused r)
+refused_closing t r left e = sym (ap (λ (b : Bool). cond b (Surely t) (Perhaps (t ∷ tables_left left))) e)
 
 module _ {D A : Type 0} {m : _} where
   -- of each moment's stops those now are left now
@@ -113,8 +120,6 @@ module _ {D A : Type 0} {m : _} where
       → Leaves new (record { now = Perhaps []; since = stops.since; so_far = stops.so_far })
   begun_leaves old new stops run was opened = leaves_after old new stops (Perhaps []) run was (λ closed. absurd (closed opened)) (λ u there. contains_none u (tables_left stops.now) there)
 
-  gave_up : (r : Refusal) (left : AfterStop) → is_end r ≡ false → Perhaps (tables_left left) ≡ after_change left (done_answer (Err r))
-  gave_up r left e = sym (ap (λ (b : Bool). cond b (Perhaps []) (Perhaps (tables_left left))) e)
 
   -- what stops leave after a change that may have changed the table
   module _ (old new : Layers D A m) (t : Table) (c : Command) (stops : Stops) (honest : IsHonest old.cache) (was : Leaves old.cache stops) where
@@ -149,8 +154,6 @@ module _ {D A : Type 0} {m : _} where
     among = λ u there. either_among t (tables_left stops.now) stops.so_far was.among u (within u there);
   }
 
-  refused_closing : (t : Table) (r : Refusal) (left : AfterStop) → is_end r ≡ false → Perhaps (t ∷ tables_left left) ≡ after_closing t left (done_answer (Err r))
-  refused_closing t r left e = sym (ap (λ (b : Bool). cond b (Surely t) (Perhaps (t ∷ tables_left left))) e)
 
   pub reopening_leaves : (old new : Layers D A m) (t : Table) (stops : Stops) (made : Result (Unit {0}) Unmade) → ClosingLeaves old new t made → ((r : Refusal) → made ≡ Err (unmade.Refused r) → is_end r ≡ false) → Leaves old.cache stops
       → Leaves new.cache (after_command t stops Reopen (done_answer (told made)))

@@ -6,7 +6,7 @@ use Rattle.std.proofs.lemmas.List.Sorted.{IsPermutation-sym, IsPermutation-trans
 use Rattle.block_device.specs.Device.{Blocks}
 use Rattle.catalog_page.specs.Layout.{Record}
 use Rattle.layer_pages.specs.Layers.{IsLayerAt, LayerPages, Objects}
-use Rattle.layer_pages.proofs.ObjectLemmas.{one_order}
+use Rattle.layer_pages.proofs.ObjectLemmas.{one_order, sorted_rises}
 use Rattle.node_page.specs.Standing.{PageMap}
 use Rattle.node_page.proofs.StandingLemmas.{one_tree_stands}
 use Rattle.page_file.specs.Pages.{next_in, pages_in}
@@ -24,7 +24,7 @@ same_objects : (dims most : ℕ) (pages : PageMap) (root : Root) (directory : �
 same_objects dims most pages root directory l k a b h g =
     let trees : l.tree ≡ k.tree = one_tree_stands dims pages l.tree k.tree (h.tree.page_is ∙ sym g.tree.page_is) h.tree.stands g.tree.stands in
     let leaves : IsPermutation (objects_in k.tree.row) (entries a) = subst (λ (t : Tree). IsPermutation (objects_in t.row) (entries a)) trees h.leaves in
-    same_entries_map a b (one_order (entries a) (entries b) (entries_sorted a) (entries_sorted b)
+    same_entries_map a b (one_order (entries a) (entries b) (sorted_rises (entries a) (entries_sorted a)) (entries_sorted b)
     (IsPermutation-trans (entries a) (objects_in k.tree.row) (entries b) (IsPermutation-sym (objects_in k.tree.row) (entries a) leaves) g.leaves))
 
 same_layer : (pages : PageMap) (h k : Reading) → h.row ≡ k.row → LayerStands pages h → LayerStands pages k → entry_of h ≡ entry_of k

@@ -1,44 +1,67 @@
--- A new file holds the empty table, and lies in its blocks.
-use Rattle.std.proofs.Common.{◌⊎◌, true, false, refl, sym, subst}
+-- A new file holds the empty table, and its store is read from it.
+use Rattle.std.proofs.Common.{◌⊎◌, ◌∙◌, arith, inr, sym, subst}
 use Rattle.std.specs.FinMap.{empty}
-use Rattle.page_file.specs.File.{blocks_of, next_of, pages}
+use Rattle.block_device.specs.Device.{Blocks}
+use Rattle.live_layers.specs.Image.{IsImage}
+use Rattle.page_file.specs.File.{IsNewFile, blocks_of, device_of}
 use Rattle.page_file.specs.Opening.{IsRefused}
-use Rattle.plain_table.specs.Table.{Table}
-use Rattle.layer_store.specs.Image.{Holds, IsImage}
-use Rattle.layer_store.specs.Representation.{BeginsWith}
-use Rattle.layer_store.specs.declared.store.Store.{Store}
-use Rattle.layer_store.proofs.StoredTableLemmas.{image_of, nothing_held}
-use Rattle.layer_store.proofs.StopLemmas.{closed_leaves, new_left, shut_is_durable, shut_leaves}
-use Rattle.layer_store.proofs.StoreLemmas.{begins, settled_so}
+use Rattle.layer_store.specs.Representation.{blocks_in, device_in}
+use Rattle.layer_store.proofs.Results.{at_err, at_ok, err_case, ok_case}
+use Rattle.layer_store.proofs.StartLemmas.{begins_so, new_image, new_left, shut_store, then_read}
 use Rattle.layer_store.proofs.store.start.create_store.Goals as goal
 
 pub returns-in-Ok-clause-begins : goal.returns-in-Ok-clause-begins
-returns-in-Ok-clause-begins g c = λ honest.
-    let made = c.in-Ok.ensures in
-    let held = subst (λ next. Holds (pages c.in-Ok.file) next empty) (sym made.next) (nothing_held (pages c.in-Ok.file) (made.catalog honest)) in
-    let store : Store _ _ _ = record { stored = record { alloc = c.args.alloc; file = c.in-Ok.file; table = c.new.result; written = true }; failed = false } in
-    let image = image_of c.in-Ok.file (blocks_of c.in-Ok.file) empty (made.sound honest) (made.lies honest) held in
+returns-in-Ok-clause-begins g c = ok_case c.begin.result (λ store is honest.
     let d = g.D.BlockDevice in
-    let stops = new_left _ _ _ _ _ (made.stops honest) in
-    subst (BeginsWith store (d.moment c.args.device)) c.new.ensures
-    (begins store (d.moment c.args.device) (record { map = made.sound honest; held = λ written. subst (Holds (pages c.in-Ok.file) (next_of c.in-Ok.file)) (sym c.new.ensures) held }) refl
-    (closed_leaves c.in-Ok.file (d.moment c.args.device) c.new.result (shut_leaves c.in-Ok.file c.new.result (made.sound honest).honest made.shut (subst (IsImage (blocks_of c.in-Ok.file)) (sym c.new.ensures) image))
-    stops.later (λ b left. subst (λ (t : Table). IsRefused b ⊎ IsImage b t) (sym c.new.ensures) (stops.each b left))))
+    let made = c.in-Ok.ensures in
+    let file = c.in-Ok.file in
+    let inside = made.honest.0 honest in
+    let lies = made.lies honest in
+    let image = new_image (blocks_of file) (record { passes = lies.passes; next = lies.next ∙ made.next; catalog = lies.pages_there 2 ∙ made.catalog honest; others = λ k ne. lies.pages_there k ∙ made.others honest k ne; sound = lies.sound.0 (made.sound honest) }) in
+    let run = then_read d.moment d.left_since c.args.device (device_of file) (device_in store) (blocks_of file) (λ b. IsRefused b ⊎ IsImage b empty) (inr image)
+    (new_left d.moment d.left_since c.args.device (device_of file) _ (made.stops honest)) (at_ok _ c.begin.result store is c.begin.ensures.stops inside) in
+    begins_so store (d.moment c.args.device) empty (at_ok _ c.begin.result store is (c.begin.ensures.image empty (blocks_of file) inside lies image)) (at_ok _ c.begin.result store is c.begin.ensures.settled)
+    (subst (λ (b : Blocks). IsImage b empty) (sym (at_ok _ c.begin.result store is c.begin.ensures.blocks inside)) image) run.later run.each)
 
 pub returns-in-Ok-clause-closed : goal.returns-in-Ok-clause-closed
-returns-in-Ok-clause-closed g c = λ honest.
+returns-in-Ok-clause-closed g c = ok_case c.begin.result (λ store is honest.
     let made = c.in-Ok.ensures in
-    let held = subst (λ next. Holds (pages c.in-Ok.file) next empty) (sym made.next) (nothing_held (pages c.in-Ok.file) (made.catalog honest)) in
-    image_of c.in-Ok.file (blocks_of c.in-Ok.file) empty (made.sound honest) (made.lies honest) held
+    let file = c.in-Ok.file in
+    let lies = made.lies honest in
+    let image = new_image (blocks_of file) (record { passes = lies.passes; next = lies.next ∙ made.next; catalog = lies.pages_there 2 ∙ made.catalog honest; others = λ k ne. lies.pages_there k ∙ made.others honest k ne; sound = lies.sound.0 (made.sound honest) }) in
+    subst (λ (b : Blocks). IsImage b empty) (sym (at_ok _ c.begin.result store is c.begin.ensures.blocks (made.honest.0 honest))) image)
 
 pub returns-in-Ok-clause-stops : goal.returns-in-Ok-clause-stops
-returns-in-Ok-clause-stops g c = λ honest. new_left _ _ _ _ _ (c.in-Ok.ensures.stops honest)
+returns-in-Ok-clause-stops g c = ok_case c.begin.result (λ store is honest.
+    let d = g.D.BlockDevice in
+    let made = c.in-Ok.ensures in
+    let file = c.in-Ok.file in
+    let lies = made.lies honest in
+    let image = new_image (blocks_of file) (record { passes = lies.passes; next = lies.next ∙ made.next; catalog = lies.pages_there 2 ∙ made.catalog honest; others = λ k ne. lies.pages_there k ∙ made.others honest k ne; sound = lies.sound.0 (made.sound honest) }) in
+    then_read d.moment d.left_since c.args.device (device_of file) (device_in store) (blocks_of file) (λ b. IsRefused b ⊎ IsImage b empty) (inr image)
+    (new_left d.moment d.left_since c.args.device (device_of file) _ (made.stops honest)) (at_ok _ c.begin.result store is c.begin.ensures.stops (made.honest.0 honest)))
+
+pub returns-in-Ok-clause-refused_stops : goal.returns-in-Ok-clause-refused_stops
+returns-in-Ok-clause-refused_stops g c = λ cache. err_case c.begin.result (λ e is honest.
+    let d = g.D.BlockDevice in
+    let made = c.in-Ok.ensures in
+    let file = c.in-Ok.file in
+    let lies = made.lies honest in
+    let image = new_image (blocks_of file) (record { passes = lies.passes; next = lies.next ∙ made.next; catalog = lies.pages_there 2 ∙ made.catalog honest; others = λ k ne. lies.pages_there k ∙ made.others honest k ne; sound = lies.sound.0 (made.sound honest) }) in
+    then_read d.moment d.left_since c.args.device (device_of file) e.1 (blocks_of file) (λ b. IsRefused b ⊎ IsImage b empty) (inr image)
+    (new_left d.moment d.left_since c.args.device (device_of file) _ (made.stops honest)) (at_err _ c.begin.result e is c.begin.ensures.refused_stops (made.honest.0 honest)))
+
+pub returns-in-Ok-clause-refused : goal.returns-in-Ok-clause-refused
+returns-in-Ok-clause-refused g c = λ cache. err_case c.begin.result (λ e is honest.
+    let made = c.in-Ok.ensures in
+    let file = c.in-Ok.file in
+    let lies = made.lies honest in
+    let image = new_image (blocks_of file) (record { passes = lies.passes; next = lies.next ∙ made.next; catalog = lies.pages_there 2 ∙ made.catalog honest; others = λ k ne. lies.pages_there k ∙ made.others honest k ne; sound = lies.sound.0 (made.sound honest) }) in
+    at_err _ c.begin.result e is (c.begin.ensures.not_refused empty (blocks_of file) (made.honest.0 honest) lies image))
 
 pub returns-in-Ok-clause-durable : goal.returns-in-Ok-clause-durable
-returns-in-Ok-clause-durable g c = λ honest. shut_is_durable c.in-Ok.file (c.in-Ok.ensures.honest.0 honest) c.in-Ok.ensures.shut
+returns-in-Ok-clause-durable g c = ok_case c.begin.result (λ store is honest.
+    shut_store store (at_ok _ c.begin.result store is c.begin.ensures.settled) (at_ok _ c.begin.result store is c.begin.ensures.honest (c.in-Ok.ensures.honest.0 honest)))
 
 pub returns-in-Err-clause-refused_stops : goal.returns-in-Err-clause-refused_stops
 returns-in-Err-clause-refused_stops g c = λ cache honest. new_left _ _ _ _ _ (c.in-Err.ensures.refused_stops honest)
-
-pub returns-in-Ok-clause-now_settled : goal.returns-in-Ok-clause-now_settled
-returns-in-Ok-clause-now_settled g c = settled_so (record { stored = record { alloc = c.args.alloc; file = c.in-Ok.file; table = c.new.result; written = true }; failed = false }) c.in-Ok.ensures.shut refl

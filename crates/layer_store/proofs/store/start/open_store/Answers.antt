@@ -1,75 +1,59 @@
--- The pages given out are those of the blocks that were opened.
-use Rattle.std.proofs.Common.{◌∙◌, refl, sym, subst, inl, inr, ⊎_elim}
+-- The map of the file is that of the blocks that were opened.
+use Rattle.std.proofs.Common.{◌∙◌, arith, refl, sym, subst, inl, inr, ⊎_elim}
 use Rattle.block_device.specs.Device.{Blocks}
-use Rattle.page_file.specs.File.{blocks_of, device_of, gate_of}
+use Rattle.live_layers.specs.Image.{IsImage}
+use Rattle.page_file.specs.File.{blocks_of, device_of, next_of, pages}
+use Rattle.page_file.specs.Pages.{next_in, pages_in}
 use Rattle.page_file.specs.declared.fault.Fault.TheVariants as fault
-use Rattle.layer_store.specs.Image.{Holds, IsDamaged, IsImage}
-use Rattle.layer_store.specs.Laws.{some_is_not_none}
-use Rattle.layer_store.proofs.StoredTableLemmas.{same_blocks}
-use Rattle.layer_store.proofs.Results.{if_err, if_err_given, if_ok, subst_both}
-use Rattle.layer_store.proofs.StopLemmas.{only_read, shut_is_durable}
-use Rattle.layer_store.specs.Representation.{device_in, file_in}
+use Rattle.layer_store.specs.Representation.{device_in}
+use Rattle.layer_store.proofs.Results.{at_err, at_ok, err_case, ok_case}
+use Rattle.layer_store.proofs.StartLemmas.{begins_so, same_catalog, shut_store, some_is_not_none, then_read}
 use Rattle.layer_store.proofs.store.start.open_store.Goals as goal
 
 pub returns-in-Ok-clause-image : goal.returns-in-Ok-clause-image
-returns-in-Ok-clause-image g c = λ t honest image.
+returns-in-Ok-clause-image g c = λ t honest image. ok_case c.begin.result (λ store is.
+    let d = g.D.BlockDevice in
     let opened = c.in-Ok.ensures in
-    let lies = opened.lies honest in
-    let same = same_blocks c.in-Ok.file (g.D.BlockDevice.shown c.args.device) (opened.blocks honest) lies.next in
-    if_ok c.read_store.result (λ store begins. begins t (subst_both (λ pages next. Holds pages next t) (sym same) lies.next image.holds)
-    (subst (λ (blocks : Blocks). IsImage blocks t) (sym (opened.blocks honest)) image)) (c.read_store.ensures.begins (lies.sound.1 image.free) opened.shut)
+    let inside = opened.honest.0 honest in
+    let settled = at_ok _ c.begin.result store is c.begin.ensures.settled in
+    let there = subst (λ (b : Blocks). IsImage b t) (sym (at_ok _ c.begin.result store is c.begin.ensures.blocks inside ∙ opened.blocks honest)) image in
+    let kept = at_ok _ c.begin.result store is c.begin.ensures.honest inside in
+    begins_so store (d.moment (device_in store)) t (at_ok _ c.begin.result store is (c.begin.ensures.image t (d.shown c.args.device) inside (opened.lies honest) image)) settled there (omega arith)
+    (λ b left. inr (subst (λ (x : Blocks). IsImage x t) (sym (shut_store store settled kept b (g.met.D.BlockDevice.only_now (device_in store) b kept left))) there)))
 
 pub returns-in-Ok-clause-opened : goal.returns-in-Ok-clause-opened
-returns-in-Ok-clause-opened g c =
+returns-in-Ok-clause-opened g c = ok_case c.begin.result (λ store is honest f refuses.
     let opened = c.in-Ok.ensures in
+    let lies = opened.lies honest in
     let blocks = g.D.BlockDevice.shown c.args.device in
-    if_ok c.read_store.result (λ store whole honest f refuses. ⊎_elim
-    (λ failed. some_is_not_none (sym (opened.lies honest).passes ∙ failed))
-    (λ d. whole (opened.honest.0 honest) d.1 (subst_both (λ pages next. IsDamaged pages next d.1) (sym (same_blocks c.in-Ok.file blocks (opened.blocks honest) (opened.lies honest).next)) (opened.lies honest).next d.3))
-    refuses) c.read_store.ensures.opened
+    ⊎_elim (λ failed. some_is_not_none (sym lies.passes ∙ failed))
+    (λ none. at_ok _ c.begin.result store is c.begin.ensures.opened (opened.honest.0 honest) (same_catalog (pages_in blocks) (pages c.in-Ok.file) (next_in blocks) (next_of c.in-Ok.file) (λ k. sym (lies.pages_there k)) (sym lies.next) none.2)) refuses)
 
 pub returns-in-Ok-clause-refused : goal.returns-in-Ok-clause-refused
-returns-in-Ok-clause-refused g c = λ cache.
+returns-in-Ok-clause-refused g c = λ cache. err_case c.begin.result (λ e is honest.
     let opened = c.in-Ok.ensures in
+    let lies = opened.lies honest in
     let blocks = g.D.BlockDevice.shown c.args.device in
-    if_err_given c.read_store.result (λ honest. c.read_store.ensures.refused (opened.honest.0 honest))
-    (λ e honest refused. ⊎_elim
-    (λ gave_up. inl gave_up)
-    (λ damaged. inr (
-      fault.Damaged damaged.0,
-      damaged.1,
-      inr (
-        (opened.lies honest).passes,
-        damaged.0,
-        refl,
-        subst_both (λ pages next. IsDamaged pages next damaged.0) (same_blocks c.in-Ok.file blocks (opened.blocks honest) (opened.lies honest).next) (sym (opened.lies honest).next) damaged.2,
-      ),
-    ))
-    refused)
-
-pub returns-in-Ok-clause-table : goal.returns-in-Ok-clause-table
-returns-in-Ok-clause-table g c =
-    let opened = c.in-Ok.ensures in
-    let blocks = g.D.BlockDevice.shown c.args.device in
-    if_ok c.read_store.result (λ store found honest. let t = found (opened.honest.0 honest) in (t.0, t.1, subst_both (λ pages next. Holds pages next t.0) (same_blocks c.in-Ok.file blocks (opened.blocks honest) (opened.lies honest).next) (sym (opened.lies honest).next) t.2)) c.read_store.ensures.table
+    ⊎_elim (λ gave_up. inl gave_up)
+    (λ damaged. inr (fault.Damaged 2, damaged.0, inr (lies.passes, refl, same_catalog (pages c.in-Ok.file) (pages_in blocks) (next_of c.in-Ok.file) (next_in blocks) lies.pages_there lies.next damaged.1)))
+    (at_err _ c.begin.result e is c.begin.ensures.refused (opened.honest.0 honest)))
 
 pub returns-in-Ok-clause-stops : goal.returns-in-Ok-clause-stops
-returns-in-Ok-clause-stops g c =
-    let opened = c.in-Ok.ensures in
+returns-in-Ok-clause-stops g c = ok_case c.begin.result (λ store is honest.
     let d = g.D.BlockDevice in
-    let device = c.args.device in
-    if_ok c.read_store.result (λ store gate honest. only_read d.moment d.left_since d.may_leave device (device_of c.in-Ok.file) (device_in store) (gate_of c.in-Ok.file) (d.shown device) (blocks_of c.in-Ok.file)
-    (g.met.D.BlockDevice.shown_counts device honest) opened.shut (opened.blocks honest) (opened.stops honest) (gate.stops (opened.honest.0 honest))) c.read_store.ensures.gate
+    let opened = c.in-Ok.ensures in
+    then_read d.moment d.left_since c.args.device (device_of c.in-Ok.file) (device_in store) (blocks_of c.in-Ok.file) (d.may_leave c.args.device)
+    (subst (d.may_leave c.args.device) (sym (opened.blocks honest)) (g.met.D.BlockDevice.shown_counts c.args.device honest)) (opened.stops honest)
+    (at_ok _ c.begin.result store is c.begin.ensures.stops (opened.honest.0 honest)))
 
 pub returns-in-Ok-clause-refused_stops : goal.returns-in-Ok-clause-refused_stops
-returns-in-Ok-clause-refused_stops g c = λ cache.
-    let opened = c.in-Ok.ensures in
+returns-in-Ok-clause-refused_stops g c = λ cache. err_case c.begin.result (λ e is honest.
     let d = g.D.BlockDevice in
-    let device = c.args.device in
-    if_err c.read_store.result (λ e more honest. only_read d.moment d.left_since d.may_leave device (device_of c.in-Ok.file) e.1 (gate_of c.in-Ok.file) (d.shown device) (blocks_of c.in-Ok.file)
-    (g.met.D.BlockDevice.shown_counts device honest) opened.shut (opened.blocks honest) (opened.stops honest) (more (opened.honest.0 honest))) c.read_store.ensures.refused_stops
+    let opened = c.in-Ok.ensures in
+    then_read d.moment d.left_since c.args.device (device_of c.in-Ok.file) e.1 (blocks_of c.in-Ok.file) (d.may_leave c.args.device)
+    (subst (d.may_leave c.args.device) (sym (opened.blocks honest)) (g.met.D.BlockDevice.shown_counts c.args.device honest)) (opened.stops honest)
+    (at_err _ c.begin.result e is c.begin.ensures.refused_stops (opened.honest.0 honest)))
 
 pub returns-in-Ok-clause-durable : goal.returns-in-Ok-clause-durable
-returns-in-Ok-clause-durable g c =
-    let opened = c.in-Ok.ensures in
-    if_ok c.read_store.result (λ store gate honest. shut_is_durable (file_in store) (gate.honest.0 (opened.honest.0 honest)) (gate.gate ∙ opened.shut)) c.read_store.ensures.gate
+returns-in-Ok-clause-durable g c = ok_case c.begin.result (λ store is honest.
+    shut_store store (at_ok _ c.begin.result store is c.begin.ensures.settled) (at_ok _ c.begin.result store is c.begin.ensures.honest (c.in-Ok.ensures.honest.0 honest)))

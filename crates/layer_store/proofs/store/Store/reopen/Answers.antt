@@ -6,7 +6,7 @@ use Rattle.layer_store.proofs.ChangeLemmas.{cause_told, refused_goes_on, step_to
 use Rattle.layer_store.proofs.ClosingLemmas.{durable_closed, image_closed, quiet_closed, settled_closed, stops_closed}
 use Rattle.layer_store.proofs.StopLemmas.{reopening_leaves}
 use Rattle.layer_store.proofs.StoreLemmas.{alive_in, alive_with, is_dead, not_both, takes_nothing}
-use Rattle.layer_store.proofs.store.closing.Store.reopen.Goals as goal
+use Rattle.layer_store.proofs.store.Store.reopen.Goals as goal
 
 pub returns-then-self-clause-step : goal.returns-then-self-clause-step
 returns-then-self-clause-step g c = takes_nothing c.args.self.now Reopen c.if-self.true

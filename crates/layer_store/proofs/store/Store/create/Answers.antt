@@ -9,7 +9,7 @@ use Rattle.layer_store.specs.Representation.{device_in}
 use Rattle.layer_store.proofs.ChangeLemmas.{cause_told, on_told, quiet_told, refused_goes_on, stays, step_told, stops_told}
 use Rattle.layer_store.proofs.StopLemmas.{change_leaves}
 use Rattle.layer_store.proofs.StoreLemmas.{alive_in, alive_with, is_dead, not_both, takes_nothing}
-use Rattle.layer_store.proofs.store.changes.Store.create.Goals as goal
+use Rattle.layer_store.proofs.store.Store.create.Goals as goal
 
 pub returns-then-self-clause-step : goal.returns-then-self-clause-step
 returns-then-self-clause-step g c = takes_nothing c.args.self.now (Create c.args.layer.now c.args.dims c.args.fanout) c.if-self.true

@@ -5,7 +5,7 @@ use Rattle.plain_table.specs.declared.refusal.Refusal.{Refusal}
 use Rattle.layer_store.specs.Faults.{IsMemoryOrDevice}
 use Rattle.layer_store.proofs.ClosingLemmas.{memory_or_device, rests_of_store}
 use Rattle.layer_store.proofs.StoreLemmas.{alive_in, alive_with, failed_so, is_dead, is_settled, not_both}
-use Rattle.layer_store.proofs.store.closing.Store.close.Goals as goal
+use Rattle.layer_store.proofs.store.Store.close.Goals as goal
 
 pub returns-then-self-clause-refused : goal.returns-then-self-clause-refused
 returns-then-self-clause-refused g c = λ t represents. absurd (not_both _ c.if-self.true (alive_with c.args.self t represents).0)

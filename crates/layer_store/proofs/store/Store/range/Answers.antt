@@ -1,13 +1,12 @@
 -- A question of the layers is a step of the store.
-use Rattle.std.proofs.Common.{arith}
-use Rattle.page_cache.specs.Cache.{device_of}
+use Rattle.std.proofs.Common.{refl}
 use Rattle.plain_table.specs.Answers.{boxes_answer}
 use Rattle.plain_table.specs.Commands.Command.{Range}
 use Rattle.plain_table.specs.Step.{refusal_of}
 use Rattle.layer_store.specs.Representation.{device_in}
 use Rattle.layer_store.proofs.QuestionLemmas.{keeps_asked, kept_or_same, nothing_asked, step_asked, stops_asked}
 use Rattle.layer_store.proofs.StoreLemmas.{alive_with, is_dead, not_both, takes_nothing}
-use Rattle.layer_store.proofs.store.questions.Store.range.Goals as goal
+use Rattle.layer_store.proofs.store.Store.range.Goals as goal
 
 pub returns-then-self-clause-step : goal.returns-then-self-clause-step
 returns-then-self-clause-step g c = takes_nothing c.args.self.now (Range c.args.layer.now c.args.query) c.if-self.true

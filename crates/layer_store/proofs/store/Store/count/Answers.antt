@@ -5,7 +5,7 @@ use Rattle.plain_table.specs.Commands.Command.{Count}
 use Rattle.plain_table.specs.Step.{refusal_of}
 use Rattle.layer_store.proofs.QuestionLemmas.{kept_or_same}
 use Rattle.layer_store.proofs.StoreLemmas.{blames_none, is_dead, not_both, takes_nothing, takes_reply}
-use Rattle.layer_store.proofs.store.questions.Store.count.Goals as goal
+use Rattle.layer_store.proofs.store.Store.count.Goals as goal
 
 pub returns-then-self-clause-step : goal.returns-then-self-clause-step
 returns-then-self-clause-step g c = takes_nothing c.args.self.now (Count c.args.layer.now) c.if-self.true
