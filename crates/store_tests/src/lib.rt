@@ -1,24 +1,20 @@
-//! Tests of the store on a device that cross crates: images, refusals of memory, faults of the device, and sessions
-//! beside the plain table.
+//! Tests of the store on a device that cross crates: worked rows, sessions beside the plain table, growths and calls of
+//! the device refused, stops, and files written by hand.
 #![tactic(auto)]
 
 #[cfg(test)]
-mod changes;
+mod commands;
 #[cfg(test)]
-mod damages;
-#[cfg(test)]
-mod faults;
+mod files;
 #[cfg(test)]
 mod fixture;
 #[cfg(test)]
-mod images;
-#[cfg(test)]
 mod larger;
 #[cfg(test)]
-mod memory;
-#[cfg(test)]
-mod openings;
+mod refused;
 #[cfg(test)]
 mod rows;
 #[cfg(test)]
 mod sessions;
+#[cfg(test)]
+mod stops;

@@ -2,15 +2,26 @@
 
 ghost use Rattle.std.specs.Prelude.{◌<◌};
 
-use crate::changes::{
-    Change, Question, answers_alike, change_store, change_table, represents_table,
-};
-use crate::fixture::{CACHE, new_store, opened_again};
-use block_device::MemoryDevice;
-use layer_store::{RawBox, RawPoint, RawQuery, Store};
+use crate::commands::{Command, answer, listed, represents};
+use crate::fixture::{device_of, new_store, opened};
+use layer_store::{RawBox, RawPoint};
 use list_table::ListTable;
-use std::alloc::Global;
 use std::test::Fail;
+
+// Names of layers. The last three are none.
+const NAMES: [&[u8]; 8] = [
+    b"a",
+    b"b",
+    b"c",
+    b"roads_2",
+    b"abcdefghijklmnopqrstuvwx",
+    b"abcdefghijklmnopqrstuvwxy",
+    b"A",
+    b"",
+];
+
+// Fanouts. The first and the last are none.
+const FANOUTS: [u64; 8] = [3, 4, 4, 5, 7, 20, 100, 101];
 
 // Numbers by chance, after George Marsaglia, "Xorshift RNGs", 2003. The state is not 0.
 #[derive(Drop)]
@@ -31,20 +42,11 @@ impl Dice {
         ((x >> 32) % u64::from(sides)) as u32
     }
 
-    // The place of a name, in three of four cases of one of the first two.
-    fn place(&mut self) -> usize {
-        if self.below(4) > 0 {
-            self.below(2) as usize
-        } else {
-            self.below(8) as usize
-        }
-    }
-
     // A low and a high near 0, the high seldom below the low.
     fn span(&mut self) -> (i32, i32) {
-        let low = self.below(20) as i32 - 10;
+        let low = self.below(60) as i32 - 30;
         let size = self.below(8) as i32;
-        if self.below(16) > 0 {
+        if self.below(32) > 0 {
             (low, low + size)
         } else {
             (low, low - size)
@@ -61,87 +63,59 @@ impl Dice {
         }
     }
 
-    // The box that fits the layer at a place: `a` is to have two axes, the others three, and seldom it does not fit.
-    fn bounds_at(&mut self, place: usize) -> RawBox {
+    // A command on one of the layers, in three of four cases on `a`, of two axes, or `b`, of three. Seldom a box does
+    // not fit its layer.
+    fn command(&mut self) -> Command {
+        let place = if self.below(4) > 0 {
+            self.below(2) as usize
+        } else {
+            self.below(8) as usize
+        };
+        let name = NAMES[place];
         let misfits = self.below(16) == 0;
-        let dims = if (place == 0) == misfits { 3 } else { 2 };
-        self.bounds(dims)
-    }
-
-    // A point that fits that layer, and seldom does not.
-    fn point_at(&mut self, place: usize) -> RawPoint {
-        match self.bounds_at(place) {
+        let bounds = self.bounds(if (place == 0) == misfits { 3 } else { 2 });
+        let point = match bounds {
             RawBox::Two(low, _) => RawPoint::Two(low),
             RawBox::Three(low, _) => RawPoint::Three(low),
+        };
+        let id = u64::from(self.below(2000));
+        match self.below(32) {
+            0 => Command::Create(name, u64::from(self.below(6)), FANOUTS[self.below(8) as usize]),
+            1 => Command::Create(name, if place == 0 { 2 } else { 3 }, 4),
+            2 | 3 => Command::Get(name, id),
+            4 => Command::Count(name),
+            5 | 6 => Command::Inside(name, bounds),
+            7 => Command::Around(name, bounds),
+            8 | 9 => Command::Point(name, point),
+            10 | 11 => Command::Nearest(name, u64::from(self.below(12)), point),
+            12..=14 => Command::Window(name, bounds),
+            _ => Command::Insert(name, id, bounds),
         }
-    }
-
-    fn question(&mut self) -> Question {
-        let place = self.place();
-        match self.below(7) {
-            0 => Question::Get(place, u64::from(self.below(400))),
-            1 => Question::Count(place),
-            2 => Question::Range(place, RawQuery::Inside(self.bounds_at(place))),
-            3 => Question::Range(place, RawQuery::Around(self.bounds_at(place))),
-            4 => Question::Range(place, RawQuery::Point(self.point_at(place))),
-            5 => Question::Nearest(place, u64::from(self.below(12)), self.point_at(place)),
-            _ => Question::Range(place, RawQuery::Window(self.bounds_at(place))),
-        }
-    }
-
-    fn change(&mut self) -> Change {
-        let place = self.place();
-        if self.below(8) == 0 {
-            let dims = match place {
-                0 => 2,
-                1 => 3,
-                _ => self.below(6),
-            };
-            Change::Create(place, u64::from(dims), u64::from(3 + self.below(99)))
-        } else {
-            let bounds = self.bounds_at(place);
-            Change::Insert(place, u64::from(self.below(400)), bounds)
-        }
-    }
-}
-
-// A question or a change on the store and on the plain list, and whether both answer alike.
-fn is_alike(
-    dice: &mut Dice,
-    store: &mut Store<MemoryDevice>,
-    table: &mut ListTable<Global>,
-) -> bool {
-    if dice.below(3) == 0 {
-        let question = dice.question();
-        answers_alike(store, table, question)
-    } else {
-        let change = dice.change();
-        change_store(store, change) == change_table(table, change)
     }
 }
 
 #[test]
 fn sessions_answer_as_the_plain_list_does(rt: HostRuntime) -> Result<(), Fail> {
-    for seed in 1..5 {
+    let alloc = rt.alloc();
+    for seed in 1..4 {
         let mut dice = Dice { state: seed };
-        let mut store = new_store(rt.alloc(), CACHE)?;
-        let mut table = ListTable::new(rt.alloc());
-        for step in 0..2000 {
-            match dice.below(64) {
-                0 => store = opened_again(rt.alloc(), store, CACHE)?,
-                1 | 2 => store.reopen()?,
-                _ => assert!(rt;
-                    is_alike(&mut dice, &mut store, &mut table),
-                    "step {step} of session {seed}"
-                ),
+        let mut store = new_store(alloc, 8)?;
+        let mut table = ListTable::new(alloc);
+        for step in 0..2500 {
+            match dice.below(128) {
+                0 => store = opened(alloc, device_of(store)?, 8 + dice.below(60))?,
+                1 => store.reopen()?,
+                _ => {
+                    let command = dice.command();
+                    let given = answer(alloc, &mut store, command);
+                    let wanted = listed(alloc, &mut table, command);
+                    assert!(rt; given == wanted, "{command:?}, step {step} of session {seed}");
+                }
             }
         }
-        assert!(rt; represents_table(&mut store, &table), "session {seed}");
-        let sizes = table.layers().iter().map(|layer| layer.objects.count());
-        assert!(rt;
-            sizes.filter(|&count| count > 100).count() == 2,
-            "session {seed}"
-        );
+        assert!(rt; represents(alloc, &mut store, &mut table, &NAMES, 2000), "session {seed}");
+        table.insert(b"a", 2000, RawBox::Two([0, 0], [0, 0]))?;
+        assert!(rt; !represents(alloc, &mut store, &mut table, &NAMES, 0), "one is missing");
     }
     Ok(())
 }

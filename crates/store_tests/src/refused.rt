@@ -1,0 +1,303 @@
+//! Each growth and each call of the device refused in turn. A command says so and the table stays, or in a change the
+//! store fails; and what is left is opened as the table that was closed last, or refused.
+
+use crate::commands::{Command, PLANE, SPACE, answer, listed, represents};
+use crate::fixture::{closed, device_of, new_store, opened};
+use block_device::{BlockDevice, FuseDevice, FuseMode, MemoryDevice};
+use layer_store::{RawBox, RawPoint, Refusal, Store, create_store, open_store};
+use list_table::ListTable;
+use refusing::Refusing;
+use std::alloc::Global;
+use std::process::Abort;
+use std::test::Fail;
+
+// More growths, and more calls of the device, than the script makes.
+const MOST: u32 = 10000;
+
+const NAMES: [&[u8]; 4] = [b"a", b"c", b"l", b"r"];
+
+// Identifiers are below this.
+const IDS: u64 = 9;
+
+// Each command, on the trees of worked rows, with pages held, changed and read anew.
+const SCRIPT: [Command; 42] = [
+    Command::Create(b"c", 3, 4),
+    Command::Insert(b"c", 1, SPACE),
+    Command::Create(b"a", 2, 4),
+    Command::Insert(b"a", 1, RawBox::Two([0, 0], [1, 1])),
+    Command::Insert(b"a", 2, RawBox::Two([1, 1], [2, 2])),
+    Command::Window(b"a", RawBox::Two([1, 1], [1, 1])),
+    Command::Point(b"a", RawPoint::Two([1, 1])),
+    Command::Reopen,
+    Command::Inside(b"a", RawBox::Two([0, 0], [1, 1])),
+    Command::Reopen,
+    Command::Around(b"a", RawBox::Two([1, 1], [2, 2])),
+    Command::Insert(b"a", 1, RawBox::Two([5, 5], [6, 6])),
+    Command::Get(b"a", 1),
+    Command::Count(b"a"),
+    Command::Create(b"l", 2, 4),
+    Command::Insert(b"l", 1, RawBox::Two([0, 0], [0, 0])),
+    Command::Insert(b"l", 2, RawBox::Two([1, 0], [1, 0])),
+    Command::Insert(b"l", 3, RawBox::Two([2, 0], [2, 0])),
+    Command::Reopen,
+    Command::Insert(b"l", 4, RawBox::Two([3, 0], [3, 0])),
+    Command::Insert(b"l", 5, RawBox::Two([10, 0], [10, 0])),
+    Command::Reopen,
+    Command::Insert(b"l", 6, RawBox::Two([11, 0], [11, 0])),
+    Command::Window(b"l", PLANE),
+    Command::Reopen,
+    Command::Window(b"l", RawBox::Two([0, 0], [10, 0])),
+    Command::Reopen,
+    Command::Nearest(b"l", 2, RawPoint::Two([4, 0])),
+    Command::Reopen,
+    Command::Get(b"l", 5),
+    Command::Create(b"r", 2, 4),
+    Command::Insert(b"r", 1, RawBox::Two([0, 0], [0, 0])),
+    Command::Insert(b"r", 2, RawBox::Two([2, 2], [2, 2])),
+    Command::Insert(b"r", 3, RawBox::Two([100, 100], [100, 100])),
+    Command::Insert(b"r", 4, RawBox::Two([102, 102], [102, 102])),
+    Command::Insert(b"r", 5, RawBox::Two([104, 100], [104, 100])),
+    Command::Insert(b"r", 6, RawBox::Two([60, 60], [60, 60])),
+    Command::Reopen,
+    Command::Insert(b"r", 7, RawBox::Two([42, 42], [42, 42])),
+    Command::Point(b"r", RawPoint::Two([42, 42])),
+    Command::Insert(b"r", 8, RawBox::Two([103, 101], [103, 101])),
+    Command::Inside(b"r", PLANE),
+];
+
+type Heap = Refusing<Global>;
+
+// What became of a command.
+#[derive(Clone, Copy, Debug, PartialEq, Eq)]
+enum Ending {
+    // It was answered as the plain list does.
+    Answered,
+    // It was refused for the cause, the store went on, and then it was answered.
+    Refused,
+    // The store failed for the cause.
+    Failed,
+}
+
+// Puts a command to a store to which something is refused, and nothing more once the cause is answered.
+fn put<D: BlockDevice>(
+    rt: &impl Abort,
+    alloc: Global,
+    store: &mut Store<D, &Heap>,
+    table: &mut ListTable<Global>,
+    heap: &Heap,
+    command: Command,
+    cause: Refusal,
+) -> Ending {
+    let given = answer(alloc, store, command);
+    if given == Err(Refusal::StoreFailed(cause.number())) {
+        heap.relent();
+        assert!(rt; command.is_change() || command.is_closing(), "{command:?}");
+        return Ending::Failed;
+    }
+    if given != Err(cause) {
+        let wanted = listed(alloc, table, command);
+        assert!(rt; given == wanted, "{command:?}: {given:?}");
+        return Ending::Answered;
+    }
+    heap.relent();
+    assert!(rt; represents(alloc, store, table, &NAMES, IDS), "{command:?}");
+    let (given, wanted) = (answer(alloc, store, command), listed(alloc, table, command));
+    assert!(rt; given == wanted, "{command:?}: {given:?}, after it was refused");
+    Ending::Refused
+}
+
+// The store failed in this command: each command says so, and its device, which comes back with a closing, is that of a
+// store that was not closed, or, after a reopening, has the table.
+fn check_failed<'a, D: BlockDevice + Drop>(
+    rt: &impl Abort,
+    alloc: Global,
+    store: Store<D, &'a Heap>,
+    table: &mut ListTable<Global>,
+    heap: &'a Heap,
+    command: Command,
+) {
+    let failed = Refusal::StoreFailed(19);
+    let mut store = store;
+    for &later in SCRIPT.iter() {
+        assert!(rt; answer(alloc, &mut store, later) == Err(failed), "{later:?}");
+    }
+    let (refusal, device) = closed(store);
+    assert_eq!(rt; refusal, Some(failed));
+    match opened(heap, device, 8) {
+        Ok(store) => {
+            let mut store = store;
+            let is_closed = represents(alloc, &mut store, table, &NAMES, IDS);
+            assert!(rt; command.is_closing() && is_closed, "{command:?}");
+        }
+        Err(refusal) => assert!(rt;
+            command.is_change() && refusal == Refusal::NotClosed,
+            "{command:?}: {refusal:?}"
+        ),
+    }
+}
+
+// Closes a store with a change and opens it again, while something is refused.
+fn close_and_open<'a, D: BlockDevice + Drop>(
+    rt: &impl Abort,
+    alloc: Global,
+    store: Store<D, &'a Heap>,
+    table: &mut ListTable<Global>,
+    heap: &'a Heap,
+    cause: Refusal,
+) -> Result<Ending, Refusal> {
+    let (refusal, device) = closed(store);
+    let (answer, ending) = match refusal {
+        Some(refusal) => {
+            heap.relent();
+            assert_eq!(rt; refusal, cause);
+            (opened(heap, device, 8), Ending::Failed)
+        }
+        None => match open_store(heap, device, 8) {
+            Ok(store) if heap.relent() => (Ok(store), Ending::Refused),
+            Ok(store) => (Ok(store), Ending::Answered),
+            Err((refusal, device)) => {
+                heap.relent();
+                assert_eq!(rt; refusal, cause);
+                (Ok(opened(heap, device, 8)?), Ending::Refused)
+            }
+        },
+    };
+    match answer {
+        Ok(store) => {
+            let mut store = store;
+            // a call of the device that is still to fail fails in the first questions
+            let is_whole = represents(alloc, &mut store, table, &NAMES, IDS)
+                || represents(alloc, &mut store, table, &NAMES, IDS);
+            assert!(rt; is_whole);
+        }
+        Err(refusal) => assert_eq!(rt; (refusal, ending), (Refusal::NotClosed, Ending::Failed)),
+    }
+    Ok(ending)
+}
+
+// Puts the script to a new store while something is refused.
+fn run<'a, D: BlockDevice + Drop>(
+    rt: &impl Abort,
+    alloc: Global,
+    store: Store<D, &'a Heap>,
+    heap: &'a Heap,
+    cause: Refusal,
+) -> Result<Ending, Refusal> {
+    let mut store = store;
+    let mut table = ListTable::new(alloc);
+    let mut is_refused = false;
+    for &command in SCRIPT.iter() {
+        match put(rt, alloc, &mut store, &mut table, heap, command, cause) {
+            Ending::Answered => {}
+            Ending::Refused => is_refused = true,
+            Ending::Failed => {
+                check_failed(rt, alloc, store, &mut table, heap, command);
+                return Ok(Ending::Failed);
+            }
+        }
+    }
+    let ending = close_and_open(rt, alloc, store, &mut table, heap, cause)?;
+    Ok(if is_refused {
+        Ending::Refused
+    } else {
+        ending
+    })
+}
+
+// Makes a store on a device without blocks and puts the script to it, while something is refused.
+fn make_and_run<'a, D: BlockDevice + Drop>(
+    rt: &impl Abort,
+    alloc: Global,
+    device: D,
+    heap: &'a Heap,
+    cause: Refusal,
+) -> Result<Ending, Refusal> {
+    if device.blocks() != 0 {
+        return Err(Refusal::NotAStore);
+    }
+    let (refusal, device) = match create_store(heap, device, 8) {
+        Ok(store) => return run(rt, alloc, store, heap, cause),
+        Err(refused) => refused,
+    };
+    heap.relent();
+    assert_eq!(rt; refusal, cause);
+    match opened(heap, device, 8) {
+        Ok(store) => {
+            let mut store = store;
+            let mut table = ListTable::new(alloc);
+            assert!(rt; represents(alloc, &mut store, &mut table, &NAMES, IDS));
+        }
+        Err(refusal) => assert!(rt;
+            refusal == Refusal::NotClosed || refusal == Refusal::NotAStore
+        ),
+    }
+    Ok(Ending::Refused)
+}
+
+#[test]
+fn each_growth_is_refused_in_turn(rt: HostRuntime) -> Result<(), Fail> {
+    let heap = Refusing::new(rt.alloc());
+    let (mut goes_on, mut fails, mut ends) = (false, false, false);
+    for k in 0..MOST {
+        heap.refuse_from(k);
+        match make_and_run(&rt, rt.alloc(), MemoryDevice::new(&heap), &heap, Refusal::Memory)? {
+            Ending::Answered => {
+                ends = true;
+                break;
+            }
+            Ending::Refused => goes_on = true,
+            Ending::Failed => fails = true,
+        }
+    }
+    assert!(rt; goes_on && fails && ends);
+    Ok(())
+}
+
+#[test]
+fn each_call_of_the_device_fails_in_turn(rt: HostRuntime) -> Result<(), Fail> {
+    let heap = Refusing::new(rt.alloc());
+    let (mut goes_on, mut fails, mut ends) = (false, false, false);
+    for passes in 0..MOST {
+        let device = FuseDevice::new(MemoryDevice::new(rt.alloc()), u64::from(passes), FuseMode::Once);
+        match make_and_run(&rt, rt.alloc(), device, &heap, Refusal::Device)? {
+            Ending::Answered => {
+                ends = true;
+                break;
+            }
+            Ending::Refused => goes_on = true,
+            Ending::Failed => fails = true,
+        }
+    }
+    assert!(rt; goes_on && fails && ends);
+    Ok(())
+}
+
+// An opening makes four calls of the device: a sync, and the reads of gate, header and catalog.
+#[test]
+fn an_insertion_whose_first_call_fails_goes_on(rt: HostRuntime) -> Result<(), Fail> {
+    let heap = Refusing::new(rt.alloc());
+    let mut ending = Ending::Failed;
+    for passes in 0..MOST {
+        let mut store = new_store(rt.alloc(), 8)?;
+        let mut table = ListTable::new(rt.alloc());
+        for &command in SCRIPT.iter() {
+            answer(rt.alloc(), &mut store, command).is_ok();
+            listed(rt.alloc(), &mut table, command).is_ok();
+        }
+        let device = FuseDevice::new(device_of(store)?, u64::from(passes), FuseMode::Once);
+        match open_store(&heap, device, 8) {
+            Ok(store) => {
+                let mut store = store;
+                let object = Command::Insert(b"l", 7, RawBox::Two([4, 0], [4, 0]));
+                ending = put(&rt, rt.alloc(), &mut store, &mut table, &heap, object, Refusal::Device);
+                assert!(rt; passes >= 4 && (passes != 4 || ending == Ending::Refused));
+                if ending == Ending::Answered {
+                    break;
+                }
+            }
+            Err((refusal, _)) => assert!(rt; passes < 4 && refusal == Refusal::Device),
+        }
+    }
+    assert!(rt; ending == Ending::Answered);
+    Ok(())
+}
