@@ -12,6 +12,8 @@ mod locate;
 mod noting;
 mod open;
 mod questions;
+#[cfg(test)]
+mod tests;
 
 use arrayvec::ArrayVec;
 use block_device::BlockDevice;
