@@ -83,6 +83,6 @@ module _ {D A : Type 0} {m : _} (kept : Layers D A m) (t : Table) (name : List �
         (λ inserted. (
           part_of (reading kept t name place sound finds).pages.ids,
           subst (λ (k : ℕ). IsInsertion k (layer_at t name).fanout (part_of (reading kept t name place sound finds).pages.ids) (object bounds id) 0 (reading kept t name place sound finds).pages.tree became_new.layer.tree) (sym is_dims)
-          (subst (λ (k : ℕ). IsInsertion dims k (part_of (reading kept t name place sound finds).pages.ids) (object bounds id) 0 (reading kept t name place sound finds).pages.tree became_new.layer.tree)
-          (sym (fanout_here kept t name place sound finds located by_row dims is_dims)) inserted),
+              (subst (λ (k : ℕ). IsInsertion dims k (part_of (reading kept t name place sound finds).pages.ids) (object bounds id) 0 (reading kept t name place sound finds).pages.tree became_new.layer.tree)
+              (sym (fanout_here kept t name place sound finds located by_row dims is_dims)) inserted),
         ))

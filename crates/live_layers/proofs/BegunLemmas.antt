@@ -75,4 +75,3 @@ module _ {D A : Type 0} {m : _} {T : Type 0} where
     next = omega (arith, begun.next, alters.changes.next);
     faults = alters.changes.faults ∙ ap (faults_after b.cause) begun.faults;
   })
-

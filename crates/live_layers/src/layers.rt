@@ -14,6 +14,8 @@ mod noting;
 mod open;
 mod questions;
 mod reopening;
+#[cfg(test)]
+mod tests;
 
 use arrayvec::ArrayVec;
 use block_device::BlockDevice;

@@ -25,7 +25,13 @@ use std::alloc::Allocator;
 
 impl<B: BlockDevice, A: Allocator + Copy> Layers<B, A> {
     // Makes the pages of a layer without objects, and puts its record in at a place.
-    pub(crate) fn add_layer(&mut self, place: usize, name: &[u8], dims: u8, fanout: u8) -> Result<(), Broken>
+    pub(crate) fn add_layer(
+        &mut self,
+        place: usize,
+        name: &[u8],
+        dims: u8,
+        fanout: u8,
+    ) -> Result<(), Broken>
         requires may_be { MayBeLayer name.now dims fanout }
         requires within { place ≤ length (records_in self.old) }
         requires room { length (records_in self.old) < 60 }
