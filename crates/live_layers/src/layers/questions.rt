@@ -16,7 +16,7 @@ ghost use Rattle.live_layers.specs.Keeping.{IsSound, IsWritten, LooksAtTree, cac
 ghost use Rattle.live_layers.specs.Questions.{is_admitted};
 
 mod boxes;
-mod nearest;
+mod distances;
 mod range;
 
 use crate::layers::Layers;
