@@ -1,16 +1,19 @@
 -- Worked examples of the plain table: what single commands answer on small tables, and what they leave.
 -- No other proof rests on them. A definition that says another thing than docs/COMMANDS.md is refused here.
-use Rattle.std.proofs.Common.{◌≡◌, ℕ, List, [], ◌∷◌, true, false, refl, sym, ap, ◌∙◌, ℤ, pos, negsuc, Some, T, codes, replicate, map, length}
-use Rattle.std.specs.Cmp.{IsTotalOrder, nat_cmp_total}
+use Rattle.std.proofs.Common.{◌≡◌, ℕ, List, [], ◌∷◌, true, false, refl, sym, ap, ◌∙◌, ℤ, pos, negsuc, Option, Some, None, Bool, cond, not, T, codes, replicate, map, length}
+use Rattle.std.specs.Cmp.{IsTotalOrder, alike_right, eq_by_cmp_equiv, nat_cmp_total}
 use Rattle.std.specs.Cmp.Lexicographic.{slice_cmp, nat_list_cmp_total}
-use Rattle.std.specs.Ordering.{nat_cmp}
-use Rattle.std.specs.FinMap.{put, is_sorted, from_sorted, empty, empty_of_len, get, contains_key, len, insert, same_entries_map, entries-insert, entries-from_sorted, get-from_sorted, len-entries}
+use Rattle.std.specs.Ordering.{eq_by_cmp, is_eq, nat_cmp}
+use Rattle.std.specs.FinMap.{IsAntisymmetric, put, is_sorted, find, from_entries, from_sorted, empty, empty_of_len, get, contains_key, len, insert, remove, same_entries_map, same_map, entries-insert, entries-from_sorted, get-from_entries, get-from_sorted, get-remove, len-entries, nat_cmp-IsAntisymmetric, slice_cmp-IsAntisymmetric}
+use Rattle.std.specs.FinMap.Entries.{find-where_key, is_sorted-where_key, where_key}
 use Rattle.std.specs.declared.cmp.Ordering.{Ordering}
 use Rattle.box_math.specs.Bounds.{Bounds, holds_test, meets_test, ordered_test, within_test}
-use Rattle.plain_table.specs.Commands.Command.{Create, Insert, Get, Count, Range, Nearest, Reopen}
+use Rattle.plain_table.specs.Commands.Command.{Create, Insert, Load, Move, Delete, Drop, Get, Count, Range, Nearest, Join, Layers, Dump, Check, Reopen}
+use Rattle.plain_table.specs.Listings.DumpLine.{CreateLine, InsertLine}
+use Rattle.plain_table.specs.Loads.{given_object}
 use Rattle.plain_table.specs.Refusals.{refusal_number, refusal_name}
-use Rattle.plain_table.specs.Step.{reply_of, after}
-use Rattle.plain_table.specs.Step.Answer.{Done, Refused, Boxes, Counted, Distances}
+use Rattle.plain_table.specs.Step.{reply_of, after, changes}
+use Rattle.plain_table.specs.Step.Answer.{Done, Refused, Boxes, Counted, Distances, Pairs, Listed, Dumped}
 use Rattle.plain_table.specs.Table.{Table, Layer, is_layer_name, is_dims, is_fanout, object_count}
 use Rattle.plain_table.specs.declared.boxes.RawBox.{RawBox}
 use Rattle.plain_table.specs.declared.boxes.RawBox.TheVariants.{Two, Three}
@@ -30,6 +33,21 @@ module _ {K X : Type 0} (R : K → K → Ordering) where
   -- to put an entry into the map of a list is to put it into the list
   put_into : IsTotalOrder R → (es : List (K × X)) (k : K) (v : X) → T (is_sorted R es) → T (is_sorted R (put R k v es)) → insert (from_sorted {R = R} es) k v ≡ from_sorted (put R k v es)
   put_into o es k v h h' = same_entries_map _ _ (entries-insert o _ k v ∙ ap (put R k v) (entries-from_sorted R es h) ∙ sym (entries-from_sorted R _ h'))
+
+  -- to take an entry out of the map of a list is to take it out of the list
+  taken_from : IsTotalOrder R → IsAntisymmetric R → (es : List (K × X)) (k : K) → T (is_sorted R es) → remove (from_sorted {R = R} es) k ≡ from_sorted (where_key R (λ x. not (eq_by_cmp R k x)) es)
+  taken_from o same es k h =
+      same_map o same _ _ (λ q. get-remove o _ k q ∙ ap (cond (eq_by_cmp R q k) None) (get-from_sorted R es q h)
+      ∙ sym (get-from_sorted R _ q (is_sorted-where_key R _ es h) ∙ find-where_key R _ q (λ x t. ap (λ r. not (is_eq r)) (sym (alike_right o q x k t))) es
+      ∙ turned (eq_by_cmp R k q) _ _ ∙ ap (λ b. cond b None (find R q es)) ((eq_by_cmp_equiv o).symm k q)))
+    where
+      turned : (b : Bool) (x y : Option X) → cond (not b) x y ≡ cond b y x
+      turned true x y = refl
+      turned false x y = refl
+
+  -- the map of entries in order is that of a list in order
+  of_entries : IsTotalOrder R → IsAntisymmetric R → (es : List (K × X)) → T (is_sorted R es) → from_entries {R = R} es ≡ from_sorted es
+  of_entries o same es h = same_map o same _ _ (λ q. get-from_entries o es q ∙ sym (get-from_sorted R es q h))
 
 abbrev pub table : List (List ℕ × Layer) → Table
 table layers = from_sorted {R = slice_cmp nat_cmp} layers
@@ -118,6 +136,12 @@ refusals_are_named = refl
 
 pub create_is_done : reply_of (table []) (Create a 2 4) ≡ Done
 create_is_done = rw (get-from_sorted {X = Layer} (slice_cmp nat_cmp) [] a tt, len_of {X = Layer} (slice_cmp nat_cmp) [] tt) refl
+
+pub create_changes_the_table : changes (table []) (Create a 2 4) ≡ true
+create_changes_the_table = rw (get-from_sorted {X = Layer} (slice_cmp nat_cmp) [] a tt, len_of {X = Layer} (slice_cmp nat_cmp) [] tt) refl
+
+pub a_refused_create_does_not : changes (table touching) (Create a 3 100) ≡ false
+a_refused_create_does_not = rw touching_at refl
 
 pub create_makes_an_empty_layer : after (table []) (Create a 2 4) ≡ table empty_layer
 create_makes_an_empty_layer = rw (get-from_sorted {X = Layer} (slice_cmp nat_cmp) [] a tt, len_of {X = Layer} (slice_cmp nat_cmp) [] tt, ← no_objects) (put_into (slice_cmp nat_cmp) nat_list_cmp_total [] a (layer 2 4 []) tt tt)
@@ -217,6 +241,151 @@ an_object_beside_2_to_the_30 t there full = rw (there, full, get-from_sorted nat
 an_object_beside_one_less : (t : Table) → get t a ≡ Some (layer 2 4 squares) → object_count t ≡ 1073741823 → reply_of t (Insert a 3 (Two (at 0 0) (at 1 1))) ≡ Done
 unfolding ordered_test
 an_object_beside_one_less t there room = rw (there, room, get-from_sorted nat_cmp squares 3 tt) refl
+
+-- ---- load
+
+abbrev given : ℕ → ℕ → ℕ × RawBox
+given id x = (id, Two (at x 0) (at x 0))
+
+abbrev five_points : List (ℕ × RawBox)
+five_points = given 1 0 ∷ given 2 1 ∷ given 3 2 ∷ given 4 3 ∷ given 5 10 ∷ []
+
+abbrev loaded_points : List (ℕ × Bounds)
+loaded_points = map (λ (object : ℕ × RawBox). given_object object) five_points
+
+empty_count : object_count (table empty_layer) ≡ 0
+empty_count = rw (entries-from_sorted (slice_cmp nat_cmp) empty_layer tt, len_of {X = Bounds} nat_cmp [] tt) refl
+
+load_is_done : reply_of (table empty_layer) (Load a five_points) ≡ Done
+unfolding ordered_test
+load_is_done = rw (empty_at, empty_count, len_of {X = Bounds} nat_cmp [] tt) refl
+
+load_adds_all_objects : after (table empty_layer) (Load a five_points) ≡ table ((a, layer 2 4 loaded_points) ∷ [])
+unfolding ordered_test
+load_adds_all_objects = rw (empty_at, empty_count, len_of {X = Bounds} nat_cmp [] tt, of_entries nat_cmp nat_cmp_total nat_cmp-IsAntisymmetric loaded_points tt)
+    (put_into (slice_cmp nat_cmp) nat_list_cmp_total empty_layer a (layer 2 4 loaded_points) tt tt)
+
+load_into_a_layer_with_objects : reply_of (table touching) (Load a []) ≡ Refused refusal.NotEmpty
+load_into_a_layer_with_objects = rw (touching_at, len_of nat_cmp squares tt) refl
+
+load_of_an_identifier_twice : reply_of (table empty_layer) (Load a (given 1 0 ∷ given 2 1 ∷ given 1 2 ∷ [])) ≡ Refused (refusal.DuplicateInLoad 1)
+unfolding ordered_test
+load_of_an_identifier_twice = rw (empty_at, len_of {X = Bounds} nat_cmp [] tt) refl
+
+-- whichever was given first
+load_of_two_identifiers_twice : reply_of (table empty_layer) (Load a (given 7 0 ∷ given 7 1 ∷ given 3 2 ∷ given 9 0 ∷ given 3 2 ∷ [])) ≡ Refused (refusal.DuplicateInLoad 3)
+unfolding ordered_test
+load_of_two_identifiers_twice = rw (empty_at, len_of {X = Bounds} nat_cmp [] tt) refl
+
+load_into_no_layer : reply_of (table []) (Load a five_points) ≡ Refused refusal.NoLayer
+load_into_no_layer = rw (get-from_sorted {X = Layer} (slice_cmp nat_cmp) [] a tt) refl
+
+-- one box is in space, and another has a low above its high
+load_wrong_dims_before_bad_box : reply_of (table touching) (Load a ((1, Two (at 1 1) (at 0 0)) ∷ (2, Three (in_space 0 0 0) (in_space 0 0 0)) ∷ [])) ≡ Refused refusal.WrongDims
+load_wrong_dims_before_bad_box = rw touching_at refl
+
+load_bad_box_before_not_empty : reply_of (table touching) (Load a (given 1 0 ∷ (2, Two (at 1 1) (at 0 0)) ∷ [])) ≡ Refused refusal.BadBox
+unfolding ordered_test
+load_bad_box_before_not_empty = rw touching_at refl
+
+not_empty_before_an_identifier_twice : reply_of (table touching) (Load a (given 1 0 ∷ given 1 0 ∷ [])) ≡ Refused refusal.NotEmpty
+unfolding ordered_test
+not_empty_before_an_identifier_twice = rw (touching_at, len_of nat_cmp squares tt) refl
+
+an_identifier_twice_before_too_many_objects : (t : Table) → get t a ≡ Some (layer 2 4 []) → object_count t ≡ 1073741824 → reply_of t (Load a (given 1 0 ∷ given 1 0 ∷ [])) ≡ Refused (refusal.DuplicateInLoad 1)
+unfolding ordered_test
+an_identifier_twice_before_too_many_objects t there full = rw (there, len_of {X = Bounds} nat_cmp [] tt) refl
+
+two_objects_beside_one_less : (t : Table) → get t a ≡ Some (layer 2 4 []) → object_count t ≡ 1073741823 → reply_of t (Load a (given 1 0 ∷ given 2 0 ∷ [])) ≡ Refused refusal.TooManyObjects
+unfolding ordered_test
+two_objects_beside_one_less t there full = rw (there, full, len_of {X = Bounds} nat_cmp [] tt) refl
+
+two_objects_beside_two_less : (t : Table) → get t a ≡ Some (layer 2 4 []) → object_count t ≡ 1073741822 → reply_of t (Load a (given 1 0 ∷ given 2 0 ∷ [])) ≡ Done
+unfolding ordered_test
+two_objects_beside_two_less t there full = rw (there, full, len_of {X = Bounds} nat_cmp [] tt) refl
+
+load_of_nothing_is_done : reply_of (table empty_layer) (Load a []) ≡ Done
+load_of_nothing_is_done = rw (empty_at, empty_count, len_of {X = Bounds} nat_cmp [] tt) refl
+
+load_of_nothing_is_no_change : changes (table empty_layer) (Load a []) ≡ false
+load_of_nothing_is_no_change = rw (empty_at, empty_count, len_of {X = Bounds} nat_cmp [] tt) refl
+
+load_is_a_change : changes (table empty_layer) (Load a five_points) ≡ true
+unfolding ordered_test
+load_is_a_change = rw (empty_at, empty_count, len_of {X = Bounds} nat_cmp [] tt) refl
+
+-- ---- move
+
+move_is_done : reply_of (table touching) (Move a 1 (Two (at 5 5) (at 6 6))) ≡ Done
+unfolding ordered_test
+move_is_done = rw (touching_at, get-from_sorted nat_cmp squares 1 tt) refl
+
+move_gives_another_box : after (table touching) (Move a 1 (Two (at 5 5) (at 6 6))) ≡ table ((a, layer 2 4 ((1, bounds (at 5 5) (at 6 6)) ∷ (2, bounds (at 1 1) (at 2 2)) ∷ [])) ∷ [])
+unfolding ordered_test
+move_gives_another_box = rw (touching_at, get-from_sorted nat_cmp squares 1 tt, put_into nat_cmp nat_cmp_total squares 1 (bounds (at 5 5) (at 6 6)) tt tt)
+    (put_into (slice_cmp nat_cmp) nat_list_cmp_total touching a (layer 2 4 ((1, bounds (at 5 5) (at 6 6)) ∷ (2, bounds (at 1 1) (at 2 2)) ∷ [])) tt tt)
+
+move_is_a_change : changes (table touching) (Move a 1 (Two (at 5 5) (at 6 6))) ≡ true
+unfolding ordered_test
+move_is_a_change = rw (touching_at, get-from_sorted nat_cmp squares 1 tt) refl
+
+move_to_the_same_box_is_done : reply_of (table touching) (Move a 1 (Two (at 0 0) (at 1 1))) ≡ Done
+unfolding ordered_test
+move_to_the_same_box_is_done = rw (touching_at, get-from_sorted nat_cmp squares 1 tt) refl
+
+move_to_the_same_box_is_no_change : changes (table touching) (Move a 1 (Two (at 0 0) (at 1 1))) ≡ false
+unfolding ordered_test
+move_to_the_same_box_is_no_change = rw (touching_at, get-from_sorted nat_cmp squares 1 tt) refl
+
+move_of_an_identifier_that_is_not_there : reply_of (table touching) (Move a 9 (Two (at 0 0) (at 1 1))) ≡ Refused refusal.NoObject
+unfolding ordered_test
+move_of_an_identifier_that_is_not_there = rw (touching_at, get-from_sorted nat_cmp squares 9 tt) refl
+
+move_bad_box_before_no_object : reply_of (table touching) (Move a 9 (Two (at 1 1) (at 0 0))) ≡ Refused refusal.BadBox
+unfolding ordered_test
+move_bad_box_before_no_object = rw touching_at refl
+
+move_wrong_dims_before_bad_box : reply_of (table touching) (Move a 9 (Three (in_space 1 1 1) (in_space 0 0 0))) ≡ Refused refusal.WrongDims
+move_wrong_dims_before_bad_box = rw touching_at refl
+
+move_in_no_layer : reply_of (table []) (Move a 1 (Two (at 0 0) (at 1 1))) ≡ Refused refusal.NoLayer
+move_in_no_layer = rw (get-from_sorted {X = Layer} (slice_cmp nat_cmp) [] a tt) refl
+
+-- ---- delete
+
+delete_is_done : reply_of (table touching) (Delete a 1) ≡ Done
+delete_is_done = rw (touching_at, get-from_sorted nat_cmp squares 1 tt) refl
+
+delete_takes_the_object_out : after (table touching) (Delete a 1) ≡ table ((a, layer 2 4 ((2, bounds (at 1 1) (at 2 2)) ∷ [])) ∷ [])
+delete_takes_the_object_out = rw (touching_at, get-from_sorted nat_cmp squares 1 tt, taken_from nat_cmp nat_cmp_total nat_cmp-IsAntisymmetric squares 1 tt)
+    (put_into (slice_cmp nat_cmp) nat_list_cmp_total touching a (layer 2 4 ((2, bounds (at 1 1) (at 2 2)) ∷ [])) tt tt)
+
+delete_is_a_change : changes (table touching) (Delete a 1) ≡ true
+delete_is_a_change = rw (touching_at, get-from_sorted nat_cmp squares 1 tt) refl
+
+delete_of_an_identifier_that_is_not_there : reply_of (table touching) (Delete a 99) ≡ Refused refusal.NoObject
+delete_of_an_identifier_that_is_not_there = rw (touching_at, get-from_sorted nat_cmp squares 99 tt) refl
+
+delete_in_no_layer : reply_of (table []) (Delete a 1) ≡ Refused refusal.NoLayer
+delete_in_no_layer = rw (get-from_sorted {X = Layer} (slice_cmp nat_cmp) [] a tt) refl
+
+-- ---- drop
+
+drop_is_done : reply_of (table touching) (Drop a) ≡ Done
+drop_is_done = rw touching_at refl
+
+-- with its objects
+drop_takes_the_layer_out : after (table touching) (Drop a) ≡ table []
+drop_takes_the_layer_out = rw touching_at (taken_from (slice_cmp nat_cmp) nat_list_cmp_total (slice_cmp-IsAntisymmetric nat_cmp-IsAntisymmetric) touching a tt)
+
+drop_is_a_change : changes (table touching) (Drop a) ≡ true
+drop_is_a_change = rw touching_at refl
+
+drop_of_no_layer : reply_of (table touching) (Drop (codes "q")) ≡ Refused refusal.NoLayer
+drop_of_no_layer = rw (get-from_sorted (slice_cmp nat_cmp) touching (codes "q") tt) refl
+
+drop_of_no_name : (t : Table) → reply_of t (Drop (codes "A")) ≡ Refused refusal.BadName
+drop_of_no_name t = refl
 
 -- ---- get
 
@@ -353,7 +522,64 @@ nearest_of_too_many = rw touching_at refl
 wrong_dims_before_bad_count : reply_of (table touching) (Nearest a 0 (point.Three (in_space 1 1 1))) ≡ Refused refusal.WrongDims
 wrong_dims_before_bad_count = rw touching_at refl
 
--- ---- reopen
+-- ---- join
+
+-- points on a line, squares that touch, and boxes in space
+abbrev three_layers : List (List ℕ × Layer)
+three_layers = (a, layer 2 4 squares) ∷ (codes "c", layer 3 4 extremes) ∷ (codes "l", layer 2 4 loaded_points) ∷ []
+
+squares_at : get (table three_layers) a ≡ Some (layer 2 4 squares)
+squares_at = get-from_sorted (slice_cmp nat_cmp) three_layers a tt
+
+extremes_at : get (table three_layers) (codes "c") ≡ Some (layer 3 4 extremes)
+extremes_at = get-from_sorted (slice_cmp nat_cmp) three_layers (codes "c") tt
+
+points_at : get (table three_layers) (codes "l") ≡ Some (layer 2 4 loaded_points)
+points_at = get-from_sorted (slice_cmp nat_cmp) three_layers (codes "l") tt
+
+-- each pair in both orders
+join_of_a_layer_with_itself : reply_of (table three_layers) (Join a a) ≡ Pairs ((1, 1) ∷ (1, 2) ∷ (2, 1) ∷ (2, 2) ∷ [])
+unfolding meets_test
+join_of_a_layer_with_itself = rw (squares_at, entries-from_sorted nat_cmp squares tt) refl
+
+join_of_points_and_squares : reply_of (table three_layers) (Join (codes "l") a) ≡ Pairs ((1, 1) ∷ (2, 1) ∷ [])
+unfolding meets_test
+join_of_points_and_squares = rw (points_at, squares_at, entries-from_sorted nat_cmp squares tt, entries-from_sorted nat_cmp loaded_points tt) refl
+
+join_of_squares_and_points : reply_of (table three_layers) (Join a (codes "l")) ≡ Pairs ((1, 1) ∷ (1, 2) ∷ [])
+unfolding meets_test
+join_of_squares_and_points = rw (points_at, squares_at, entries-from_sorted nat_cmp squares tt, entries-from_sorted nat_cmp loaded_points tt) refl
+
+join_of_plane_and_space : reply_of (table three_layers) (Join a (codes "c")) ≡ Refused refusal.DimsDiffer
+join_of_plane_and_space = rw (squares_at, extremes_at) refl
+
+join_with_no_layer : reply_of (table touching) (Join a (codes "q")) ≡ Refused refusal.NoLayer
+join_with_no_layer = rw (touching_at, get-from_sorted (slice_cmp nat_cmp) touching (codes "q") tt) refl
+
+join_bad_name_before_no_layer : (t : Table) → reply_of t (Join (codes "q") (codes "A")) ≡ Refused refusal.BadName
+join_bad_name_before_no_layer t = refl
+
+-- ---- layers and dump
+
+listing_of_one_layer : reply_of (table touching) Layers ≡ Listed (record { name = a; dims = 2; fanout = 4; count = 2 } ∷ [])
+listing_of_one_layer = rw (entries-from_sorted (slice_cmp nat_cmp) touching tt, len_of nat_cmp squares tt) refl
+
+listing_of_no_layer : reply_of (table []) Layers ≡ Listed []
+listing_of_no_layer = rw (entries-from_sorted {X = Layer} (slice_cmp nat_cmp) [] tt) refl
+
+dump_of_one_layer : reply_of (table touching) Dump
+    ≡ Dumped (CreateLine a 2 4 ∷ InsertLine a 1 (bounds (at 0 0) (at 1 1)) ∷ InsertLine a 2 (bounds (at 1 1) (at 2 2)) ∷ [])
+dump_of_one_layer = rw (entries-from_sorted (slice_cmp nat_cmp) touching tt, entries-from_sorted nat_cmp squares tt) refl
+
+-- by name, and an empty layer has one line
+dump_of_two_layers : reply_of (table ((a, layer 3 100 []) ∷ (codes "b", layer 2 4 squares) ∷ [])) Dump
+    ≡ Dumped (CreateLine a 3 100 ∷ CreateLine (codes "b") 2 4 ∷ InsertLine (codes "b") 1 (bounds (at 0 0) (at 1 1)) ∷ InsertLine (codes "b") 2 (bounds (at 1 1) (at 2 2)) ∷ [])
+dump_of_two_layers = rw (entries-from_sorted (slice_cmp nat_cmp) ((a, layer 3 100 []) ∷ (codes "b", layer 2 4 squares) ∷ []) tt, entries-from_sorted {X = Bounds} nat_cmp [] tt, entries-from_sorted nat_cmp squares tt) refl
+
+-- ---- check and reopen
+
+check_is_done : (t : Table) → reply_of t Check ≡ Done
+check_is_done t = refl
 
 reopen_is_done : (t : Table) → reply_of t Reopen ≡ Done
 reopen_is_done t = refl

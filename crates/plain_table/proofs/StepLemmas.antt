@@ -1,24 +1,18 @@
 -- Which refusal of a command comes first.
-use Rattle.std.proofs.Common.{◌≡◌, ℕ, ◌<◌, ◌≤◌, ◌+◌, List, [], ◌∷◌, Bool, true, false, not, cond, Some, None, refl, sym, ap, ◌∙◌, arith}
-use Rattle.std.specs.Prelude.{Option, is_some, nat_le, unwrap_or, ◌==◌}
+use Rattle.std.proofs.Common.{◌≡◌, ℕ, ◌<◌, ◌≤◌, ◌+◌, List, Bool, true, false, cond, Some, None, refl, sym, ap, ◌∙◌, arith}
+use Rattle.std.specs.Prelude.{Option, is_some, nat_le, unwrap_or}
 use Rattle.std.proofs.lemmas.Bool.Decides.{nat_tests}
 use Rattle.std.specs.Cmp.{nat_cmp_total}
 use Rattle.std.specs.FinMap.{contains_key, get, len, len-insert}
 use Rattle.box_math.specs.Bounds.{Bounds}
-use Rattle.plain_table.specs.Boxes.{dims_of, given_bounds, is_ordered}
 use Rattle.plain_table.specs.Commands.Command.{Create, Insert, Get, Count, Range, Nearest}
+use Rattle.plain_table.specs.Laws.{none_holds}
 use Rattle.plain_table.specs.Step.{first_refusal, missing_refusals, nearest_refusals, object_refusals, query_refusals, refusal_of}
 use Rattle.plain_table.specs.Table.{Table, Layer, is_layer_name, is_dims, is_fanout, object_count, most_layers, layer_at, most_objects, no_layer, with_object}
 use Rattle.plain_table.specs.declared.boxes.RawBox.{RawBox}
 use Rattle.plain_table.specs.declared.boxes.RawPoint.{RawPoint}
 use Rattle.plain_table.specs.declared.queries.RawQuery.{RawQuery}
-use Rattle.plain_table.specs.declared.refusal.Refusal.{Refusal}
 use Rattle.plain_table.specs.declared.refusal.Refusal.TheVariants as refusal
-
--- where nothing is refused, the first condition does not hold
-passes : (b : Bool) (r : Refusal) (more : List (Bool × Refusal)) → first_refusal ((b, r) ∷ more) ≡ None → (b ≡ false) × (first_refusal more ≡ None)
-passes true r more h = absurd (cc)
-passes false r more h = (refl, h)
 
 module _ (t : Table) (name : List ℕ) (named : is_layer_name name ≡ true) where
   module _ (dims fanout : ℕ) (d : is_dims dims ≡ true) (f : is_fanout fanout ≡ true) where
@@ -66,14 +60,7 @@ module _ (t : Table) (name : List ℕ) (named : is_layer_name name ≡ true) whe
 
 -- an object that is not refused is new, and there is room for it
 pub object_passes : (l : Layer) (id : ℕ) (box : RawBox) (full : Bool) → first_refusal (object_refusals l id box full) ≡ None → (contains_key l.objects id ≡ false) × (full ≡ false)
-object_passes l id box full h =
-    let room = (full, refusal.TooManyObjects) ∷ [] in
-    let new = (contains_key l.objects id, refusal.Duplicate) ∷ room in
-    let good = not (is_ordered (dims_of box) (given_bounds box)) in
-    let first = passes (not (dims_of box == l.dims)) refusal.WrongDims ((good, refusal.BadBox) ∷ new) h in
-    let second = passes good refusal.BadBox new first.1 in
-    let third = passes (contains_key l.objects id) refusal.Duplicate room second.1 in
-    (third.0, (passes full refusal.TooManyObjects [] third.1).0)
+object_passes l id box full h = let hold = none_holds (object_refusals l id box full) h in (hold.1.1.0, hold.1.1.1.0)
 
 pub has_room : (full : Bool) (count : ℕ) → full ≡ nat_le most_objects count → full ≡ false → count < most_objects
 has_room full count e h = let less : nat_le most_objects count ≡ false = sym e ∙ h in grind (arith, nat_tests)

@@ -1,11 +1,17 @@
 -- The answers that the results of a store's calls are.
 use Rattle.std.specs.Prelude.{ℕ, [], ◌∷◌, Result, Ok, Err, Vec, map}
+use Rattle.arrayvec.specs.ArrayVec.{ArrayVec}
 use Rattle.box_math.specs.Bounds.{Bounds}
 use Rattle.plain_table.specs.Boxes.{bounds_of}
+use Rattle.plain_table.specs.Listings.{DumpLine, LayerLine}
+use Rattle.plain_table.specs.Listings.DumpLine.{CreateLine, InsertLine}
 use Rattle.plain_table.specs.Step.{Answer}
-use Rattle.plain_table.specs.Step.Answer.{Done, Refused, Boxes, Counted, Distances}
+use Rattle.plain_table.specs.Step.Answer.{Done, Refused, Boxes, Counted, Distances, Pairs, Listed, Dumped}
 use Rattle.plain_table.specs.declared.boxes.AnyBox.{AnyBox}
 use Rattle.plain_table.specs.declared.refusal.Refusal.{Refusal}
+use Rattle.plain_table.specs.declared.rows.DumpRow.{DumpRow}
+use Rattle.plain_table.specs.declared.rows.DumpRow.TheVariants as row
+use Rattle.plain_table.specs.declared.rows.LayerInfo.{LayerInfo}
 
 -- the answer that the result of a change is
 abbrev pub done_answer : Result (Unit {0}) Refusal → Answer
@@ -35,3 +41,27 @@ boxes_answer (Err r) = Refused r
 abbrev pub distances_answer : {A : Type 0} → Result (Vec (ℕ × ℕ) A) Refusal → Answer
 distances_answer (Ok rows) = Distances rows.items
 distances_answer (Err r) = Refused r
+
+-- the answer that the pairs of a join are
+abbrev pub pairs_answer : {A : Type 0} → Result (Vec (ℕ × ℕ) A) Refusal → Answer
+pairs_answer (Ok pairs) = Pairs pairs.items
+pairs_answer (Err r) = Refused r
+
+-- the line of a layer in a listing
+abbrev pub line_of_layer : LayerInfo → LayerLine
+line_of_layer layer = record { name = layer.name.items; dims = layer.dims; fanout = layer.fanout; count = layer.count }
+
+-- the answer that a listing of the layers is
+abbrev pub layers_answer : Result (ArrayVec LayerInfo) Refusal → Answer
+layers_answer (Ok layers) = Listed (map line_of_layer layers.items)
+layers_answer (Err r) = Refused r
+
+-- a line of a dump
+abbrev pub line_of_row : DumpRow → DumpLine
+line_of_row (row.Create name dims fanout) = CreateLine name.items dims fanout
+line_of_row (row.Insert name id box) = InsertLine name.items id (bounds_of box)
+
+-- the answer that a dump is
+abbrev pub dump_answer : {A : Type 0} → Result (Vec DumpRow A) Refusal → Answer
+dump_answer (Ok rows) = Dumped (map line_of_row rows.items)
+dump_answer (Err r) = Refused r

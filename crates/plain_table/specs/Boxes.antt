@@ -1,5 +1,7 @@
 -- The boxes and points that commands give, and the boxes that answers show, as lists of coordinates. Our rule, docs/COMMANDS.md.
-use Rattle.std.specs.Prelude.{ℕ, ℤ, Bool, List}
+use Rattle.std.specs.Prelude.{ℕ, ℤ, Bool, ◌&&◌, List}
+use Rattle.std.specs.Ordering.{int_eq}
+use lib.Pointwise.{pointwise}
 use Rattle.box_math.specs.Bounds.{Bounds, ordered_test}
 use Rattle.plain_table.specs.declared.boxes.RawBox.{RawBox}
 use Rattle.plain_table.specs.declared.boxes.RawBox.TheVariants as raw
@@ -21,6 +23,10 @@ given_bounds (raw.Three low high) = record { low = low; high = high }
 -- whether each low is at most its high
 abbrev pub is_ordered : ℕ → Bounds → Bool
 is_ordered dims b = ordered_test dims b.low b.high
+
+-- whether two boxes have the same lows and the same highs
+abbrev pub same_bounds : Bounds → Bounds → Bool
+same_bounds a b = pointwise int_eq a.low b.low && pointwise int_eq a.high b.high
 
 -- how many axes a point has
 abbrev pub point_dims : RawPoint → ℕ

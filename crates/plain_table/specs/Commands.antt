@@ -8,14 +8,23 @@ use Rattle.plain_table.specs.declared.queries.RawQuery.{RawQuery}
 pub data Command : Type 0 where
   Create : List ℕ → ℕ → ℕ → Command
   Insert : List ℕ → ℕ → RawBox → Command
+  Load : List ℕ → List (ℕ × RawBox) → Command
+  Move : List ℕ → ℕ → RawBox → Command
+  Delete : List ℕ → ℕ → Command
+  Drop : List ℕ → Command
   Get : List ℕ → ℕ → Command
   Count : List ℕ → Command
   Range : List ℕ → RawQuery → Command
   Nearest : List ℕ → ℕ → RawPoint → Command
+  Join : List ℕ → List ℕ → Command
+  Layers : Command
+  Dump : Command
+  Check : Command
   Reopen : Command
 
 -- A command that may give up: answered by a fault of memory, of the device or of page numbers in the place of what the
--- table answers. A count takes nothing that could be refused.
+-- table answers. A count and a listing of the layers take nothing that could be refused.
 abbrev pub MayGiveUp : Command → Type 0
 MayGiveUp (Count name) = ⊥
+MayGiveUp Layers = ⊥
 MayGiveUp c = Unit {0}

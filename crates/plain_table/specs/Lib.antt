@@ -6,6 +6,8 @@ pub mod Codes
 pub mod Commands
 pub mod Queries
 pub mod Nearest
+pub mod Loads
+pub mod Listings
 pub mod Step
 pub mod Answers
 pub mod Laws

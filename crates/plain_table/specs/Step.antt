@@ -1,13 +1,15 @@
 -- What a command answers and what it changes, on the plain table. Our rule, docs/COMMANDS.md.
-use Rattle.std.specs.Prelude.{ℕ, Bool, not, ◌==◌, nat_le, List, [], ◌∷◌, if◌then◌else◌, Option, Some, None, filter, take, unwrap_or}
+use Rattle.std.specs.Prelude.{ℕ, ◌+◌, Bool, false, not, ◌&&◌, ◌==◌, nat_le, nat_lt, List, [], ◌∷◌, length, if◌then◌else◌, Option, Some, None, is_some, filter, flat_map, map as each, take, unwrap_or}
 use Rattle.std.specs.FinMap as map
-use Rattle.box_math.specs.Bounds.{Bounds}
-use Rattle.plain_table.specs.Boxes.{dims_of, given_bounds, given_point, is_ordered, point_dims}
+use Rattle.box_math.specs.Bounds.{Bounds, meets_test}
+use Rattle.plain_table.specs.Boxes.{dims_of, given_bounds, given_point, is_ordered, point_dims, same_bounds}
 use Rattle.plain_table.specs.Commands.{Command}
-use Rattle.plain_table.specs.Commands.Command.{Create, Insert, Get, Count, Range, Nearest, Reopen}
+use Rattle.plain_table.specs.Commands.Command.{Create, Insert, Load, Move, Delete, Drop, Get, Count, Range, Nearest, Join, Layers, Dump, Check, Reopen}
+use Rattle.plain_table.specs.Listings.{DumpLine, LayerLine, all_layers, all_lines}
+use Rattle.plain_table.specs.Loads.{GivenObjects, are_ordered, have_dims, ids_of, least_repeated, with_objects}
 use Rattle.plain_table.specs.Nearest.{by_distance, is_count}
 use Rattle.plain_table.specs.Queries.{is_sought}
-use Rattle.plain_table.specs.Table.{Table, Layer, is_layer_name, is_dims, is_fanout, most_layers, most_objects, object_count, layer_at, no_box, with_object}
+use Rattle.plain_table.specs.Table.{Table, Layer, is_layer_name, is_dims, is_fanout, most_layers, most_objects, object_count, layer_at, object_box, with_object, without_object}
 use Rattle.plain_table.specs.declared.boxes.RawBox.{RawBox}
 use Rattle.plain_table.specs.declared.boxes.RawPoint.{RawPoint}
 use Rattle.plain_table.specs.declared.queries.RawQuery.{RawQuery}
@@ -22,6 +24,9 @@ pub data Answer : Type 0 where
   Boxes : List (ℕ × Bounds) → Answer
   Counted : ℕ → Answer
   Distances : List (ℕ × ℕ) → Answer
+  Pairs : List (ℕ × ℕ) → Answer
+  Listed : List LayerLine → Answer
+  Dumped : List DumpLine → Answer
 
 -- the first refusal whose condition holds
 abbrev pub first_refusal : List (Bool × Refusal) → Option Refusal
@@ -48,6 +53,15 @@ object_refusals layer id box is_full = box_refusals layer.dims box ((map.contain
 abbrev pub missing_refusals : Layer → ℕ → List (Bool × Refusal)
 missing_refusals layer id = (not (map.contains_key layer.objects id), refusal.NoObject) ∷ []
 
+-- A load whose boxes are refused, into a layer with objects, with an identifier twice, or for which there is no room beside
+-- so many objects of all layers; the least identifier that stands twice is named.
+abbrev pub load_refusals : Layer → GivenObjects → ℕ → List (Bool × Refusal)
+load_refusals layer objects count =
+    (not (have_dims layer.dims objects), refusal.WrongDims) ∷ (not (are_ordered objects), refusal.BadBox)
+    ∷ (nat_lt 0 (map.len layer.objects), refusal.NotEmpty)
+    ∷ (is_some (least_repeated (ids_of objects)), refusal.DuplicateInLoad (unwrap_or (least_repeated (ids_of objects)) 0))
+    ∷ (nat_lt most_objects (count + length objects), refusal.TooManyObjects) ∷ []
+
 -- a query whose box or point is refused
 abbrev pub query_refusals : ℕ → RawQuery → List (Bool × Refusal)
 query_refusals dims (query.Window window) = box_refusals dims window []
@@ -59,31 +73,55 @@ query_refusals dims (query.Point point) = point_refusals dims point []
 abbrev pub nearest_refusals : ℕ → ℕ → RawPoint → List (Bool × Refusal)
 nearest_refusals dims k point = point_refusals dims point ((not (is_count k), refusal.BadCount) ∷ [])
 
+-- Two names of which one is none, or one that no layer has, or of layers with different numbers of axes. Both names are tried
+-- before it is asked whether there are such layers.
+abbrev pub join_refusals : Table → List ℕ → List ℕ → List (Bool × Refusal)
+join_refusals t first second =
+    (not (is_layer_name first && is_layer_name second), refusal.BadName)
+    ∷ (not (map.contains_key t first && map.contains_key t second), refusal.NoLayer)
+    ∷ (not ((layer_at t first).dims == (layer_at t second).dims), refusal.DimsDiffer) ∷ []
+
 -- the refusals of a command, in the order in which they are tried
 abbrev pub refusals_of : Table → Command → List (Bool × Refusal)
 refusals_of t (Create name dims fanout) =
     (not (is_layer_name name), refusal.BadName) ∷ (not (is_dims dims), refusal.BadDims) ∷ (not (is_fanout fanout), refusal.BadFanout)
     ∷ (map.contains_key t name, refusal.LayerExists) ∷ (nat_le most_layers (map.len t), refusal.TooManyLayers) ∷ []
 refusals_of t (Insert name id box) = layer_refusals t name (object_refusals (layer_at t name) id box (nat_le most_objects (object_count t)))
+refusals_of t (Load name objects) = layer_refusals t name (load_refusals (layer_at t name) objects (object_count t))
+refusals_of t (Move name id box) = layer_refusals t name (box_refusals (layer_at t name).dims box (missing_refusals (layer_at t name) id))
+refusals_of t (Delete name id) = layer_refusals t name (missing_refusals (layer_at t name) id)
+refusals_of t (Drop name) = layer_refusals t name []
 refusals_of t (Get name id) = layer_refusals t name (missing_refusals (layer_at t name) id)
 refusals_of t (Count name) = layer_refusals t name []
 refusals_of t (Range name query) = layer_refusals t name (query_refusals (layer_at t name).dims query)
 refusals_of t (Nearest name k point) = layer_refusals t name (nearest_refusals (layer_at t name).dims k point)
+refusals_of t (Join first second) = join_refusals t first second
+refusals_of t Layers = []
+refusals_of t Dump = []
+refusals_of t Check = []
 refusals_of t Reopen = []
 
 -- the refusal of a command, if there is one
 abbrev pub refusal_of : Table → Command → Option Refusal
 refusal_of t c = first_refusal (refusals_of t c)
 
+-- no refusal of the command's conditions holds
+abbrev pub is_admitted : Table → Command → Bool
+is_admitted t c = not (is_some (refusal_of t c))
+
 -- the table after a command that was not refused
 abbrev pub changed : Table → Command → Table
 changed t (Create name dims fanout) = map.insert t name (record { dims = dims; fanout = fanout; objects = map.empty })
 changed t (Insert name id box) = map.insert t name (with_object (layer_at t name) id (given_bounds box))
+changed t (Load name objects) = map.insert t name (with_objects (layer_at t name) objects)
+changed t (Move name id box) = map.insert t name (with_object (layer_at t name) id (given_bounds box))
+changed t (Delete name id) = map.insert t name (without_object (layer_at t name) id)
+changed t (Drop name) = map.remove t name
 changed t c = t
 
 -- the object of that identifier, with its box
 abbrev pub object_row : Layer → ℕ → ℕ × Bounds
-object_row layer id = (id, unwrap_or (map.get layer.objects id) no_box)
+object_row layer id = (id, object_box layer id)
 
 -- the objects of a layer that a query seeks, ascending by identifier
 abbrev pub range_rows : Layer → RawQuery → List (ℕ × Bounds)
@@ -94,14 +132,29 @@ range_rows layer query = filter (λ row. is_sought layer.dims query row.1) (map.
 abbrev pub nearest_rows : Layer → ℕ → RawPoint → List (ℕ × ℕ)
 nearest_rows layer k point = take k (by_distance layer.dims (given_point point) (map.entries layer.objects))
 
+-- all pairs of an object of one layer and an object of another whose boxes meet: their identifiers, ascending by the first and
+-- then by the second
+abbrev pub join_rows : Layer → Layer → List (ℕ × ℕ)
+join_rows first second =
+    flat_map (λ object. each (λ other. (object.0, other.0)) (filter (λ other. meets_test first.dims object.1 other.1) (map.entries second.objects)))
+    (map.entries first.objects)
+
 -- the answer to a command that was not refused
 abbrev pub answer_of : Table → Command → Answer
 answer_of t (Create name dims fanout) = Done
 answer_of t (Insert name id box) = Done
+answer_of t (Load name objects) = Done
+answer_of t (Move name id box) = Done
+answer_of t (Delete name id) = Done
+answer_of t (Drop name) = Done
 answer_of t (Get name id) = Boxes (object_row (layer_at t name) id ∷ [])
 answer_of t (Count name) = Counted (map.len (layer_at t name).objects)
 answer_of t (Range name query) = Boxes (range_rows (layer_at t name) query)
 answer_of t (Nearest name k point) = Distances (nearest_rows (layer_at t name) k point)
+answer_of t (Join first second) = Pairs (join_rows (layer_at t first) (layer_at t second))
+answer_of t Layers = Listed (all_layers t)
+answer_of t Dump = Dumped (all_lines t)
+answer_of t Check = Done
 answer_of t Reopen = Done
 
 -- the refusal, if there is one, and else the answer
@@ -113,6 +166,16 @@ refused_or None answer = answer
 abbrev pub kept_or : Option Refusal → Table → Table → Table
 kept_or (Some r) old new = old
 kept_or None old new = new
+
+-- the command changes the table: it is not refused, and is no load of nothing and no move to the box that the object has
+abbrev pub changes : Table → Command → Bool
+changes t (Create name dims fanout) = is_admitted t (Create name dims fanout)
+changes t (Insert name id box) = is_admitted t (Insert name id box)
+changes t (Load name objects) = is_admitted t (Load name objects) && nat_lt 0 (length objects)
+changes t (Move name id box) = is_admitted t (Move name id box) && not (same_bounds (object_box (layer_at t name) id) (given_bounds box))
+changes t (Delete name id) = is_admitted t (Delete name id)
+changes t (Drop name) = is_admitted t (Drop name)
+changes t c = false
 
 -- what a command is answered
 abbrev pub reply_of : Table → Command → Answer

@@ -65,6 +65,14 @@ layer_at t name = unwrap_or (map.get t name) no_layer
 abbrev pub no_box : Bounds
 no_box = record { low = []; high = [] }
 
+-- the box of the object of that identifier
+abbrev pub object_box : Layer → ℕ → Bounds
+object_box layer id = unwrap_or (map.get layer.objects id) no_box
+
 -- the layer with an object more, or with another box for it
 abbrev pub with_object : Layer → ℕ → Bounds → Layer
 with_object layer id bounds = record layer { objects = map.insert layer.objects id bounds }
+
+-- the layer without an object
+abbrev pub without_object : Layer → ℕ → Layer
+without_object layer id = record layer { objects = map.remove layer.objects id }

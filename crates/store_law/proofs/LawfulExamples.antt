@@ -1,12 +1,12 @@
 -- Worked examples of lawful steps: what a live and a dead store may answer, and what they may not.
 -- No other proof rests on them. A definition that says another thing than docs/COMMANDS.md is refused here.
-use Rattle.std.proofs.Common.{◌≡◌, ℕ, [], ◌∷◌, refl, sym, ap, ◌∙◌, inl, inr, arith}
+use Rattle.std.proofs.Common.{List, ◌≡◌, ℕ, [], ◌∷◌, refl, sym, ap, ◌∙◌, inl, inr, arith}
 use Rattle.std.specs.Cmp.Lexicographic.{slice_cmp}
 use Rattle.std.specs.Ordering.{nat_cmp}
 use Rattle.std.specs.FinMap.{entries, entries-from_sorted}
 use Rattle.block_device.specs.Device.{HasRisen}
 use Rattle.plain_table.specs.Commands.{Command, MayGiveUp}
-use Rattle.plain_table.specs.Commands.Command.{Create, Count, Range, Reopen}
+use Rattle.plain_table.specs.Commands.Command.{Create, Count, Range, Layers, Reopen}
 use Rattle.store_law.specs.Sessions.{SessionState, LawfulAnswer, LawfulStep, Session}
 use Rattle.store_law.specs.States.{StoreState, Request}
 use Rattle.store_law.specs.Stops.{Stops, after_request}
@@ -19,9 +19,10 @@ use Rattle.plain_table.specs.Step.{Answer}
 use Rattle.plain_table.specs.Step.Answer.{Done, Refused, Counted}
 use Rattle.plain_table.specs.Table.{Table, Layer}
 use Rattle.plain_table.specs.declared.boxes.RawBox.TheVariants.{Two}
+use Rattle.plain_table.specs.declared.queries.RawQuery.{RawQuery}
 use Rattle.plain_table.specs.declared.queries.RawQuery.TheVariants.{Window}
 use Rattle.plain_table.specs.declared.refusal.Refusal.TheVariants as refusal
-use Rattle.plain_table.proofs.Examples.{a, at, table, touching, empty_layer, count_of_two_objects, squares_that_touch_are_both_found, window_changes_nothing, create_is_done, create_makes_an_empty_layer, create_of_a_layer_that_is_there, a_refused_create_changes_nothing}
+use Rattle.plain_table.proofs.Examples.{a, at, table, touching, empty_layer, count_of_two_objects, squares_that_touch_are_both_found, window_changes_nothing, create_changes_the_table, create_is_done, create_makes_an_empty_layer, create_of_a_layer_that_is_there, a_refused_create_changes_nothing, a_refused_create_does_not}
 
 -- ---- the steps
 
@@ -116,6 +117,11 @@ a_count_wants_no_memory s' (inl h) = let no = h.0 ∙ count_of_two_objects in ab
 a_count_wants_no_memory s' (inr (inl h)) = h.1
 a_count_wants_no_memory s' (inr (inr h)) = absurd h.0
 
+a_listing_wants_no_memory : (s' : SessionState) → LawfulAnswer (live none 0 3) (Asks Layers) (Refused refusal.Memory) s' → ⊥
+a_listing_wants_no_memory s' (inl h) = let no = h.0 in absurd (cc)
+a_listing_wants_no_memory s' (inr (inl h)) = h.1
+a_listing_wants_no_memory s' (inr (inr h)) = absurd h.0
+
 -- another number of objects
 a_count_is_exact : (s' : SessionState) (n : ℕ) → LawfulAnswer (live (table touching) 0 3) (Asks (Count a)) (Counted n) s' → n ≡ 2
 a_count_is_exact s' n (inl h) = let same = h.0 ∙ count_of_two_objects in cc
@@ -194,7 +200,7 @@ a_create_may_end_the_store : LawfulAnswer (live none 0 3) create (Refused (refus
 a_create_may_end_the_store = inr (inr (inl refl, inr (λ e. made_is_another (sym create_makes_an_empty_layer ∙ e)), refl))
 
 a_fault_of_the_device_may_end_the_store : LawfulAnswer (live none 0 3) create (Refused (refusal.StoreFailed 17)) (dead 1 3)
-a_fault_of_the_device_may_end_the_store = inr (inr (inr (refl, inl (omega arith)), inr (λ e. made_is_another (sym create_makes_an_empty_layer ∙ e)), refl))
+a_fault_of_the_device_may_end_the_store = inr (inr (inr (inl (refl, inl (omega arith))), inr (λ e. made_is_another (sym create_makes_an_empty_layer ∙ e)), refl))
 
 a_reopen_may_end_the_store : (t : Table) → LawfulAnswer (live t 0 3) (Asks Reopen) (Refused (refusal.StoreFailed 16)) (dead 0 3)
 a_reopen_may_end_the_store t = inr (inr (inl refl, inl refl, refl))
@@ -205,10 +211,20 @@ a_store_that_failed_is_dead cause s' (inr (inl h)) = absurd h.0
 a_store_that_failed_is_dead cause s' (inr (inr h)) = h.2
 
 -- 18 is the number of Damaged, which ends no store
-a_store_fails_of_memory_or_the_device : (s' : SessionState) → LawfulAnswer (live none 0 3) create (Refused (refusal.StoreFailed 18)) s' → ⊥
-a_store_fails_of_memory_or_the_device s' (inl h) = let no = h.0 ∙ create_is_done in absurd (cc)
-a_store_fails_of_memory_or_the_device s' (inr (inl h)) = h.0
-a_store_fails_of_memory_or_the_device s' (inr (inr h)) = elim h.0 [ inl e ↦ absurd (omega (arith, e)) | inr p ↦ absurd (omega (arith, p.0)) ]
+damage_ends_no_store : (s' : SessionState) → LawfulAnswer (live none 0 3) create (Refused (refusal.StoreFailed 18)) s' → ⊥
+damage_ends_no_store s' (inl h) = let no = h.0 ∙ create_is_done in absurd (cc)
+damage_ends_no_store s' (inr (inl h)) = h.0
+damage_ends_no_store s' (inr (inr h)) = elim h.0 [ inl e ↦ absurd (omega (arith, e)) | inr other ↦ elim other [ inl p ↦ absurd (omega (arith, p.0)) | inr p ↦ absurd (omega (arith, p.0)) ] ]
+
+-- page numbers that are wanting half way through a change
+want_of_page_numbers_may_end_the_store : LawfulAnswer (live none 0 3) create (Refused (refusal.StoreFailed 25)) (dead 0 2147483648)
+want_of_page_numbers_may_end_the_store = inr (inr (inr (inr (refl, refl)), inr (λ e. made_is_another (sym create_makes_an_empty_layer ∙ e)), refl))
+
+page_numbers_that_are_left_end_no_store : (s' : SessionState) → s'.next ≡ 2147483647 → LawfulAnswer (live none 0 3) create (Refused (refusal.StoreFailed 25)) s' → ⊥
+page_numbers_that_are_left_end_no_store s' left (inl h) = let no = h.0 ∙ create_is_done in absurd (cc)
+page_numbers_that_are_left_end_no_store s' left (inr (inl h)) = h.0
+page_numbers_that_are_left_end_no_store s' left (inr (inr h)) =
+    elim h.0 [ inl e ↦ absurd (omega (arith, e)) | inr other ↦ elim other [ inl p ↦ absurd (omega (arith, p.0)) | inr p ↦ absurd (omega (arith, left, p.1)) ] ]
 
 a_refused_create_ends_no_store : (s' : SessionState) → LawfulAnswer (live (table touching) 0 3) (Asks (Create a 3 100)) (Refused (refusal.StoreFailed 16)) s' → ⊥
 a_refused_create_ends_no_store s' (inl h) = let no = h.0 ∙ create_of_a_layer_that_is_there in absurd (cc)
@@ -242,8 +258,23 @@ a_refused_closing_leaves_either_table = refl
 the_next_closing_leaves_its_table_alone : after_request (Alive made) closing_refused (Asks Reopen) Done ≡ record { now = Surely made; since = 7; so_far = made ∷ made ∷ none ∷ [] }
 the_next_closing_leaves_its_table_alone = refl
 
-no_other_request_changes_what_is_left : (t : Table) (answer : Answer) → (after_request (Alive t) closed_before create answer ≡ closed_before) × (after_request (Alive t) closed_before BadCommand answer ≡ closed_before)
-no_other_request_changes_what_is_left t answer = (refl, refl)
+a_bad_line_changes_nothing_that_is_left : (t : Table) (answer : Answer) → after_request (Alive t) closed_before BadCommand answer ≡ closed_before
+a_bad_line_changes_nothing_that_is_left t answer = refl
+
+a_question_changes_nothing_that_is_left : (t : Table) (name : List ℕ) (query : RawQuery) (answer : Answer) → after_request (Alive t) closed_before (Asks (Range name query)) answer ≡ closed_before
+a_question_changes_nothing_that_is_left t name query answer = refl
+
+a_change_leaves_nothing_that_is_opened : after_request (Alive none) closed_before create Done ≡ record { now = Perhaps []; since = 7; so_far = none ∷ [] }
+a_change_leaves_nothing_that_is_opened = rw create_changes_the_table refl
+
+a_change_that_gave_up_perhaps_leaves_what_was_left : after_request (Alive none) closed_before create (Refused refusal.Device) ≡ record { now = Perhaps (none ∷ []); since = 7; so_far = none ∷ [] }
+a_change_that_gave_up_perhaps_leaves_what_was_left = rw create_changes_the_table refl
+
+a_change_that_ended_the_store_leaves_nothing_that_is_opened : after_request (Alive none) closed_before create (Refused (refusal.StoreFailed 17)) ≡ record { now = Perhaps []; since = 7; so_far = none ∷ [] }
+a_change_that_ended_the_store_leaves_nothing_that_is_opened = rw create_changes_the_table refl
+
+a_refused_change_changes_nothing_that_is_left : (answer : Answer) → after_request (Alive (table touching)) closed_before (Asks (Create a 3 100)) answer ≡ closed_before
+a_refused_change_changes_nothing_that_is_left answer = rw a_refused_create_does_not refl
 
 a_dead_store_closes_nothing : (before : Stops) (c : Command) (answer : Answer) → after_request Dead before (Asks c) answer ≡ before
 a_dead_store_closes_nothing before c answer = refl
@@ -255,7 +286,7 @@ a_closing_is_made s' is h = let no = ap (λ (stops : Stops). stops.now) (sym is 
 -- ---- sessions
 
 requests_are_answered_in_their_order : Session (live none 0 3) (BadCommand ∷ create ∷ []) (Refused refusal.BadLine ∷ Done ∷ []) (live made 0 4)
-requests_are_answered_in_their_order = (live none 0 3, a_bad_line_is_lawful (live none 0 3), (live made 0 4, record { answer = a_create_is_done; stops = refl; faults = omega arith; next = omega arith }, refl))
+requests_are_answered_in_their_order = (live none 0 3, a_bad_line_is_lawful (live none 0 3), (live made 0 4, record { answer = a_create_is_done; stops = rw create_changes_the_table refl; faults = omega arith; next = omega arith }, refl))
 
 -- no step forgets that the device failed, or takes page numbers back
 no_fault_is_forgotten : (s' : SessionState) (r : Request) (answer : Answer) → s'.faults ≡ 4 → LawfulStep (live none 5 3) r answer s' → ⊥

@@ -27,10 +27,10 @@ IsFault rose spent r = ⊥
 abbrev pub MayWrite : Table → Command → Type 0
 MayWrite t c = (c ≡ Reopen) ⊎ ¬ (after t c ≡ t)
 
--- want of memory or a fault of the device half way through: the end of the store, with the number of the fault
-abbrev pub IsEnd : Type 0 → Refusal → Type 0
-IsEnd rose (refusal.StoreFailed n) = (n ≡ 16) ⊎ ((n ≡ 17) × rose)
-IsEnd rose r = ⊥
+-- a fault half way through, of memory, of the device or of page numbers: the end of the store, with the number of the fault
+abbrev pub IsEnd : Type 0 → Type 0 → Refusal → Type 0
+IsEnd rose spent (refusal.StoreFailed n) = (n ≡ 16) ⊎ (((n ≡ 17) × rose) ⊎ ((n ≡ 25) × spent))
+IsEnd rose spent r = ⊥
 
 -- the refusal says that the device failed: by itself, or as the cause of the end of the store
 abbrev pub blames_device : Refusal → Bool
@@ -52,13 +52,13 @@ abbrev pub GaveUp : Type 0 → Type 0 → Table → Command → Answer → Store
 GaveUp rose spent t c a new = RefusedBy (IsFault rose (spent × MayWrite t c)) a × MayGiveUp c × (new ≡ Alive t)
 
 -- a fault half way through a reopening or a change of the table: the store is dead
-abbrev pub Died : Type 0 → Table → Command → Answer → StoreState → Type 0
-Died rose t c a new = RefusedBy (IsEnd rose) a × MayWrite t c × (new ≡ Dead)
+abbrev pub Died : Type 0 → Type 0 → Table → Command → Answer → StoreState → Type 0
+Died rose spent t c a new = RefusedBy (IsEnd rose spent) a × MayWrite t c × (new ≡ Dead)
 
 -- What a command may do to a live store: `rose` says that its device's count of faults rose in this command, `spent`
 -- that all page numbers were given out.
 abbrev pub LawfulFrom : Type 0 → Type 0 → Table → Command → Answer → StoreState → Type 0
-LawfulFrom rose spent t c a new = Answered t c a new ⊎ (GaveUp rose spent t c a new ⊎ Died rose t c a new)
+LawfulFrom rose spent t c a new = Answered t c a new ⊎ (GaveUp rose spent t c a new ⊎ Died rose spent t c a new)
 
 -- What a request may do. A bad line changes nothing, and a dead store refuses all else.
 abbrev pub Lawful : Type 0 → Type 0 → StoreState → Request → Answer → StoreState → Type 0

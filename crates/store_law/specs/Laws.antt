@@ -1,10 +1,10 @@
 -- What follows from the law of a store.
-use Rattle.std.proofs.Common.{◌≡◌, ◌∙◌, ℕ, ◌≤◌, ◌++◌, List, [], ◌∷◌, Bool, true, false, not, ◌&&◌, cond, Some, inl, inr, refl, sym, ap, subst, arith}
+use Rattle.std.proofs.Common.{◌≡◌, ◌∙◌, ◌≤◌, ◌++◌, List, [], ◌∷◌, Bool, true, false, not, ◌&&◌, cond, Some, inl, inr, refl, sym, ap, subst, arith}
 use Rattle.std.specs.List.{list_all}
 use Rattle.plain_table.specs.Commands.{Command, MayGiveUp}
-use Rattle.plain_table.specs.Commands.Command.{Create, Insert, Get, Count, Range, Nearest, Reopen}
+use Rattle.plain_table.specs.Commands.Command.{Create, Insert, Load, Move, Delete, Drop, Get, Count, Range, Nearest, Join, Layers, Dump, Check, Reopen}
 use Rattle.plain_table.specs.Laws.{the_refusal_of_a_reply}
-use Rattle.plain_table.specs.Step.{Answer, after, first_refusal, refusals_of, reply_of}
+use Rattle.plain_table.specs.Step.{Answer, after, changes, first_refusal, refusals_of, reply_of}
 use Rattle.plain_table.specs.Step.Answer.{Refused}
 use Rattle.plain_table.specs.Table.{Table}
 use Rattle.plain_table.specs.declared.queries.RawQuery.TheVariants as query
@@ -50,6 +50,10 @@ first_blames_none (c ∷ cs) r none e = case c.0 (blames_device c.1) refl none e
 no_check_blames : (t : Table) (c : Command) → none_blames_device (refusals_of t c) ≡ true
 no_check_blames t (Create name dims fanout) = refl
 no_check_blames t (Insert name id box) = refl
+no_check_blames t (Load name objects) = refl
+no_check_blames t (Move name id box) = refl
+no_check_blames t (Delete name id) = refl
+no_check_blames t (Drop name) = refl
 no_check_blames t (Get name id) = refl
 no_check_blames t (Count name) = refl
 no_check_blames t (Range name (query.Window window)) = refl
@@ -57,6 +61,10 @@ no_check_blames t (Range name (query.Inside window)) = refl
 no_check_blames t (Range name (query.Around inner)) = refl
 no_check_blames t (Range name (query.Point point)) = refl
 no_check_blames t (Nearest name k point) = refl
+no_check_blames t (Join first second) = refl
+no_check_blames t Layers = refl
+no_check_blames t Dump = refl
+no_check_blames t Check = refl
 no_check_blames t Reopen = refl
 
 pub no_reply_of_the_table_blames_the_device : (t : Table) (c : Command) (r : Refusal) → reply_of t c ≡ Refused r → blames_device r ≡ false
@@ -94,14 +102,26 @@ a_dead_store_stays_dead old new [] (a ∷ as') e p = elim p [ ]
 a_dead_store_stays_dead old new (r ∷ rs) [] e p = elim p [ ]
 
 -- stops are told from the same moment on
+either_beginning : (b : Bool) (x y : Stops) → x.since ≡ y.since → (cond b x y).since ≡ y.since
+either_beginning true x y e = e
+either_beginning false x y e = refl
+
 same_beginning : (state : StoreState) (old : Stops) (r : Request) (a : Answer) → (after_request state old r a).since ≡ old.since
 same_beginning state old BadCommand a = refl
-same_beginning (Alive t) old (Asks (Create name dims fanout)) a = refl
-same_beginning (Alive t) old (Asks (Insert name id box)) a = refl
+same_beginning (Alive t) old (Asks (Create name dims fanout)) a = either_beginning (changes t (Create name dims fanout)) _ old refl
+same_beginning (Alive t) old (Asks (Insert name id box)) a = either_beginning (changes t (Insert name id box)) _ old refl
+same_beginning (Alive t) old (Asks (Load name objects)) a = either_beginning (changes t (Load name objects)) _ old refl
+same_beginning (Alive t) old (Asks (Move name id box)) a = either_beginning (changes t (Move name id box)) _ old refl
+same_beginning (Alive t) old (Asks (Delete name id)) a = either_beginning (changes t (Delete name id)) _ old refl
+same_beginning (Alive t) old (Asks (Drop name)) a = either_beginning (changes t (Drop name)) _ old refl
 same_beginning (Alive t) old (Asks (Get name id)) a = refl
 same_beginning (Alive t) old (Asks (Count name)) a = refl
 same_beginning (Alive t) old (Asks (Range name query)) a = refl
 same_beginning (Alive t) old (Asks (Nearest name k point)) a = refl
+same_beginning (Alive t) old (Asks (Join first second)) a = refl
+same_beginning (Alive t) old (Asks Layers) a = refl
+same_beginning (Alive t) old (Asks Dump) a = refl
+same_beginning (Alive t) old (Asks Check) a = refl
 same_beginning (Alive t) old (Asks Reopen) a = refl
 same_beginning Dead old (Asks c) a = refl
 

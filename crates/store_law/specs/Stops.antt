@@ -2,7 +2,7 @@
 use Rattle.std.specs.Prelude.{ℕ, Bool, true, false, if◌then◌else◌, List, [], ◌∷◌}
 use Rattle.plain_table.specs.Commands.{Command}
 use Rattle.plain_table.specs.Commands.Command.{Reopen}
-use Rattle.plain_table.specs.Step.{Answer}
+use Rattle.plain_table.specs.Step.{Answer, changes}
 use Rattle.plain_table.specs.Step.Answer.{Refused}
 use Rattle.plain_table.specs.Table.{Table}
 use Rattle.plain_table.specs.declared.refusal.Refusal.{Refusal}
@@ -40,10 +40,16 @@ abbrev pub after_closing : Table → AfterStop → Answer → AfterStop
 after_closing t old (Refused r) = if is_end r then Surely t else Perhaps (t ∷ tables_left old)
 after_closing t old a = Surely t
 
--- only a closing changes what stops leave
+-- A change of the table is made behind an open gate, so a stop after it leaves nothing that is opened. One that gave up may
+-- or may not have opened the gate.
+abbrev pub after_change : AfterStop → Answer → AfterStop
+after_change old (Refused r) = if is_end r then Perhaps [] else Perhaps (tables_left old)
+after_change old a = Perhaps []
+
+-- only a closing, and a change of the table, changes what stops leave
 abbrev pub after_command : Table → Stops → Command → Answer → Stops
 after_command t old Reopen a = record { now = after_closing t old.now a; since = old.since; so_far = t ∷ old.so_far }
-after_command t old c a = old
+after_command t old c a = if changes t c then record { now = after_change old.now a; since = old.since; so_far = old.so_far } else old
 
 -- what stops leave after a request
 abbrev pub after_request : StoreState → Stops → Request → Answer → Stops
