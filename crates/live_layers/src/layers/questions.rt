@@ -15,7 +15,7 @@ ghost use Rattle.live_layers.specs.Keeping.{IsSound, LooksAtTree, cache_of};
 ghost use Rattle.live_layers.specs.Questions.{is_admitted};
 
 mod boxes;
-mod nearest;
+mod distances;
 mod range;
 
 use crate::layers::Layers;
