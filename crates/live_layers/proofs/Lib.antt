@@ -13,3 +13,4 @@ pub mod OpenLemmas
 pub mod LocateLemmas
 pub mod AskLemmas
 pub mod ReplyLemmas
+pub mod JoinLemmas
