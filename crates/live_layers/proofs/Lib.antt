@@ -22,3 +22,4 @@ pub mod NoteLemmas
 pub mod InsertLemmas
 pub mod AddLemmas
 pub mod CreateLemmas
+pub mod JoinLemmas

@@ -1,27 +1,30 @@
 //! Questions, answered from the records, the trees and the identifier tables of the layers.
 
-ghost use Rattle.std.specs.Prelude.{◌≡◌, false, IfErr, OnOk};
+ghost use Rattle.std.specs.Prelude.{◌≡◌, ◌*◌, false, IfErr, OnOk};
 ghost use Rattle.nearest.specs.Nearest.{is_searched};
 ghost use Rattle.page_cache.specs.Cache.{KeepsGate, KeepsMap, device_of, looks_of};
-ghost use Rattle.plain_table.specs.Answers.{box_answer, boxes_answer, count_answer, distances_answer};
+ghost use Rattle.plain_table.specs.Answers.{box_answer, boxes_answer, count_answer};
+ghost use Rattle.plain_table.specs.Answers.{distances_answer, pairs_answer};
 ghost use Rattle.plain_table.specs.Boxes.{given_point, point_dims};
-ghost use Rattle.plain_table.specs.Commands.Command.{Count, Get, Nearest, Range};
+ghost use Rattle.plain_table.specs.Commands.Command.{Count, Get, Join, Nearest, Range};
 ghost use Rattle.plain_table.specs.Step.{nearest_rows, reply_of};
 ghost use Rattle.plain_table.specs.Table.{Table, layer_at};
 ghost use Rattle.store_law.specs.Lawful.{blames_device};
+ghost use Rattle.tree_node.specs.Joins.{admitted_pairs};
 ghost use Rattle.tree_node.specs.Searches.{admitted};
 ghost use Rattle.live_layers.specs.Changes.{IsAnswered};
 ghost use Rattle.live_layers.specs.Faults.{HasRefusalCause};
 ghost use Rattle.live_layers.specs.Keeping.{IsSound, IsWritten, LooksAtTree, cache_of};
-ghost use Rattle.live_layers.specs.Questions.{is_admitted};
+ghost use Rattle.live_layers.specs.Questions.{LooksAtTrees, is_admitted};
 
 mod boxes;
 mod distances;
+mod pairs;
 mod range;
 
 use crate::layers::Layers;
 use block_device::BlockDevice;
-use plain_table::{AnyBox, RawPoint, RawQuery, Refusal};
+use plain_table::{AnyBox, RawPoint, RawQuery, Refusal, is_layer_name};
 use std::alloc::Allocator;
 
 impl<B: BlockDevice, A: Allocator + Copy> Layers<B, A> {
@@ -108,6 +111,43 @@ impl<B: BlockDevice, A: Allocator + Copy> Layers<B, A> {
         match point {
             RawPoint::Two(point) => self.nearest_to::<2>(&located, k, &point),
             RawPoint::Three(point) => self.nearest_to::<3>(&located, k, &point),
+        }
+    }
+
+    /// All pairs of an object of the first layer and an object of the second whose boxes meet: their identifiers,
+    /// ascending by the first and then by the second. At most twice as many nodes are looked at as there are pairs of
+    /// nodes of the two trees that have to be.
+    ///
+    /// Refused, in this order, by BadName, NoLayer and DimsDiffer. Both names are tried before it is asked whether
+    /// there are such layers.
+    pub fn join(&mut self, first: &[u8], second: &[u8]) -> Result<Vec<(u64, u64), A>, Refusal>
+        ensures answered { (t : Table) → IsSound self.old t →
+            IsAnswered self.old self.new t (Join first.now second.now) (pairs_answer result) }
+        ensures looks { (t : Table) → IsSound self.old t → OnOk result (LooksAtTrees self.old self.new first.now
+            second.now (λ tree other. 2 * admitted_pairs (layer_at t first.now).dims tree other)) }
+        ensures gate { KeepsGate (cache_of self.old) (cache_of self.new) }
+        ensures map { KeepsMap (cache_of self.old) (cache_of self.new) }
+        ensures cause { HasRefusalCause (B.faults (device_of (cache_of self.old)))
+            (B.faults (device_of (cache_of self.new))) result }
+    {
+        if !is_layer_name(first) || !is_layer_name(second) {
+            return Err(Refusal::BadName);
+        }
+        let Ok(place) = self.find(first) else {
+            return Err(Refusal::NoLayer);
+        };
+        let Ok(other_place) = self.find(second) else {
+            return Err(Refusal::NoLayer);
+        };
+        let left = self.locate(place);
+        let right = self.locate(other_place);
+        if left.dims != right.dims {
+            return Err(Refusal::DimsDiffer);
+        }
+        if left.dims == 2 {
+            self.pairs_in::<2>(&left, &right)
+        } else {
+            self.pairs_in::<3>(&left, &right)
         }
     }
 

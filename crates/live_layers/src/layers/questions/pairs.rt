@@ -1,0 +1,54 @@
+//! The spatial join of two layers, from their trees.
+
+ghost use Rattle.std.specs.Prelude.{◌≡◌, ◌*◌, ℕ, List, IfOk, IfErr, OnOk};
+ghost use Rattle.box_math.specs.Bounds.{IsDims};
+ghost use Rattle.page_cache.specs.Cache.{KeepsGate, KeepsMap, device_of};
+ghost use Rattle.plain_table.specs.Step.{join_rows};
+ghost use Rattle.plain_table.specs.Table.{Table, layer_at};
+ghost use Rattle.store_law.specs.Lawful.{IsFault};
+ghost use Rattle.tree_node.specs.Joins.{admitted_pairs};
+ghost use Rattle.live_layers.specs.Changes.{Rose};
+ghost use Rattle.live_layers.specs.Faults.{HasRefusalCause};
+ghost use Rattle.live_layers.specs.Keeping.{IsSound, cache_of};
+ghost use Rattle.live_layers.specs.Located.{IsLocated};
+ghost use Rattle.live_layers.specs.Questions.{LooksAtTrees};
+
+use crate::faults::as_refusal;
+use crate::layers::Layers;
+use crate::located::Located;
+use block_device::BlockDevice;
+use plain_table::Refusal;
+use spatial_join::join;
+use std::alloc::Allocator;
+
+impl<B: BlockDevice, A: Allocator + Copy> Layers<B, A> {
+    // The pairs of objects of the layers that stand there, both of D axes, whose boxes meet.
+    pub(crate) fn pairs_in<const D: usize>(
+        &mut self,
+        left: &Located,
+        right: &Located,
+    ) -> Result<Vec<(u64, u64), A>, Refusal>
+        requires dims { IsDims D }
+        requires left { left.now.dims ≡ D }
+        requires right { right.now.dims ≡ D }
+        ensures pairs { (t : Table) (first second : List ℕ) → IsSound self.old t →
+            IsLocated self.old t first left.now → IsLocated self.old t second right.now →
+            IfOk result (λ pairs. pairs.items ≡ join_rows (layer_at t first) (layer_at t second)) }
+        ensures looks { (t : Table) (first second : List ℕ) → IsSound self.old t →
+            IsLocated self.old t first left.now → IsLocated self.old t second right.now →
+            OnOk result (LooksAtTrees self.old self.new first second (λ s o. 2 * admitted_pairs D s o)) }
+        ensures fault { (t : Table) (first second : List ℕ) → IsSound self.old t →
+            IsLocated self.old t first left.now → IsLocated self.old t second right.now →
+            IfErr result (IsFault (Rose self.old self.new) ⊥) }
+        ensures sound { (t : Table) → IsSound self.old t → IsSound self.new t }
+        ensures gate { KeepsGate (cache_of self.old) (cache_of self.new) }
+        ensures map { KeepsMap (cache_of self.old) (cache_of self.new) }
+        ensures cause { HasRefusalCause (B.faults (device_of (cache_of self.old)))
+            (B.faults (device_of (cache_of self.new))) result }
+    {
+        match join::<D, B, A, A>(self.alloc, &mut self.cache, left.root, right.root) {
+            Ok(pairs) => Ok(pairs),
+            Err(fault) => Err(as_refusal(fault)),
+        }
+    }
+}
