@@ -1,6 +1,6 @@
-//! The tests of entries.
+//! The tests of entries and of likely orders.
 
-use crate::{Entry, box_of, least, picked, reference_of, see_boxes};
+use crate::{Entry, box_of, least, likely_first, picked, reference_of, see_boxes};
 use box_math::BBox;
 use std::test::Fail;
 
@@ -36,4 +36,15 @@ fn entries_are_picked_and_enclosed(rt: HostRuntime) -> Result<(), Fail> {
     assert!(rt; turned.get(0) == Some(&second));
     assert!(rt; turned.get(1) == Some(&first));
     Ok(())
+}
+
+#[test]
+fn the_first_positions_are_those_of_the_least_numbers(rt: HostRuntime) {
+    let mut hints = [5000, 1000, 4000, 2000, 3000];
+    let mut places = [0; 5];
+    likely_first(&mut hints, 2, &mut places);
+    assert_eq!(rt; places[0], 1);
+    assert_eq!(rt; places[1], 3);
+    places.sort_unstable();
+    assert!(rt; places == [0, 1, 2, 3, 4]);
 }
