@@ -1,6 +1,7 @@
 //! Buckets at the pages of a cache.
 
-ghost use Rattle.std.specs.Prelude.{◌≡◌, ◌<◌, ◌⊎◌, ℕ, List, Some, true, false, length, IfOk, IfErr, IfSome, IsSomeAnd, OnOk};
+ghost use Rattle.std.specs.Prelude.{◌≡◌, ◌≤◌, ◌<◌, ◌⊎◌, ℕ, List, Some, true, false, length};
+ghost use Rattle.std.specs.Prelude.{IfOk, IfErr, IfSome, IsSomeAnd, OnOk};
 ghost use Rattle.block_bytes.specs.Numbers.{number_at};
 ghost use Rattle.box_math.specs.Bounds.{IsDims};
 ghost use Rattle.bucket_page.specs.Layout.{BucketContent, bucket_at, content_of};
@@ -107,8 +108,8 @@ pub(crate) fn place_at<const D: usize, B: BlockDevice, A: Allocator + Copy>(
     }
 }
 
-// Whether the first page of a chain has room for an object more, and its bytes if it has. It has none where there is no
-// page, or it is full.
+// Whether the first page of a chain has room for an object more, and what it names if it has. There is none where there
+// is no page, or it is full.
 #[tactic(auto, using(page_cache::specs::Calls::ends_so))]
 pub(crate) fn room_in<const D: usize, B: BlockDevice, A: Allocator + Copy>(
     cache: &mut PageCache<B, A>,
@@ -137,8 +138,19 @@ pub(crate) fn room_in<const D: usize, B: BlockDevice, A: Allocator + Copy>(
     if count_at(page) == 100 {
         return Ok(false);
     }
-    *bytes = *page;
+    copy_bucket::<D>(page, bytes);
     Ok(true)
+}
+
+// Copies what a bucket page may name: its head, and the places of its objects.
+fn copy_bucket<const D: usize>(page: &[u8; 4096], bytes: &mut [u8; 4096])
+    requires dims { IsDims D }
+    requires few { number_at 2 2 page.now ≤ 100 }
+    ensures count { number_at 2 2 bytes.new ≡ number_at 2 2 page.now }
+    ensures same { bucket_at D bytes.new ≡ bucket_at D page.now }
+{
+    let end = 816 + 800 * D;
+    bytes[..end].copy_from_slice(&page[..end]);
 }
 
 // Writes a bucket into a live page. After a refusal that page may hold any bytes.
