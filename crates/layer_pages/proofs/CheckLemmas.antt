@@ -2,15 +2,15 @@
 use Rattle.std.proofs.Common.{Result, Ok, Err, IfErr, IfOk, ◌⊎◌, ◌≡◌, ◌∙◌, ℕ, suc, ◌+◌, ◌<◌, ◌≤◌, Bool, true, false, cond, eqb, Option, Some, None, IsSome, List, [], ◌∷◌, ◌++◌, length, get_or, not, All, refl, sym, ap, subst, ⊎_elim, arith}
 use Rattle.std.specs.Prelude.{IsPermutation, is_some}
 use Rattle.std.specs.Cmp.{nat_cmp_total}
-use Rattle.std.specs.FinMap.{contains_key, entries, entries_sorted, from_entries, get-from_entries, len, len-entries}
+use Rattle.std.specs.FinMap.{contains_key, entries, entries_sorted, from_entries, get-from_entries, len-entries}
 use Rattle.std.specs.List.{flat_map}
 use Rattle.std.specs.List.Sorted.{IsNonDecreasingBy}
 use Rattle.std.specs.Ordering.{nat_cmp}
 use Rattle.std.proofs.lemmas.Bool.{cases_eq}
 use Rattle.std.proofs.lemmas.Bool.Decides.{nat_tests}
-use Rattle.std.proofs.lemmas.List.Sorted.{IsPermutation-cons, IsPermutation-refl, IsPermutation-sym, IsPermutation-trans, length_permutation}
+use Rattle.std.proofs.lemmas.List.Sorted.{IsPermutation-cons, IsPermutation-sym, IsPermutation-trans, length_permutation}
 use Rattle.block_bytes.specs.Kinds.{node_kind}
-use Rattle.box_math.specs.Bounds.{Bounds, IsBox}
+use Rattle.box_math.specs.Bounds.{IsBox}
 use Rattle.bucket_page.specs.Layout.{BucketContent}
 use Rattle.bucket_page.proofs.Reading.{spells as bucket_spells}
 use Rattle.page_file.specs.Fault.{IsDamage, faults_after}

@@ -1,12 +1,11 @@
 -- All objects of a layer at once: a packed tree beside the old one, and then the table.
-use Rattle.std.proofs.Common.{◌≡◌, ◌∙◌, ℕ, ◌^◌, ◌<◌, ◌≤◌, List, [], ◌∷◌, ◌++◌, length, map as each, All, IsSome, refl, sym, ap, subst, arith}
+use Rattle.std.proofs.Common.{◌≡◌, ◌∙◌, ℕ, ◌^◌, ◌<◌, ◌≤◌, List, [], ◌∷◌, ◌++◌, map as each, All, IsSome, refl, sym, ap, subst, arith}
 use Rattle.std.specs.Prelude.{IsPermutation}
 use Rattle.std.specs.FinMap as map
-use Rattle.std.specs.FinMap.{entries, len, len-empty, len-entries}
-use Rattle.std.specs.Ordering.{nat_cmp}
+use Rattle.std.specs.FinMap.{entries}
 use Rattle.std.proofs.lemmas.List.Elements.{All-map}
 use Rattle.std.proofs.lemmas.List.Sorted.{All-permutation, IsPermutation-sym, IsPermutation-trans}
-use Rattle.box_math.specs.Bounds.{Bounds, IsBox}
+use Rattle.box_math.specs.Bounds.{IsBox}
 use Rattle.page_cache.specs.Cache.{next_of, pages}
 use Rattle.page_cache.specs.Laws.{a_live_page_was_given_out, the_catalog_is_live}
 use Rattle.page_cache.specs.declared.cache.PageCache.{PageCache}

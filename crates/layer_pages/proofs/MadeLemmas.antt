@@ -1,7 +1,7 @@
 -- Layers that were made, or have an object more.
-use Rattle.std.proofs.Common.{◌≡◌, ◌∙◌, ℕ, ◌+◌, ◌<◌, ◌≤◌, false, Option, Some, None, List, [], ◌∷◌, length, refl, sym, ap, subst, arith}
+use Rattle.std.proofs.Common.{◌≡◌, ◌∙◌, ℕ, ◌+◌, ◌≤◌, false, Option, Some, None, List, [], refl, sym, ap, subst, arith}
 use Rattle.std.specs.FinMap as map
-use Rattle.std.specs.Prelude.{IsPermutation, IsSome}
+use Rattle.std.specs.Prelude.{IsSome}
 use Rattle.box_math.specs.Bounds.{Bounds, IsBox}
 use Rattle.page_file.specs.Pages.{SameBut}
 use Rattle.tree_node.specs.Nodes.{NodeContent}
@@ -12,7 +12,7 @@ use Rattle.node_page.specs.Standing.{PageMap, Stands, node_in}
 use Rattle.node_page.proofs.ChangeLemmas.{trees_beside_stand}
 use Rattle.node_page.proofs.PartLemmas.{moves_same, one_page_moves}
 use Rattle.id_table.specs.Changes.{Adds, Makes}
-use Rattle.id_table.specs.Table.{IdsStand, Object, objects_of, part_of}
+use Rattle.id_table.specs.Table.{IdsStand, objects_of, part_of}
 use Rattle.reinsert.specs.Inserted.{CanInsert, InsertsTo}
 use Rattle.reinsert.specs.Kept.{EntryHasShape}
 use Rattle.reinsert.proofs.ObjectLemmas.{insertion_keeps_objects}

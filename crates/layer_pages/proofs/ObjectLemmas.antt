@@ -31,20 +31,20 @@ Object = ℕ × Bounds
 
 -- ---- no object
 
-abbrev none : Objects
-none = empty_map
+abbrev no_map : Objects
+no_map = empty_map
 
-pub no_entries : entries none ≡ []
-no_entries = empty_list (entries none) (sym (len-entries none) ∙ none_counted)
+pub no_entries : entries no_map ≡ []
+no_entries = empty_list (entries no_map) (sym (len-entries no_map) ∙ none_counted)
   where
     empty_list : (os : List Object) → length os ≡ 0 → os ≡ []
     empty_list [] is = refl
     empty_list (o ∷ os) is = absurd (omega (arith, is))
 
-    none_counted : len none ≡ 0
+    none_counted : len no_map ≡ 0
     none_counted = len-empty nat_cmp Bounds
 
-pub no_objects : IsPermutation [] (entries none)
+pub no_objects : IsPermutation [] (entries no_map)
 no_objects = subst (IsPermutation []) (sym no_entries) (IsPermutation-refl [])
 
 -- ---- an object with a new identifier

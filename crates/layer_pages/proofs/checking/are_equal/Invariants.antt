@@ -1,6 +1,6 @@
 -- What holds at each turn of the loop.
 use Rattle.std.proofs.Common.{◌≡◌, All, take}
-use Rattle.box_math.specs.Bounds.{Bounds, IsBox}
+use Rattle.box_math.specs.Bounds.{IsBox}
 use Rattle.layer_pages.proofs.checking.are_equal.Given as goal
 
 -- the lists are the same so far, and their boxes are boxes

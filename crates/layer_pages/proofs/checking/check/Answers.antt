@@ -1,7 +1,6 @@
 -- The tree is checked, the table, and what they have in common.
-use Rattle.std.proofs.Common.{◌≡◌, ◌∙◌, ℕ, List, None, Vec, Bor, inl, sym}
+use Rattle.std.proofs.Common.{◌≡◌, ℕ, None, Vec, Bor, inl, sym}
 use Rattle.page_file.specs.declared.fault.Fault.TheVariants as fault
-use Rattle.page_file.specs.declared.fault.Fault.{Fault}
 use Rattle.page_file.specs.Fault.{IsOfDevice}
 use Rattle.page_cache.specs.Cache.{given, pages}
 use Rattle.page_cache.specs.Calls.{asks_and_refuses, asks_in_turn}

@@ -1,5 +1,5 @@
 -- Lists in the order of identifiers are the same where they have the same objects, each once.
-use Rattle.std.proofs.Common.{◌≡◌, ◌∙◌, ℕ, List, All, rules, sym, subst}
+use Rattle.std.proofs.Common.{◌∙◌, ℕ, List, rules, sym, subst}
 use Rattle.std.specs.Prelude.{IsPermutation}
 use Rattle.std.proofs.lemmas.List.Sorted.{All-permutation, IsNonDecreasingBy-from_sort_by_key, IsPermutation-sym, IsPermutation-trans}
 use Rattle.box_math.specs.Bounds.{IsBox}

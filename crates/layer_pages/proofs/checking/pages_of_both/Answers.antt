@@ -1,5 +1,5 @@
 -- The objects are compared, and the pages are put together.
-use Rattle.std.proofs.Common.{◌≡◌, ◌∙◌, ◌++◌, ℕ, List, All, ap, sym, subst, arith}
+use Rattle.std.proofs.Common.{◌∙◌, ◌++◌, ℕ, List, All, ap, sym, subst, arith}
 use Rattle.std.specs.FinMap.{entries, len-entries}
 use Rattle.std.specs.Prelude.{IsPermutation}
 use Rattle.std.proofs.lemmas.List.Sorted.{length_permutation}

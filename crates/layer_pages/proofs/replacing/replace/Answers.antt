@@ -1,5 +1,5 @@
 -- The object is removed, and then inserted with the other box.
-use Rattle.std.proofs.Common.{ℕ, ◌≡◌, None, false, sym, subst}
+use Rattle.std.proofs.Common.{◌≡◌, None, false, sym, subst}
 use Rattle.std.specs.FinMap as map
 use Rattle.std.specs.Prelude.{◌⊎◌}
 use Rattle.page_file.specs.Fault.{IsOfDevice}
