@@ -1,5 +1,5 @@
 -- A change of layers is a step of their store.
-use Rattle.std.proofs.Common.{◌≡◌, ◌∙◌, ◌≤◌, ◌^◌, ◌<◌, ℕ, List, Bool, true, false, not, sym, ap, subst, arith}
+use Rattle.std.proofs.Common.{◌≡◌, ◌∙◌, ◌≤◌, ◌^◌, ◌<◌, true, false, not, sym, ap, subst}
 use Rattle.std.specs.Prelude.{Option, Some, None, is_some, Result, Ok, Err, OnErr, OnOk}
 use Rattle.block_device.specs.Device.{LeavesOnly}
 use Rattle.live_layers.specs.Changes.{ChangeLeaves, IsChanged}
@@ -18,7 +18,6 @@ use Rattle.plain_table.specs.Step.{after, changed, kept_or, refusal_of, refused_
 use Rattle.plain_table.specs.Step.Answer.{Done}
 use Rattle.plain_table.specs.Table.{Table}
 use Rattle.plain_table.specs.declared.refusal.Refusal.{Refusal}
-use Rattle.store_law.specs.Lawful.{IsSpent, MayWrite}
 use Rattle.store_law.specs.Sessions.{LawfulStep, SessionState, Takes}
 use Rattle.store_law.specs.States.Request.{Asks}
 use Rattle.store_law.specs.States.StoreState.{Alive}
