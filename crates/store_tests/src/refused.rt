@@ -136,6 +136,23 @@ fn check_failed<'a, D: BlockDevice + Drop>(
     }
 }
 
+// The device of a store with a change whose closing was refused: it was not closed, or it has the table.
+fn check_unclosed<'a, D: BlockDevice + Drop>(
+    rt: &impl Abort,
+    alloc: Global,
+    device: D,
+    table: &mut ListTable<Global>,
+    heap: &'a Heap,
+) {
+    match opened(heap, device, 8) {
+        Ok(store) => {
+            let mut store = store;
+            assert!(rt; represents(alloc, &mut store, table, &NAMES, IDS));
+        }
+        Err(refusal) => assert_eq!(rt; refusal, Refusal::NotClosed),
+    }
+}
+
 // Closes a store with a change and opens it again, while something is refused.
 fn close_and_open<'a, D: BlockDevice + Drop>(
     rt: &impl Abort,
@@ -146,33 +163,29 @@ fn close_and_open<'a, D: BlockDevice + Drop>(
     cause: Refusal,
 ) -> Result<Ending, Refusal> {
     let (refusal, device) = closed(store);
-    let (answer, ending) = match refusal {
-        Some(refusal) => {
-            heap.relent();
-            assert_eq!(rt; refusal, cause);
-            (opened(heap, device, 8), Ending::Failed)
-        }
-        None => match open_store(heap, device, 8) {
-            Ok(store) if heap.relent() => (Ok(store), Ending::Refused),
-            Ok(store) => (Ok(store), Ending::Answered),
-            Err((refusal, device)) => {
-                heap.relent();
-                assert_eq!(rt; refusal, cause);
-                (Ok(opened(heap, device, 8)?), Ending::Refused)
-            }
-        },
-    };
-    match answer {
-        Ok(store) => {
-            let mut store = store;
-            // a call of the device that is still to fail fails in the first questions
-            let is_whole = represents(alloc, &mut store, table, &NAMES, IDS)
-                || represents(alloc, &mut store, table, &NAMES, IDS);
-            assert!(rt; is_whole);
-        }
-        Err(refusal) => assert_eq!(rt; (refusal, ending), (Refusal::NotClosed, Ending::Failed)),
+    if refusal.is_some() {
+        heap.relent();
+        assert_eq!(rt; refusal, Some(cause));
+        check_unclosed(rt, alloc, device, table, heap);
+        return Ok(Ending::Refused);
     }
-    Ok(ending)
+    let (refusal, mut store) = match open_store(heap, device, 8) {
+        Ok(store) => (None, store),
+        Err((refusal, device)) => {
+            heap.relent();
+            (Some(refusal), opened(heap, device, 8)?)
+        }
+    };
+    let is_refused = heap.relent() || refusal == Some(cause);
+    // a call of the device that is still to fail fails in the first questions
+    let is_whole = represents(alloc, &mut store, table, &NAMES, IDS)
+        || represents(alloc, &mut store, table, &NAMES, IDS);
+    assert!(rt; is_whole && (refusal.is_none() || is_refused));
+    Ok(if is_refused {
+        Ending::Refused
+    } else {
+        Ending::Answered
+    })
 }
 
 // Puts the script to a new store while something is refused.
@@ -197,11 +210,7 @@ fn run<'a, D: BlockDevice + Drop>(
         }
     }
     let ending = close_and_open(rt, alloc, store, &mut table, heap, cause)?;
-    Ok(if is_refused {
-        Ending::Refused
-    } else {
-        ending
-    })
+    Ok(if is_refused { Ending::Refused } else { ending })
 }
 
 // Makes a store on a device without blocks and puts the script to it, while something is refused.

@@ -63,14 +63,20 @@ impl Dice {
         }
     }
 
-    // A command on one of the layers, in three of four cases on `a`, of two axes, or `b`, of three. Seldom a box does
-    // not fit its layer.
-    fn command(&mut self) -> Command {
-        let place = if self.below(4) > 0 {
+    // The place of a name, in three of four cases of one of the first two.
+    fn place(&mut self) -> usize
+        ensures { result < 8 }
+    {
+        if self.below(4) > 0 {
             self.below(2) as usize
         } else {
             self.below(8) as usize
-        };
+        }
+    }
+
+    // A command on one of the layers: `a` has two axes, and the others mostly have three. Seldom a box does not fit.
+    fn command(&mut self) -> Command {
+        let place = self.place();
         let name = NAMES[place];
         let misfits = self.below(16) == 0;
         let bounds = self.bounds(if (place == 0) == misfits { 3 } else { 2 });
