@@ -34,7 +34,6 @@ stays (Some r) t u e = λ i. t
 
 module _ {D A : Type 0} {m : _} (old new : Store D A m) (mid : Layers D A m) (c : Command) (made : Result (Unit {0}) Unmade) (result : Result (Unit {0}) Refusal)
     (going : old.failed ≡ false) (answered : result ≡ told made) (failed : new.failed ≡ is_broken made) (same : new.layers ≡ mid) where
-
   pub cause_told : HasUnmadeCause (m.faults (device_in old)) (m.faults (device_of mid.cache)) made → HasRefusalCause (m.faults (device_in old)) (m.faults (device_in new)) result
   cause_told cause = subst (λ (l : Layers D A m). HasRefusalCause (m.faults (device_in old)) (m.faults (device_of l.cache)) result) (sym same)
       (subst (λ (r : Result (Unit {0}) Refusal). HasRefusalCause (m.faults (device_in old)) (m.faults (device_of mid.cache)) r) (sym answered)

@@ -56,7 +56,6 @@ ok_so (Err why) h = absurd (cc)
 
 module _ {D A : Type 0} {m : _} (old new : Store D A m) (mid : Layers D A m) (made : Result (Unit {0}) Unmade) (result : Result (Unit {0}) Refusal)
     (answered : result ≡ told made) (failed : new.failed ≡ is_broken made) (same : new.layers ≡ mid) where
-
   finished : IsOk result ⊎ HasFailed new → IsBegun made
   finished (inl ok) = begun_so made (inl (subst (λ (r : Result (Unit {0}) Refusal). IsOk r) answered ok))
   finished (inr dead) = begun_so made (inr (sym failed ∙ failed_so new dead))

@@ -60,6 +60,7 @@ same_list t ts there = there
 -- what is left where a change or a closing gave up
 gave_up : (r : Refusal) (left : AfterStop) → is_end r ≡ false → Perhaps (tables_left left) ≡ after_change left (Refused r)
 gave_up r left e = sym (ap (λ (b : Bool). cond b (Perhaps []) (Perhaps (tables_left left))) e)
+
 refused_closing : (t : Table) (r : Refusal) (left : AfterStop) → is_end r ≡ false → Perhaps (t ∷ tables_left left) ≡ after_closing t left (Refused r)
 refused_closing t r left e = sym (ap (λ (b : Bool). cond b (Surely t) (Perhaps (t ∷ tables_left left))) e)
 
@@ -120,7 +121,6 @@ module _ {D A : Type 0} {m : _} where
       → Leaves new (record { now = Perhaps []; since = stops.since; so_far = stops.so_far })
   begun_leaves old new stops run was opened = leaves_after old new stops (Perhaps []) run was (λ closed. absurd (closed opened)) (λ u there. contains_none u (tables_left stops.now) there)
 
-
   -- what stops leave after a change that may have changed the table
   module _ (old new : Layers D A m) (t : Table) (c : Command) (stops : Stops) (honest : IsHonest old.cache) (was : Leaves old.cache stops) where
     abbrev After : Bool → Result (Unit {0}) Unmade → Type 0
@@ -153,7 +153,6 @@ module _ {D A : Type 0} {m : _} where
         (closing.before stops.since c was.begun left);
     among = λ u there. either_among t (tables_left stops.now) stops.so_far was.among u (within u there);
   }
-
 
   pub reopening_leaves : (old new : Layers D A m) (t : Table) (stops : Stops) (made : Result (Unit {0}) Unmade) → ClosingLeaves old new t made → ((r : Refusal) → made ≡ Err (unmade.Refused r) → is_end r ≡ false) → Leaves old.cache stops
       → Leaves new.cache (after_command t stops Reopen (done_answer (told made)))

@@ -1,5 +1,6 @@
 -- A live store closes its layers, and one that failed hands the device back.
-use Rattle.std.proofs.Common.{◌∙◌, sym, subst}
+use Rattle.std.proofs.Common.{◌≡◌, Result, Ok, Err, ap, sym, subst}
+use Rattle.page_cache.specs.Cache.{device_of}
 use Rattle.store_law.specs.Stops.{tables_left}
 use Rattle.plain_table.specs.declared.refusal.Refusal.{Refusal}
 use Rattle.layer_store.specs.Faults.{IsMemoryOrDevice}
@@ -43,3 +44,16 @@ returns-in-Err-clause-dead g c = λ dead. absurd (not_both _ (is_dead c.args.sel
 
 pub returns-in-Err-clause-failed : goal.returns-in-Err-clause-failed
 returns-in-Err-clause-failed g c = λ failed. absurd (not_both _ (failed_so c.args.self failed) c.if-self.false)
+
+-- of a closing that was answered, as another type of refusal has it
+other_ok : {T E F : Type 0} (a b : T) → ◌≡◌ {A = Result T E} (Ok a) (Ok b) → ◌≡◌ {A = Result T F} (Ok a) (Ok b)
+other_ok a b e = let same : a ≡ b = cc in ap Ok same
+
+err_is_not_ok : {T E : Type 0} (e : E) (v : T) → ◌≡◌ {A = Result T E} (Err e) (Ok v) → ⊥
+err_is_not_ok e v h = cc
+
+pub returns-in-Ok-clause-quiet : goal.returns-in-Ok-clause-quiet
+returns-in-Ok-clause-quiet g c = λ t represents settled. other_ok c.in-Ok.device (device_of c.args.self.layers.cache) (c.in-Ok.ensures.was_settled (is_settled c.args.self settled))
+
+pub returns-in-Err-clause-quiet : goal.returns-in-Err-clause-quiet
+returns-in-Err-clause-quiet g c = λ t represents settled. absurd (err_is_not_ok _ _ (c.in-Err.ensures.was_settled (is_settled c.args.self settled)))
