@@ -102,7 +102,10 @@ fn put<D: BlockDevice>(
     heap.relent();
     assert!(rt; represents(alloc, store, table, &NAMES, IDS), "{command:?}");
     let (given, wanted) = (answer(alloc, store, command), listed(alloc, table, command));
-    assert!(rt; given == wanted, "{command:?}: {given:?}, after it was refused");
+    assert!(rt;
+        given == wanted,
+        "{command:?}: {given:?}, after it was refused"
+    );
     Ending::Refused
 }
 
@@ -119,7 +122,10 @@ fn check_failed<'a, D: BlockDevice + Drop>(
     let failed = Refusal::StoreFailed(19);
     let mut store = store;
     for &later in SCRIPT.iter() {
-        assert!(rt; answer(alloc, &mut store, later) == Err(failed), "{later:?}");
+        assert!(rt;
+            answer(alloc, &mut store, later) == Err(failed),
+            "{later:?}"
+        );
     }
     let (refusal, device) = closed(store);
     assert_eq!(rt; refusal, Some(failed));
@@ -236,9 +242,7 @@ fn make_and_run<'a, D: BlockDevice + Drop>(
             let mut table = ListTable::new(alloc);
             assert!(rt; represents(alloc, &mut store, &mut table, &NAMES, IDS));
         }
-        Err(refusal) => assert!(rt;
-            refusal == Refusal::NotClosed || refusal == Refusal::NotAStore
-        ),
+        Err(refusal) => assert!(rt; refusal == Refusal::NotClosed || refusal == Refusal::NotAStore),
     }
     Ok(Ending::Refused)
 }
@@ -249,7 +253,13 @@ fn each_growth_is_refused_in_turn(rt: HostRuntime) -> Result<(), Fail> {
     let (mut goes_on, mut fails, mut ends) = (false, false, false);
     for k in 0..MOST {
         heap.refuse_from(k);
-        match make_and_run(&rt, rt.alloc(), MemoryDevice::new(&heap), &heap, Refusal::Memory)? {
+        match make_and_run(
+            &rt,
+            rt.alloc(),
+            MemoryDevice::new(&heap),
+            &heap,
+            Refusal::Memory,
+        )? {
             Ending::Answered => {
                 ends = true;
                 break;
@@ -267,7 +277,11 @@ fn each_call_of_the_device_fails_in_turn(rt: HostRuntime) -> Result<(), Fail> {
     let heap = Refusing::new(rt.alloc());
     let (mut goes_on, mut fails, mut ends) = (false, false, false);
     for passes in 0..MOST {
-        let device = FuseDevice::new(MemoryDevice::new(rt.alloc()), u64::from(passes), FuseMode::Once);
+        let device = FuseDevice::new(
+            MemoryDevice::new(rt.alloc()),
+            u64::from(passes),
+            FuseMode::Once,
+        );
         match make_and_run(&rt, rt.alloc(), device, &heap, Refusal::Device)? {
             Ending::Answered => {
                 ends = true;
@@ -298,7 +312,15 @@ fn an_insertion_whose_first_call_fails_goes_on(rt: HostRuntime) -> Result<(), Fa
             Ok(store) => {
                 let mut store = store;
                 let object = Command::Insert(b"l", 7, RawBox::Two([4, 0], [4, 0]));
-                ending = put(&rt, rt.alloc(), &mut store, &mut table, &heap, object, Refusal::Device);
+                ending = put(
+                    &rt,
+                    rt.alloc(),
+                    &mut store,
+                    &mut table,
+                    &heap,
+                    object,
+                    Refusal::Device,
+                );
                 assert!(rt; passes >= 4 && (passes != 4 || ending == Ending::Refused));
                 if ending == Ending::Answered {
                     break;

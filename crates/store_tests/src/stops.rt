@@ -55,7 +55,11 @@ struct Remains {
 
 // Runs the script, and closes the store, on a device all of whose calls fail after so many.
 fn run(alloc: Global, passes: u32) -> Remains {
-    let device = FuseDevice::new(MemoryDevice::new(alloc), u64::from(passes), FuseMode::Onward);
+    let device = FuseDevice::new(
+        MemoryDevice::new(alloc),
+        u64::from(passes),
+        FuseMode::Onward,
+    );
     let mut remains = Remains {
         device: MemoryDevice::new(alloc),
         is_stopped: true,
@@ -135,7 +139,10 @@ fn a_stop_at_each_call_leaves_no_wrong_table(rt: HostRuntime) -> Result<(), Fail
         for passes in 0..MOST {
             let remains = run(rt.alloc(), passes);
             is_stopped = remains.is_stopped;
-            assert!(rt; may_remain(rt.alloc(), remains, left), "{left:?} after {passes} calls");
+            assert!(rt;
+                may_remain(rt.alloc(), remains, left),
+                "{left:?} after {passes} calls"
+            );
             if !is_stopped {
                 break;
             }
