@@ -39,18 +39,12 @@ pub enum Command {
 impl Command {
     /// Whether it may change the table.
     pub fn is_change(self) -> bool {
-        match self {
-            Command::Create(..) | Command::Insert(..) => true,
-            _ => false,
-        }
+        matches!(self, Command::Create(..) | Command::Insert(..))
     }
 
     /// Whether it is a closing.
     pub fn is_closing(self) -> bool {
-        match self {
-            Command::Reopen => true,
-            _ => false,
-        }
+        matches!(self, Command::Reopen)
     }
 }
 
@@ -85,26 +79,28 @@ pub fn answer<D: BlockDevice, A: Allocator + Copy + Drop>(
 /// Puts the command to the plain list.
 pub fn listed(alloc: Global, table: &mut ListTable<Global>, command: Command) -> Answer {
     let mut numbers = Vec::new(alloc);
-    let (name, query) = match command {
-        Command::Window(name, bounds) => (name, RawQuery::Window(bounds)),
-        Command::Inside(name, bounds) => (name, RawQuery::Inside(bounds)),
-        Command::Around(name, bounds) => (name, RawQuery::Around(bounds)),
-        Command::Point(name, point) => (name, RawQuery::Point(point)),
-        _ => {
-            match command {
-                Command::Create(name, dims, fanout) => table.create(name, dims, fanout)?,
-                Command::Insert(name, id, bounds) => table.insert(name, id, bounds)?,
-                Command::Get(name, id) => push_row(&mut numbers, id, table.get(name, id)?)?,
-                Command::Count(name) => numbers.push(i128::from(table.count(name)?))?,
-                Command::Nearest(name, k, point) => {
-                    push_distances(&mut numbers, &table.nearest(name, k, point)?)?
-                }
-                _ => {}
-            }
-            return Ok(numbers);
+    match command {
+        Command::Create(name, dims, fanout) => table.create(name, dims, fanout)?,
+        Command::Insert(name, id, bounds) => table.insert(name, id, bounds)?,
+        Command::Get(name, id) => push_row(&mut numbers, id, table.get(name, id)?)?,
+        Command::Count(name) => numbers.push(i128::from(table.count(name)?))?,
+        Command::Window(name, bounds) => {
+            push_rows(&mut numbers, &table.range(name, RawQuery::Window(bounds))?)?
         }
-    };
-    push_rows(&mut numbers, &table.range(name, query)?)?;
+        Command::Inside(name, bounds) => {
+            push_rows(&mut numbers, &table.range(name, RawQuery::Inside(bounds))?)?
+        }
+        Command::Around(name, bounds) => {
+            push_rows(&mut numbers, &table.range(name, RawQuery::Around(bounds))?)?
+        }
+        Command::Point(name, point) => {
+            push_rows(&mut numbers, &table.range(name, RawQuery::Point(point))?)?
+        }
+        Command::Nearest(name, k, point) => {
+            push_distances(&mut numbers, &table.nearest(name, k, point)?)?
+        }
+        Command::Reopen => {}
+    }
     Ok(numbers)
 }
 

@@ -13,18 +13,42 @@ const THOUSAND: [Row; 6] = [
         Ok(&[10, 10, 20, 11, 21, 11, 11, 22, 12, 23, 12, 12, 24, 13, 25]),
         None,
     ),
-    (Command::Nearest(b"b", 2, RawPoint::Two([0, 0])), Ok(&[1, 5, 2, 20]), None),
+    (
+        Command::Nearest(b"b", 2, RawPoint::Two([0, 0])),
+        Ok(&[1, 5, 2, 20]),
+        None,
+    ),
     (Command::Count(b"b"), Ok(&[1000]), None),
-    (Command::Get(b"b", 1000), Ok(&[1000, 1000, 2000, 1001, 2001]), None),
+    (
+        Command::Get(b"b", 1000),
+        Ok(&[1000, 1000, 2000, 1001, 2001]),
+        None,
+    ),
     (Command::Get(b"b", 1001), Err(Refusal::NoObject), None),
-    (Command::Insert(b"b", 500, RawBox::Two([0, 0], [0, 0])), Err(Refusal::Duplicate), None),
+    (
+        Command::Insert(b"b", 500, RawBox::Two([0, 0], [0, 0])),
+        Err(Refusal::Duplicate),
+        None,
+    ),
 ];
 
 // Of sixty layers, each with one object.
 const SIXTY: [Row; 5] = [
-    (Command::Create(b"z", 2, 4), Err(Refusal::TooManyLayers), None),
-    (Command::Window(b"l00", PLANE), Ok(&[0, 0, 0, 0, 0]), Some(1)),
-    (Command::Window(b"l37", PLANE), Ok(&[37, -37, -37, 37, 37]), Some(1)),
+    (
+        Command::Create(b"z", 2, 4),
+        Err(Refusal::TooManyLayers),
+        None,
+    ),
+    (
+        Command::Window(b"l00", PLANE),
+        Ok(&[0, 0, 0, 0, 0]),
+        Some(1),
+    ),
+    (
+        Command::Window(b"l37", PLANE),
+        Ok(&[37, -37, -37, 37, 37]),
+        Some(1),
+    ),
     (Command::Get(b"l59", 59), Ok(&[59, -59, -59, 59, 59]), None),
     (Command::Window(b"l60", PLANE), Err(Refusal::NoLayer), None),
 ];
@@ -35,7 +59,11 @@ fn a_thousand_objects_come_back(rt: HostRuntime) -> Result<(), Fail> {
     store.create(b"b", 2, 4)?;
     for number in 1..=1000u16 {
         let i = i32::from(number);
-        store.insert(b"b", u64::from(number), RawBox::Two([i, 2 * i], [i + 1, 2 * i + 1]))?;
+        store.insert(
+            b"b",
+            u64::from(number),
+            RawBox::Two([i, 2 * i], [i + 1, 2 * i + 1]),
+        )?;
     }
     ask_thrice(&rt, rt.alloc(), store, 8, &THOUSAND)?;
     Ok(())

@@ -102,7 +102,10 @@ fn put<D: BlockDevice>(
     heap.relent();
     assert!(rt; represents(alloc, store, table, &NAMES, IDS), "{command:?}");
     let (given, wanted) = (answer(alloc, store, command), listed(alloc, table, command));
-    assert!(rt; given == wanted, "{command:?}: {given:?}, after it was refused");
+    assert!(rt;
+        given == wanted,
+        "{command:?}: {given:?}, after it was refused"
+    );
     Ending::Refused
 }
 
@@ -119,7 +122,10 @@ fn check_failed<'a, D: BlockDevice + Drop>(
     let failed = Refusal::StoreFailed(19);
     let mut store = store;
     for &later in SCRIPT.iter() {
-        assert!(rt; answer(alloc, &mut store, later) == Err(failed), "{later:?}");
+        assert!(rt;
+            answer(alloc, &mut store, later) == Err(failed),
+            "{later:?}"
+        );
     }
     let (refusal, device) = closed(store);
     assert_eq!(rt; refusal, Some(failed));
@@ -136,6 +142,23 @@ fn check_failed<'a, D: BlockDevice + Drop>(
     }
 }
 
+// The device of a store with a change whose closing was refused: it was not closed, or it has the table.
+fn check_unclosed<'a, D: BlockDevice + Drop>(
+    rt: &impl Abort,
+    alloc: Global,
+    device: D,
+    table: &mut ListTable<Global>,
+    heap: &'a Heap,
+) {
+    match opened(heap, device, 8) {
+        Ok(store) => {
+            let mut store = store;
+            assert!(rt; represents(alloc, &mut store, table, &NAMES, IDS));
+        }
+        Err(refusal) => assert_eq!(rt; refusal, Refusal::NotClosed),
+    }
+}
+
 // Closes a store with a change and opens it again, while something is refused.
 fn close_and_open<'a, D: BlockDevice + Drop>(
     rt: &impl Abort,
@@ -146,33 +169,29 @@ fn close_and_open<'a, D: BlockDevice + Drop>(
     cause: Refusal,
 ) -> Result<Ending, Refusal> {
     let (refusal, device) = closed(store);
-    let (answer, ending) = match refusal {
-        Some(refusal) => {
-            heap.relent();
-            assert_eq!(rt; refusal, cause);
-            (opened(heap, device, 8), Ending::Failed)
-        }
-        None => match open_store(heap, device, 8) {
-            Ok(store) if heap.relent() => (Ok(store), Ending::Refused),
-            Ok(store) => (Ok(store), Ending::Answered),
-            Err((refusal, device)) => {
-                heap.relent();
-                assert_eq!(rt; refusal, cause);
-                (Ok(opened(heap, device, 8)?), Ending::Refused)
-            }
-        },
-    };
-    match answer {
-        Ok(store) => {
-            let mut store = store;
-            // a call of the device that is still to fail fails in the first questions
-            let is_whole = represents(alloc, &mut store, table, &NAMES, IDS)
-                || represents(alloc, &mut store, table, &NAMES, IDS);
-            assert!(rt; is_whole);
-        }
-        Err(refusal) => assert_eq!(rt; (refusal, ending), (Refusal::NotClosed, Ending::Failed)),
+    if refusal.is_some() {
+        heap.relent();
+        assert_eq!(rt; refusal, Some(cause));
+        check_unclosed(rt, alloc, device, table, heap);
+        return Ok(Ending::Refused);
     }
-    Ok(ending)
+    let (refusal, mut store) = match open_store(heap, device, 8) {
+        Ok(store) => (None, store),
+        Err((refusal, device)) => {
+            heap.relent();
+            (Some(refusal), opened(heap, device, 8)?)
+        }
+    };
+    let is_refused = heap.relent() || refusal == Some(cause);
+    // a call of the device that is still to fail fails in the first questions
+    let is_whole = represents(alloc, &mut store, table, &NAMES, IDS)
+        || represents(alloc, &mut store, table, &NAMES, IDS);
+    assert!(rt; is_whole && (refusal.is_none() || is_refused));
+    Ok(if is_refused {
+        Ending::Refused
+    } else {
+        Ending::Answered
+    })
 }
 
 // Puts the script to a new store while something is refused.
@@ -197,11 +216,7 @@ fn run<'a, D: BlockDevice + Drop>(
         }
     }
     let ending = close_and_open(rt, alloc, store, &mut table, heap, cause)?;
-    Ok(if is_refused {
-        Ending::Refused
-    } else {
-        ending
-    })
+    Ok(if is_refused { Ending::Refused } else { ending })
 }
 
 // Makes a store on a device without blocks and puts the script to it, while something is refused.
@@ -227,9 +242,7 @@ fn make_and_run<'a, D: BlockDevice + Drop>(
             let mut table = ListTable::new(alloc);
             assert!(rt; represents(alloc, &mut store, &mut table, &NAMES, IDS));
         }
-        Err(refusal) => assert!(rt;
-            refusal == Refusal::NotClosed || refusal == Refusal::NotAStore
-        ),
+        Err(refusal) => assert!(rt; refusal == Refusal::NotClosed || refusal == Refusal::NotAStore),
     }
     Ok(Ending::Refused)
 }
@@ -240,7 +253,13 @@ fn each_growth_is_refused_in_turn(rt: HostRuntime) -> Result<(), Fail> {
     let (mut goes_on, mut fails, mut ends) = (false, false, false);
     for k in 0..MOST {
         heap.refuse_from(k);
-        match make_and_run(&rt, rt.alloc(), MemoryDevice::new(&heap), &heap, Refusal::Memory)? {
+        match make_and_run(
+            &rt,
+            rt.alloc(),
+            MemoryDevice::new(&heap),
+            &heap,
+            Refusal::Memory,
+        )? {
             Ending::Answered => {
                 ends = true;
                 break;
@@ -258,7 +277,11 @@ fn each_call_of_the_device_fails_in_turn(rt: HostRuntime) -> Result<(), Fail> {
     let heap = Refusing::new(rt.alloc());
     let (mut goes_on, mut fails, mut ends) = (false, false, false);
     for passes in 0..MOST {
-        let device = FuseDevice::new(MemoryDevice::new(rt.alloc()), u64::from(passes), FuseMode::Once);
+        let device = FuseDevice::new(
+            MemoryDevice::new(rt.alloc()),
+            u64::from(passes),
+            FuseMode::Once,
+        );
         match make_and_run(&rt, rt.alloc(), device, &heap, Refusal::Device)? {
             Ending::Answered => {
                 ends = true;
@@ -289,7 +312,15 @@ fn an_insertion_whose_first_call_fails_goes_on(rt: HostRuntime) -> Result<(), Fa
             Ok(store) => {
                 let mut store = store;
                 let object = Command::Insert(b"l", 7, RawBox::Two([4, 0], [4, 0]));
-                ending = put(&rt, rt.alloc(), &mut store, &mut table, &heap, object, Refusal::Device);
+                ending = put(
+                    &rt,
+                    rt.alloc(),
+                    &mut store,
+                    &mut table,
+                    &heap,
+                    object,
+                    Refusal::Device,
+                );
                 assert!(rt; passes >= 4 && (passes != 4 || ending == Ending::Refused));
                 if ending == Ending::Answered {
                     break;

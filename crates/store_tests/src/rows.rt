@@ -10,11 +10,7 @@ use std::process::Abort;
 use std::test::Fail;
 
 /// A command, its answer, and how many nodes it looks at, where that is told.
-pub type Row = (
-    Command,
-    Result<&'static [i128], Refusal>,
-    Option<u64>,
-);
+pub type Row = (Command, Result<&'static [i128], Refusal>, Option<u64>);
 
 /// Changes that are made, and what is answered then.
 #[derive(Clone, Copy)]
@@ -33,8 +29,16 @@ const EMPTY: Scene = Scene {
     asked: &[
         (Command::Window(b"a", PLANE), Ok(&[]), Some(1)),
         (Command::Count(b"a"), Ok(&[0]), None),
-        (Command::Nearest(b"a", 3, RawPoint::Two([0, 0])), Ok(&[]), Some(1)),
-        (Command::Get(b"b", u64::MAX), Ok(&[18446744073709551615, 0, 0, 0, 0]), None),
+        (
+            Command::Nearest(b"a", 3, RawPoint::Two([0, 0])),
+            Ok(&[]),
+            Some(1),
+        ),
+        (
+            Command::Get(b"b", u64::MAX),
+            Ok(&[18446744073709551615, 0, 0, 0, 0]),
+            None,
+        ),
         (Command::Get(b"b", 0), Err(Refusal::NoObject), None),
     ],
 };
@@ -49,7 +53,15 @@ const EXTREMES: Scene = Scene {
     asked: &[
         (
             Command::Point(b"c", RawPoint::Three([i32::MIN; 3])),
-            Ok(&[1, -2147483648, -2147483648, -2147483648, 2147483647, 2147483647, 2147483647]),
+            Ok(&[
+                1,
+                -2147483648,
+                -2147483648,
+                -2147483648,
+                2147483647,
+                2147483647,
+                2147483647,
+            ]),
             Some(1),
         ),
         (
@@ -68,24 +80,68 @@ const TOUCHING: Scene = Scene {
         Command::Insert(b"a", 2, RawBox::Two([1, 1], [2, 2])),
     ],
     asked: &[
-        (Command::Window(b"a", RawBox::Two([1, 1], [1, 1])), Ok(&[1, 0, 0, 1, 1, 2, 1, 1, 2, 2]), Some(1)),
-        (Command::Window(b"a", RawBox::Two([0, 0], [0, 1])), Ok(&[1, 0, 0, 1, 1]), Some(1)),
-        (Command::Window(b"a", RawBox::Two([2, 2], [9, 9])), Ok(&[2, 1, 1, 2, 2]), Some(1)),
-        (Command::Point(b"a", RawPoint::Two([1, 1])), Ok(&[1, 0, 0, 1, 1, 2, 1, 1, 2, 2]), Some(1)),
-        (Command::Inside(b"a", RawBox::Two([0, 0], [1, 1])), Ok(&[1, 0, 0, 1, 1]), Some(1)),
-        (Command::Around(b"a", RawBox::Two([1, 1], [2, 2])), Ok(&[2, 1, 1, 2, 2]), Some(1)),
-        (Command::Insert(b"a", 1, RawBox::Two([5, 5], [6, 6])), Err(Refusal::Duplicate), None),
+        (
+            Command::Window(b"a", RawBox::Two([1, 1], [1, 1])),
+            Ok(&[1, 0, 0, 1, 1, 2, 1, 1, 2, 2]),
+            Some(1),
+        ),
+        (
+            Command::Window(b"a", RawBox::Two([0, 0], [0, 1])),
+            Ok(&[1, 0, 0, 1, 1]),
+            Some(1),
+        ),
+        (
+            Command::Window(b"a", RawBox::Two([2, 2], [9, 9])),
+            Ok(&[2, 1, 1, 2, 2]),
+            Some(1),
+        ),
+        (
+            Command::Point(b"a", RawPoint::Two([1, 1])),
+            Ok(&[1, 0, 0, 1, 1, 2, 1, 1, 2, 2]),
+            Some(1),
+        ),
+        (
+            Command::Inside(b"a", RawBox::Two([0, 0], [1, 1])),
+            Ok(&[1, 0, 0, 1, 1]),
+            Some(1),
+        ),
+        (
+            Command::Around(b"a", RawBox::Two([1, 1], [2, 2])),
+            Ok(&[2, 1, 1, 2, 2]),
+            Some(1),
+        ),
+        (
+            Command::Insert(b"a", 1, RawBox::Two([5, 5], [6, 6])),
+            Err(Refusal::Duplicate),
+            None,
+        ),
         (Command::Get(b"a", 1), Ok(&[1, 0, 0, 1, 1]), None),
-        (Command::Insert(b"a", 3, RawBox::Two([1, 0], [0, 0])), Err(Refusal::BadBox), None),
-        (Command::Insert(b"a", 1, RawBox::Three([1, 1, 1], [0, 0, 0])), Err(Refusal::WrongDims), None),
+        (
+            Command::Insert(b"a", 3, RawBox::Two([1, 0], [0, 0])),
+            Err(Refusal::BadBox),
+            None,
+        ),
+        (
+            Command::Insert(b"a", 1, RawBox::Three([1, 1, 1], [0, 0, 0])),
+            Err(Refusal::WrongDims),
+            None,
+        ),
         (Command::Count(b"a"), Ok(&[2]), None),
         (Command::Create(b"A", 2, 4), Err(Refusal::BadName), None),
-        (Command::Create(b"abcdefghijklmnopqrstuvwxy", 2, 4), Err(Refusal::BadName), None),
+        (
+            Command::Create(b"abcdefghijklmnopqrstuvwxy", 2, 4),
+            Err(Refusal::BadName),
+            None,
+        ),
         (Command::Create(b"a", 4, 4), Err(Refusal::BadDims), None),
         (Command::Create(b"b", 2, 3), Err(Refusal::BadFanout), None),
         (Command::Create(b"b", 2, 101), Err(Refusal::BadFanout), None),
         (Command::Create(b"a", 2, 4), Err(Refusal::LayerExists), None),
-        (Command::Window(b"q", RawBox::Two([0, 0], [1, 1])), Err(Refusal::NoLayer), None),
+        (
+            Command::Window(b"q", RawBox::Two([0, 0], [1, 1])),
+            Err(Refusal::NoLayer),
+            None,
+        ),
     ],
 };
 
@@ -100,10 +156,16 @@ const LINE: Scene = Scene {
         Command::Insert(b"l", 5, RawBox::Two([10, 0], [10, 0])),
     ],
     asked: &[
-        (Command::Window(b"l", RawBox::Two([10, 0], [10, 0])), Ok(&[5, 10, 0, 10, 0]), Some(2)),
+        (
+            Command::Window(b"l", RawBox::Two([10, 0], [10, 0])),
+            Ok(&[5, 10, 0, 10, 0]),
+            Some(2),
+        ),
         (
             Command::Window(b"l", RawBox::Two([0, 0], [10, 0])),
-            Ok(&[1, 0, 0, 0, 0, 2, 1, 0, 1, 0, 3, 2, 0, 2, 0, 4, 3, 0, 3, 0, 5, 10, 0, 10, 0]),
+            Ok(&[
+                1, 0, 0, 0, 0, 2, 1, 0, 1, 0, 3, 2, 0, 2, 0, 4, 3, 0, 3, 0, 5, 10, 0, 10, 0,
+            ]),
             Some(3),
         ),
     ],
@@ -123,12 +185,16 @@ const FIRST_OVERFLOW: Scene = Scene {
         Command::Insert(b"r", 8, RawBox::Two([103, 101], [103, 101])),
     ],
     asked: &[
-        (Command::Window(b"r", RawBox::Two([60, 60], [60, 60])), Ok(&[6, 60, 60, 60, 60]), Some(2)),
+        (
+            Command::Window(b"r", RawBox::Two([60, 60], [60, 60])),
+            Ok(&[6, 60, 60, 60, 60]),
+            Some(2),
+        ),
         (
             Command::Window(b"r", RawBox::Two([0, 0], [104, 102])),
             Ok(&[
-                1, 0, 0, 0, 0, 2, 2, 2, 2, 2, 3, 100, 100, 100, 100, 4, 102, 102, 102, 102, 5, 104, 100, 104, 100, 6,
-                60, 60, 60, 60, 7, 42, 42, 42, 42, 8, 103, 101, 103, 101,
+                1, 0, 0, 0, 0, 2, 2, 2, 2, 2, 3, 100, 100, 100, 100, 4, 102, 102, 102, 102, 5, 104,
+                100, 104, 100, 6, 60, 60, 60, 60, 7, 42, 42, 42, 42, 8, 103, 101, 103, 101,
             ]),
             Some(3),
         ),
@@ -172,8 +238,16 @@ const EQUAL_DISTANCES: Scene = Scene {
         Command::Insert(b"t", 3, RawBox::Two([7, 0], [7, 0])),
     ],
     asked: &[
-        (Command::Nearest(b"n", 3, RawPoint::Two([0, 0])), Ok(&[2, 25, 4, 25, 5, 25]), Some(3)),
-        (Command::Nearest(b"t", 1, RawPoint::Two([0, 0])), Ok(&[1, 25]), Some(3)),
+        (
+            Command::Nearest(b"n", 3, RawPoint::Two([0, 0])),
+            Ok(&[2, 25, 4, 25, 5, 25]),
+            Some(3),
+        ),
+        (
+            Command::Nearest(b"t", 1, RawPoint::Two([0, 0])),
+            Ok(&[1, 25]),
+            Some(3),
+        ),
     ],
 };
 
@@ -187,9 +261,21 @@ const FEW: Scene = Scene {
         Command::Insert(b"a", 4, RawBox::Two([4, 0], [4, 0])),
     ],
     asked: &[
-        (Command::Nearest(b"a", 10, RawPoint::Two([0, 0])), Ok(&[1, 1, 2, 4, 3, 9, 4, 16]), Some(1)),
-        (Command::Nearest(b"a", 0, RawPoint::Two([0, 0])), Err(Refusal::BadCount), None),
-        (Command::Nearest(b"a", 1000001, RawPoint::Two([0, 0])), Err(Refusal::BadCount), None),
+        (
+            Command::Nearest(b"a", 10, RawPoint::Two([0, 0])),
+            Ok(&[1, 1, 2, 4, 3, 9, 4, 16]),
+            Some(1),
+        ),
+        (
+            Command::Nearest(b"a", 0, RawPoint::Two([0, 0])),
+            Err(Refusal::BadCount),
+            None,
+        ),
+        (
+            Command::Nearest(b"a", 1000001, RawPoint::Two([0, 0])),
+            Err(Refusal::BadCount),
+            None,
+        ),
     ],
 };
 
@@ -208,7 +294,10 @@ fn ask(rt: &impl Abort, alloc: Global, store: &mut Store<MemoryDevice>, asked: &
         let given = answer(alloc, store, *command);
         let looked = store.looks().wrapping_sub(before);
         assert!(rt; is_answer(&given, wanted), "{command:?}: {given:?}");
-        assert!(rt; looks.is_none() || *looks == Some(looked), "{command:?}: {looked} looks");
+        assert!(rt;
+            looks.is_none() || *looks == Some(looked),
+            "{command:?}: {looked} looks"
+        );
     }
 }
 

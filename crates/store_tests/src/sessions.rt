@@ -63,14 +63,20 @@ impl Dice {
         }
     }
 
-    // A command on one of the layers, in three of four cases on `a`, of two axes, or `b`, of three. Seldom a box does
-    // not fit its layer.
-    fn command(&mut self) -> Command {
-        let place = if self.below(4) > 0 {
+    // The place of a name, in three of four cases of one of the first two.
+    fn place(&mut self) -> usize
+        ensures { result < 8 }
+    {
+        if self.below(4) > 0 {
             self.below(2) as usize
         } else {
             self.below(8) as usize
-        };
+        }
+    }
+
+    // A command on one of the layers: `a` has two axes, and the others mostly have three. Seldom a box does not fit.
+    fn command(&mut self) -> Command {
+        let place = self.place();
         let name = NAMES[place];
         let misfits = self.below(16) == 0;
         let bounds = self.bounds(if (place == 0) == misfits { 3 } else { 2 });
@@ -80,7 +86,11 @@ impl Dice {
         };
         let id = u64::from(self.below(2000));
         match self.below(32) {
-            0 => Command::Create(name, u64::from(self.below(6)), FANOUTS[self.below(8) as usize]),
+            0 => Command::Create(
+                name,
+                u64::from(self.below(6)),
+                FANOUTS[self.below(8) as usize],
+            ),
             1 => Command::Create(name, if place == 0 { 2 } else { 3 }, 4),
             2 | 3 => Command::Get(name, id),
             4 => Command::Count(name),
@@ -101,7 +111,7 @@ fn sessions_answer_as_the_plain_list_does(rt: HostRuntime) -> Result<(), Fail> {
         let mut dice = Dice { state: seed };
         let mut store = new_store(alloc, 8)?;
         let mut table = ListTable::new(alloc);
-        for step in 0..2500 {
+        for step in 0..2000 {
             match dice.below(128) {
                 0 => store = opened(alloc, device_of(store)?, 8 + dice.below(60))?,
                 1 => store.reopen()?,
@@ -109,13 +119,22 @@ fn sessions_answer_as_the_plain_list_does(rt: HostRuntime) -> Result<(), Fail> {
                     let command = dice.command();
                     let given = answer(alloc, &mut store, command);
                     let wanted = listed(alloc, &mut table, command);
-                    assert!(rt; given == wanted, "{command:?}, step {step} of session {seed}");
+                    assert!(rt;
+                        given == wanted,
+                        "{command:?}, step {step} of session {seed}"
+                    );
                 }
             }
         }
-        assert!(rt; represents(alloc, &mut store, &mut table, &NAMES, 2000), "session {seed}");
+        assert!(rt;
+            represents(alloc, &mut store, &mut table, &NAMES, 2000),
+            "session {seed}"
+        );
         table.insert(b"a", 2000, RawBox::Two([0, 0], [0, 0]))?;
-        assert!(rt; !represents(alloc, &mut store, &mut table, &NAMES, 0), "one is missing");
+        assert!(rt;
+            !represents(alloc, &mut store, &mut table, &NAMES, 0),
+            "one is missing"
+        );
     }
     Ok(())
 }

@@ -55,7 +55,11 @@ struct Remains {
 
 // Runs the script, and closes the store, on a device all of whose calls fail after so many.
 fn run(alloc: Global, passes: u32) -> Remains {
-    let device = FuseDevice::new(MemoryDevice::new(alloc), u64::from(passes), FuseMode::Onward);
+    let device = FuseDevice::new(
+        MemoryDevice::new(alloc),
+        u64::from(passes),
+        FuseMode::Onward,
+    );
     let mut remains = Remains {
         device: MemoryDevice::new(alloc),
         is_stopped: true,
@@ -86,7 +90,7 @@ fn run(alloc: Global, passes: u32) -> Remains {
         if !is_finished {
             break;
         }
-        remains.made = k + 1;
+        remains.made = k.saturating_add(1);
     }
     let (refusal, device) = closed(store);
     if refusal.is_none() {
@@ -135,7 +139,10 @@ fn a_stop_at_each_call_leaves_no_wrong_table(rt: HostRuntime) -> Result<(), Fail
         for passes in 0..MOST {
             let remains = run(rt.alloc(), passes);
             is_stopped = remains.is_stopped;
-            assert!(rt; may_remain(rt.alloc(), remains, left), "{left:?} after {passes} calls");
+            assert!(rt;
+                may_remain(rt.alloc(), remains, left),
+                "{left:?} after {passes} calls"
+            );
             if !is_stopped {
                 break;
             }
@@ -145,26 +152,34 @@ fn a_stop_at_each_call_leaves_no_wrong_table(rt: HostRuntime) -> Result<(), Fail
     Ok(())
 }
 
-// The closing's last call is the sync of the shut gate. Where it fails the gate may not be synced, and the opening that
-// follows syncs it.
+// Runs the script on a device of whose calls the one after so many fails, to the end of it.
+fn run_to_the_end(
+    alloc: Global,
+    passes: u32,
+) -> Result<(Option<Refusal>, FuseDevice<MemoryDevice>), Refusal> {
+    let device = FuseDevice::new(MemoryDevice::new(alloc), u64::from(passes), FuseMode::Once);
+    let mut store = match create_store(alloc, device, 8) {
+        Ok(store) => store,
+        Err((refusal, _)) => return Err(refusal),
+    };
+    for &command in SCRIPT.iter() {
+        answer(alloc, &mut store, command).is_ok();
+    }
+    Ok(closed(store))
+}
+
+// The closing's last call is the sync of the shut gate. Where it fails the gate may be lost in a stop, and so the
+// opening that follows syncs it.
 #[test]
 fn an_opening_syncs_what_was_read(rt: HostRuntime) -> Result<(), Fail> {
-    let mut calls = u64::MAX - 1;
-    for is_last in [false, true] {
-        let device = FuseDevice::new(MemoryDevice::new(rt.alloc()), calls, FuseMode::Once);
-        let Ok(mut store) = create_store(rt.alloc(), device, 8) else {
-            return Ok(());
-        };
-        for &command in SCRIPT.iter() {
-            answer(rt.alloc(), &mut store, command).is_ok();
-        }
-        let (refusal, device) = closed(store);
-        assert_eq!(rt; refusal, is_last.then_some(Refusal::Device));
-        calls = device.calls().saturating_sub(1);
-        let device = device_of(opened(rt.alloc(), device, 8)?)?;
-        let mut store = opened(rt.alloc(), device.into_inner().after_stop(Left::Synced), 8)?;
-        let mut table = table_after(rt.alloc(), SCRIPT.len());
-        assert!(rt; represents(rt.alloc(), &mut store, &mut table, &NAMES, 9));
-    }
+    let (refusal, device) = run_to_the_end(rt.alloc(), u32::MAX)?;
+    assert_eq!(rt; refusal, None);
+    let calls = u32::try_from(device.calls()).unwrap_or(0);
+    let (refusal, device) = run_to_the_end(rt.alloc(), calls.saturating_sub(1))?;
+    assert_eq!(rt; refusal, Some(Refusal::Device));
+    let device = device_of(opened(rt.alloc(), device, 8)?)?;
+    let mut store = opened(rt.alloc(), device.into_inner().after_stop(Left::Synced), 8)?;
+    let mut table = table_after(rt.alloc(), SCRIPT.len());
+    assert!(rt; represents(rt.alloc(), &mut store, &mut table, &NAMES, 9));
     Ok(())
 }
