@@ -25,8 +25,8 @@ use page_file::Fault;
 use std::alloc::Allocator;
 
 impl<B: BlockDevice, A: Allocator + Copy> Layers<B, A> {
-    /// The layers that the catalog of a file names. Its page is read and checked, and no other: `Damaged` with its number
-    /// where it holds no good catalog.
+    /// The layers that the catalog of a file names. Its page is read and checked, and no other: `Damaged` with its
+    /// number where it holds no good catalog.
     ///
     /// On an honest device any other refusal is `Memory` or `Device`, and an image of a table is opened as layers that
     /// are sound with it. The device comes back, with its blocks as they were.
