@@ -1,11 +1,12 @@
 -- A change of layers is a step of their store.
-use Rattle.std.proofs.Common.{◌≡◌, ◌≤◌, ◌^◌, ◌<◌, ℕ, List, Bool, true, false, not, sym, ap, subst, arith}
-use Rattle.std.specs.Prelude.{Option, Some, None, is_some, Result, Ok, Err, OnOk}
+use Rattle.std.proofs.Common.{◌≡◌, ◌∙◌, ◌≤◌, ◌^◌, ◌<◌, true, false, not, sym, ap, subst}
+use Rattle.std.specs.Prelude.{Option, Some, None, is_some, Result, Ok, Err, OnErr, OnOk}
 use Rattle.block_device.specs.Device.{LeavesOnly}
 use Rattle.live_layers.specs.Changes.{ChangeLeaves, IsChanged}
 use Rattle.live_layers.specs.Faults.{HasRefusalCause, HasUnmadeCause}
 use Rattle.live_layers.specs.Image.{IsRefusedOrImageOf, MayRemain}
-use Rattle.live_layers.specs.Keeping.{IsSound, Leaves}
+use Rattle.live_layers.specs.Keeping as keeping
+use Rattle.live_layers.specs.Keeping.{IsSound, IsWritten, Leaves}
 use Rattle.live_layers.specs.Unmade.{is_broken, told}
 use Rattle.live_layers.specs.declared.layers.Layers.{Layers}
 use Rattle.live_layers.specs.declared.unmade.Unmade.{Unmade}
@@ -17,15 +18,14 @@ use Rattle.plain_table.specs.Step.{after, changed, kept_or, refusal_of, refused_
 use Rattle.plain_table.specs.Step.Answer.{Done}
 use Rattle.plain_table.specs.Table.{Table}
 use Rattle.plain_table.specs.declared.refusal.Refusal.{Refusal}
-use Rattle.store_law.specs.Lawful.{IsSpent, MayWrite}
 use Rattle.store_law.specs.Sessions.{LawfulStep, SessionState, Takes}
 use Rattle.store_law.specs.States.Request.{Asks}
 use Rattle.store_law.specs.States.StoreState.{Alive}
 use Rattle.store_law.specs.Stops.{Stops, after_command, is_end, tables_left}
-use Rattle.layer_store.specs.Representation.{Represents, StopsLeave, cache_in, device_in}
+use Rattle.layer_store.specs.Representation.{IsSettled, Represents, StopsLeave, cache_in, device_in}
 use Rattle.layer_store.specs.declared.store.Store.{Store}
 use Rattle.layer_store.proofs.StopLemmas.{OnlyNow, kept_leaves, left_rests}
-use Rattle.layer_store.proofs.StoreLemmas.{alive_in, change_goes_on, no_fewer_faults, takes_change, told_cause, what_is_kept}
+use Rattle.layer_store.proofs.StoreLemmas.{alive_in, change_goes_on, is_settled, no_fewer_faults, settled_so, takes_change, told_cause, what_is_kept}
 
 -- a command that does not change the table leaves it
 pub stays : (why : Option Refusal) (t u : Table) → not (is_some why) ≡ false → kept_or why t u ≡ t
@@ -66,6 +66,23 @@ module _ {D A : Type 0} {m : _} (old new : Store D A m) (mid : Layers D A m) (c 
       let kept = what_is_kept old s represents in
       subst (λ (l : Layers D A m). LeavesOnly m.moment m.left_since (device_in old) (device_of l.cache) (MayRemain s.stops.now)) (sym same)
       (kept_leaves (cache_in old) mid.cache s.stops.now kept.honest now kept.leaves.now ((leaves t (alive_in old s t represents alive).1).quiet unchanged))
+
+-- what leaves the table is refused
+pub not_made : (why : Option Refusal) → not (is_some why) ≡ false → Done ≡ refused_or why Done → ⊥
+not_made None e f = cc
+not_made (Some r) e f = cc
+
+unless_made : (P : Type 0) (made : Result (Unit {0}) Unmade) → ((u : Unit {0}) → made ≡ Ok u → ⊥) → OnErr made P → P
+unless_made P (Ok u) refused p = absurd (refused u (λ i. Ok u))
+unless_made P (Err why) refused p = p
+
+-- and what was settled is so still
+pub settled_told : {D A : Type 0} {m : _} (old new : Store D A m) (mid : Layers D A m) (t : Table) (c : Command) (made : Result (Unit {0}) Unmade) → new.layers ≡ mid → ChangeLeaves old.layers mid t c made → IsChanged old.layers mid t c made
+    → OnErr made (IsWritten old.layers → IsWritten mid) → reply_of t c ≡ refused_or (refusal_of t c) Done → after t c ≡ t → not (is_some (refusal_of t c)) ≡ false → IsSettled old → IsSettled new
+settled_told old new mid t c made same leaves changed written reply unchanged refused was =
+    let settled = is_settled old was in
+    let no_change = λ (u : Unit {0}) (is : made ≡ Ok u). not_made (refusal_of t c) refused ((subst (λ (r : Result (Unit {0}) Unmade). IsChanged old.layers mid t c r) is changed).0 ∙ reply) in
+    settled_so new (subst keeping.IsSettled (sym same) ((leaves.quiet unchanged).gate ∙ settled.0, unless_made (IsWritten old.layers → IsWritten mid) made no_change written settled.1))
 
 -- a refusal where the table would change does not end the store
 pub refused_goes_on : {D A : Type 0} {m : _} (old mid : Layers D A m) (t : Table) (c : Command) (made : Result (Unit {0}) Unmade) (r : Refusal) → reply_of t c ≡ refused_or (refusal_of t c) Done → not (is_some (refusal_of t c)) ≡ true → IsChanged old mid t c made

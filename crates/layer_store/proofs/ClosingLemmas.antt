@@ -1,6 +1,6 @@
 -- A closing of layers is a closing of their store.
 use Rattle.std.proofs.Common.{◌≡◌, ◌∙◌, ◌⊎◌, ℕ, ◌∷◌, true, inl, inr, sym, ap, subst}
-use Rattle.std.specs.Prelude.{IsOk, Result, Ok, Err}
+use Rattle.std.specs.Prelude.{IsOk, Result, Ok, Err, OnErr}
 use Rattle.block_device.specs.Device.{LeavesOnly, Only}
 use Rattle.live_layers.specs.Changes.{IsBegun}
 use Rattle.live_layers.specs.Closings.{ClosingLeaves}
@@ -13,20 +13,21 @@ use Rattle.live_layers.specs.declared.layers.Layers.{Layers}
 use Rattle.live_layers.specs.declared.unmade.Unmade.{Unmade}
 use Rattle.live_layers.specs.declared.unmade.Unmade.TheVariants as unmade
 use Rattle.live_layers.proofs.StopLemmas.{shut_is_durable}
-use Rattle.page_cache.specs.Cache.{IsHonest, blocks_of, device_of}
+use Rattle.page_cache.specs.Cache.{IsHonest, blocks_of, device_of, gate_of}
 use Rattle.page_file.specs.Fault.{IsOfDevice, faults_after}
 use Rattle.page_file.specs.declared.fault.Fault.{Fault}
 use Rattle.page_file.specs.declared.fault.Fault.TheVariants as fault
+use Rattle.page_file.specs.declared.gate.Gate.TheVariants.{Shut}
 use Rattle.plain_table.specs.Table.{Table}
 use Rattle.plain_table.specs.declared.refusal.Refusal.{Refusal}
 use Rattle.store_law.specs.Sessions.{SessionState}
-use Rattle.store_law.specs.States.StoreState.{Alive}
+use Rattle.store_law.specs.States.StoreState.{Alive, Dead}
 use Rattle.store_law.specs.Stops.{tables_left}
 use Rattle.layer_store.specs.Faults.{IsMemoryOrDevice}
-use Rattle.layer_store.specs.Representation.{HasFailed, IsSettled, Represents, RepresentsTable, StopsLeave, blocks_in, cache_in, device_in}
+use Rattle.layer_store.specs.Representation.{HasFailed, IsInState, IsSettled, Represents, RepresentsTable, StopsLeave, blocks_in, cache_in, device_in}
 use Rattle.layer_store.specs.declared.store.Store.{Store}
 use Rattle.layer_store.proofs.StopLemmas.{OnlyNow, left_rests, read_alone}
-use Rattle.layer_store.proofs.StoreLemmas.{alive_in, alive_with, failed_so, is_settled, settled_so, what_is_kept}
+use Rattle.layer_store.proofs.StoreLemmas.{alive_in, alive_with, dead_so, failed_so, is_settled, settled_so, what_is_kept}
 
 -- as a refusal
 pub memory_or_device : (f : Fault) → IsOfDevice f → IsMemoryOrDevice (as_refusal f)
@@ -54,11 +55,23 @@ ok_so : (made : Result (Unit {0}) Unmade) → IsOk (told made) → IsOk made
 ok_so (Ok u) h = h
 ok_so (Err why) h = absurd (cc)
 
+-- one that was refused behind a gate that is shut has failed
+ends_so : {D A : Type 0} {m : _} (new : Store D A m) (made : Result (Unit {0}) Unmade) → new.failed ≡ is_broken made → IsBegun made ⊎ ¬ (gate_of (cache_in new) ≡ Shut) → OnErr (told made) (IsSettled new → IsInState new Dead)
+ends_so new (Ok u) failed finished = tt
+ends_so new (Err (unmade.Broken f)) failed finished = λ settled. dead_so new failed
+ends_so new (Err (unmade.Refused r)) failed (inl begun) = absurd begun
+ends_so new (Err (unmade.Refused r)) failed (inr opened) = λ settled. absurd (opened (is_settled new settled).0)
+
 module _ {D A : Type 0} {m : _} (old new : Store D A m) (mid : Layers D A m) (made : Result (Unit {0}) Unmade) (result : Result (Unit {0}) Refusal)
     (answered : result ≡ told made) (failed : new.failed ≡ is_broken made) (same : new.layers ≡ mid) where
   finished : IsOk result ⊎ HasFailed new → IsBegun made
   finished (inl ok) = begun_so made (inl (subst (λ (r : Result (Unit {0}) Refusal). IsOk r) answered ok))
   finished (inr dead) = begun_so made (inr (sym failed ∙ failed_so new dead))
+
+  pub ends_closed : IsBegun made ⊎ ¬ (gate_of mid.cache ≡ Shut) → OnErr result (IsSettled new → IsInState new Dead)
+  ends_closed finished =
+      subst (λ (r : Result (Unit {0}) Refusal). OnErr r (IsSettled new → IsInState new Dead)) (sym answered)
+      (ends_so new made failed (subst (λ (l : Layers D A m). IsBegun made ⊎ ¬ (gate_of l.cache ≡ Shut)) (sym same) finished))
 
   pub image_closed : ((t : Table) → IsSound old.layers t → ClosingLeaves old.layers mid t made) → (t : Table) → RepresentsTable old t → IsOk result ⊎ HasFailed new → IsImage (blocks_in new) t
   image_closed leaves t represents end =

@@ -1,6 +1,6 @@
 -- A question of layers is a step of their store.
 use Rattle.std.proofs.Common.{◌≡◌, ◌∙◌, ◌<◌, ◌^◌, false, refl, arith}
-use Rattle.std.specs.Prelude.{Option, Some, None, Result, Ok, Err}
+use Rattle.std.specs.Prelude.{Option, Some, None, Result}
 use Rattle.live_layers.specs.Changes.{IsAnswered}
 use Rattle.live_layers.specs.Faults.{HasRefusalCause}
 use Rattle.live_layers.specs.Image.{MayRemain}

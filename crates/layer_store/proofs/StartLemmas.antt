@@ -1,5 +1,5 @@
 -- A new file holds the empty table, and what is read of a file behind its shut gate.
-use Rattle.std.proofs.Common.{◌≡◌, ◌∙◌, ◌⊎◌, ◌<◌, ◌≤◌, ℕ, List, [], length, true, false, Option, Some, None, refl, sym, ap, subst, arith, inl, inr, ⊎_elim}
+use Rattle.std.proofs.Common.{◌≡◌, ◌∙◌, ◌⊎◌, ◌<◌, ◌≤◌, ℕ, List, [], length, Option, Some, None, refl, sym, ap, subst, arith, inl, inr, ⊎_elim}
 use Rattle.std.specs.Prelude.{IsSome, option_and_then}
 use Rattle.std.specs.FinMap.{empty, empty_of_len, entries, entries-from_sorted, from_sorted, len-entries}
 use Rattle.std.specs.Cmp.Lexicographic.{slice_cmp}
@@ -11,16 +11,16 @@ use Rattle.block_device.specs.Moments.{leaves_weaker}
 use Rattle.catalog_page.specs.Layout.{records_at}
 use Rattle.catalog_page.proofs.Named.{begins_empty}
 use Rattle.live_layers.specs.Image.{HasNoCatalog, IsImage}
-use Rattle.live_layers.specs.Layers.{Holds, catalog_in, in_use}
+use Rattle.live_layers.specs.Layers.{Holds, in_use}
 use Rattle.live_layers.proofs.StopLemmas.{shut_is_durable}
 use Rattle.node_page.specs.Standing.{PageMap}
-use Rattle.page_cache.specs.Cache.{gate_of}
-use Rattle.page_file.specs.File.{IsNewFile}
+use Rattle.page_file.specs.File.{IsNewFile, IsPageMap, LiesIn, blocks_of, next_of, pages}
 use Rattle.page_file.specs.Laws.{a_run_goes_on}
 use Rattle.page_file.specs.Layout.{catalog_block}
 use Rattle.page_file.specs.Opening.{IsRefused}
 use Rattle.page_file.specs.Pages.{next_in, pages_in}
 use Rattle.page_file.specs.Stops.{AddsOnly, StopSince}
+use Rattle.page_file.specs.declared.file.PageFile.{PageFile}
 use Rattle.page_file.specs.declared.gate.Gate.TheVariants.{Shut}
 use Rattle.plain_table.specs.Table.{Layer, Table}
 use Rattle.store_law.specs.States.StoreState.{Alive}
@@ -79,6 +79,16 @@ new_image blocks new = record {
   spelled = ap (option_and_then records_at) new.catalog ∙ begins_empty;
   holds = nothing_held (pages_in blocks) (next_in blocks) new.catalog new.others;
 }
+
+-- so are those of a file that was made
+pub made_image : {D : Type 0} {m : _} (file : PageFile D m) → LiesIn file (blocks_of file) → next_of file ≡ 3 → pages file 2 ≡ Some catalog_block → ((k : ℕ) → ¬ (k ≡ 2) → pages file k ≡ None) → IsPageMap file → IsImage (blocks_of file) empty
+made_image file lies next catalog others map = new_image (blocks_of file) (record {
+  passes = lies.passes;
+  next = lies.next ∙ next;
+  catalog = lies.pages_there 2 ∙ catalog;
+  others = λ k ne. lies.pages_there k ∙ others k ne;
+  sound = lies.sound.0 map;
+})
 
 -- what is left while a file is made
 pub new_left : {D : Type 0} (moment : D → ℕ) (left_since : D → ℕ → Blocks → Type 0) (old new : D) (Q : Blocks → Type 0) → LeavesOnly moment left_since old new (λ c. IsRefused c ⊎ (Q c × IsNewFile c)) → LeavesOnly moment left_since old new (λ c. IsRefused c ⊎ IsImage c empty)

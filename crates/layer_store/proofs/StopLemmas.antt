@@ -1,5 +1,5 @@
 -- What stops leave of a store.
-use Rattle.std.proofs.Common.{◌≡◌, ◌∙◌, ◌≤◌, ℕ, zero, suc, List, [], ◌∷◌, Bool, true, false, cond, refl, sym, ap, subst, arith, inl, inr, ⊎_elim}
+use Rattle.std.proofs.Common.{◌≡◌, ◌≤◌, ℕ, zero, suc, List, [], ◌∷◌, Bool, true, false, cond, refl, sym, ap, subst, arith, inl, inr, ⊎_elim}
 use Rattle.std.specs.Prelude.{◌⊎◌, Result, Ok, Err}
 use Rattle.std.specs.List.{Contains}
 use Rattle.block_device.specs.Device.{Blocks, LeavesOnly}
@@ -12,7 +12,7 @@ use Rattle.live_layers.specs.Unmade.{told}
 use Rattle.live_layers.specs.declared.layers.Layers.{Layers}
 use Rattle.live_layers.specs.declared.unmade.Unmade.{Unmade}
 use Rattle.live_layers.specs.declared.unmade.Unmade.TheVariants as unmade
-use Rattle.live_layers.proofs.StopLemmas.{by_gate, kept_rests, leaves_kept, or_this, rest_leaves, rests_on_image, shut_is_durable, this_one}
+use Rattle.live_layers.proofs.StopLemmas.{by_gate, leaves_kept, or_this, rest_leaves, rests_on_image, shut_is_durable, this_one}
 use Rattle.page_cache.specs.Cache.{IsHonest, KeepsGate, blocks_of, device_of, gate_of}
 use Rattle.page_cache.specs.declared.cache.PageCache.{PageCache}
 use Rattle.page_file.specs.Laws.{stops_of_a_run_go_on}
@@ -53,9 +53,6 @@ left_among ts us c among (inr (u, there, image)) = inr (u, among u there, image)
 either_among : (t : Table) (ts us : List Table) → ((u : Table) → Contains ts u → Contains us u) → (u : Table) → Contains (t ∷ ts) u → Contains (t ∷ us) u
 either_among t ts us among u (zero, lt, is) = (0, omega arith, is)
 either_among t ts us among u (suc k, lt, is) = contains_more u t us (among u (k, omega (arith, lt), is))
-
-same_list : (t : Table) (ts : List Table) → Contains ts t → Contains ts t
-same_list t ts there = there
 
 -- what is left where a change or a closing gave up
 gave_up : (r : Refusal) (left : AfterStop) → is_end r ≡ false → Perhaps (tables_left left) ≡ after_change left (Refused r)

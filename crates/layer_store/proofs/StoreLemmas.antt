@@ -8,12 +8,11 @@ use Rattle.live_layers.specs.Faults.{HasRefusalCause, HasUnmadeCause, faults_aft
 use Rattle.live_layers.specs.Keeping as keeping
 use Rattle.live_layers.specs.Keeping.{IsSound, Leaves, records_in}
 use Rattle.live_layers.specs.Unmade.{is_broken, told, told_refusal}
-use Rattle.live_layers.specs.declared.layers.Layers.{Layers}
 use Rattle.live_layers.specs.declared.unmade.Unmade.{Unmade}
 use Rattle.live_layers.specs.declared.unmade.Unmade.TheVariants as unmade
 use Rattle.live_layers.proofs.OneTable.{pages_hold_one_table}
-use Rattle.page_cache.specs.Cache.{IsHonest, device_of, next_of, pages}
-use Rattle.page_file.specs.Fault.{faults_after, number_of}
+use Rattle.page_cache.specs.Cache.{IsHonest, next_of, pages}
+use Rattle.page_file.specs.Fault.{number_of}
 use Rattle.page_file.specs.declared.fault.Fault.{Fault}
 use Rattle.page_file.specs.declared.fault.Fault.TheVariants as fault
 use Rattle.plain_table.specs.Answers.{done_answer}

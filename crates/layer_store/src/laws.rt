@@ -1,5 +1,5 @@
-//! What follows from the definitions of images and of what a store represents: each law is the contract of a function that
-//! does nothing.
+//! What follows from the definitions of images and of what a store represents: each law is the contract of a function
+//! that does nothing.
 ghost use Rattle.std.specs.Prelude.{◌≡◌, ◌∷◌, ℕ};
 ghost use Rattle.block_device.specs.Device.{Blocks, LeavesOnly};
 ghost use Rattle.live_layers.specs.Image.{IsImage, MayRemain, IsRefusedOrImageOf, OpeningRefuses};

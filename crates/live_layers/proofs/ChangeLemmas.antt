@@ -1,6 +1,6 @@
 -- What the layers promise of a change that was made, refused or broken off.
 use Rattle.std.proofs.Common.{◌≡◌, ◌∙◌, ◌⊎◌, ℕ, ◌^◌, ◌≤◌, Bool, true, false, cond, List, Option, None, Some, refl, sym, ap, subst, arith, inl, inr, ⊎_elim}
-use Rattle.std.specs.Prelude.{Result, Ok, Err, OnOk, IfErr}
+use Rattle.std.specs.Prelude.{Result, Ok, Err, OnErr, OnOk, IfErr}
 use Rattle.block_device.specs.Device.{Blocks, HasRisen, LeavesOnly}
 use Rattle.block_device.specs.Moments.{leaves_then}
 use Rattle.node_page.specs.Broken.{cause_in}
@@ -128,3 +128,8 @@ begun_cause before now (Err b) e = broken_cause before now b b.touched e
 pub made_so : (P : Type 0) (made : Result (Unit {0}) Broken) → OnOk made P → OnOk (change_of made) P
 made_so P (Ok u) p = p
 made_so P (Err b) p = p
+
+-- and where they were not
+pub unmade_so : (P Q : Type 0) (made : Result (Unit {0}) Broken) → (P → Q) → OnErr made P → OnErr (change_of made) Q
+unmade_so P Q (Ok u) f p = p
+unmade_so P Q (Err b) f p = f p

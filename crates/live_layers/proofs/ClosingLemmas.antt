@@ -12,7 +12,7 @@ use Rattle.page_file.specs.Stops.{SameButGate, StopSince}
 use Rattle.page_file.specs.declared.fault.Fault.{Fault}
 use Rattle.page_file.specs.declared.fault.Fault.TheVariants as fault
 use Rattle.page_file.specs.declared.gate.Gate.{Gate}
-use Rattle.page_file.specs.declared.gate.Gate.TheVariants.{Open, Shut}
+use Rattle.page_file.specs.declared.gate.Gate.TheVariants.{Open, Shut, Unsure}
 use Rattle.plain_table.specs.Table.{Table}
 use Rattle.live_layers.specs.Catalog.{objects_named}
 use Rattle.live_layers.specs.Changes.{IsFaultOfChange}
@@ -28,6 +28,17 @@ use Rattle.live_layers.proofs.StopLemmas.{image_aside, or_this, this_one}
 pub breaks_off : (rose spent : Type 0) (f : Fault) → IsOfDevice f → (f ≡ fault.Device → rose) → IsFaultOfChange rose spent f
 breaks_off rose spent f (inl e) risen = subst (IsFaultOfChange rose spent) (sym e) tt
 breaks_off rose spent f (inr e) risen = subst (IsFaultOfChange rose spent) (sym e) (risen e)
+
+-- a gate that is open or unsure is not shut
+pub open_is_not_shut : (gate : Gate) → gate ≡ Open → ¬ (gate ≡ Shut)
+open_is_not_shut gate opened shut = let no : Open ≡ Shut = sym opened ∙ shut in cc
+
+pub unsure_is_not_shut : (gate : Gate) → gate ≡ Unsure → ¬ (gate ≡ Shut)
+unsure_is_not_shut gate unsure shut = let no : Unsure ≡ Shut = sym unsure ∙ shut in cc
+
+pub not_shut : {P : Type 0} (gate : Gate) → (gate ≡ Unsure) ⊎ ((gate ≡ Open) × P) → ¬ (gate ≡ Shut)
+not_shut gate (inl unsure) = unsure_is_not_shut gate unsure
+not_shut gate (inr opened) = open_is_not_shut gate opened.0
 
 shut_is_not_open : (gate : Gate) → gate ≡ Shut → gate ≡ Open → ⊥
 shut_is_not_open gate shut opened = let no : Shut ≡ Open = sym shut ∙ opened in absurd (cc)

@@ -18,7 +18,8 @@ ghost use Rattle.store_law.specs.Sessions.{LawfulStep, SessionState, Takes};
 ghost use Rattle.store_law.specs.States.Request.{Asks};
 ghost use Rattle.store_law.specs.States.StoreState.{Alive, Dead};
 ghost use Rattle.store_law.specs.Stops.{tables_left};
-ghost use Rattle.layer_store.specs.Representation.{IsInState, Represents, RepresentsTable, StopsLeave, device_in, layers_in};
+ghost use Rattle.layer_store.specs.Representation.{IsInState, IsSettled, Represents, RepresentsTable};
+ghost use Rattle.layer_store.specs.Representation.{StopsLeave, device_in, layers_in};
 
 use crate::store::{FAILED, Store};
 use block_device::BlockDevice;
@@ -43,6 +44,8 @@ impl<D: BlockDevice, A: Allocator + Copy> Store<D, A> {
             StopsLeave self.old self.new (IsRefusedOrImageOf (tables_left s.stops.now)) }
         ensures quiet { (s : SessionState) (t : Table) → Represents self.old s → s.state ≡ Alive t →
             changes t (Create layer.now dims fanout) ≡ false → StopsLeave self.old self.new (MayRemain s.stops.now) }
+        ensures still_settled { (t : Table) → RepresentsTable self.old t →
+            changes t (Create layer.now dims fanout) ≡ false → IsSettled self.old → IsSettled self.new }
 
         // One that has failed stays so, on any device.
         ensures dead { IsInState self.old Dead → (result ≡ Err (refusal.StoreFailed 19)) × (self.new ≡ self.old) }
@@ -71,6 +74,8 @@ impl<D: BlockDevice, A: Allocator + Copy> Store<D, A> {
             StopsLeave self.old self.new (IsRefusedOrImageOf (tables_left s.stops.now)) }
         ensures quiet { (s : SessionState) (t : Table) → Represents self.old s → s.state ≡ Alive t →
             changes t (Insert layer.now id bounds) ≡ false → StopsLeave self.old self.new (MayRemain s.stops.now) }
+        ensures still_settled { (t : Table) → RepresentsTable self.old t →
+            changes t (Insert layer.now id bounds) ≡ false → IsSettled self.old → IsSettled self.new }
 
         // One that has failed stays so, on any device.
         ensures dead { IsInState self.old Dead → (result ≡ Err (refusal.StoreFailed 19)) × (self.new ≡ self.old) }

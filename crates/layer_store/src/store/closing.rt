@@ -1,6 +1,6 @@
 //! The closing of a store, and its reopening.
 
-ghost use Rattle.std.specs.Prelude.{◌≡◌, ◌⊎◌, ◌∷◌, Ok, Err, IsOk, IfOk, IfErr};
+ghost use Rattle.std.specs.Prelude.{◌≡◌, ◌⊎◌, ◌∷◌, Ok, Err, IsOk, IfOk, IfErr, OnErr};
 ghost use Rattle.block_device.specs.Device.{LeavesOnly, Only};
 ghost use Rattle.live_layers.specs.Faults.{HasRefusalCause, faults_after_refusal};
 ghost use Rattle.live_layers.specs.Image.{IsImage, IsRefusedOrImageOf};
@@ -45,7 +45,8 @@ impl<D: BlockDevice, A: Allocator + Copy> Store<D, A> {
         ensures quiet { (t : Table) → RepresentsTable self.old t → IsSettled self.old →
             StopsLeave self.old self.new (λ c. c ≡ blocks_in self.old) }
 
-        // One that has failed stays so, on any device.
+        // One that is refused after its closing has failed; and one that has failed stays so, on any device.
+        ensures ends { OnErr result (IsSettled self.new → IsInState self.new Dead) }
         ensures dead { IsInState self.old Dead → (result ≡ Err (refusal.StoreFailed 19)) × (self.new ≡ self.old) }
         ensures cause { HasRefusalCause (D.faults (device_in self.old)) (D.faults (device_in self.new)) result }
     {
@@ -58,9 +59,9 @@ impl<D: BlockDevice, A: Allocator + Copy> Store<D, A> {
 
     /// Closes the table into the file, and hands the device back.
     ///
-    /// Closed, its blocks are an image of the table. Refused it answers `Memory` or `Device`, and the device comes back:
-    /// then a stop leaves of it blocks that opening refuses, or an image of a table that was closed before, or of this
-    /// one. A store that failed answers `StoreFailed(19)`, and the device comes back as it is.
+    /// Closed, its blocks are an image of the table. Refused it answers `Memory` or `Device`, and the device comes
+    /// back: then a stop leaves of it blocks that opening refuses, or an image of a table that was closed before, or of
+    /// this one. A store that failed answers `StoreFailed(19)`, and the device comes back as it is.
     pub fn close(self) -> Result<D, (Refusal, D)>
         ensures closed { (t : Table) → RepresentsTable self t → IfOk result (λ device. IsImage (D.shown device) t) }
 

@@ -59,8 +59,8 @@ impl<D: BlockDevice, A: Allocator + Copy> Store<D, A> {
         self.layers.count(layer)
     }
 
-    /// The objects of a layer that the query seeks, ascending by identifier. It looks at the root of the layer's tree, and
-    /// at each other node whose box the query admits.
+    /// The objects of a layer that the query seeks, ascending by identifier. It looks at the root of the layer's tree,
+    /// and at each other node whose box the query admits.
     ///
     /// Refused, in this order, by BadName, NoLayer, WrongDims and BadBox.
     pub fn range(&mut self, layer: &[u8], query: RawQuery) -> Result<Vec<(u64, AnyBox), A>, Refusal>

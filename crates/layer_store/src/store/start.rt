@@ -32,8 +32,8 @@ fn is_cache(pages: u32) -> bool
     pages >= 8 && pages <= 4096
 }
 
-/// Makes a store without layers on a device without blocks, which takes its memory from this allocator and holds at most
-/// so many pages in memory (8 to 4096). Its blocks are an image of the empty table.
+/// Makes a store without layers on a device without blocks, which takes its memory from this allocator and holds at
+/// most so many pages in memory (8 to 4096). Its blocks are an image of the empty table.
 ///
 /// Refused by `BadCache`, before any call of the device. On an honest device any other refusal is `Memory` or `Device`.
 /// The device comes back.

@@ -5,7 +5,7 @@ ghost use Rattle.page_file.specs.Fault.{IsOfDevice};
 ghost use Rattle.page_cache.specs.Cache.{KeepsMap};
 ghost use Rattle.plain_table.specs.Table.{Table};
 ghost use Rattle.live_layers.specs.Begun.{Begins};
-ghost use Rattle.live_layers.specs.Keeping.{IsSound, cache_of, records_in};
+ghost use Rattle.live_layers.specs.Keeping.{IsSound, IsWritten, cache_of, records_in};
 
 use crate::layers::Layers;
 use block_device::BlockDevice;
@@ -21,6 +21,7 @@ impl<B: BlockDevice, A: Allocator + Copy> Layers<B, A> {
         ensures map { KeepsMap (cache_of self.old) (cache_of self.new) }
         ensures records { records_in self.new ≡ records_in self.old }
         ensures count { self.new.object_count ≡ self.old.object_count }
+        ensures written { IsWritten self.old → IsWritten self.new }
         ensures sound { (t : Table) → IsSound self.old t → IsSound self.new t }
     {
         self.cache.begin_change()?;

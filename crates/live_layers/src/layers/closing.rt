@@ -1,6 +1,6 @@
 //! The records written into the catalog, the gate shut behind all pages, and the layers closed.
 
-ghost use Rattle.std.specs.Prelude.{◌≡◌, ◌⊎◌, ◌↔◌, List, ◌∷◌, Ok, IsOk, IfErr, IfOk, OnOk};
+ghost use Rattle.std.specs.Prelude.{◌≡◌, ◌⊎◌, ◌↔◌, List, ◌∷◌, Ok, IsOk, IfErr, IfOk, OnErr, OnOk};
 ghost use Rattle.block_device.specs.Device.{LeavesOnly, Only};
 ghost use Rattle.page_file.specs.Fault.{HasCause, IsDamage, IsOfDevice, faults_after};
 ghost use Rattle.page_file.specs.declared.gate.Gate.TheVariants.{Shut};
@@ -29,6 +29,7 @@ impl<B: BlockDevice, A: Allocator + Copy> Layers<B, A> {
         ensures sound { (t : Table) → IsSound self.old t → IsSound self.new t }
         ensures written { OnOk result (IsWritten self.new) }
         ensures was_written { IsWritten self.old → (self.new ≡ self.old) × IsOk result }
+        ensures refused { OnErr result (¬ (gate_of (cache_of self.new) ≡ Shut)) }
         ensures next { next_of (cache_of self.new) ≡ next_of (cache_of self.old) }
         ensures honest { IsHonest (cache_of self.old) ↔ IsHonest (cache_of self.new) }
         ensures faults { IsPageMap (cache_of self.old) → IfErr result IsOfDevice }
@@ -65,6 +66,7 @@ impl<B: BlockDevice, A: Allocator + Copy> Layers<B, A> {
 
         ensures sound { (t : Table) → IsSound self.old t → IsSound self.new t }
         ensures shut { OnOk result (gate_of (cache_of self.new) ≡ Shut) }
+        ensures refused { OnErr result (¬ (gate_of (cache_of self.new) ≡ Shut)) }
         ensures written { OnOk result (IsWritten self.new) }
         ensures next { next_of (cache_of self.new) ≡ next_of (cache_of self.old) }
         ensures honest { IsHonest (cache_of self.old) ↔ IsHonest (cache_of self.new) }

@@ -1,6 +1,6 @@
 //! Layers made.
 
-ghost use Rattle.std.specs.Prelude.{◌≡◌, ◌≤◌, ◌<◌, length, MatchResult, IfErr, IfOk, OnOk, None, Some, false};
+ghost use Rattle.std.specs.Prelude.{◌≡◌, ◌≤◌, ◌<◌, length, MatchResult, IfErr, IfOk, OnErr, OnOk, None, Some, false};
 ghost use Rattle.layer_pages.specs.Changes.{IsEmptyLeaf};
 ghost use Rattle.page_cache.specs.Cache.{IsHonest, device_of, next_of};
 ghost use Rattle.plain_table.specs.Commands.Command.{Create};
@@ -10,7 +10,7 @@ ghost use Rattle.store_law.specs.Lawful.{blames_device};
 ghost use Rattle.live_layers.specs.Changes.{ChangeLeaves, IsChanged};
 ghost use Rattle.live_layers.specs.Creating.{BringsTree, MayBeLayer};
 ghost use Rattle.live_layers.specs.Faults.{HasUnmadeCause};
-ghost use Rattle.live_layers.specs.Keeping.{Belongs, IsSound, cache_of, records_in};
+ghost use Rattle.live_layers.specs.Keeping.{Belongs, IsSound, IsWritten, cache_of, records_in};
 
 mod add_layer;
 
@@ -32,6 +32,7 @@ impl<B: BlockDevice, A: Allocator + Copy> Layers<B, A> {
             ChangeLeaves self.old self.new t (Create name.now dims fanout) result }
         ensures tree { (t : Table) → IsSound self.old t →
             OnOk result (BringsTree self.old self.new name.now IsEmptyLeaf) }
+        ensures written { OnErr result (IsWritten self.old → IsWritten self.new) }
         ensures honest { IsHonest (cache_of self.old) → IsHonest (cache_of self.new) }
         ensures next { next_of (cache_of self.old) ≤ next_of (cache_of self.new) }
         ensures cause { HasUnmadeCause (B.faults (device_of (cache_of self.old)))

@@ -1,13 +1,13 @@
 //! An object inserted into a layer.
 
-ghost use Rattle.std.specs.Prelude.{◌≤◌, OnOk};
+ghost use Rattle.std.specs.Prelude.{◌≤◌, OnErr, OnOk};
 ghost use Rattle.page_cache.specs.Cache.{IsHonest, device_of, next_of};
 ghost use Rattle.plain_table.specs.Boxes.{given_bounds};
 ghost use Rattle.plain_table.specs.Commands.Command.{Insert};
 ghost use Rattle.plain_table.specs.Table.{Table, layer_at};
 ghost use Rattle.live_layers.specs.Changes.{ChangeLeaves, IsChanged};
 ghost use Rattle.live_layers.specs.Faults.{HasUnmadeCause};
-ghost use Rattle.live_layers.specs.Keeping.{ChangesTree, IsSound, cache_of};
+ghost use Rattle.live_layers.specs.Keeping.{ChangesTree, IsSound, IsWritten, cache_of};
 ghost use Rattle.live_layers.specs.Rules.{HasGained};
 
 mod adding;
@@ -32,6 +32,7 @@ impl<B: BlockDevice, A: Allocator + Copy> Layers<B, A> {
             ChangeLeaves self.old self.new t (Insert name.now id bounds) result }
         ensures tree { (t : Table) → IsSound self.old t → OnOk result (ChangesTree self.old self.new name.now
             (HasGained (layer_at t name.now) id (given_bounds bounds))) }
+        ensures written { OnErr result (IsWritten self.old → IsWritten self.new) }
         ensures honest { IsHonest (cache_of self.old) → IsHonest (cache_of self.new) }
         ensures next { next_of (cache_of self.old) ≤ next_of (cache_of self.new) }
         ensures cause { HasUnmadeCause (B.faults (device_of (cache_of self.old)))

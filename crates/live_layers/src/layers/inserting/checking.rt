@@ -10,7 +10,7 @@ ghost use Rattle.plain_table.specs.declared.boxes.RawBox.{RawBox as GivenBox};
 ghost use Rattle.live_layers.specs.Changes.{Rose};
 ghost use Rattle.live_layers.specs.Faults.{HasRefusalCause};
 ghost use Rattle.live_layers.specs.Inserting.{IsAllowedOr};
-ghost use Rattle.live_layers.specs.Keeping.{IsSound, cache_of, records_in};
+ghost use Rattle.live_layers.specs.Keeping.{IsSound, IsWritten, cache_of, records_in};
 ghost use Rattle.live_layers.specs.Located.{IsLocated};
 
 use crate::faults::as_refusal;
@@ -40,6 +40,7 @@ impl<B: BlockDevice, A: Allocator + Copy> Layers<B, A> {
         ensures room { IfOk result (λ b. self.new.object_count < most_objects) }
         ensures sound { (t : Table) → IsSound self.old t → IsSound self.new t }
         ensures records { records_in self.new ≡ records_in self.old }
+        ensures written { IsWritten self.old → IsWritten self.new }
         ensures gate { KeepsGate (cache_of self.old) (cache_of self.new) }
         ensures map { KeepsMap (cache_of self.old) (cache_of self.new) }
         ensures cause { HasRefusalCause (B.faults (device_of (cache_of self.old)))

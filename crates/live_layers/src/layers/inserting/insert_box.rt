@@ -1,6 +1,6 @@
 //! An object inserted into the layer at a place.
 
-ghost use Rattle.std.specs.Prelude.{◌≤◌, ◌<◌, ℕ, List, OnOk, length};
+ghost use Rattle.std.specs.Prelude.{◌≤◌, ◌<◌, ℕ, List, OnErr, OnOk, length};
 ghost use Rattle.box_math.specs.Bounds.{IsDims};
 ghost use Rattle.page_cache.specs.Cache.{IsHonest, device_of, next_of};
 ghost use Rattle.plain_table.specs.Boxes.{given_bounds};
@@ -10,7 +10,7 @@ ghost use Rattle.plain_table.specs.declared.boxes.RawBox.{RawBox as GivenBox};
 ghost use Rattle.live_layers.specs.Changes.{ChangeLeaves, IsChanged};
 ghost use Rattle.live_layers.specs.Faults.{HasUnmadeCause};
 ghost use Rattle.live_layers.specs.Inserting.{ReachesBox};
-ghost use Rattle.live_layers.specs.Keeping.{ChangesTree, IsSound, cache_of, records_in};
+ghost use Rattle.live_layers.specs.Keeping.{ChangesTree, IsSound, IsWritten, cache_of, records_in};
 ghost use Rattle.live_layers.specs.Rules.{HasGained};
 
 use crate::faults::change_of;
@@ -39,6 +39,7 @@ impl<B: BlockDevice, A: Allocator + Copy> Layers<B, A> {
         ensures tree { (t : Table) (name : List ℕ) (box : GivenBox) → IsSound self.old t →
             ReachesBox t name place box D (record { low = low.entry; high = high.entry }) →
             OnOk result (ChangesTree self.old self.new name (HasGained (layer_at t name) id (given_bounds box))) }
+        ensures written { OnErr result (IsWritten self.old → IsWritten self.new) }
         ensures honest { IsHonest (cache_of self.old) → IsHonest (cache_of self.new) }
         ensures next { next_of (cache_of self.old) ≤ next_of (cache_of self.new) }
         ensures cause { HasUnmadeCause (B.faults (device_of (cache_of self.old)))

@@ -2,7 +2,6 @@
 use Rattle.std.proofs.Common.{◌≡◌, Result, Ok, Err, ap, sym, subst}
 use Rattle.page_cache.specs.Cache.{device_of}
 use Rattle.store_law.specs.Stops.{tables_left}
-use Rattle.plain_table.specs.declared.refusal.Refusal.{Refusal}
 use Rattle.layer_store.specs.Faults.{IsMemoryOrDevice}
 use Rattle.layer_store.proofs.ClosingLemmas.{memory_or_device, rests_of_store}
 use Rattle.layer_store.proofs.StoreLemmas.{alive_in, alive_with, failed_so, is_dead, is_settled, not_both}

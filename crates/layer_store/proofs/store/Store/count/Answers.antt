@@ -1,5 +1,5 @@
 -- A count of the layers is a step of the store.
-use Rattle.std.proofs.Common.{Ok, Err, Result, ℕ, refl}
+use Rattle.std.proofs.Common.{refl}
 use Rattle.plain_table.specs.Answers.{count_answer}
 use Rattle.plain_table.specs.Commands.Command.{Count}
 use Rattle.plain_table.specs.Step.{refusal_of}

@@ -6,7 +6,7 @@ use Rattle.live_layers.specs.declared.layers.Layers.{Layers}
 use Rattle.plain_table.specs.Commands.Command.{Create}
 use Rattle.plain_table.specs.Step.{changed, changes, refusal_of}
 use Rattle.layer_store.specs.Representation.{device_in}
-use Rattle.layer_store.proofs.ChangeLemmas.{cause_told, on_told, quiet_told, refused_goes_on, stays, step_told, stops_told}
+use Rattle.layer_store.proofs.ChangeLemmas.{cause_told, on_told, quiet_told, refused_goes_on, settled_told, stays, step_told, stops_told}
 use Rattle.layer_store.proofs.StopLemmas.{change_leaves}
 use Rattle.layer_store.proofs.StoreLemmas.{alive_in, alive_with, is_dead, not_both, takes_nothing}
 use Rattle.layer_store.proofs.store.Store.create.Goals as goal
@@ -56,3 +56,14 @@ pub returns-clause-tree : goal.returns-clause-tree
 returns-clause-tree g c = λ t represents.
     let made = c.create-made in
     on_told made.result c.tell.result (λ (l : Layers _ _ _). BringsTree c.args.self.now.layers l c.args.layer.now IsEmptyLeaf) c.tell.ensures.told c.tell.ensures.layers (made.ensures.tree t (alive_with c.args.self.now t represents).1)
+
+pub returns-then-self-clause-still_settled : goal.returns-then-self-clause-still_settled
+returns-then-self-clause-still_settled g c = λ t represents unchanged was. was
+
+pub returns-clause-still_settled : goal.returns-clause-still_settled
+returns-clause-still_settled g c = λ t represents unchanged.
+    let old = c.args.self.now in
+    let made = c.create-made in
+    let sound = (alive_with old t represents).1 in
+    settled_told old c.tell.new.self made.new.self t (Create c.args.layer.now c.args.dims c.args.fanout) made.result c.tell.ensures.layers (made.ensures.leaves t sound) (made.ensures.changed t sound) made.ensures.written refl
+    (stays (refusal_of t (Create c.args.layer.now c.args.dims c.args.fanout)) t (changed t (Create c.args.layer.now c.args.dims c.args.fanout)) unchanged) unchanged

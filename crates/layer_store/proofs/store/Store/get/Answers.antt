@@ -5,7 +5,7 @@ use Rattle.plain_table.specs.Commands.Command.{Get}
 use Rattle.plain_table.specs.Step.{refusal_of}
 use Rattle.layer_store.specs.Representation.{device_in}
 use Rattle.layer_store.proofs.QuestionLemmas.{keeps_asked, kept_or_same, nothing_asked, step_asked, stops_asked}
-use Rattle.layer_store.proofs.StoreLemmas.{alive_with, is_dead, not_both, takes_nothing}
+use Rattle.layer_store.proofs.StoreLemmas.{is_dead, not_both, takes_nothing}
 use Rattle.layer_store.proofs.store.Store.get.Goals as goal
 
 pub returns-then-self-clause-step : goal.returns-then-self-clause-step

@@ -8,7 +8,7 @@ use Rattle.live_layers.specs.declared.layers.Layers.{Layers}
 use Rattle.plain_table.specs.Commands.Command.{Insert}
 use Rattle.plain_table.specs.Step.{changed, changes, refusal_of}
 use Rattle.layer_store.specs.Representation.{device_in}
-use Rattle.layer_store.proofs.ChangeLemmas.{cause_told, on_told, quiet_told, refused_goes_on, stays, step_told, stops_told}
+use Rattle.layer_store.proofs.ChangeLemmas.{cause_told, on_told, quiet_told, refused_goes_on, settled_told, stays, step_told, stops_told}
 use Rattle.layer_store.proofs.StopLemmas.{change_leaves}
 use Rattle.layer_store.proofs.StoreLemmas.{alive_in, alive_with, is_dead, not_both, takes_nothing}
 use Rattle.layer_store.proofs.store.Store.insert.Goals as goal
@@ -58,3 +58,14 @@ pub returns-clause-tree : goal.returns-clause-tree
 returns-clause-tree g c = λ t represents.
     let made = c.insert-made in
     on_told made.result c.tell.result (λ (l : Layers _ _ _). ChangesTree c.args.self.now.layers l c.args.layer.now (HasGained (layer_at t c.args.layer.now) c.args.id (given_bounds c.args.bounds))) c.tell.ensures.told c.tell.ensures.layers (made.ensures.tree t (alive_with c.args.self.now t represents).1)
+
+pub returns-then-self-clause-still_settled : goal.returns-then-self-clause-still_settled
+returns-then-self-clause-still_settled g c = λ t represents unchanged was. was
+
+pub returns-clause-still_settled : goal.returns-clause-still_settled
+returns-clause-still_settled g c = λ t represents unchanged.
+    let old = c.args.self.now in
+    let made = c.insert-made in
+    let sound = (alive_with old t represents).1 in
+    settled_told old c.tell.new.self made.new.self t (Insert c.args.layer.now c.args.id c.args.bounds) made.result c.tell.ensures.layers (made.ensures.leaves t sound) (made.ensures.changed t sound) made.ensures.written refl
+    (stays (refusal_of t (Insert c.args.layer.now c.args.id c.args.bounds)) t (changed t (Insert c.args.layer.now c.args.id c.args.bounds)) unchanged) unchanged

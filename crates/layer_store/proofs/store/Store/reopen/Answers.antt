@@ -3,9 +3,9 @@ use Rattle.std.proofs.Common.{refl, arith}
 use Rattle.plain_table.specs.Commands.Command.{Reopen}
 use Rattle.layer_store.specs.Representation.{device_in}
 use Rattle.layer_store.proofs.ChangeLemmas.{cause_told, refused_goes_on, step_told}
-use Rattle.layer_store.proofs.ClosingLemmas.{durable_closed, image_closed, quiet_closed, settled_closed, stops_closed}
+use Rattle.layer_store.proofs.ClosingLemmas.{durable_closed, ends_closed, image_closed, quiet_closed, settled_closed, stops_closed}
 use Rattle.layer_store.proofs.StopLemmas.{reopening_leaves}
-use Rattle.layer_store.proofs.StoreLemmas.{alive_in, alive_with, is_dead, not_both, takes_nothing}
+use Rattle.layer_store.proofs.StoreLemmas.{alive_in, alive_with, dead_so, is_dead, not_both, takes_nothing}
 use Rattle.layer_store.proofs.store.Store.reopen.Goals as goal
 
 pub returns-then-self-clause-step : goal.returns-then-self-clause-step
@@ -54,3 +54,9 @@ returns-clause-dead g c = λ dead. absurd (not_both _ (is_dead c.args.self.now d
 
 pub returns-clause-cause : goal.returns-clause-cause
 returns-clause-cause g c = cause_told c.args.self.now c.tell.new.self c.reopen-closed.new.self Reopen c.reopen-closed.result c.tell.result c.if-self.false c.tell.ensures.told (c.tell.ensures.failed c.if-self.false) c.tell.ensures.layers c.reopen-closed.ensures.cause
+
+pub returns-then-self-clause-ends : goal.returns-then-self-clause-ends
+returns-then-self-clause-ends g c = λ settled. dead_so c.args.self.now c.if-self.true
+
+pub returns-clause-ends : goal.returns-clause-ends
+returns-clause-ends g c = ends_closed c.args.self.now c.tell.new.self c.reopen-closed.new.self c.reopen-closed.result c.tell.result c.tell.ensures.told (c.tell.ensures.failed c.if-self.false) c.tell.ensures.layers c.reopen-closed.ensures.refused

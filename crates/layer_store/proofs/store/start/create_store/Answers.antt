@@ -1,13 +1,13 @@
 -- A new file holds the empty table, and its store is read from it.
-use Rattle.std.proofs.Common.{◌⊎◌, ◌∙◌, arith, inr, sym, subst}
+use Rattle.std.proofs.Common.{◌⊎◌, ◌∙◌, inr, sym, subst}
 use Rattle.std.specs.FinMap.{empty}
 use Rattle.block_device.specs.Device.{Blocks}
 use Rattle.live_layers.specs.Image.{IsImage}
-use Rattle.page_file.specs.File.{IsNewFile, blocks_of, device_of}
+use Rattle.page_file.specs.File.{blocks_of, device_of}
 use Rattle.page_file.specs.Opening.{IsRefused}
-use Rattle.layer_store.specs.Representation.{blocks_in, device_in}
+use Rattle.layer_store.specs.Representation.{device_in}
 use Rattle.layer_store.proofs.Results.{at_err, at_ok, err_case, ok_case}
-use Rattle.layer_store.proofs.StartLemmas.{begins_so, new_image, new_left, shut_store, then_read}
+use Rattle.layer_store.proofs.StartLemmas.{begins_so, made_image, new_left, shut_store, then_read}
 use Rattle.layer_store.proofs.store.start.create_store.Goals as goal
 
 pub returns-in-Ok-clause-begins : goal.returns-in-Ok-clause-begins
@@ -16,19 +16,17 @@ returns-in-Ok-clause-begins g c = ok_case c.begin.result (λ store is honest.
     let made = c.in-Ok.ensures in
     let file = c.in-Ok.file in
     let inside = made.honest.0 honest in
-    let lies = made.lies honest in
-    let image = new_image (blocks_of file) (record { passes = lies.passes; next = lies.next ∙ made.next; catalog = lies.pages_there 2 ∙ made.catalog honest; others = λ k ne. lies.pages_there k ∙ made.others honest k ne; sound = lies.sound.0 (made.sound honest) }) in
+    let image = made_image file (made.lies honest) made.next (made.catalog honest) (made.others honest) (made.sound honest) in
     let run = then_read d.moment d.left_since c.args.device (device_of file) (device_in store) (blocks_of file) (λ b. IsRefused b ⊎ IsImage b empty) (inr image)
     (new_left d.moment d.left_since c.args.device (device_of file) _ (made.stops honest)) (at_ok _ c.begin.result store is c.begin.ensures.stops inside) in
-    begins_so store (d.moment c.args.device) empty (at_ok _ c.begin.result store is (c.begin.ensures.image empty (blocks_of file) inside lies image)) (at_ok _ c.begin.result store is c.begin.ensures.settled)
+    begins_so store (d.moment c.args.device) empty (at_ok _ c.begin.result store is (c.begin.ensures.image empty (blocks_of file) inside (made.lies honest) image)) (at_ok _ c.begin.result store is c.begin.ensures.settled)
     (subst (λ (b : Blocks). IsImage b empty) (sym (at_ok _ c.begin.result store is c.begin.ensures.blocks inside)) image) run.later run.each)
 
 pub returns-in-Ok-clause-closed : goal.returns-in-Ok-clause-closed
 returns-in-Ok-clause-closed g c = ok_case c.begin.result (λ store is honest.
     let made = c.in-Ok.ensures in
     let file = c.in-Ok.file in
-    let lies = made.lies honest in
-    let image = new_image (blocks_of file) (record { passes = lies.passes; next = lies.next ∙ made.next; catalog = lies.pages_there 2 ∙ made.catalog honest; others = λ k ne. lies.pages_there k ∙ made.others honest k ne; sound = lies.sound.0 (made.sound honest) }) in
+    let image = made_image file (made.lies honest) made.next (made.catalog honest) (made.others honest) (made.sound honest) in
     subst (λ (b : Blocks). IsImage b empty) (sym (at_ok _ c.begin.result store is c.begin.ensures.blocks (made.honest.0 honest))) image)
 
 pub returns-in-Ok-clause-stops : goal.returns-in-Ok-clause-stops
@@ -36,8 +34,7 @@ returns-in-Ok-clause-stops g c = ok_case c.begin.result (λ store is honest.
     let d = g.D.BlockDevice in
     let made = c.in-Ok.ensures in
     let file = c.in-Ok.file in
-    let lies = made.lies honest in
-    let image = new_image (blocks_of file) (record { passes = lies.passes; next = lies.next ∙ made.next; catalog = lies.pages_there 2 ∙ made.catalog honest; others = λ k ne. lies.pages_there k ∙ made.others honest k ne; sound = lies.sound.0 (made.sound honest) }) in
+    let image = made_image file (made.lies honest) made.next (made.catalog honest) (made.others honest) (made.sound honest) in
     then_read d.moment d.left_since c.args.device (device_of file) (device_in store) (blocks_of file) (λ b. IsRefused b ⊎ IsImage b empty) (inr image)
     (new_left d.moment d.left_since c.args.device (device_of file) _ (made.stops honest)) (at_ok _ c.begin.result store is c.begin.ensures.stops (made.honest.0 honest)))
 
@@ -46,8 +43,7 @@ returns-in-Ok-clause-refused_stops g c = λ cache. err_case c.begin.result (λ e
     let d = g.D.BlockDevice in
     let made = c.in-Ok.ensures in
     let file = c.in-Ok.file in
-    let lies = made.lies honest in
-    let image = new_image (blocks_of file) (record { passes = lies.passes; next = lies.next ∙ made.next; catalog = lies.pages_there 2 ∙ made.catalog honest; others = λ k ne. lies.pages_there k ∙ made.others honest k ne; sound = lies.sound.0 (made.sound honest) }) in
+    let image = made_image file (made.lies honest) made.next (made.catalog honest) (made.others honest) (made.sound honest) in
     then_read d.moment d.left_since c.args.device (device_of file) e.1 (blocks_of file) (λ b. IsRefused b ⊎ IsImage b empty) (inr image)
     (new_left d.moment d.left_since c.args.device (device_of file) _ (made.stops honest)) (at_err _ c.begin.result e is c.begin.ensures.refused_stops (made.honest.0 honest)))
 
@@ -55,9 +51,8 @@ pub returns-in-Ok-clause-refused : goal.returns-in-Ok-clause-refused
 returns-in-Ok-clause-refused g c = λ cache. err_case c.begin.result (λ e is honest.
     let made = c.in-Ok.ensures in
     let file = c.in-Ok.file in
-    let lies = made.lies honest in
-    let image = new_image (blocks_of file) (record { passes = lies.passes; next = lies.next ∙ made.next; catalog = lies.pages_there 2 ∙ made.catalog honest; others = λ k ne. lies.pages_there k ∙ made.others honest k ne; sound = lies.sound.0 (made.sound honest) }) in
-    at_err _ c.begin.result e is (c.begin.ensures.not_refused empty (blocks_of file) (made.honest.0 honest) lies image))
+    let image = made_image file (made.lies honest) made.next (made.catalog honest) (made.others honest) (made.sound honest) in
+    at_err _ c.begin.result e is (c.begin.ensures.not_refused empty (blocks_of file) (made.honest.0 honest) (made.lies honest) image))
 
 pub returns-in-Ok-clause-durable : goal.returns-in-Ok-clause-durable
 returns-in-Ok-clause-durable g c = ok_case c.begin.result (λ store is honest.

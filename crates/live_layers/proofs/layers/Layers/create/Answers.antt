@@ -1,6 +1,6 @@
 -- A layer that may be made is made, and what is refused changes nothing.
 use Rattle.std.proofs.Common.{◌≡◌, ◌∙◌, ℕ, Bool, cond, refl, sym, ap, subst}
-use Rattle.std.specs.Prelude.{OnOk, Result}
+use Rattle.std.specs.Prelude.{OnErr, OnOk, Result}
 use Rattle.block_device.specs.Device.{one_more}
 use Rattle.layer_pages.specs.Changes.{IsEmptyLeaf}
 use Rattle.node_page.specs.Broken.{cause_in}
@@ -11,9 +11,10 @@ use Rattle.plain_table.specs.Commands.Command.{Create}
 use Rattle.live_layers.specs.Changes.{ChangeLeaves, IsChanged}
 use Rattle.live_layers.specs.Creating.{BringsTree}
 use Rattle.live_layers.specs.Faults.{HasUnmadeCause}
+use Rattle.live_layers.specs.Keeping.{IsWritten}
 use Rattle.live_layers.specs.declared.unmade.Unmade.{Unmade}
 use Rattle.live_layers.proofs.AskLemmas.{not_there}
-use Rattle.live_layers.proofs.ChangeLemmas.{begun_cause, begun_changed, begun_leaves, made_so, refused_by_the_table, refused_cause, refused_leaves}
+use Rattle.live_layers.proofs.ChangeLemmas.{begun_cause, begun_changed, begun_leaves, made_so, refused_by_the_table, refused_cause, refused_leaves, unmade_so}
 use Rattle.live_layers.proofs.CreateLemmas.{it_grows}
 use Rattle.live_layers.proofs.layers.Layers.create.Goals as goal
 
@@ -68,3 +69,10 @@ returns-in-Err-clause-cause g c =
     let d = g.B.BlockDevice in
     let now = d.faults (device_of c.args.self.now.cache) in
     refused_cause now now c.in-Err.refusal (sym (ap (λ (blames : Bool). cond blames (one_more now) now) c.in-Err.ensures.blames_none))
+
+pub returns-in-Ok-clause-written : goal.returns-in-Ok-clause-written
+returns-in-Ok-clause-written g c =
+    let old = c.args.self.now in
+    let new = c.add_layer.new.self in
+    subst (λ (r : Result (Unit {0}) Unmade). OnErr r (IsWritten old → IsWritten new)) (sym c.change_of.ensures)
+    (unmade_so (IsWritten old → IsWritten new) (IsWritten old → IsWritten new) c.add_layer.result (λ kept. kept) c.add_layer.ensures.written)

@@ -1,6 +1,6 @@
 -- What is not allowed is refused, and an object that is allowed is added.
 use Rattle.std.proofs.Common.{◌≡◌, ◌∙◌, ℕ, List, nat_le, Option, Some, refl, sym, ap, subst}
-use Rattle.std.specs.Prelude.{◌⊎◌, Err, OnOk, Result}
+use Rattle.std.specs.Prelude.{◌⊎◌, Err, OnErr, OnOk, Result}
 use Rattle.std.specs.FinMap.{insert as map_insert}
 use Rattle.box_math.specs.Bounds.{Bounds}
 use Rattle.plain_table.specs.Boxes.{given_bounds}
@@ -14,10 +14,10 @@ use Rattle.page_cache.specs.Calls.{faults_behind}
 use Rattle.store_law.specs.Lawful.{IsFault}
 use Rattle.live_layers.specs.Changes.{ChangeLeaves, IsChanged, Rose}
 use Rattle.live_layers.specs.Faults.{HasUnmadeCause}
-use Rattle.live_layers.specs.Keeping.{ChangesTree, IsSound}
+use Rattle.live_layers.specs.Keeping.{ChangesTree, IsSound, IsWritten}
 use Rattle.live_layers.specs.Rules.{HasGained}
 use Rattle.live_layers.specs.declared.unmade.Unmade.{Unmade}
-use Rattle.live_layers.proofs.ChangeLemmas.{begun_cause, begun_changed, begun_leaves, made_so, not_allowed, refused_cause, refused_leaves}
+use Rattle.live_layers.proofs.ChangeLemmas.{begun_cause, begun_changed, begun_leaves, made_so, not_allowed, refused_cause, refused_leaves, unmade_so}
 use Rattle.live_layers.proofs.InsertLemmas.{as_object, it_grows, its_dims}
 use Rattle.live_layers.proofs.ReplaceLemmas.{changes_before}
 use Rattle.live_layers.proofs.Results.{on_ok}
@@ -108,3 +108,10 @@ returns-in-Err-clause-leaves g c = λ t name box sound reaches.
 
 pub returns-in-Err-clause-cause : goal.returns-in-Err-clause-cause
 returns-in-Err-clause-cause g c = refused_cause _ _ c.in-Err.refusal c.in-Err.ensures.cause.refused
+
+pub returns-in-Ok-clause-written : goal.returns-in-Ok-clause-written
+returns-in-Ok-clause-written g c =
+    let old = c.args.self.now in
+    let new = c.add_object.new.self in
+    subst (λ (r : Result (Unit {0}) Unmade). OnErr r (IsWritten old → IsWritten new)) (sym c.change_of.ensures)
+    (unmade_so (IsWritten c.check_object.new.self → IsWritten new) (IsWritten old → IsWritten new) c.add_object.result (λ kept was. kept (c.check_object.ensures.written was)) c.add_object.ensures.written)

@@ -6,9 +6,9 @@ use Rattle.page_cache.specs.Cache.{blocks_of, device_of}
 use Rattle.page_file.specs.Stops.{SameButGate}
 use Rattle.live_layers.specs.Image.{IsRefusedOrImageOf}
 use Rattle.live_layers.proofs.KeepLemmas.{kept_catalog, kept_table, sound_kept}
-use Rattle.live_layers.proofs.ClosingLemmas.{rests_on_more}
+use Rattle.live_layers.proofs.ClosingLemmas.{not_shut, rests_on_more}
 use Rattle.live_layers.proofs.StopLemmas.{image_of, or_this, rests_on_table, table_closed}
-use Rattle.live_layers.proofs.Results.{on_ok}
+use Rattle.live_layers.proofs.Results.{on_any_err, on_err, on_ok}
 use Rattle.live_layers.proofs.layers.Layers.settle.Goals as goal
 
 pub returns-in_err-write-clause-stops : goal.returns-in_err-write-clause-stops
@@ -50,3 +50,9 @@ returns-clause-rests g c = λ ts t sound rests.
     let keeps = c.settle.ensures.map in
     let spelled = kept_catalog mid.cache new (records_of mid.records) before.map.honest keeps (before.catalog c.in_ok-write.ensures.written) in
     rests_on_table new ts (records_of mid.records) t (keeps.sound.0 before.map) spelled (kept_table mid.cache new (records_of mid.records) t before.map.honest keeps before.holds)
+
+pub returns-in_err-write-clause-refused : goal.returns-in_err-write-clause-refused
+returns-in_err-write-clause-refused g c = on_any_err c.from_residual.result _ c.in_err-write.ensures.refused
+
+pub returns-clause-refused : goal.returns-clause-refused
+returns-clause-refused g c = on_err c.settle.result (not_shut _) c.settle.ensures.refused

@@ -6,8 +6,9 @@ use Rattle.page_cache.specs.Cache.{device_of}
 use Rattle.page_file.specs.Fault.{IsOfDevice}
 use Rattle.page_cache.specs.Laws.{numbers_are_few, the_catalog_is_live}
 use Rattle.live_layers.proofs.KeepLemmas.{sound_kept, sound_written}
+use Rattle.live_layers.proofs.ClosingLemmas.{open_is_not_shut, unsure_is_not_shut}
 use Rattle.live_layers.proofs.StopLemmas.{gate_opened, none_made, pages_written}
-use Rattle.live_layers.proofs.Results.{the_err}
+use Rattle.live_layers.proofs.Results.{on_any_err, the_err}
 use Rattle.live_layers.proofs.layers.Layers.write.Goals as goal
 
 pub returns-then-self-clause-stops : goal.returns-then-self-clause-stops
@@ -74,3 +75,9 @@ returns-clause-sound g c = λ t sound.
     let live = the_catalog_is_live c.begin_change.new.self in
     sound_written c.args.self.now c.begin_change.new.self _ t sound keeps (c.put.ensures.others map.honest live) (c.put.ensures.live map.honest live) (c.put.ensures.sound map live) c.put.ensures.next refl refl
     (λ w. ap (option_and_then records_at) (c.in_ok-put.ensures.written map.honest live) ∙ c.encode.ensures.read_back)
+
+pub returns-in_err-begin_change-clause-refused : goal.returns-in_err-begin_change-clause-refused
+returns-in_err-begin_change-clause-refused g c = on_any_err c.from_residual.result _ (unsure_is_not_shut _ c.in_err-begin_change.ensures.refused)
+
+pub returns-in_err-put-clause-refused : goal.returns-in_err-put-clause-refused
+returns-in_err-put-clause-refused g c = on_any_err c.from_residual-in_err-put.result _ (open_is_not_shut _ (c.put.ensures.changes.gate.gate ∙ c.in_ok-begin_change.ensures.open))
