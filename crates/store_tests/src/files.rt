@@ -1,5 +1,5 @@
-//! Files written by hand, byte for byte as docs/FORMAT.md says: they are opened, or refused for what is damaged. And the
-//! blocks of a new store.
+//! Files written by hand, byte for byte as docs/FORMAT.md says: they are opened, or refused for what is damaged. And
+//! the blocks of a new store.
 
 use crate::commands::{Command, PLANE, answer};
 use crate::fixture::{block_of, device_of, new_store, opened, patch, put, set};
