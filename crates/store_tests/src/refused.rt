@@ -65,6 +65,9 @@ const SCRIPT: [Command; 42] = [
     Command::Inside(b"r", PLANE),
 ];
 
+// A change after the script.
+const OBJECT: Command = Command::Insert(b"l", 7, RawBox::Two([4, 0], [4, 0]));
+
 type Heap = Refusing<Global>;
 
 // What became of a command.
@@ -308,17 +311,16 @@ fn an_insertion_whose_first_call_fails_goes_on(rt: HostRuntime) -> Result<(), Fa
             listed(rt.alloc(), &mut table, command).is_ok();
         }
         let device = FuseDevice::new(device_of(store)?, u64::from(passes), FuseMode::Once);
-        match open_store(&heap, device, 8) {
+        match opened(&heap, device, 8) {
             Ok(store) => {
                 let mut store = store;
-                let object = Command::Insert(b"l", 7, RawBox::Two([4, 0], [4, 0]));
                 ending = put(
                     &rt,
                     rt.alloc(),
                     &mut store,
                     &mut table,
                     &heap,
-                    object,
+                    OBJECT,
                     Refusal::Device,
                 );
                 assert!(rt; passes >= 4 && (passes != 4 || ending == Ending::Refused));
@@ -326,7 +328,7 @@ fn an_insertion_whose_first_call_fails_goes_on(rt: HostRuntime) -> Result<(), Fa
                     break;
                 }
             }
-            Err((refusal, _)) => assert!(rt; passes < 4 && refusal == Refusal::Device),
+            Err(refusal) => assert!(rt; passes < 4 && refusal == Refusal::Device),
         }
     }
     assert!(rt; ending == Ending::Answered);

@@ -2,7 +2,7 @@
 //! progress, or is refused; and it is not refused where nothing was changed since a closing.
 
 use crate::commands::{Command, answer, listed, represents};
-use crate::fixture::{closed, device_of, new_store, opened};
+use crate::fixture::{closed, device_of, opened};
 use block_device::{FuseDevice, FuseMode, Left, MemoryDevice};
 use layer_store::{RawBox, Refusal, create_store};
 use list_table::ListTable;
