@@ -2,7 +2,7 @@
 -- No other proof rests on them. A definition that says another thing than docs/COMMANDS.md is refused here.
 use Rattle.std.proofs.Common.{◌≡◌, ℕ, List, [], ◌∷◌, ◌++◌, Bool, true, refl, sym, ap, ap₂, ◌∙◌, pos, negsuc, Some, None, codes, replicate, map, length, length-append, get_or, arith}
 use Rattle.std.specs.Fmt.{digits}
-use Rattle.plain_table.specs.Commands.Command.{Create, Insert, Get, Count, Range, Nearest, Reopen}
+use Rattle.plain_table.specs.Commands.Command.{Create, Insert, Move, Delete, Drop, Get, Count, Range, Nearest, Join, Layers, Dump, Check, Reopen}
 use Rattle.store_law.specs.States.{Request}
 use Rattle.store_law.specs.States.Request.{BadCommand, Asks}
 use Rattle.plain_table.specs.Step.Answer.{Done, Refused, Boxes, Counted, Distances, Pairs, Listed, Dumped}
@@ -136,6 +136,27 @@ nearest_gives_a_number_and_a_point = refl
 bad_nearests : map meaning_of (codes "nearest a" ∷ codes "nearest a 1" ∷ codes "nearest a 1 2" ∷ codes "nearest a -1 0 0" ∷ codes "nearest a 1 0 0 0 0" ∷ []) ≡ replicate 5 Bad
 bad_nearests = refl
 
+move_is_as_insert : meaning_of (codes "move a 7 1 -2 3 -4") ≡ Means (Move a 7 (Two (pos 1 ∷ negsuc 1 ∷ []) (pos 3 ∷ negsuc 3 ∷ [])))
+move_is_as_insert = refl
+
+delete_names_a_layer_and_an_identifier : meaning_of (codes "delete delete 007") ≡ Means (Delete (codes "delete") 7)
+delete_names_a_layer_and_an_identifier = refl
+
+drop_names_a_layer : meaning_of (codes "drop drop") ≡ Means (Drop (codes "drop"))
+drop_names_a_layer = refl
+
+bad_changes : map meaning_of (codes "move a 1" ∷ codes "move a 1 0 0 0" ∷ codes "move a -1 0 0 0 0" ∷ codes "delete a" ∷ codes "delete a 1 2" ∷ codes "delete a +1" ∷ codes "drop" ∷ codes "drop a b" ∷ []) ≡ replicate 8 Bad
+bad_changes = refl
+
+join_names_two_layers : map meaning_of (codes "join a b" ∷ codes "join a a" ∷ []) ≡ Means (Join a b) ∷ Means (Join a a) ∷ []
+join_names_two_layers = refl
+
+layers_dump_and_check_are_one_word : map meaning_of (codes "layers" ∷ codes " dump\t" ∷ codes "check\r" ∷ []) ≡ Means Layers ∷ Means Dump ∷ Means Check ∷ []
+layers_dump_and_check_are_one_word = refl
+
+bad_questions : map meaning_of (codes "join" ∷ codes "join a" ∷ codes "join a b c" ∷ codes "layers a" ∷ codes "dump a" ∷ codes "check a" ∷ codes "Layers" ∷ codes "dumps" ∷ []) ≡ replicate 8 Bad
+bad_questions = refl
+
 reopen_is_one_word : map meaning_of (codes "reopen" ∷ codes "\t reopen \r" ∷ []) ≡ replicate 2 (Means Reopen)
 reopen_is_one_word = refl
 
@@ -149,7 +170,7 @@ a_low_above_its_high_is_a_box = refl
 blank_lines_and_comments : map meaning_of ([] ∷ codes " \t\r" ∷ codes "#" ∷ codes "# create a 2 4" ∷ codes " \t#create a 2 4" ∷ codes "##" ∷ []) ≡ replicate 6 Blank
 blank_lines_and_comments = refl
 
-names_of_no_command : map meaning_of (codes "CREATE a 2 4" ∷ codes "Create a 2 4" ∷ codes "creat a 2 4" ∷ codes "creates a 2 4" ∷ codes "drop a" ∷ codes "load a 1" ∷ codes "a" ∷ []) ≡ replicate 7 Bad
+names_of_no_command : map meaning_of (codes "CREATE a 2 4" ∷ codes "Create a 2 4" ∷ codes "creat a 2 4" ∷ codes "creates a 2 4" ∷ codes "drops a" ∷ codes "load a 1" ∷ codes "a" ∷ []) ≡ replicate 7 Bad
 names_of_no_command = refl
 
 bad_creates : map meaning_of (codes "create" ∷ codes "create a" ∷ codes "create a 2" ∷ codes "create a 2 4 4" ∷ codes "create a +2 4" ∷ codes "create a 2 -4" ∷ codes "create a 2 4 # more" ∷ []) ≡ replicate 7 Bad
@@ -171,7 +192,7 @@ a_line_of_4096_bytes_is_read line fits = rw fits refl
 -- ---- the requests of a text
 
 -- the last line has no newline, and a comment and an empty line ask nothing
-a_text_asks_line_by_line : AreCommands true (lines_of (codes "create a 2 4\n# more\n\ndrop a\ncreate b 3 5")) (Asks (Create a 2 4) ∷ BadCommand ∷ Asks (Create b 3 5) ∷ [])
+a_text_asks_line_by_line : AreCommands true (lines_of (codes "create a 2 4\n# more\n\ndrops a\ncreate b 3 5")) (Asks (Create a 2 4) ∷ BadCommand ∷ Asks (Create b 3 5) ∷ [])
 a_text_asks_line_by_line = one (Asks (Create a 2 4) ∷ []) refl (one [] refl (one [] refl (one (BadCommand ∷ []) refl (one (Asks (Create b 3 5) ∷ []) refl none))))
 
 no_text_asks_nothing : (ended : Bool) → AreCommands ended (lines_of []) []

@@ -3,6 +3,7 @@
 ghost use Rattle.std.specs.Prelude.{◌≡◌, ◌<◌, Some, None, MatchResult, OnErr, IfNone, IfSome, if◌then◌else◌};
 ghost use Rattle.std.specs.Io.KnownBytes.{Keeps};
 ghost use Rattle.plain_table.specs.Answers.{done_answer, box_answer, boxes_answer, count_answer, distances_answer};
+ghost use Rattle.plain_table.specs.Answers.{dump_answer, layers_answer, pairs_answer};
 ghost use Rattle.store_law.specs.Sessions.{Takes};
 ghost use Rattle.layer_store.specs.Representation.{Represents};
 ghost use Rattle.command_shell.specs.Answering.{AnswersLine, Replies, reply_answers};
@@ -16,8 +17,10 @@ ghost use Rattle.command_shell.specs.Texts.{reply_answer};
 use crate::lines::{Found, LineReader};
 use crate::parse::{Line, parse_line};
 use crate::replies::{Reply, write_reply};
+use arrayvec::ArrayVec;
 use block_device::BlockDevice;
 use layer_store::{AnyBox, Refusal, Store};
+use plain_table::{DumpRow, LayerInfo, MOST_LAYERS};
 use std::alloc::Allocator;
 use std::io;
 use std::io::{Read, Write};
@@ -154,10 +157,17 @@ fn reply_to<D: BlockDevice, A: Allocator + Copy>(
             fanout,
         } => Some(change_reply(store.create(layer, dims, fanout))),
         Line::Insert { layer, id, bounds } => Some(change_reply(store.insert(layer, id, bounds))),
+        Line::Move { layer, id, bounds } => Some(change_reply(store.move_object(layer, id, bounds))),
+        Line::Delete { layer, id } => Some(change_reply(store.delete(layer, id))),
+        Line::Drop { layer } => Some(change_reply(store.drop_layer(layer))),
         Line::Get { layer, id } => Some(object_reply(id, store.get(layer, id))),
         Line::Count { layer } => Some(count_reply(store.count(layer))),
         Line::Range { layer, query } => Some(range_reply(store.range(layer, query))),
         Line::Nearest { layer, k, point } => Some(distances_reply(store.nearest(layer, k, point))),
+        Line::Join { first, second } => Some(pairs_reply(store.join(first, second))),
+        Line::Layers => Some(layers_reply(store.layers())),
+        Line::Dump => Some(dump_reply(store.dump())),
+        Line::Check => Some(change_reply(store.check())),
         Line::Reopen => Some(change_reply(store.reopen())),
     }
 }
@@ -208,6 +218,36 @@ fn distances_reply<A: Allocator>(outcome: Result<Vec<(u64, u128), A>, Refusal>) 
 {
     match outcome {
         Ok(rows) => Reply::Distances(rows),
+        Err(refusal) => Reply::Refused(refusal),
+    }
+}
+
+// The reply that the outcome of a join is.
+fn pairs_reply<A: Allocator>(outcome: Result<Vec<(u64, u64), A>, Refusal>) -> Reply<A>
+    ensures { reply_answer result ≡ pairs_answer outcome }
+{
+    match outcome {
+        Ok(pairs) => Reply::Pairs(pairs),
+        Err(refusal) => Reply::Refused(refusal),
+    }
+}
+
+// The reply that the outcome of a listing is.
+fn layers_reply<A: Allocator>(outcome: Result<ArrayVec<LayerInfo, MOST_LAYERS>, Refusal>) -> Reply<A>
+    ensures { reply_answer result ≡ layers_answer outcome }
+{
+    match outcome {
+        Ok(layers) => Reply::Layers(layers),
+        Err(refusal) => Reply::Refused(refusal),
+    }
+}
+
+// The reply that the outcome of a dump is.
+fn dump_reply<A: Allocator>(outcome: Result<Vec<DumpRow, A>, Refusal>) -> Reply<A>
+    ensures { reply_answer result ≡ dump_answer outcome }
+{
+    match outcome {
+        Ok(rows) => Reply::Dump(rows),
         Err(refusal) => Reply::Refused(refusal),
     }
 }

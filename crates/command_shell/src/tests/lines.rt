@@ -10,7 +10,7 @@ const CREATE: Line<'static> = Line::Create {
     fanout: 4,
 };
 
-const GOOD: [(&[u8], Line<'static>); 17] = [
+const GOOD: [(&[u8], Line<'static>); 24] = [
     (b"create a 2 4", CREATE),
     (b" \t\rcreate\ta  0002 4\t \r", CREATE),
     (
@@ -74,6 +74,26 @@ const GOOD: [(&[u8], Line<'static>); 17] = [
             point: RawPoint::Two([1, -2]),
         },
     ),
+    (
+        b"move a 7 1 2 3 4",
+        Line::Move {
+            layer: b"a",
+            id: 7,
+            bounds: RawBox::Two([1, 2], [3, 4]),
+        },
+    ),
+    (b"delete a 007", Line::Delete { layer: b"a", id: 7 }),
+    (b"drop drop", Line::Drop { layer: b"drop" }),
+    (
+        b"join a b",
+        Line::Join {
+            first: b"a",
+            second: b"b",
+        },
+    ),
+    (b"layers", Line::Layers),
+    (b" dump ", Line::Dump),
+    (b"check", Line::Check),
     (b"\treopen \r", Line::Reopen),
     (b"", Line::Blank),
     (b" \t\r", Line::Blank),
@@ -89,7 +109,7 @@ fn reads_good_lines(rt: HostRuntime) -> Result<(), Fail> {
     Ok(())
 }
 
-const BAD: [&[u8]; 41] = [
+const BAD: [&[u8]; 49] = [
     b"create",
     b"create a 2",
     b"create a 2 4 4",
@@ -127,6 +147,14 @@ const BAD: [&[u8]; 41] = [
     b"nearest a 3 0",
     b"nearest a -3 0 0",
     b"load a 1",
+    b"move a 1 0 0 0",
+    b"delete a",
+    b"delete a 1 2",
+    b"drop",
+    b"drop a b",
+    b"join a",
+    b"join a b c",
+    b"layers a",
     b"reopen a",
     b"REOPEN",
     b"\xff\xfe",

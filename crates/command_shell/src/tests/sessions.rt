@@ -7,7 +7,7 @@ use refusing::Refusing;
 use std::test::Fail;
 
 // Each line and its reply. Layers `a` and `b` have two axes, `c` has three.
-const ROWS: [(&[u8], &[u8]); 76] = [
+const ROWS: [(&[u8], &[u8]); 98] = [
     (b"# the first run", b""),
     (b"create a 2 4", b"ok\n"),
     (b"insert a 1 0 0 10 10", b"ok\n"),
@@ -115,6 +115,32 @@ const ROWS: [(&[u8], &[u8]); 76] = [
     (b"# what a reopening keeps", b""),
     (b"reopen", b"ok\n"),
     (b"window b 2 2 9 9", b"ok 1\n2 1 1 2 2\n"),
+    (b"# all that there is", b""),
+    (b"layers", b"ok 4\na 2 4 2\nb 2 100 3\nc 3 4 2\nn 2 4 5\n"),
+    (
+        b"join b b",
+        b"ok 7\n1 1\n1 2\n1 18446744073709551615\n2 1\n2 2\n\
+          18446744073709551615 1\n18446744073709551615 18446744073709551615\n",
+    ),
+    (b"join b c", b"fail 15 DimsDiffer\n"),
+    (b"join b q", b"fail 3 NoLayer\n"),
+    (b"join q B", b"fail 1 BadName\n"),
+    (b"# moves and removals", b""),
+    (b"move b 1 0 0 1 1", b"ok\n"),
+    (b"move b 1 5 5 6 6", b"ok\n"),
+    (b"point b 0 0", b"ok 1\n18446744073709551615 0 0 0 0\n"),
+    (b"point b 6 6", b"ok 1\n1 5 5 6 6\n"),
+    (b"move b 9 0 0 1 1", b"fail 10 NoObject\n"),
+    (b"move b 9 1 0 0 0", b"fail 7 BadBox\n"),
+    (b"delete b 99", b"fail 10 NoObject\n"),
+    (b"delete b 18446744073709551615", b"ok\n"),
+    (b"point b 0 0", b"ok 0\n"),
+    (b"drop c", b"ok\n"),
+    (b"drop c", b"fail 3 NoLayer\n"),
+    (b"drop n", b"ok\n"),
+    (b"drop a", b"ok\n"),
+    (b"dump", b"ok 3\ncreate b 2 100\ninsert b 1 5 5 6 6\ninsert b 2 1 1 2 2\n"),
+    (b"check", b"ok\n"),
 ];
 
 #[test]
