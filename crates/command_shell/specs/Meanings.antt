@@ -1,18 +1,21 @@
 -- What a command line means. Our rule, docs/COMMANDS.md.
-use Rattle.std.specs.Prelude.{ℕ, ◌==◌, nat_lt, List, [], ◌∷◌, length, if◌then◌else◌, slice_index, Option, Some, None, option_map, option_and_then, codes, bytes_eq}
+use Rattle.std.specs.Prelude.{ℕ, ◌==◌, nat_le, nat_lt, List, [], ◌∷◌, length, if◌then◌else◌, slice_index, Option, Some, None, option_map, option_and_then, codes, bytes_eq}
 use Rattle.plain_table.specs.Commands.{Command}
 use Rattle.plain_table.specs.Commands.Command.{Create, Insert, Move, Delete, Drop, Get, Count, Range, Nearest, Join, Layers, Dump, Check, Reopen}
+use Rattle.plain_table.specs.Table.{most_objects}
 use Rattle.plain_table.specs.declared.boxes.RawBox.{RawBox}
 use Rattle.plain_table.specs.declared.queries.RawQuery.{RawQuery}
 use Rattle.plain_table.specs.declared.queries.RawQuery.TheVariants.{Window, Inside, Around, Point}
 use Rattle.command_shell.specs.Lines.{words_of}
 use Rattle.command_shell.specs.Numbers.{number_in, box_of, point_of}
 
--- what a line is: a blank line or a comment, a line that is none of the language, or a command
+-- What a line is: a blank line or a comment, a line that is none of the language, or a command; or the first line of a load,
+-- by its layer and how many entry lines follow.
 pub data Meaning : Type 0 where
   Blank : Meaning
   Bad : Meaning
   Means : Command → Meaning
+  Loads : List ℕ → ℕ → Meaning
 
 -- a command, or a bad line where there is none
 abbrev pub asked : Option Command → Meaning
@@ -28,6 +31,15 @@ create_of ws = None
 abbrev pub box_for_of : (List ℕ → ℕ → RawBox → Command) → List (List ℕ) → Option Command
 box_for_of command (layer ∷ id ∷ ws) = option_and_then (λ n. option_map (λ b. command layer n b) (box_of ws)) (number_in id)
 box_for_of command ws = None
+
+-- `load LAYER NUM`: so many entry lines, no more than a store has objects
+abbrev pub load_meaning : List ℕ → Option ℕ → Meaning
+load_meaning layer (Some count) = if nat_le count most_objects then Loads layer count else Bad
+load_meaning layer None = Bad
+
+abbrev pub load_of : List (List ℕ) → Meaning
+load_of (layer ∷ count ∷ []) = load_meaning layer (number_in count)
+load_of ws = Bad
 
 -- `LAYER NUM` after `get` or `delete`: the identifier
 abbrev pub object_of : (List ℕ → ℕ → Command) → List (List ℕ) → Option Command
@@ -85,6 +97,7 @@ abbrev pub command_of : List ℕ → List (List ℕ) → Meaning
 command_of name ws =
     if bytes_eq name (codes "create") then asked (create_of ws)
     else if bytes_eq name (codes "insert") then asked (box_for_of (λ layer id b. Insert layer id b) ws)
+    else if bytes_eq name (codes "load") then load_of ws
     else if bytes_eq name (codes "move") then asked (box_for_of (λ layer id b. Move layer id b) ws)
     else if bytes_eq name (codes "delete") then asked (object_of (λ layer id. Delete layer id) ws)
     else if bytes_eq name (codes "drop") then asked (layer_of (λ layer. Drop layer) ws)

@@ -4,7 +4,8 @@ ghost use Rattle.std.specs.Prelude.{◌≡◌, ◌<◌, length, Some, IfSome, If
 ghost use Rattle.plain_table.specs.Commands.Command.{Insert, Move, Delete, Drop, Get, Count};
 ghost use Rattle.plain_table.specs.Commands.Command.{Layers, Dump, Check, Reopen};
 ghost use Rattle.command_shell.specs.Meanings.{meaning_of, create_of, box_for_of, object_of, layer_of, box_query_of};
-ghost use Rattle.command_shell.specs.Meanings.{point_query_of, nearest_of, join_of, alone_of};
+ghost use Rattle.command_shell.specs.Entries.{entry_in};
+ghost use Rattle.command_shell.specs.Meanings.{point_query_of, nearest_of, join_of, alone_of, load_of};
 ghost use Rattle.command_shell.specs.Meanings.{command_of, question_of, asked};
 ghost use Rattle.command_shell.specs.Numbers.{coordinates_of, box_of, point_of};
 ghost use Rattle.command_shell.specs.Said.{said, said_or_bad};
@@ -12,6 +13,7 @@ ghost use Rattle.command_shell.specs.Said.{said, said_or_bad};
 use crate::words::{Words, coordinate, number};
 use arrayvec::ArrayVec;
 use layer_store::{RawBox, RawPoint, RawQuery};
+use plain_table::MOST_OBJECTS;
 
 /// How many bytes a line may have, without its newline. A longer one is bad.
 pub const MAX_LINE: usize = 4096;
@@ -43,6 +45,13 @@ pub enum Line<'a> {
         id: u64,
         /// The object's box.
         bounds: RawBox,
+    },
+    /// `load LAYER NUM`: adds so many objects to a layer that has none. Their entry lines follow.
+    Load {
+        /// The layer's name.
+        layer: &'a [u8],
+        /// How many entry lines follow, no more than a store has objects.
+        count: u64,
     },
     /// `move LAYER NUM BOX`: gives an object another box.
     Move {
@@ -131,6 +140,19 @@ pub fn parse_line(line: &[u8]) -> Line<'_>
     }
 }
 
+/// The object that an entry line of a load gives: its identifier and its box.
+pub fn parse_entry(line: &[u8]) -> Option<(u64, RawBox)>
+    ensures { result ≡ entry_in line.now }
+{
+    if MAX_LINE < line.len() {
+        return None;
+    }
+    let mut words = Words::new(line);
+    let id = number(words.next()?)?;
+    let bounds = bounds(words)?;
+    Some((id, bounds))
+}
+
 // The command of that name, from the words after it.
 fn command<'a>(name: &[u8], words: Words<'a>) -> Option<Line<'a>>
     ensures { said_or_bad result ≡ command_of name.now words.entry }
@@ -139,6 +161,8 @@ fn command<'a>(name: &[u8], words: Words<'a>) -> Option<Line<'a>>
         create(words)
     } else if name == b"insert".as_slice() {
         insert(words)
+    } else if name == b"load".as_slice() {
+        load(words)
     } else if name == b"move".as_slice() {
         move_object(words)
     } else if name == b"delete".as_slice() {
@@ -209,6 +233,19 @@ fn insert(mut words: Words<'_>) -> Option<Line<'_>>
     let id = number(words.next()?)?;
     let bounds = bounds(words)?;
     Some(Line::Insert { layer, id, bounds })
+}
+
+// `LAYER NUM`
+fn load(mut words: Words<'_>) -> Option<Line<'_>>
+    ensures { said_or_bad result ≡ load_of words.entry }
+{
+    let layer = words.next()?;
+    let count = number(words.next()?)?;
+    if words.is_done() && count <= MOST_OBJECTS {
+        Some(Line::Load { layer, count })
+    } else {
+        None
+    }
 }
 
 // `LAYER NUM BOX`

@@ -7,7 +7,7 @@ use refusing::Refusing;
 use std::test::Fail;
 
 // Each line and its reply. Layers `a` and `b` have two axes, `c` has three.
-const ROWS: [(&[u8], &[u8]); 98] = [
+const ROWS: [(&[u8], &[u8]); 110] = [
     (b"# the first run", b""),
     (b"create a 2 4", b"ok\n"),
     (b"insert a 1 0 0 10 10", b"ok\n"),
@@ -139,8 +139,29 @@ const ROWS: [(&[u8], &[u8]); 98] = [
     (b"drop c", b"fail 3 NoLayer\n"),
     (b"drop n", b"ok\n"),
     (b"drop a", b"ok\n"),
-    (b"dump", b"ok 3\ncreate b 2 100\ninsert b 1 5 5 6 6\ninsert b 2 1 1 2 2\n"),
+    (
+        b"dump",
+        b"ok 3\ncreate b 2 100\ninsert b 1 5 5 6 6\ninsert b 2 1 1 2 2\n",
+    ),
     (b"check", b"ok\n"),
+    (b"# loads", b""),
+    (b"create t 2 4", b"ok\n"),
+    (
+        b"load t 5\n1 0 0 0 0\n2 1 0 1 0\n3 2 0 2 0\n4 3 0 3 0\n5 10 0 10 0",
+        b"ok\n",
+    ),
+    (b"window t 10 0 10 0", b"ok 1\n5 10 0 10 0\n"),
+    (b"load t 0", b"fail 12 NotEmpty\n"),
+    (b"create u 2 4", b"ok\n"),
+    (
+        b"load u 3\n1 0 0 0 0\n2 0 0 0 0\n1 0 0 0 0",
+        b"fail 13 DuplicateInLoad 1\n",
+    ),
+    (b"load u 2\n1 0 0 0 0\n\n", b"fail 24 BadLine\n"),
+    (b"load u 2\n1 0 0 0 0\n# 2 0 0 0 0", b"fail 24 BadLine\n"),
+    (b"load u 1\n1 0 0 0 0 0 0", b"fail 8 WrongDims\n"),
+    (b"load u 0", b"ok\n"),
+    (b"count u", b"ok 1\n0\n"),
 ];
 
 #[test]
@@ -269,6 +290,25 @@ fn answers_a_count_filled_up_with_blanks(rt: HostRuntime) -> Result<(), Fail> {
         assert_eq!(rt; end, RunEnd::Finished);
         assert_eq!(rt; output.as_slice(), reply);
         line.push(b' ')?;
+    }
+    Ok(())
+}
+
+// A load that lacks entry lines is answered once, at the end of the text.
+#[test]
+fn refuses_a_load_that_lacks_entry_lines(rt: HostRuntime) -> Result<(), Fail> {
+    let mut store = new_store(rt.alloc())?;
+    store.create(b"a", 2, 4)?;
+    for text in [
+        b"load a 3\n1 0 0 1 1\n2 0 0 1 1\n".as_slice(),
+        b"load a 3\n1 0 0 1 1\n2 0 0 1 1".as_slice(),
+        b"load a 1".as_slice(),
+    ] {
+        let mut input = text;
+        let mut output = Vec::new(rt.alloc());
+        let end = run(&mut store, &mut input, &mut output);
+        assert_eq!(rt; end, RunEnd::Finished);
+        assert_eq!(rt; output.as_slice(), b"fail 24 BadLine\n".as_slice());
     }
     Ok(())
 }

@@ -1,7 +1,8 @@
 -- The goals of `reply_to` that are proved by hand.
-use Rattle.std.proofs.Common.{ap}
+use Rattle.std.proofs.Common.{ap, subst}
 use Rattle.plain_table.specs.Answers.{done_answer, box_answer, boxes_answer, count_answer, distances_answer, dump_answer, layers_answer, pairs_answer}
 use Rattle.plain_table.specs.Commands.Command.{Create, Insert, Move, Delete, Drop, Get, Count, Range, Nearest, Join, Layers, Dump, Check, Reopen}
+use Rattle.command_shell.specs.Answering.{IsPlain}
 use Rattle.command_shell.specs.Said.{said}
 use Rattle.command_shell.proofs.AnswerLemmas.{replied, replied_bad, replied_blank}
 use Rattle.command_shell.proofs.session.reply_to.Goals as goal
@@ -53,3 +54,6 @@ returns-in-Dump g c = replied _ Dump (dump_answer c.dump.result) _ (ap said c.in
 
 pub returns-in-Check : goal.returns-in-Check
 returns-in-Check g c = replied _ Check (done_answer c.check.result) _ (ap said c.in-Check.is) c.change_reply-in-Check.ensures c.check.ensures.step
+
+pub returns-in-Load : goal.returns-in-Load
+returns-in-Load g c = absurd (subst IsPlain (ap said c.in-Load.is) c.requires)
