@@ -49,8 +49,8 @@ pub enum RunEnd {
     WriteFault,
 }
 
-/// Answers the lines of a reader, each before the next one is looked for, until the text ends or a read or a write
-/// fails.
+/// Answers the commands of a reader's lines, each before the next line is looked for, until the text ends or a read or
+/// a write fails.
 ///
 /// Whatever the store represents, the commands of the text that was read are a lawful session from there, the store
 /// represents its end, and what was written are the texts of its answers; [`RunEnd`] says how much of the text and of
@@ -59,7 +59,7 @@ pub enum RunEnd {
 /// store"). Where reader or writer does not make its bytes known, nothing is said of them.
 ///
 /// The writer is flushed before more is read, unless a whole line is pending; at the end it is not. An interrupted
-/// read is a fault like any other. Beside what the store takes, it takes no memory.
+/// read is a fault like any other. Beside what the store takes, it takes memory for the objects of a load alone.
 pub fn run<D: BlockDevice, A: Allocator + Copy, R: Read, W: Write>(
     store: &mut Store<D, A>,
     input: &mut R,
