@@ -19,3 +19,4 @@ pub mod NoteLemmas
 pub mod InsertLemmas
 pub mod AddLemmas
 pub mod CreateLemmas
+pub mod FillLemmas
