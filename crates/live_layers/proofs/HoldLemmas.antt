@@ -223,15 +223,15 @@ module _ (old new : PageMap) (next next' : ℕ) (records : List Record) (t : Tab
 
 -- ---- a layer more
 
+pub map-insert : {X Y : Type 0} (f : X → Y) (xs : List X) (i : ℕ) (x : X) → map f (insert xs i x) ≡ insert (map f xs) i (f x)
+map-insert f [] zero x = refl
+map-insert f [] (suc i) x = refl
+map-insert f (y ∷ ys) zero x = refl
+map-insert f (y ∷ ys) (suc i) x = ap (λ t. f y ∷ t) (map-insert f ys i x)
+
 module _ (old new : PageMap) (next next' : ℕ) (records : List Record) (t : Table) (h : Holds old next records t) (name : List ℕ) (place : ℕ) (belongs : Belongs t name place)
     (h' : Reading) (stands : LayerStands new h') (named : h'.row.name ≡ name) (moves : Moves old new no_page (of_layer h'))
     (le : next ≤ next') (given : (n : ℕ) → IsSome (new n) → (2 ≤ n) × (n < next')) (layer : is_layer h'.row ≡ true) (low : h'.row.level ≤ 40) (few : object_count (map_insert t name h'.layer) ≤ most_objects) where
-  map-insert : {X Y : Type 0} (f : X → Y) (xs : List X) (i : ℕ) (x : X) → map f (insert xs i x) ≡ insert (map f xs) i (f x)
-  map-insert f [] zero x = refl
-  map-insert f [] (suc i) x = refl
-  map-insert f (y ∷ ys) zero x = refl
-  map-insert f (y ∷ ys) (suc i) x = ap (λ t. f y ∷ t) (map-insert f ys i x)
-
   used_more : IsAllOf new (both (of_layer h') (in_use h.layers))
   used_more = all_pages_move old new no_page (of_layer h') (in_use h.layers) (all_of_same old (in_use h.layers) (both no_page (in_use h.layers)) (λ n. omega arith) h.used) moves
 

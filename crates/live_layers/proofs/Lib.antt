@@ -14,3 +14,10 @@ pub mod LocateLemmas
 pub mod AskLemmas
 pub mod ReplyLemmas
 pub mod JoinLemmas
+pub mod BegunLemmas
+pub mod ChangeLemmas
+pub mod ReplaceLemmas
+pub mod NoteLemmas
+pub mod InsertLemmas
+pub mod AddLemmas
+pub mod CreateLemmas

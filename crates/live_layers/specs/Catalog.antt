@@ -5,6 +5,7 @@ use Rattle.std.specs.Cmp.Lexicographic.{slice_cmp}
 use Rattle.std.specs.FinMap.{is_sorted}
 use Rattle.std.specs.Ordering.{nat_cmp}
 use Rattle.catalog_page.specs.Layout.{Record}
+use Rattle.tree_node.specs.declared.node.Root.{Root}
 use Rattle.plain_table.specs.Table.{is_layer_name, is_dims, is_fanout, most_objects}
 
 -- a page given out after the catalog
@@ -38,3 +39,7 @@ objects_named records = sum_by (λ r. r.count) records
 -- a good catalog of a file of which `next` is one more than the greatest page number given out
 abbrev pub is_good_catalog : ℕ → List Record → Bool
 is_good_catalog next records = list_all (is_layer_record next) records && (names_ascend records && nat_le (objects_named records) most_objects)
+
+-- the record of a layer whose tree begins there and that has so many objects
+abbrev pub with_tree : Record → Root → ℕ → Record
+with_tree r root count = record r { level = root.level; root = root.page; count = count }

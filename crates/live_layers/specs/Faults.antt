@@ -1,7 +1,8 @@
 -- What a change that broke off leaves, and the refusals that faults of a file are.
-use Rattle.std.specs.Prelude.{ℕ, ◌≡◌, if◌then◌else◌, Result, OnOk, IfErr}
+use Rattle.std.specs.Prelude.{ℕ, ◌≡◌, if◌then◌else◌, Result, Ok, Err, OnOk, IfErr}
 use Rattle.block_device.specs.Device.{one_more}
 use Rattle.node_page.specs.declared.broken.Broken.{Broken}
+use Rattle.page_file.specs.Fault.{faults_after}
 use Rattle.page_file.specs.declared.fault.Fault.{Fault}
 use Rattle.page_file.specs.declared.fault.Fault.TheVariants as fault
 use Rattle.plain_table.specs.declared.refusal.Refusal.{Refusal}
@@ -24,6 +25,11 @@ as_refusal fault.NoPages = refusal.NoPages
 abbrev pub unmade_by : Broken → Unmade
 unmade_by b = if b.touched then unmade.Broken b.cause else unmade.Refused (as_refusal b.cause)
 
+-- a change of pages as one of the layers
+abbrev pub change_of : Result (Unit {0}) Broken → Result (Unit {0}) Unmade
+change_of (Ok u) = Ok u
+change_of (Err b) = Err (unmade_by b)
+
 -- how often the device has failed after a refusal: once more with one that says so, and no more with another
 abbrev pub faults_after_refusal : Refusal → ℕ → ℕ
 faults_after_refusal r before = if blames_device r then one_more before else before
@@ -32,3 +38,13 @@ faults_after_refusal r before = if blames_device r then one_more before else bef
 pub record HasRefusalCause {T : Type 0} (before now : ℕ) (result : Result T Refusal) : Type 0 where
   pub ok : OnOk result (now ≡ before)
   pub refused : IfErr result (λ r. now ≡ faults_after_refusal r before)
+
+-- how often it has failed after a change that was not made
+abbrev pub faults_after_unmade : Unmade → ℕ → ℕ
+faults_after_unmade (unmade.Refused r) before = faults_after_refusal r before
+faults_after_unmade (unmade.Broken f) before = faults_after f before
+
+-- the count of the device's faults rises by one where its failure ended a change, and else not
+pub record HasUnmadeCause (before now : ℕ) (result : Result (Unit {0}) Unmade) : Type 0 where
+  pub made : OnOk result (now ≡ before)
+  pub unmade : IfErr result (λ u. now ≡ faults_after_unmade u before)

@@ -6,5 +6,9 @@ pub mod Faults
 pub mod Entries
 pub mod Keeping
 pub mod Changes
+pub mod Begun
+pub mod Rules
+pub mod Inserting
+pub mod Creating
 pub mod Located
 pub mod Questions

@@ -23,13 +23,23 @@ pub fn as_refusal(fault: Fault) -> Refusal
     }
 }
 
-/// Why a change that broke off was not made.
-pub fn unmade_by(broken: Broken) -> Unmade
+// Why a change that broke off was not made.
+fn unmade_by(broken: Broken) -> Unmade
     ensures { result ≡ faults.unmade_by broken }
 {
     if broken.touched {
         Unmade::Broken(broken.cause)
     } else {
         Unmade::Refused(as_refusal(broken.cause))
+    }
+}
+
+/// A change of the layers that its pages were changed for, or not.
+pub fn change_of(made: Result<(), Broken>) -> Result<(), Unmade>
+    ensures { result ≡ faults.change_of made }
+{
+    match made {
+        Ok(()) => Ok(()),
+        Err(broken) => Err(unmade_by(broken)),
     }
 }

@@ -3,10 +3,14 @@
 ghost use Rattle.catalog_page.specs.Layout.{records_of};
 ghost use Rattle.live_layers.specs.Catalog.{AreLayers};
 
+mod beginning;
 mod closing;
+mod creating;
 mod find;
+mod inserting;
 mod locate;
 mod named;
+mod noting;
 mod open;
 mod questions;
 

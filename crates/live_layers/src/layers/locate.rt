@@ -1,11 +1,11 @@
 //! The layer at a place.
 
-ghost use Rattle.std.specs.Prelude.{◌<◌, ◌≤◌, ℕ, List, length};
+ghost use Rattle.std.specs.Prelude.{◌≡◌, ◌<◌, ◌≤◌, ℕ, List, length, slice_index_or};
 ghost use Rattle.box_math.specs.Bounds.{IsDims};
 ghost use Rattle.layer_pages.specs.Layers.{CanBeRoot};
 ghost use Rattle.plain_table.specs.Table.{Table};
 ghost use Rattle.live_layers.specs.Keeping.{Finds, IsSound, records_in};
-ghost use Rattle.live_layers.specs.Located.{IsLocated};
+ghost use Rattle.live_layers.specs.Located.{IsLocated, located_by};
 
 use crate::layers::Layers;
 use crate::located::Located;
@@ -22,6 +22,7 @@ impl<D: BlockDevice, A: Allocator> Layers<D, A> {
         ensures root { CanBeRoot result.root }
         ensures located { (t : Table) (name : List ℕ) → IsSound self.now t → Finds t name place →
             IsLocated self.now t name result }
+        ensures by_record { (d : _) → result ≡ located_by (slice_index_or (records_in self.now) place d) }
     {
         let record = &self.records[place];
         Located {

@@ -1,8 +1,9 @@
 -- The record at the place is that of a layer that may be, and says where the layer stands.
-use Rattle.std.proofs.Common.{◌≡◌, ◌∙◌, List, get_or, ap, arith}
-use Rattle.std.proofs.lemmas.List.{length-map}
-use Rattle.catalog_page.specs.Layout.{record_of}
+use Rattle.std.proofs.Common.{◌≡◌, ◌∙◌, List, get_or, ap, arith, sym}
+use Rattle.std.proofs.lemmas.List.{get_or-map, length-map}
+use Rattle.catalog_page.specs.Layout.{record_of, records_of}
 use Rattle.catalog_page.specs.declared.layer_record.LayerRecord.{LayerRecord}
+use Rattle.live_layers.specs.Located.{located_by}
 use Rattle.live_layers.proofs.LocateLemmas.{can_be_root, dims_fit, fanout_fits, located_here}
 use Rattle.live_layers.proofs.layers.Layers.locate.Goals as goal
 
@@ -40,3 +41,12 @@ returns-clause-located g c = λ t name sound finds.
     let r = c.index-deref-place.result in
     let is : r ≡ get_or kept.records.items place r = c.index-deref-place.is ∙ ap (λ (xs : List LayerRecord). get_or xs place r) c.deref.ensures.0 in
     located_here kept t name place sound finds r is
+
+pub returns-clause-by_record : goal.returns-clause-by_record
+returns-clause-by_record g c = λ d.
+    let items = c.args.self.now.records.items in
+    let place = c.args.place in
+    let r = c.index-deref-place.result in
+    let is : r ≡ get_or items place r = c.index-deref-place.is ∙ ap (λ (xs : List LayerRecord). get_or xs place r) c.deref.ensures.0 in
+    let row : record_of r ≡ get_or (records_of c.args.self.now.records) place d = ap record_of is ∙ sym (get_or-map record_of items place r d (omega (arith, c.requires, length-map items record_of))) in
+    ap located_by row

@@ -1,0 +1,50 @@
+-- Each refusal is the table's, and none refuses the layer whose place is answered.
+use Rattle.std.proofs.Common.{◌≡◌, ◌∙◌, ◌<◌, ◌≤◌, ℕ, length, sym, ap, arith}
+use Rattle.std.specs.FinMap.{entries, len, len-entries}
+use Rattle.page_cache.specs.Cache.{next_of, pages}
+use Rattle.plain_table.specs.Table.{most_layers}
+use Rattle.plain_table.proofs.StepLemmas.{create_exists, create_full, create_passes}
+use Rattle.live_layers.proofs.AskLemmas.{named_there, not_there}
+use Rattle.live_layers.proofs.CreateLemmas.{bad_dims, bad_fanout, bad_name}
+use Rattle.live_layers.proofs.FindLemmas.{as_many}
+use Rattle.live_layers.proofs.layers.Layers.check_layer.Goals as goal
+
+pub returns-then-not-is_layer_name-clause-allowed : goal.returns-then-not-is_layer_name-clause-allowed
+returns-then-not-is_layer_name-clause-allowed g c = λ t sound. bad_name t c.args.name.now c.args.dims c.args.fanout (sym c.is_layer_name.ensures ∙ c.if-not-is_layer_name.true)
+
+pub returns-then-not-is_dims-clause-allowed : goal.returns-then-not-is_dims-clause-allowed
+returns-then-not-is_dims-clause-allowed g c = λ t sound.
+    bad_dims t c.args.name.now c.args.dims c.args.fanout (sym c.is_layer_name.ensures ∙ c.if-not-is_layer_name.false) (sym c.is_dims.ensures ∙ c.if-not-is_dims.true)
+
+pub returns-then-not-is_fanout-clause-allowed : goal.returns-then-not-is_fanout-clause-allowed
+returns-then-not-is_fanout-clause-allowed g c = λ t sound.
+    bad_fanout t c.args.name.now c.args.dims c.args.fanout (sym c.is_layer_name.ensures ∙ c.if-not-is_layer_name.false) (sym c.is_dims.ensures ∙ c.if-not-is_dims.false) (sym c.is_fanout.ensures ∙ c.if-not-is_fanout.true)
+
+pub returns-in_default-clause-allowed : goal.returns-in_default-clause-allowed
+returns-in_default-clause-allowed g c = λ t sound.
+    create_exists t c.args.name.now (sym c.is_layer_name.ensures ∙ c.if-not-is_layer_name.false) c.args.dims c.args.fanout (sym c.is_dims.ensures ∙ c.if-not-is_dims.false) (sym c.is_fanout.ensures ∙ c.if-not-is_fanout.false)
+    (named_there t c.args.name.now c.in_default.field-0 (c.in_default.ensures.found t sound))
+
+pub returns-then-len-ge-MOST_LAYERS-clause-allowed : goal.returns-then-len-ge-MOST_LAYERS-clause-allowed
+returns-then-len-ge-MOST_LAYERS-clause-allowed g c = λ t sound.
+    let old = c.args.self.now in
+    let name = c.args.name.now in
+    let belongs = c.in-Err.ensures.belongs t sound in
+    let good = sym c.is_layer_name.ensures ∙ c.if-not-is_layer_name.false in
+    let axes = sym c.is_dims.ensures ∙ c.if-not-is_dims.false in
+    let sized = sym c.is_fanout.ensures ∙ c.if-not-is_fanout.false in
+    let absent = not_there t name c.in-Err.place belongs in
+    let count : len t ≡ length old.records.items = len-entries t ∙ as_many (pages old.cache) (next_of old.cache) old.records.items t sound.holds in
+    create_full t name good c.args.dims c.args.fanout axes sized absent (omega (arith, c.if-len-ge-MOST_LAYERS.true, c.len.ensures.value, count))
+
+pub returns-clause-allowed : goal.returns-clause-allowed
+returns-clause-allowed g c = λ t sound.
+    let old = c.args.self.now in
+    let name = c.args.name.now in
+    let belongs = c.in-Err.ensures.belongs t sound in
+    let good = sym c.is_layer_name.ensures ∙ c.if-not-is_layer_name.false in
+    let axes = sym c.is_dims.ensures ∙ c.if-not-is_dims.false in
+    let sized = sym c.is_fanout.ensures ∙ c.if-not-is_fanout.false in
+    let absent = not_there t name c.in-Err.place belongs in
+    let count : len t ≡ length old.records.items = len-entries t ∙ as_many (pages old.cache) (next_of old.cache) old.records.items t sound.holds in
+    create_passes t name good c.args.dims c.args.fanout axes sized absent (omega (arith, c.if-len-ge-MOST_LAYERS.false, c.len.ensures.value, count))

@@ -1,0 +1,25 @@
+-- What a change of pages behind the gate leaves of a cache and its device (our rule, docs/FORMAT.md, "Stops").
+use Rattle.std.specs.Prelude.{ℕ, ◌≡◌, ◌≤◌, ◌↔◌, true, List, Result, OnOk, IfErr}
+use Rattle.block_device.specs.Device.{LeavesOnly}
+use Rattle.node_page.specs.Broken.{cause_in}
+use Rattle.node_page.specs.declared.broken.Broken.{Broken}
+use Rattle.page_cache.specs.Cache.{IsHonest, device_of, gate_of, next_of}
+use Rattle.page_cache.specs.Calls.{faults_behind}
+use Rattle.page_cache.specs.declared.cache.PageCache.{PageCache}
+use Rattle.page_file.specs.declared.gate.Gate.TheVariants.{Open}
+use Rattle.plain_table.specs.Table.{Table}
+use Rattle.live_layers.specs.Image.{IsRefusedOrImageOf}
+use Rattle.live_layers.specs.Keeping.{RestLeavesOneOf}
+
+-- A change was begun, and then made or broken off. A stop leaves what one at rest leaves. Where pages may be changed the
+-- gate is open. Honesty stays, no page number is taken back, and the count of the device's faults rises by one where it was
+-- the cause.
+pub record Begins {D A : Type 0} {m : _} {T : Type 0} (old new : PageCache D A m) (result : Result T Broken) : Type 0 where
+  pub stops : (ts : List Table) → IsHonest old → RestLeavesOneOf old ts
+      → LeavesOnly m.moment m.left_since (device_of old) (device_of new) (IsRefusedOrImageOf ts)
+  pub rests : (ts : List Table) → IsHonest old → RestLeavesOneOf old ts → RestLeavesOneOf new ts
+  pub opened : OnOk result (gate_of new ≡ Open)
+  pub broke_open : IfErr result (λ b. b.touched ≡ true → gate_of new ≡ Open)
+  pub honest : IsHonest old ↔ IsHonest new
+  pub next : next_of old ≤ next_of new
+  pub faults : m.faults (device_of new) ≡ faults_behind (cause_in result) (m.faults (device_of old))

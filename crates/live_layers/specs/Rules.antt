@@ -1,0 +1,12 @@
+-- What changes make of the trees of layers.
+use Rattle.std.specs.Prelude.{ℕ}
+use Rattle.box_math.specs.Bounds.{Bounds}
+use Rattle.node_page.specs.Parts.{Part}
+use Rattle.plain_table.specs.Table.{Layer}
+use Rattle.reinsert.specs.Insertion.{IsInsertion}
+use Rattle.tree_node.specs.Trees.{Tree, object}
+
+-- A lawful insertion of an object into the tree of a layer led to another (Beckmann, Kriegel, Schneider and Seeger 1990).
+-- No page of some part elsewhere came in.
+abbrev pub HasGained : Layer → ℕ → Bounds → Tree → Tree → Type 0
+HasGained layer id bounds was now = (elsewhere : Part) × IsInsertion layer.dims layer.fanout elsewhere (object bounds id) 0 was now

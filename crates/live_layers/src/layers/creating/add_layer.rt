@@ -1,0 +1,88 @@
+//! The pages and the record of a layer that is made.
+
+ghost use Rattle.std.specs.Prelude.{◌≡◌, ◌≤◌, ◌<◌, ℕ, IfErr, IfOk, OnOk, false, true, length};
+ghost use Rattle.std.specs.FinMap as map;
+ghost use Rattle.layer_pages.specs.Changes.{BecomesLayer, IsEmptyLeaf};
+ghost use Rattle.layer_pages.specs.Layers.{CanBeRoot};
+ghost use Rattle.node_page.specs.Broken.{Alters};
+ghost use Rattle.node_page.specs.Faults.{IsNoDamage};
+ghost use Rattle.node_page.specs.Parts.{no_page};
+ghost use Rattle.page_cache.specs.Cache.{IsPageMap, gate_of, next_of, pages};
+ghost use Rattle.page_file.specs.declared.gate.Gate.TheVariants.{Open};
+ghost use Rattle.plain_table.specs.Table.{Table, is_dims};
+ghost use Rattle.live_layers.specs.Begun.{Begins};
+ghost use Rattle.live_layers.specs.Creating.{BringsTree, MayBeLayer, new_layer};
+ghost use Rattle.live_layers.specs.Keeping.{Belongs, IsSound, cache_of, records_in};
+
+use crate::layers::Layers;
+use arrayvec::ArrayVec;
+use block_device::BlockDevice;
+use catalog_page::LayerRecord;
+use layer_pages::make;
+use node_page::{Broken, Root};
+use page_cache::PageCache;
+use std::alloc::Allocator;
+
+impl<B: BlockDevice, A: Allocator + Copy> Layers<B, A> {
+    // Makes the pages of a layer without objects, and puts its record in at a place.
+    pub(crate) fn add_layer(&mut self, place: usize, name: &[u8], dims: u8, fanout: u8) -> Result<(), Broken>
+        requires may_be { MayBeLayer name.now dims fanout }
+        requires within { place ≤ length (records_in self.old) }
+        requires room { length (records_in self.old) < 60 }
+        ensures added { (t : Table) → IsSound self.old t → Belongs t name.now place →
+            OnOk result (IsSound self.new (map.insert t name.now (new_layer dims fanout))) }
+        ensures tree { (t : Table) → IsSound self.old t → Belongs t name.now place →
+            OnOk result (BringsTree self.old self.new name.now IsEmptyLeaf) }
+        ensures untouched { (t : Table) → IsSound self.old t →
+            IfErr result (λ b. b.touched ≡ false → IsSound self.new t) }
+        ensures faults { (t : Table) → IsSound self.old t →
+            IfErr result (λ b. IsNoDamage (cache_of self.new) b.cause) }
+        ensures begins { Begins (cache_of self.old) (cache_of self.new) result }
+    {
+        self.begin()?;
+        let (root, directory) = make_pages(&mut self.cache, dims)?;
+        let record = LayerRecord {
+            name: name_of(name),
+            dims,
+            fanout,
+            level: root.level,
+            root: root.page,
+            directory,
+            count: 0,
+        };
+        self.records.insert(place, record);
+        self.written = false;
+        Ok(())
+    }
+}
+
+// The pages of a layer without objects whose boxes have so many axes.
+fn make_pages<B: BlockDevice, A: Allocator + Copy>(
+    cache: &mut PageCache<B, A>,
+    dims: u8,
+) -> Result<(Root, u32), Broken>
+    requires dims { is_dims dims ≡ true }
+    requires open { gate_of cache.old ≡ Open }
+    ensures alters { Alters cache.old cache.new result }
+    ensures places { IfOk result (λ made. CanBeRoot made.0 × (3 ≤ made.1) × (made.1 < next_of cache.new)) }
+    ensures sound { IsPageMap cache.old → IsPageMap cache.new }
+    ensures made { IsPageMap cache.old → (most : ℕ) → IfOk result (λ made.
+        BecomesLayer dims most (pages cache.old) (pages cache.new) no_page made.0 made.1 map.empty IsEmptyLeaf) }
+    ensures faults { IsPageMap cache.old → IfErr result (λ b. IsNoDamage cache.new b.cause) }
+{
+    if dims == 2 {
+        make::<2, B, A>(cache)
+    } else {
+        make::<3, B, A>(cache)
+    }
+}
+
+// A name as a record has it.
+fn name_of(name: &[u8]) -> ArrayVec<u8, 24>
+    requires { length name.now ≤ 24 }
+    ensures { result.items ≡ name.now }
+{
+    let mut copy = ArrayVec::new();
+    copy.try_extend_from_slice(name).unwrap();
+    copy
+}

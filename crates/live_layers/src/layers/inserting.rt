@@ -1,0 +1,51 @@
+//! An object inserted into a layer.
+
+ghost use Rattle.std.specs.Prelude.{◌≤◌, OnOk};
+ghost use Rattle.page_cache.specs.Cache.{IsHonest, device_of, next_of};
+ghost use Rattle.plain_table.specs.Boxes.{given_bounds};
+ghost use Rattle.plain_table.specs.Commands.Command.{Insert};
+ghost use Rattle.plain_table.specs.Table.{Table, layer_at};
+ghost use Rattle.live_layers.specs.Changes.{ChangeLeaves, IsChanged};
+ghost use Rattle.live_layers.specs.Faults.{HasUnmadeCause};
+ghost use Rattle.live_layers.specs.Keeping.{ChangesTree, IsSound, cache_of};
+ghost use Rattle.live_layers.specs.Rules.{HasGained};
+
+mod adding;
+mod checking;
+mod insert_box;
+
+use crate::layers::Layers;
+use crate::unmade::Unmade;
+use block_device::BlockDevice;
+use plain_table::{RawBox, Refusal, is_layer_name};
+use std::alloc::Allocator;
+
+impl<B: BlockDevice, A: Allocator + Copy> Layers<B, A> {
+    /// Inserts an object with a new identifier into a layer: by a lawful insertion into its tree, and then into its
+    /// identifier table.
+    ///
+    /// Refused, in this order, by BadName, NoLayer, WrongDims, BadBox, Duplicate and TooManyObjects.
+    pub fn insert(&mut self, name: &[u8], id: u64, bounds: RawBox) -> Result<(), Unmade>
+        ensures changed { (t : Table) → IsSound self.old t →
+            IsChanged self.old self.new t (Insert name.now id bounds) result }
+        ensures leaves { (t : Table) → IsSound self.old t →
+            ChangeLeaves self.old self.new t (Insert name.now id bounds) result }
+        ensures tree { (t : Table) → IsSound self.old t → OnOk result (ChangesTree self.old self.new name.now
+            (HasGained (layer_at t name.now) id (given_bounds bounds))) }
+        ensures honest { IsHonest (cache_of self.old) → IsHonest (cache_of self.new) }
+        ensures next { next_of (cache_of self.old) ≤ next_of (cache_of self.new) }
+        ensures cause { HasUnmadeCause (B.faults (device_of (cache_of self.old)))
+            (B.faults (device_of (cache_of self.new))) result }
+    {
+        if !is_layer_name(name) {
+            return Err(Unmade::Refused(Refusal::BadName));
+        }
+        let Ok(place) = self.find(name) else {
+            return Err(Unmade::Refused(Refusal::NoLayer));
+        };
+        match bounds {
+            RawBox::Two(low, high) => self.insert_box::<2>(place, id, low, high),
+            RawBox::Three(low, high) => self.insert_box::<3>(place, id, low, high),
+        }
+    }
+}

@@ -1,0 +1,64 @@
+//! An object added to the tree and the identifier table of a layer.
+
+ghost use Rattle.std.specs.Prelude.{◌≡◌, ◌<◌, ℕ, List, false, IfErr, OnOk, length};
+ghost use Rattle.std.specs.FinMap as map;
+ghost use Rattle.box_math.specs.Bounds.{IsBox, IsDims};
+ghost use Rattle.node_page.specs.Faults.{IsNoDamage};
+ghost use Rattle.plain_table.specs.Table.{Table, layer_at, most_objects, with_object};
+ghost use Rattle.live_layers.specs.Begun.{Begins};
+ghost use Rattle.live_layers.specs.Keeping.{ChangesTree, Finds, IsSound, cache_of, records_in};
+ghost use Rattle.live_layers.specs.Rules.{HasGained};
+
+use crate::layers::Layers;
+use block_device::BlockDevice;
+use box_math::BBox;
+use layer_pages::insert;
+use node_page::{Broken, Entry};
+use reinsert::Waiting;
+use std::alloc::Allocator;
+
+impl<B: BlockDevice, A: Allocator + Copy> Layers<B, A> {
+    // Adds an object that the layer at a place does not have. The memory of what waits in the insertion is taken before
+    // the gate is opened.
+    pub(crate) fn add_object<const D: usize>(
+        &mut self,
+        place: usize,
+        id: u64,
+        bounds: &BBox<D>,
+    ) -> Result<(), Broken>
+        requires dims { IsDims D }
+        requires within { place < length (records_in self.old) }
+        requires room { self.old.object_count < most_objects }
+        ensures added { (t : Table) (name : List ℕ) → IsSound self.old t → Finds t name place →
+            (layer_at t name).dims ≡ D → map.contains_key (layer_at t name).objects id ≡ false →
+            OnOk result (IsSound self.new (map.insert t name (with_object (layer_at t name) id bounds.now))) }
+        ensures tree { (t : Table) (name : List ℕ) → IsSound self.old t → Finds t name place →
+            (layer_at t name).dims ≡ D → map.contains_key (layer_at t name).objects id ≡ false →
+            OnOk result (ChangesTree self.old self.new name (HasGained (layer_at t name) id bounds.now)) }
+        ensures untouched { (t : Table) → IsSound self.old t →
+            IfErr result (λ b. b.touched ≡ false → IsSound self.new t) }
+        ensures faults { (t : Table) (name : List ℕ) → IsSound self.old t → Finds t name place →
+            (layer_at t name).dims ≡ D → IfErr result (λ b. IsNoDamage (cache_of self.new) b.cause) }
+        ensures begins { Begins (cache_of self.old) (cache_of self.new) result }
+    {
+        let mut waiting = Waiting::make(self.alloc)?;
+        self.begin()?;
+        let located = self.locate(place);
+        let object = Entry {
+            bounds: *bounds,
+            reference: id,
+        };
+        let root = insert(
+            &mut self.cache,
+            located.root,
+            located.directory,
+            &object,
+            located.fanout,
+            &mut waiting,
+        )?;
+        let count = self.count_at(place).saturating_add(1);
+        self.note(place, root, count);
+        self.object_count += 1;
+        Ok(())
+    }
+}

@@ -1,0 +1,66 @@
+//! Whether an object may be inserted.
+
+ghost use Rattle.std.specs.Prelude.{◌≡◌, ◌<◌, ℕ, List, IfOk, nat_le};
+ghost use Rattle.box_math.specs.Bounds.{IsDims};
+ghost use Rattle.page_cache.specs.Cache.{KeepsGate, KeepsMap, device_of};
+ghost use Rattle.plain_table.specs.Boxes.{dims_of, given_bounds};
+ghost use Rattle.plain_table.specs.Step.{first_refusal, object_refusals};
+ghost use Rattle.plain_table.specs.Table.{Table, layer_at, most_objects, object_count};
+ghost use Rattle.plain_table.specs.declared.boxes.RawBox.{RawBox as GivenBox};
+ghost use Rattle.live_layers.specs.Changes.{Rose};
+ghost use Rattle.live_layers.specs.Faults.{HasRefusalCause};
+ghost use Rattle.live_layers.specs.Inserting.{IsAllowedOr};
+ghost use Rattle.live_layers.specs.Keeping.{IsSound, cache_of, records_in};
+ghost use Rattle.live_layers.specs.Located.{IsLocated};
+
+use crate::faults::as_refusal;
+use crate::layers::Layers;
+use crate::located::Located;
+use block_device::BlockDevice;
+use box_math::BBox;
+use id_table::get;
+use plain_table::{MOST_OBJECTS, Refusal};
+use std::alloc::Allocator;
+
+impl<B: BlockDevice, A: Allocator + Copy> Layers<B, A> {
+    // The box of an object that may be inserted into the layer that stands there, or why it may not.
+    pub(crate) fn check_object<const D: usize>(
+        &mut self,
+        located: &Located,
+        id: u64,
+        low: [i32; D],
+        high: [i32; D],
+    ) -> Result<BBox<D>, Refusal>
+        requires dims { IsDims D }
+        ensures allowed { (t : Table) (name : List ℕ) (box : GivenBox) → IsSound self.old t →
+            IsLocated self.old t name located.now → dims_of box ≡ D →
+            given_bounds box ≡ record { low = low.entry; high = high.entry } → IsAllowedOr (Rose self.old self.new)
+            (first_refusal (object_refusals (layer_at t name) id box (nat_le most_objects (object_count t)))) result }
+        ensures bounds { IfOk result (λ b. b ≡ record { low = low.entry; high = high.entry }) }
+        ensures room { IfOk result (λ b. self.new.object_count < most_objects) }
+        ensures sound { (t : Table) → IsSound self.old t → IsSound self.new t }
+        ensures records { records_in self.new ≡ records_in self.old }
+        ensures gate { KeepsGate (cache_of self.old) (cache_of self.new) }
+        ensures map { KeepsMap (cache_of self.old) (cache_of self.new) }
+        ensures cause { HasRefusalCause (B.faults (device_of (cache_of self.old)))
+            (B.faults (device_of (cache_of self.new))) result }
+    {
+        if usize::from(located.dims) != D {
+            return Err(Refusal::WrongDims);
+        }
+        let Some(bounds) = BBox::try_new(low, high) else {
+            return Err(Refusal::BadBox);
+        };
+        let known = match get::<D, B, A>(&mut self.cache, located.directory, id) {
+            Ok(known) => known,
+            Err(fault) => return Err(as_refusal(fault)),
+        };
+        if known.is_some() {
+            return Err(Refusal::Duplicate);
+        }
+        if self.object_count >= MOST_OBJECTS {
+            return Err(Refusal::TooManyObjects);
+        }
+        Ok(bounds)
+    }
+}
