@@ -73,8 +73,8 @@ sorted_ascend [] up = tt
 sorted_ascend (p ∷ []) up = (tt, tt)
 sorted_ascend (p ∷ q ∷ qs) up =
     let rest = sorted_ascend (q ∷ qs) (λ k d low lt.
-        let e : suc k + 1 ≡ suc (k + 1) = omega arith in
-        subst (λ (n : ℕ). is_lt (pair_cmp (get_or (p ∷ q ∷ qs) n d) (get_or (q ∷ qs) k d)) ≡ false) e (up (suc k) d (omega arith) (omega (arith, lt)))) in
+    let e : suc k + 1 ≡ suc (k + 1) = omega arith in
+    subst (λ (n : ℕ). is_lt (pair_cmp (get_or (p ∷ q ∷ qs) n d) (get_or (q ∷ qs) k d)) ≡ false) e (up (suc k) d (omega arith) (omega (arith, lt)))) in
     let first = in_turn p q (up 0 p (omega arith) (omega arith)) in
     ((first, heads_after (turned p) (turned q) (map turned qs) first rest.0), rest)
 
@@ -169,8 +169,8 @@ joins_answer dims s t xs ys pairs same same' sorted sorted' answer =
     let below = meeting dims (objects_in s.row) (objects_in t.row) in
     let once : map turned pairs ≡ map turned all = one_order (map turned pairs) (map turned all) (sorted_ascend pairs answer.order) (meeting_ascends dims ys xs sorted sorted')
     (λ z.
-        let f : ℕ × ℕ → ℕ = λ p. cond (same_row z (turned p)) 1 0 in
-        listed_turned z pairs ∙ total-permutation f below pairs answer.all ∙ same_sums dims f (objects_in s.row) xs (objects_in t.row) ys same same' ∙ sym (listed_turned z all)) in
+    let f : ℕ × ℕ → ℕ = λ p. cond (same_row z (turned p)) 1 0 in
+    listed_turned z pairs ∙ total-permutation f below pairs answer.all ∙ same_sums dims f (objects_in s.row) xs (objects_in t.row) ys same same' ∙ sym (listed_turned z all)) in
     sym (turned_back pairs) ∙ ap (map turned) once ∙ turned_back all
 
 -- what a join of the trees of two layers answers are the pairs of the table

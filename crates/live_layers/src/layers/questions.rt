@@ -20,6 +20,8 @@ mod boxes;
 mod distances;
 mod pairs;
 mod range;
+#[cfg(test)]
+mod tests;
 
 use crate::layers::Layers;
 use block_device::BlockDevice;
