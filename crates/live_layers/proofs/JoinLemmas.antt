@@ -34,6 +34,7 @@ use Rattle.tree_node.proofs.PositionLemmas.{total-append, total-same}
 use Rattle.live_layers.specs.Keeping.{Belongs, Finds}
 use Rattle.live_layers.specs.Questions.{IsReply}
 use Rattle.live_layers.proofs.AskLemmas.{named_there, not_there}
+use Rattle.live_layers.proofs.EntryLemmas.{left_of, right_of}
 
 -- a pair with its second first
 abbrev turned : ℕ × ℕ → ℕ × ℕ
@@ -80,14 +81,6 @@ sorted_ascend (p ∷ q ∷ qs) up =
 
 -- ---- the pairs of objects by identifier
 
-first_of : (a b : Bool) → T (a && b) → T a
-first_of true b p = tt
-first_of false b p = p
-
-second_of : (a b : Bool) → T (a && b) → T b
-second_of true b p = p
-second_of false b p = absurd p
-
 rises : (a b : ℕ) → T (is_lt (nat_cmp a b)) → a < b
 rises a b h = ⊎_elim (λ (lt : a < b). lt) (λ (ge : b ≤ a). absurd (subst T (not_less a b ge) h)) (cases_lt a b)
   where
@@ -101,14 +94,14 @@ module _ (o : ℕ × Bounds) where
 
   each_leads : (x : ℕ) (es : List (ℕ × Bounds)) → T (below_all nat_cmp x es) → Heads (x, o.0) (map turned (with_each es))
   each_leads x [] h = tt
-  each_leads x (e ∷ es) h = (below x e.0 (rises x e.0 (first_of (is_lt (nat_cmp x e.0)) (below_all nat_cmp x es) h)), each_leads x es (second_of (is_lt (nat_cmp x e.0)) (below_all nat_cmp x es) h))
+  each_leads x (e ∷ es) h = (below x e.0 (rises x e.0 (left_of (is_lt (nat_cmp x e.0)) (below_all nat_cmp x es) h)), each_leads x es (right_of (is_lt (nat_cmp x e.0)) (below_all nat_cmp x es) h))
     where
       below : (x y : ℕ) → x < y → comes_first (x, o.0) (y, o.0) ≡ true
       below x y lt = grind (arith, nat_tests)
 
   each_ascends : (es : List (ℕ × Bounds)) → T (is_sorted nat_cmp es) → Ascends (map turned (with_each es))
   each_ascends [] h = tt
-  each_ascends (e ∷ es) h = (each_leads e.0 es (first_of (below_all nat_cmp e.0 es) (is_sorted nat_cmp es) h), each_ascends es (second_of (below_all nat_cmp e.0 es) (is_sorted nat_cmp es) h))
+  each_ascends (e ∷ es) h = (each_leads e.0 es (left_of (below_all nat_cmp e.0 es) (is_sorted nat_cmp es) h), each_ascends es (right_of (below_all nat_cmp e.0 es) (is_sorted nat_cmp es) h))
 
   each_has : (z : ℕ × ℕ) (es : List (ℕ × Bounds)) → 0 < listed z (map turned (with_each es)) → z.1 ≡ o.0
   each_has z [] there = absurd (omega (arith, there))
@@ -132,17 +125,17 @@ module _ (dims : ℕ) (ys : List (ℕ × Bounds)) where
   later_lead z (x ∷ xs) h =
       subst (Heads z) (sym (map-append turned (pairs_with dims ys x) (meeting dims xs ys)))
       (Heads-append z (map turned (pairs_with dims ys x)) (map turned (meeting dims xs ys))
-      (after_each x z (met x) (rises z.1 x.0 (first_of (is_lt (nat_cmp z.1 x.0)) (below_all nat_cmp z.1 xs) h)))
-      (later_lead z xs (second_of (is_lt (nat_cmp z.1 x.0)) (below_all nat_cmp z.1 xs) h)))
+      (after_each x z (met x) (rises z.1 x.0 (left_of (is_lt (nat_cmp z.1 x.0)) (below_all nat_cmp z.1 xs) h)))
+      (later_lead z xs (right_of (is_lt (nat_cmp z.1 x.0)) (below_all nat_cmp z.1 xs) h)))
 
   meeting_ascends : (xs : List (ℕ × Bounds)) → T (is_sorted nat_cmp xs) → T (is_sorted nat_cmp ys) → Ascends (map turned (meeting dims xs ys))
   meeting_ascends [] s s' = tt
   meeting_ascends (x ∷ xs) s s' =
       let block = map turned (pairs_with dims ys x) in
-      let after : T (below_all nat_cmp x.0 xs) = first_of (below_all nat_cmp x.0 xs) (is_sorted nat_cmp xs) s in
+      let after : T (below_all nat_cmp x.0 xs) = left_of (below_all nat_cmp x.0 xs) (is_sorted nat_cmp xs) s in
       subst Ascends (sym (map-append turned (pairs_with dims ys x) (meeting dims xs ys)))
       (Ascends-append block (map turned (meeting dims xs ys)) (each_ascends x (met x) (filter_sorted (λ other. meets_test dims x.1 other.1) ys s'))
-      (meeting_ascends xs (second_of (below_all nat_cmp x.0 xs) (is_sorted nat_cmp xs) s) s')
+      (meeting_ascends xs (right_of (below_all nat_cmp x.0 xs) (is_sorted nat_cmp xs) s) s')
       (λ z there. later_lead z xs (subst (λ (n : ℕ). T (below_all nat_cmp n xs)) (sym (each_has x z (met x) there)) after)))
 
 -- ---- the pairs of the same objects in another order
