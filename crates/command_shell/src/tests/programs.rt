@@ -86,10 +86,11 @@ fn a_run_whose_last_flush_fails_did_not_go_well(rt: HostRuntime) -> Result<(), F
     Ok(())
 }
 
-// The device fails after the making of the store.
+// The device fails after the making of the store, in 8 calls, and the changes of the text: two for the gate, and one for
+// each page that is given out, which are root and directory of the layer and the object's bucket.
 #[test]
 fn a_refused_closing_is_told(rt: HostRuntime) -> Result<(), Fail> {
-    let fuse = FuseDevice::new(MemoryDevice::new(rt.alloc()), 8, FuseMode::Onward);
+    let fuse = FuseDevice::new(MemoryDevice::new(rt.alloc()), 13, FuseMode::Onward);
     let Ok(store) = create_store(rt.alloc(), fuse, 64) else {
         return Err(Fail::from("make"));
     };
@@ -100,14 +101,14 @@ fn a_refused_closing_is_told(rt: HostRuntime) -> Result<(), Fail> {
     assert!(rt; !ended.went_well);
     assert_eq!(rt; output.as_slice(), b"ok\nok\n".as_slice());
     assert_eq!(rt; errors.as_slice(), b"rstore: fail 17 Device\n".as_slice());
-    assert_eq!(rt; ended.device.blocks(), 3);
+    assert_eq!(rt; ended.device.blocks(), 6);
     Ok(())
 }
 
 // Where the closing is refused and the output failed too, the closing's refusal is told.
 #[test]
 fn a_refused_closing_is_told_before_a_failed_output(rt: HostRuntime) -> Result<(), Fail> {
-    let fuse = FuseDevice::new(MemoryDevice::new(rt.alloc()), 8, FuseMode::Onward);
+    let fuse = FuseDevice::new(MemoryDevice::new(rt.alloc()), 13, FuseMode::Onward);
     let Ok(store) = create_store(rt.alloc(), fuse, 64) else {
         return Err(Fail::from("make"));
     };

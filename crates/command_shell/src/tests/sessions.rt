@@ -3,142 +3,210 @@
 use super::fakes::{Short, Slow};
 use super::new_store;
 use crate::{RunEnd, run};
+use block_device::MemoryDevice;
+use layer_store::Store;
 use refusing::Refusing;
+use std::alloc::Global;
 use std::test::Fail;
 
-// Each line and its reply. Layers `a` and `b` have two axes, `c` has three.
-const ROWS: [(&[u8], &[u8]); 76] = [
-    (b"# the first run", b""),
-    (b"create a 2 4", b"ok\n"),
-    (b"insert a 1 0 0 10 10", b"ok\n"),
-    (b"insert a 2 20 20 30 30", b"ok\n"),
-    (b"window a 5 5 25 25", b"ok 2\n1 0 0 10 10\n2 20 20 30 30\n"),
-    (b"window a 11 11 19 19", b"ok 0\n"),
-    (b"", b""),
-    (b"# an empty layer", b""),
-    (b"create b 2 100", b"ok\n"),
-    (
-        b"window b -2147483648 -2147483648 2147483647 2147483647",
-        b"ok 0\n",
-    ),
-    (b"count b", b"ok 1\n0\n"),
-    (b"nearest b 3 0 0", b"ok 0\n"),
-    (b"# extremes", b""),
-    (b"create c 3 4", b"ok\n"),
-    (
-        b"insert c 2 2147483647 2147483647 2147483647 2147483647 2147483647 2147483647",
-        b"ok\n",
-    ),
-    (
-        b"insert c 1 -2147483648 -2147483648 -2147483648 2147483647 2147483647 2147483647",
-        b"ok\n",
-    ),
-    (
-        b"window c -2147483648 -2147483648 -2147483648 -2147483648 -2147483648 -2147483648",
-        b"ok 1\n1 -2147483648 -2147483648 -2147483648 2147483647 2147483647 2147483647\n",
-    ),
-    (
-        b"point c -2147483648 -2147483648 -2147483648",
-        b"ok 1\n1 -2147483648 -2147483648 -2147483648 2147483647 2147483647 2147483647\n",
-    ),
-    (
-        b"window c 2147483647 2147483647 2147483647 2147483647 2147483647 2147483647\r",
-        b"ok 2\n1 -2147483648 -2147483648 -2147483648 2147483647 2147483647 2147483647\n\
-          2 2147483647 2147483647 2147483647 2147483647 2147483647 2147483647\n",
-    ),
-    (
-        b"nearest c 2 -2147483648 -2147483648 -2147483648",
-        b"ok 2\n1 0\n2 55340232195358851075\n",
-    ),
-    (b"# equal distances", b""),
-    (b"create n 2 4", b"ok\n"),
-    (b"insert n 9 5 0 5 0", b"ok\n"),
-    (b"insert n 4 0 5 0 5", b"ok\n"),
-    (b"insert n 7 -5 0 -5 0", b"ok\n"),
-    (b"insert n 2 0 -5 0 -5", b"ok\n"),
-    (b"insert n 5 3 4 3 4", b"ok\n"),
-    (b"nearest n 3 0 0", b"ok 3\n2 25\n4 25\n5 25\n"),
-    (
-        b"nearest n 1000000 3 3",
-        b"ok 5\n5 1\n4 13\n9 13\n2 73\n7 73\n",
-    ),
-    (b"nearest n 0 0 0", b"fail 14 BadCount\n"),
-    (b"nearest n 1000001 0 0", b"fail 14 BadCount\n"),
-    (b"nearest n 0 0 0 0", b"fail 8 WrongDims\n"),
-    (b"nearest q 0 0 0", b"fail 3 NoLayer\n"),
-    (b"# touching", b""),
-    (b"insert b 2 1 1 2 2", b"ok\n"),
-    (b"insert b 1 0 0 1 1", b"ok\n"),
-    (b"window b 1 1 1 1", b"ok 2\n1 0 0 1 1\n2 1 1 2 2\n"),
-    (b"window b 2 0 2 0", b"ok 0\n"),
-    (b"point b 1 1", b"ok 2\n1 0 0 1 1\n2 1 1 2 2\n"),
-    (b"point b 2 0", b"ok 0\n"),
-    (b"inside b 0 0 1 1", b"ok 1\n1 0 0 1 1\n"),
-    (b"inside b 1 1 1 1", b"ok 0\n"),
-    (b"around b 1 1 2 2", b"ok 1\n2 1 1 2 2\n"),
-    (b"around b 0 0 2 2", b"ok 0\n"),
-    (b"get b 2", b"ok 1\n2 1 1 2 2\n"),
-    (b"count b", b"ok 1\n2\n"),
-    (b"# refusals", b""),
-    (b"insert b 1 5 5 6 6", b"fail 9 Duplicate\n"),
-    (b"get b 1", b"ok 1\n1 0 0 1 1\n"),
-    (b"count b", b"ok 1\n2\n"),
-    (b"get b 99", b"fail 10 NoObject\n"),
-    (b"get a 99", b"fail 10 NoObject\n"),
-    (b"get q 1", b"fail 3 NoLayer\n"),
-    (b"get B 1", b"fail 1 BadName\n"),
-    (b"count q", b"fail 3 NoLayer\n"),
-    (b"count _", b"fail 1 BadName\n"),
-    (b"point b 0 0 0", b"fail 8 WrongDims\n"),
-    (b"point q 0 0", b"fail 3 NoLayer\n"),
-    (b"inside b 1 1 1 0 0 0", b"fail 8 WrongDims\n"),
-    (b"around b 1 0 0 0", b"fail 7 BadBox\n"),
-    (b"insert b 3 1 0 0 0", b"fail 7 BadBox\n"),
-    (b"create A 2 4", b"fail 1 BadName\n"),
-    (b"create abcdefghijklmnopqrstuvwxy 2 4", b"fail 1 BadName\n"),
-    (b"create b 4 4", b"fail 4 BadDims\n"),
-    (b"create d 2 3", b"fail 5 BadFanout\n"),
-    (b"create d 2 101", b"fail 5 BadFanout\n"),
-    (b"create b 2 4", b"fail 2 LayerExists\n"),
-    (b"window q 0 0 1 1", b"fail 3 NoLayer\n"),
-    (b"insert b 1 1 1 1 0 0 0", b"fail 8 WrongDims\n"),
-    (b"insert b 18446744073709551615 0 0 0 0", b"ok\n"),
-    (
-        b"insert b 18446744073709551616 0 0 0 0",
-        b"fail 24 BadLine\n",
-    ),
-    (b"insert b 5 0 0 0 2147483648", b"fail 24 BadLine\n"),
-    (
-        b"window b 0 0 1 1",
-        b"ok 3\n1 0 0 1 1\n2 1 1 2 2\n18446744073709551615 0 0 0 0\n",
-    ),
-    (b"# what a reopening keeps", b""),
-    (b"reopen", b"ok\n"),
-    (b"window b 2 2 9 9", b"ok 1\n2 1 1 2 2\n"),
-];
+// A line and its reply.
+type Row = (&'static [u8], &'static [u8]);
 
+// Lines with their replies: windows, an empty layer, the greatest boxes.
+fn first_rows() -> [Row; 20] {
+    [
+        (b"# the first run", b""),
+        (b"create a 2 4", b"ok\n"),
+        (b"insert a 1 0 0 10 10", b"ok\n"),
+        (b"insert a 2 20 20 30 30", b"ok\n"),
+        (b"window a 5 5 25 25", b"ok 2\n1 0 0 10 10\n2 20 20 30 30\n"),
+        (b"window a 11 11 19 19", b"ok 0\n"),
+        (b"", b""),
+        (b"# an empty layer", b""),
+        (b"create b 2 100", b"ok\n"),
+        (
+            b"window b -2147483648 -2147483648 2147483647 2147483647",
+            b"ok 0\n",
+        ),
+        (b"count b", b"ok 1\n0\n"),
+        (b"nearest b 3 0 0", b"ok 0\n"),
+        (b"# extremes", b""),
+        (b"create c 3 4", b"ok\n"),
+        (
+            b"insert c 2 2147483647 2147483647 2147483647 2147483647 2147483647 2147483647",
+            b"ok\n",
+        ),
+        (
+            b"insert c 1 -2147483648 -2147483648 -2147483648 2147483647 2147483647 2147483647",
+            b"ok\n",
+        ),
+        (
+            b"window c -2147483648 -2147483648 -2147483648 -2147483648 -2147483648 -2147483648",
+            b"ok 1\n1 -2147483648 -2147483648 -2147483648 2147483647 2147483647 2147483647\n",
+        ),
+        (
+            b"point c -2147483648 -2147483648 -2147483648",
+            b"ok 1\n1 -2147483648 -2147483648 -2147483648 2147483647 2147483647 2147483647\n",
+        ),
+        (
+            b"window c 2147483647 2147483647 2147483647 2147483647 2147483647 2147483647\r",
+            b"ok 2\n1 -2147483648 -2147483648 -2147483648 2147483647 2147483647 2147483647\n\
+              2 2147483647 2147483647 2147483647 2147483647 2147483647 2147483647\n",
+        ),
+        (
+            b"nearest c 2 -2147483648 -2147483648 -2147483648",
+            b"ok 2\n1 0\n2 55340232195358851075\n",
+        ),
+    ]
+}
+
+// Lines with their replies: equal distances.
+fn nearest_rows() -> [Row; 13] {
+    [
+        (b"# equal distances", b""),
+        (b"create n 2 4", b"ok\n"),
+        (b"insert n 9 5 0 5 0", b"ok\n"),
+        (b"insert n 4 0 5 0 5", b"ok\n"),
+        (b"insert n 7 -5 0 -5 0", b"ok\n"),
+        (b"insert n 2 0 -5 0 -5", b"ok\n"),
+        (b"insert n 5 3 4 3 4", b"ok\n"),
+        (b"nearest n 3 0 0", b"ok 3\n2 25\n4 25\n5 25\n"),
+        (
+            b"nearest n 1000000 3 3",
+            b"ok 5\n5 1\n4 13\n9 13\n2 73\n7 73\n",
+        ),
+        (b"nearest n 0 0 0", b"fail 14 BadCount\n"),
+        (b"nearest n 1000001 0 0", b"fail 14 BadCount\n"),
+        (b"nearest n 0 0 0 0", b"fail 8 WrongDims\n"),
+        (b"nearest q 0 0 0", b"fail 3 NoLayer\n"),
+    ]
+}
+
+// Lines with their replies: boxes that touch.
+fn touching_rows() -> [Row; 13] {
+    [
+        (b"# touching", b""),
+        (b"insert b 2 1 1 2 2", b"ok\n"),
+        (b"insert b 1 0 0 1 1", b"ok\n"),
+        (b"window b 1 1 1 1", b"ok 2\n1 0 0 1 1\n2 1 1 2 2\n"),
+        (b"window b 2 0 2 0", b"ok 0\n"),
+        (b"point b 1 1", b"ok 2\n1 0 0 1 1\n2 1 1 2 2\n"),
+        (b"point b 2 0", b"ok 0\n"),
+        (b"inside b 0 0 1 1", b"ok 1\n1 0 0 1 1\n"),
+        (b"inside b 1 1 1 1", b"ok 0\n"),
+        (b"around b 1 1 2 2", b"ok 1\n2 1 1 2 2\n"),
+        (b"around b 0 0 2 2", b"ok 0\n"),
+        (b"get b 2", b"ok 1\n2 1 1 2 2\n"),
+        (b"count b", b"ok 1\n2\n"),
+    ]
+}
+
+// Lines with their replies: refusals of objects and boxes.
+fn object_rows() -> [Row; 14] {
+    [
+        (b"# refusals", b""),
+        (b"insert b 1 5 5 6 6", b"fail 9 Duplicate\n"),
+        (b"get b 1", b"ok 1\n1 0 0 1 1\n"),
+        (b"count b", b"ok 1\n2\n"),
+        (b"get b 99", b"fail 10 NoObject\n"),
+        (b"get a 99", b"fail 10 NoObject\n"),
+        (b"get q 1", b"fail 3 NoLayer\n"),
+        (b"get B 1", b"fail 1 BadName\n"),
+        (b"count q", b"fail 3 NoLayer\n"),
+        (b"count _", b"fail 1 BadName\n"),
+        (b"point b 0 0 0", b"fail 8 WrongDims\n"),
+        (b"point q 0 0", b"fail 3 NoLayer\n"),
+        (b"inside b 1 1 1 0 0 0", b"fail 8 WrongDims\n"),
+        (b"around b 1 0 0 0", b"fail 7 BadBox\n"),
+    ]
+}
+
+// Lines with their replies: refusals of layers, and what a reopening keeps.
+fn layer_rows() -> [Row; 16] {
+    [
+        (b"insert b 3 1 0 0 0", b"fail 7 BadBox\n"),
+        (b"create A 2 4", b"fail 1 BadName\n"),
+        (b"create abcdefghijklmnopqrstuvwxy 2 4", b"fail 1 BadName\n"),
+        (b"create b 4 4", b"fail 4 BadDims\n"),
+        (b"create d 2 3", b"fail 5 BadFanout\n"),
+        (b"create d 2 101", b"fail 5 BadFanout\n"),
+        (b"create b 2 4", b"fail 2 LayerExists\n"),
+        (b"window q 0 0 1 1", b"fail 3 NoLayer\n"),
+        (b"insert b 1 1 1 1 0 0 0", b"fail 8 WrongDims\n"),
+        (b"insert b 18446744073709551615 0 0 0 0", b"ok\n"),
+        (
+            b"insert b 18446744073709551616 0 0 0 0",
+            b"fail 24 BadLine\n",
+        ),
+        (b"insert b 5 0 0 0 2147483648", b"fail 24 BadLine\n"),
+        (
+            b"window b 0 0 1 1",
+            b"ok 3\n1 0 0 1 1\n2 1 1 2 2\n18446744073709551615 0 0 0 0\n",
+        ),
+        (b"# what a reopening keeps", b""),
+        (b"reopen", b"ok\n"),
+        (b"window b 2 2 9 9", b"ok 1\n2 1 1 2 2\n"),
+    ]
+}
+
+// Whether the store answers each line so.
+fn answers(alloc: Global, store: &mut Store<MemoryDevice>, rows: &[Row]) -> bool {
+    for row in rows {
+        let mut input = row.0;
+        let mut output = Vec::new(alloc);
+        let end = run(store, &mut input, &mut output);
+        if end != RunEnd::Finished || output.as_slice() != row.1 {
+            return false;
+        }
+    }
+    true
+}
+
+// Layers `a`, `b` and `n` have two axes, `c` has three.
 #[test]
 fn answers_the_worked_rows(rt: HostRuntime) -> Result<(), Fail> {
     let mut store = new_store(rt.alloc())?;
-    for (line, reply) in ROWS {
-        let mut input = line;
-        let mut output = Vec::new(rt.alloc());
-        let end = run(&mut store, &mut input, &mut output);
-        assert_eq!(rt; end, RunEnd::Finished);
-        assert_eq!(rt; output.as_slice(), reply);
+    assert!(rt; answers(rt.alloc(), &mut store, &first_rows()));
+    assert!(rt; answers(rt.alloc(), &mut store, &nearest_rows()));
+    assert!(rt; answers(rt.alloc(), &mut store, &touching_rows()));
+    assert!(rt; answers(rt.alloc(), &mut store, &object_rows()));
+    assert!(rt; answers(rt.alloc(), &mut store, &layer_rows()));
+    Ok(())
+}
+
+// Adds the lines to a text, and the replies to those before.
+fn add(rows: &[Row], text: &mut Vec<u8>, replies: &mut Vec<u8>) -> Result<(), Fail> {
+    for row in rows {
+        text.extend_from_slice(row.0)?;
+        text.push(b'\n')?;
+        replies.extend_from_slice(row.1)?;
     }
     Ok(())
+}
+
+// Whether a run whose output has room for so many bytes ends with these replies, as far as they go.
+fn breaks_off(alloc: Global, text: &[u8], replies: &[u8], room: usize) -> Result<bool, Fail> {
+    let mut store = new_store(alloc)?;
+    let mut input = text;
+    let mut output = Short {
+        written: Vec::new(alloc),
+        room,
+        fails: true,
+    };
+    let end = run(&mut store, &mut input, &mut output);
+    let written = output.written.as_slice();
+    Ok(end == RunEnd::WriteFault && written.len() == room && replies.starts_with(written))
 }
 
 #[test]
 fn answers_the_worked_rows_as_one_text(rt: HostRuntime) -> Result<(), Fail> {
     let mut text = Vec::new(rt.alloc());
     let mut replies = Vec::new(rt.alloc());
-    for (line, reply) in ROWS {
-        text.extend_from_slice(line)?;
-        text.push(b'\n')?;
-        replies.extend_from_slice(reply)?;
-    }
+    add(&first_rows(), &mut text, &mut replies)?;
+    add(&nearest_rows(), &mut text, &mut replies)?;
+    add(&touching_rows(), &mut text, &mut replies)?;
+    add(&object_rows(), &mut text, &mut replies)?;
+    add(&layer_rows(), &mut text, &mut replies)?;
     let mut store = new_store(rt.alloc())?;
     let mut input = Slow {
         rest: &text,
@@ -149,16 +217,7 @@ fn answers_the_worked_rows_as_one_text(rt: HostRuntime) -> Result<(), Fail> {
     assert_eq!(rt; end, RunEnd::Finished);
     assert_eq!(rt; output.as_slice(), replies.as_slice());
     for room in 0..replies.len() {
-        let mut store = new_store(rt.alloc())?;
-        let mut input = text.as_slice();
-        let mut output = Short {
-            written: Vec::new(rt.alloc()),
-            room,
-            fails: true,
-        };
-        let end = run(&mut store, &mut input, &mut output);
-        assert_eq!(rt; end, RunEnd::WriteFault);
-        assert_eq!(rt; output.written.as_slice(), &replies[..room]);
+        assert!(rt; breaks_off(rt.alloc(), &text, &replies, room)?);
     }
     Ok(())
 }
@@ -186,43 +245,100 @@ fn refuses_a_layer_too_many(rt: HostRuntime) -> Result<(), Fail> {
     Ok(())
 }
 
-// After each growth that is refused the table is as it was, and with memory the line is answered.
+// Lines, and what a window over the layer answers before each.
+fn lines() -> [Row; 5] {
+    [
+        (b"create a 2 4", b"fail 3 NoLayer\n"),
+        (b"insert a 1 0 0 9 9", b"ok 0\n"),
+        (b"window a 0 0 9 9", b"ok 1\n1 0 0 9 9\n"),
+        (b"point a 9 9", b"ok 1\n1 0 0 9 9\n"),
+        (b"nearest a 1 9 9", b"ok 1\n1 0 0 9 9\n"),
+    ]
+}
+
+type Heap<'a> = &'a Refusing<Global>;
+
+// What the store answers to a line.
+fn reply(
+    alloc: Global,
+    store: &mut Store<MemoryDevice<Heap<'_>>, Heap<'_>>,
+    line: &[u8],
+) -> Vec<u8> {
+    let mut input = line;
+    let mut output = Vec::new(alloc);
+    run(store, &mut input, &mut output);
+    output
+}
+
+// How a line ends that is refused memory from a growth on.
+#[derive(Clone, Copy, PartialEq, Eq, Debug)]
+enum LineEnd {
+    Answered,
+    GaveUp,
+    Failed,
+    Wrong,
+}
+
+// How a line ends whose growths are refused from the kth on, after those before it: it is answered, or the table is as
+// it was, or the store has failed.
+fn end_of(
+    alloc: Global,
+    heap: &Refusing<Global>,
+    line: Row,
+    before: &[Row],
+    k: u32,
+) -> Result<LineEnd, Fail> {
+    let mut store = new_store(heap)?;
+    for row in before {
+        reply(alloc, &mut store, row.0);
+    }
+    heap.refuse_from(k);
+    let output = reply(alloc, &mut store, line.0);
+    let refused = heap.relent();
+    let shown = reply(alloc, &mut store, b"window a 0 0 9 9");
+    if !refused && output.as_slice().starts_with(b"ok") {
+        Ok(LineEnd::Answered)
+    } else if are(&output, b"fail 16 Memory\n") && are(&shown, line.1) {
+        Ok(LineEnd::GaveUp)
+    } else if are(&output, b"fail 19 StoreFailed 16\n")
+        && are(&shown, b"fail 19 StoreFailed 19\n")
+    {
+        Ok(LineEnd::Failed)
+    } else {
+        Ok(LineEnd::Wrong)
+    }
+}
+
+fn are(output: &[u8], wanted: &[u8]) -> bool {
+    output == wanted
+}
+
+// Whether a line ends so, whichever growth is refused, and is answered in the end.
+fn gives_up(
+    alloc: Global,
+    heap: &Refusing<Global>,
+    line: Row,
+    before: &[Row],
+) -> Result<bool, Fail> {
+    for k in 0..100u32 {
+        match end_of(alloc, heap, line, before, k)? {
+            LineEnd::Answered => return Ok(k > 0),
+            LineEnd::Wrong => return Ok(false),
+            LineEnd::GaveUp | LineEnd::Failed => {}
+        }
+    }
+    Ok(false)
+}
+
 #[test]
 fn gives_up_where_memory_is_refused(rt: HostRuntime) -> Result<(), Fail> {
     let heap = Refusing::new(rt.alloc());
-    let mut store = new_store(&heap)?;
-    let lines = [
-        (b"create a 2 4".as_slice(), b"fail 3 NoLayer\n".as_slice()),
-        (b"insert a 1 0 0 9 9".as_slice(), b"ok 0\n".as_slice()),
-        (
-            b"window a 0 0 9 9".as_slice(),
-            b"ok 1\n1 0 0 9 9\n".as_slice(),
-        ),
-        (b"point a 9 9".as_slice(), b"ok 1\n1 0 0 9 9\n".as_slice()),
-        (
-            b"nearest a 1 9 9".as_slice(),
-            b"ok 1\n1 0 0 9 9\n".as_slice(),
-        ),
-    ];
-    for (line, before) in lines {
-        for k in 0..100u32 {
-            let mut input = line;
-            let mut output = Vec::new(rt.alloc());
-            heap.refuse_from(k);
-            let end = run(&mut store, &mut input, &mut output);
-            let refused = heap.relent();
-            assert_eq!(rt; end, RunEnd::Finished);
-            if !refused {
-                assert!(rt; k > 0);
-                assert!(rt; output.as_slice().starts_with(b"ok"));
-                break;
-            }
-            assert_eq!(rt; output.as_slice(), b"fail 16 Memory\n".as_slice());
-            let mut input = b"window a 0 0 9 9".as_slice();
-            let mut output = Vec::new(rt.alloc());
-            run(&mut store, &mut input, &mut output);
-            assert_eq!(rt; output.as_slice(), before);
-        }
+    let lines = lines();
+    for at in 0..lines.len() {
+        assert!(rt;
+            gives_up(rt.alloc(), &heap, lines[at], &lines[..at])?,
+            "{at}"
+        );
     }
     Ok(())
 }
