@@ -15,7 +15,7 @@ use Rattle.tree_node.specs.Trees.{Row, end, more, object, child, row_items}
 use Rattle.node_page.specs.Standing.{PageMap, RowStands, StandsAt}
 use Rattle.nearest.specs.declared.candidate.Candidate.{Candidate}
 use Rattle.nearest.specs.Candidates.{Leads, candidate_at}
-use Rattle.nearest.specs.Nearest.{comes_first, nearest_first}
+use Rattle.box_math.specs.Nearest.{comes_first, nearest_first}
 use Rattle.nearest.proofs.OrderLemmas.{Ascends, Ascends-append, Ascends-nearest_first, Ascends-push, Heads, Heads-append, Heads-nearest_first, listed, listed-append, listed-nearest_first, nearer_first, one_order, same_row, same_row-is}
 
 -- ---- what waits

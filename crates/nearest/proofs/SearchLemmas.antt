@@ -26,7 +26,8 @@ use Rattle.tree_node.proofs.SearchLemmas.{admitted_are_reached}
 use Rattle.node_page.proofs.StandingLemmas.{same_content}
 use Rattle.nearest.specs.declared.candidate.Candidate.{Candidate}
 use Rattle.nearest.specs.Candidates.{Leads, candidate_at}
-use Rattle.nearest.specs.Nearest.{nearest_first, is_searched, nearest_rows}
+use Rattle.box_math.specs.Nearest.{nearest_first}
+use Rattle.nearest.specs.Nearest.{is_searched, nearest_rows}
 use Rattle.nearest.proofs.FrontierLemmas.{Front, Pending, object_waits, node_waits, IsAfter, admitted_of, all_after, all_answered, all_least, answered, branches, branches_candidates, candidate_for, front_begins, front_reordered, near_in, node_opened, none_admitted, object_taken}
 use Rattle.nearest.proofs.OrderLemmas.{Ascends, listed, listed-append}
 use Rattle.nearest.proofs.ShapeLemmas.{near_in_is, nested_root}
