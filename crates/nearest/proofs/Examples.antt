@@ -1,8 +1,8 @@
 -- Worked examples of what is nearest.
-use Rattle.std.proofs.Common.{◌≡◌, ℕ, true, false, ℤ, pos, negsuc, List, [], ◌∷◌, refl}
+use Rattle.std.proofs.Common.{◌≡◌, true, false, ℤ, pos, negsuc, List, [], ◌∷◌, refl}
 use Rattle.box_math.specs.Bounds.{Bounds}
 use Rattle.tree_node.specs.Searches.{admitted, counted}
-use Rattle.tree_node.specs.Trees.{Row, end, more, object, child, Tree}
+use Rattle.tree_node.specs.Trees.{end, more, object, child, Tree}
 use Rattle.box_math.specs.Nearest.{comes_first, nearest_first}
 use Rattle.nearest.specs.Nearest.{is_searched, nearest_rows}
 

@@ -1,5 +1,5 @@
 -- In a tree with least boxes no box is nearer than the one above it.
-use Rattle.std.proofs.Common.{◌≡◌, ℕ, ◌<◌, ◌≤◌, ◌∙◌, ℤ, ◌-ℤ◌, ◌≤ℤ◌, unsigned_abs, List, map, ◌∷◌, ◌++◌, refl, sym, ap, arith}
+use Rattle.std.proofs.Common.{◌≡◌, ℕ, ◌≤◌, ◌∙◌, ℤ, ◌-ℤ◌, ◌≤ℤ◌, unsigned_abs, List, map, ◌∷◌, ◌++◌, refl, sym, ap, arith}
 use Rattle.std.specs.Int.{int_min, int_max}
 use Rattle.std.proofs.lemmas.Int.{ints, clamps}
 use Rattle.std.proofs.lemmas.List.{map-append}
