@@ -5,7 +5,7 @@ use Rattle.std.proofs.Math.Seq.{drop-cons}
 use Rattle.box_math.specs.Bounds.{Bounds}
 use Rattle.box_math.specs.Nearest.{by_distance, comes_first, put_nearest_first, with_distance}
 
--- its place is behind those that come before it
+-- its place is after those that come before it
 pub put_at : (x : ℕ × ℕ) (ys : List (ℕ × ℕ)) → put_nearest_first x ys ≡ insert ys (prefix_len (λ y. not (comes_first x y)) ys) x
 put_at x [] = refl
 put_at x (y ∷ ys) = case (comes_first x y) (put_at x ys)
