@@ -6,6 +6,7 @@ ghost use Rattle.live_layers.specs.Catalog.{AreLayers};
 mod beginning;
 mod closing;
 mod creating;
+mod filling;
 mod find;
 mod inserting;
 mod locate;
