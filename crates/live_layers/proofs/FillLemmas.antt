@@ -1,12 +1,15 @@
 -- Objects put into a layer that has none.
 use Rattle.std.proofs.Common.{◌≡◌, ◌∙◌, ℕ, ◌+◌, ◌<◌, ◌≤◌, List, [], ◌∷◌, length, get_or, false, sym, ap, subst, arith}
-use Rattle.std.specs.Prelude.{IsPermutation, slice_set}
-use Rattle.std.specs.FinMap.{empty, empty_of_len, entries, insert as map_insert, len, len-entries}
-use Rattle.std.proofs.lemmas.List.Sorted.{length_permutation}
+use Rattle.std.specs.Prelude.{IsPermutation, None, is_some, slice_set}
+use Rattle.std.specs.Cmp.{nat_cmp_total}
+use Rattle.std.specs.Ordering.{nat_cmp}
+use Rattle.std.specs.FinMap.{contains_key, empty, empty_of_len, entries, find, from_entries, get-from_entries, insert as map_insert, len, len-empty, len-entries}
+use Rattle.std.proofs.lemmas.List.Sorted.{IsPermutation-cons, IsPermutation-refl, IsPermutation-trans, length_permutation}
 use Rattle.box_math.specs.Bounds.{Bounds}
 use Rattle.catalog_page.specs.Layout.{Record, records_of}
 use Rattle.layer_pages.specs.Changes.{BecomesLayer, HasPacked, item_of_object}
 use Rattle.layer_pages.specs.Layers.{CanBeRoot, IsLayerAt, Objects, part_of_layer}
+use Rattle.layer_pages.proofs.ObjectLemmas.{one_entry_more}
 use Rattle.page_cache.specs.Cache.{IsPageMap, next_of, pages}
 use Rattle.page_cache.specs.declared.cache.PageCache.{PageCache}
 use Rattle.plain_table.specs.Table.{Table, layer_at, most_objects, object_count}
@@ -59,3 +62,22 @@ module _ {D A : Type 0} {m : _} (kept : Layers D A m) (t : Table) (name : List �
         tree_replaced kept t name place sound finds located by dims is_dims new root all (HasPacked dims located.fanout objects) became_new (length objects) counts can.level later few records (HasFilled (layer_at t name) objects)
         (λ packed. subst (λ (k : ℕ). HasPacked k (layer_at t name).fanout objects became_new.layer.tree) (sym is_dims)
         (subst (λ (k : ℕ). HasPacked dims k objects became_new.layer.tree) (sym (fanout_here kept t name place sound finds located by dims is_dims)) packed))
+
+-- ---- objects of different identifiers
+
+-- each has an identifier that none behind it has
+abbrev pub AreApart : List (ℕ × Bounds) → Type 0
+AreApart [] = Unit {0}
+AreApart (o ∷ rest) = (find nat_cmp o.0 rest ≡ None) × AreApart rest
+
+no_entries : (es : List (ℕ × Bounds)) → length es ≡ 0 → IsPermutation [] es
+no_entries [] none = IsPermutation-refl []
+no_entries (e ∷ es) none = absurd (omega (arith, none))
+
+-- they are the entries of the map that they make
+pub entries_made : (objects : List (ℕ × Bounds)) → AreApart objects → IsPermutation objects (entries (from_entries {R = nat_cmp} objects))
+entries_made [] apart = no_entries (entries (empty {X = Bounds} {R = nat_cmp})) (sym (len-entries (empty {X = Bounds} {R = nat_cmp})) ∙ len-empty nat_cmp Bounds)
+entries_made (o ∷ rest) apart =
+    let absent : contains_key (from_entries {R = nat_cmp} rest) o.0 ≡ false = ap is_some (get-from_entries nat_cmp_total rest o.0 ∙ apart.0) in
+    IsPermutation-trans (o ∷ rest) (o ∷ entries (from_entries {R = nat_cmp} rest)) (entries (map_insert (from_entries {R = nat_cmp} rest) o.0 o.1))
+    (IsPermutation-cons o rest (entries (from_entries {R = nat_cmp} rest)) (entries_made rest apart.1)) (one_entry_more (from_entries {R = nat_cmp} rest) o.0 o.1 absent)
