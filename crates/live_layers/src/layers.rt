@@ -9,6 +9,7 @@ mod creating;
 mod filling;
 mod find;
 mod inserting;
+mod loading;
 mod locate;
 mod named;
 mod noting;
