@@ -24,3 +24,5 @@ pub mod AddLemmas
 pub mod CreateLemmas
 pub mod JoinLemmas
 pub mod FillLemmas
+pub mod RepeatLemmas
+pub mod GivenObjectLemmas
