@@ -26,3 +26,4 @@ pub mod JoinLemmas
 pub mod FillLemmas
 pub mod RepeatLemmas
 pub mod GivenObjectLemmas
+pub mod LoadLemmas

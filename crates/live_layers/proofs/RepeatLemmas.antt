@@ -10,7 +10,7 @@ use Rattle.plain_table.specs.Loads.{is_repeated, least_repeated}
 use Rattle.live_layers.specs.Loading.{IsLeastTwice, times_in}
 
 -- 1 for what is so
-abbrev one_if : Bool → ℕ
+abbrev pub one_if : Bool → ℕ
 one_if b = cond b 1 0
 
 at_itself : (x : ℕ) → one_if (eqb x x) ≡ 1
@@ -19,7 +19,7 @@ at_itself x = grind (arith, nat_tests)
 at_another : (x q : ℕ) → ¬ (x ≡ q) → one_if (eqb x q) ≡ 0
 at_another x q other = grind (arith, nat_tests)
 
-times_more : (q x : ℕ) (xs : List ℕ) → times_in q (x ∷ xs) ≡ one_if (eqb x q) + times_in q xs
+pub times_more : (q x : ℕ) (xs : List ℕ) → times_in q (x ∷ xs) ≡ one_if (eqb x q) + times_in q xs
 times_more q x xs = sum_by-cons (λ other. one_if (eqb other q)) x xs
 
 le_or_lt : (a b : ℕ) → (a ≤ b) ⊎ (b < a)

@@ -12,6 +12,10 @@ ghost use Rattle.live_layers.specs.Keeping.{ChangesTree, IsSound, IsWritten, cac
 ghost use Rattle.live_layers.specs.Rules.{HasFilled};
 ghost use Rattle.live_layers.specs.Staying.{KeepsTrees};
 
+mod checking;
+mod load_boxes;
+
+use crate::given_objects::{objects_in_plane, objects_in_space};
 use crate::layers::Layers;
 use crate::unmade::Unmade;
 use block_device::BlockDevice;
@@ -42,9 +46,19 @@ impl<B: BlockDevice, A: Allocator + Copy> Layers<B, A> {
         if !is_layer_name(name) {
             return Err(Unmade::Refused(Refusal::BadName));
         }
-        let Ok(_place) = self.find(name) else {
+        let Ok(place) = self.find(name) else {
             return Err(Unmade::Refused(Refusal::NoLayer));
         };
-        Err(Unmade::Refused(Refusal::Memory))
+        if self.locate(place).dims == 2 {
+            match objects_in_plane(self.alloc, objects) {
+                Ok(mut boxes) => self.load_boxes::<2>(place, boxes.as_mut_slice()),
+                Err(refusal) => Err(Unmade::Refused(refusal)),
+            }
+        } else {
+            match objects_in_space(self.alloc, objects) {
+                Ok(mut boxes) => self.load_boxes::<3>(place, boxes.as_mut_slice()),
+                Err(refusal) => Err(Unmade::Refused(refusal)),
+            }
+        }
     }
 }
