@@ -109,8 +109,8 @@ each_once ids none q = ⊎_elim
 pub reordered : (ids sorted : List ℕ) (o : Option ℕ) → IsPermutation ids sorted → IsLeastTwice sorted o → IsLeastTwice ids o
 reordered ids sorted None moved once = λ q. omega (arith, once q, sum_by-IsPermutation (λ x. one_if (eqb x q)) ids sorted moved)
 reordered ids sorted (Some r) moved least = (
-    omega (arith, least.0, sum_by-IsPermutation (λ x. one_if (eqb x r)) ids sorted moved),
-    λ q more. least.1 q (omega (arith, more, sum_by-IsPermutation (λ x. one_if (eqb x q)) ids sorted moved)),
+  omega (arith, least.0, sum_by-IsPermutation (λ x. one_if (eqb x r)) ids sorted moved),
+  λ q more. least.1 q (omega (arith, more, sum_by-IsPermutation (λ x. one_if (eqb x q)) ids sorted moved)),
 )
 
 -- ---- lists that ascend
@@ -150,11 +150,11 @@ none_twice ids rise = λ q. in_one_place ids q (λ i j lt within a b. omega (ari
 pub twice_here : (ids : List ℕ) (place : ℕ) → ((i j : ℕ) → i ≤ j → j < length ids → get_or ids i 0 ≤ get_or ids j 0) → 0 < place → place < length ids → Rise ids place → get_or ids (place - 1) 0 ≡ get_or ids place 0
     → IsLeastTwice ids (Some (get_or ids place 0))
 twice_here ids place up positive within rise same = (
-    in_two_places ids (place - 1) place (omega (arith, positive)) within same,
-    λ q more. ⊎_elim
-        (λ (le : get_or ids place 0 ≤ q). le)
-        (λ (lt : q < get_or ids place 0). absurd (let once = in_one_place ids q (apart q lt) in omega (arith, once, more)))
-        (le_or_lt (get_or ids place 0) q),
+  in_two_places ids (place - 1) place (omega (arith, positive)) within same,
+  λ q more. ⊎_elim
+      (λ (le : get_or ids place 0 ≤ q). le)
+      (λ (lt : q < get_or ids place 0). absurd (let once = in_one_place ids q (apart q lt) in omega (arith, once, more)))
+      (le_or_lt (get_or ids place 0) q),
 )
   where
     apart : (q : ℕ) → q < get_or ids place 0 → (i j : ℕ) → i < j → j < length ids → get_or ids i 0 ≡ q → get_or ids j 0 ≡ q → ⊥

@@ -14,6 +14,8 @@ ghost use Rattle.live_layers.specs.Staying.{KeepsTrees};
 
 mod checking;
 mod load_boxes;
+#[cfg(test)]
+mod tests;
 
 use crate::given_objects::{objects_in_plane, objects_in_space};
 use crate::layers::Layers;
