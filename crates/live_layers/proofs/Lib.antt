@@ -22,3 +22,7 @@ pub mod InsertLemmas
 pub mod AddLemmas
 pub mod CreateLemmas
 pub mod JoinLemmas
+pub mod FillLemmas
+pub mod RepeatLemmas
+pub mod GivenObjectLemmas
+pub mod LoadLemmas

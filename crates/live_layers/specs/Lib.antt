@@ -10,6 +10,8 @@ pub mod Unmade
 pub mod Closings
 pub mod Begun
 pub mod Inserting
+pub mod Loading
 pub mod Creating
 pub mod Located
 pub mod Questions
+pub mod Staying

@@ -1,10 +1,10 @@
 //! Range queries: as commands give them, and in a layer of so many axes.
 
 ghost use Rattle.std.specs.Prelude.{◌≡◌, [], MatchResult, None, Some};
-ghost use Rattle.plain_table.specs.Boxes.{given_bounds, given_point};
+ghost use Rattle.plain_table.specs.Boxes.{given_point};
 ghost use Rattle.plain_table.specs.Nearest.{is_count};
 ghost use Rattle.plain_table.specs.Queries.{given_query, seeks};
-ghost use Rattle.plain_table.specs.Step.{box_refusals, first_refusal, point_refusals, query_refusals};
+ghost use Rattle.plain_table.specs.Step.{first_refusal, point_refusals, query_refusals};
 
 use crate::boxes::{RawBox, RawPoint};
 use crate::limits::MOST_NEAREST;
@@ -66,9 +66,9 @@ impl RawQuery {
             (λ e. first_refusal (query_refusals 2 self) ≡ Some e) }
     {
         match self {
-            RawQuery::Window(window) => Ok(Query::Window(box_in_plane(window)?)),
-            RawQuery::Inside(window) => Ok(Query::Inside(box_in_plane(window)?)),
-            RawQuery::Around(inner) => Ok(Query::Around(box_in_plane(inner)?)),
+            RawQuery::Window(window) => Ok(Query::Window(window.two_axes()?)),
+            RawQuery::Inside(window) => Ok(Query::Inside(window.two_axes()?)),
+            RawQuery::Around(inner) => Ok(Query::Around(inner.two_axes()?)),
             RawQuery::Point(point) => Ok(Query::Point(point_in_plane(point)?)),
         }
     }
@@ -80,35 +80,11 @@ impl RawQuery {
             (λ e. first_refusal (query_refusals 3 self) ≡ Some e) }
     {
         match self {
-            RawQuery::Window(window) => Ok(Query::Window(box_in_space(window)?)),
-            RawQuery::Inside(window) => Ok(Query::Inside(box_in_space(window)?)),
-            RawQuery::Around(inner) => Ok(Query::Around(box_in_space(inner)?)),
+            RawQuery::Window(window) => Ok(Query::Window(window.three_axes()?)),
+            RawQuery::Inside(window) => Ok(Query::Inside(window.three_axes()?)),
+            RawQuery::Around(inner) => Ok(Query::Around(inner.three_axes()?)),
             RawQuery::Point(point) => Ok(Query::Point(point_in_space(point)?)),
         }
-    }
-}
-
-// The box, if it has two axes.
-fn box_in_plane(bounds: RawBox) -> Result<BBox<2>, Refusal>
-    ensures { MatchResult result
-        (λ b. (first_refusal (box_refusals 2 bounds []) ≡ None) × (b ≡ given_bounds bounds))
-        (λ e. first_refusal (box_refusals 2 bounds []) ≡ Some e) }
-{
-    match bounds {
-        RawBox::Two(low, high) => BBox::try_new(low, high).ok_or(Refusal::BadBox),
-        RawBox::Three(..) => Err(Refusal::WrongDims),
-    }
-}
-
-// The box, if it has three axes.
-fn box_in_space(bounds: RawBox) -> Result<BBox<3>, Refusal>
-    ensures { MatchResult result
-        (λ b. (first_refusal (box_refusals 3 bounds []) ≡ None) × (b ≡ given_bounds bounds))
-        (λ e. first_refusal (box_refusals 3 bounds []) ≡ Some e) }
-{
-    match bounds {
-        RawBox::Two(..) => Err(Refusal::WrongDims),
-        RawBox::Three(low, high) => BBox::try_new(low, high).ok_or(Refusal::BadBox),
     }
 }
 
