@@ -9,6 +9,7 @@ mod creating;
 mod find;
 mod inserting;
 mod locate;
+mod memory;
 mod named;
 mod noting;
 mod open;
