@@ -3,9 +3,9 @@
 ghost use Rattle.std.specs.Prelude.{◌≡◌, false, Err, OnOk};
 ghost use Rattle.layer_pages.specs.Changes.{IsEmptyLeaf};
 ghost use Rattle.live_layers.specs.Creating.{BringsTree};
+ghost use Rattle.live_layers.specs.Dropping.{KeepsOtherTrees};
 ghost use Rattle.live_layers.specs.Faults.{HasRefusalCause};
 ghost use Rattle.live_layers.specs.Image.{IsRefusedOrImageOf, MayRemain};
-ghost use Rattle.live_layers.specs.Keeping.{KeepsOtherTrees};
 ghost use Rattle.plain_table.specs.Answers.{done_answer};
 ghost use Rattle.plain_table.specs.Commands.Command.{Create, Drop};
 ghost use Rattle.plain_table.specs.Step.{changes};
