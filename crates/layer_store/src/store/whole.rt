@@ -31,9 +31,10 @@ impl<D: BlockDevice, A: Allocator + Copy> Store<D, A> {
         ensures cause { HasRefusalCause (D.faults (device_in self.old)) (D.faults (device_in self.new)) result }
     {
         if self.failed {
-            return Err(FAILED);
+            Err(FAILED)
+        } else {
+            Ok(self.layers.layers())
         }
-        Ok(self.layers.layers())
     }
 
     /// All layers and objects, as the commands that make them again: for each layer, ascending by name, the one that

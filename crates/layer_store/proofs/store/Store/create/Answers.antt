@@ -22,7 +22,7 @@ returns-clause-step g c =
     step_told old c.tell.new.self made.new.self (Create c.args.layer.now c.args.dims c.args.fanout) made.result c.tell.result c.if-self.false c.tell.ensures.told (c.tell.ensures.failed c.if-self.false) c.tell.ensures.layers tt
     made.ensures.changed
     (λ t stops sound was. change_leaves old.layers made.new.self t (Create c.args.layer.now c.args.dims c.args.fanout) stops sound.map.honest was (changes t (Create c.args.layer.now c.args.dims c.args.fanout)) made.result
-    (made.ensures.leaves t sound) (no_change_leaves_the_table t (Create c.args.layer.now c.args.dims c.args.fanout))
+    (made.ensures.leaves t sound) (no_change_leaves_the_table t (Create c.args.layer.now c.args.dims c.args.fanout)) (a_change_makes_another_table t (Create c.args.layer.now c.args.dims c.args.fanout))
     (λ r is changed. refused_goes_on old.layers made.new.self t (Create c.args.layer.now c.args.dims c.args.fanout) made.result r (λ as_table. a_change_makes_another_table t (Create c.args.layer.now c.args.dims c.args.fanout) changed) (made.ensures.changed t sound) is))
     (λ t sound. made.ensures.next) (g.met.D.BlockDevice.faults_fit (device_in old)) made.ensures.cause
 

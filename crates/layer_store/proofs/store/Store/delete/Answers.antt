@@ -23,7 +23,7 @@ returns-clause-step g c =
     step_told old c.tell.new.self made.new.self (Delete c.args.layer.now c.args.id) made.result c.tell.result c.if-self.false c.tell.ensures.told (c.tell.ensures.failed c.if-self.false) c.tell.ensures.layers tt
     made.ensures.changed
     (λ t stops sound was. change_leaves old.layers made.new.self t (Delete c.args.layer.now c.args.id) stops sound.map.honest was (changes t (Delete c.args.layer.now c.args.id)) made.result
-    (made.ensures.leaves t sound) (no_change_leaves_the_table t (Delete c.args.layer.now c.args.id))
+    (made.ensures.leaves t sound) (no_change_leaves_the_table t (Delete c.args.layer.now c.args.id)) (a_change_makes_another_table t (Delete c.args.layer.now c.args.id))
     (λ r is changed. refused_goes_on old.layers made.new.self t (Delete c.args.layer.now c.args.id) made.result r (λ as_table. a_change_makes_another_table t (Delete c.args.layer.now c.args.id) changed) (made.ensures.changed t sound) is))
     (λ t sound. made.ensures.next) (g.met.D.BlockDevice.faults_fit (device_in old)) made.ensures.cause
 

@@ -21,7 +21,7 @@ returns-clause-step g c =
     step_told old c.tell.new.self made.new.self (Drop c.args.layer.now) made.result c.tell.result c.if-self.false c.tell.ensures.told (c.tell.ensures.failed c.if-self.false) c.tell.ensures.layers tt
     made.ensures.changed
     (λ t stops sound was. change_leaves old.layers made.new.self t (Drop c.args.layer.now) stops sound.map.honest was (changes t (Drop c.args.layer.now)) made.result
-    (made.ensures.leaves t sound) (no_change_leaves_the_table t (Drop c.args.layer.now))
+    (made.ensures.leaves t sound) (no_change_leaves_the_table t (Drop c.args.layer.now)) (a_change_makes_another_table t (Drop c.args.layer.now))
     (λ r is changed. refused_goes_on old.layers made.new.self t (Drop c.args.layer.now) made.result r (λ as_table. a_change_makes_another_table t (Drop c.args.layer.now) changed) (made.ensures.changed t sound) is))
     (λ t sound. made.ensures.next) (g.met.D.BlockDevice.faults_fit (device_in old)) made.ensures.cause
 

@@ -24,7 +24,7 @@ returns-clause-step g c =
     step_told old c.tell.new.self made.new.self (Insert c.args.layer.now c.args.id c.args.bounds) made.result c.tell.result c.if-self.false c.tell.ensures.told (c.tell.ensures.failed c.if-self.false) c.tell.ensures.layers tt
     made.ensures.changed
     (λ t stops sound was. change_leaves old.layers made.new.self t (Insert c.args.layer.now c.args.id c.args.bounds) stops sound.map.honest was (changes t (Insert c.args.layer.now c.args.id c.args.bounds)) made.result
-    (made.ensures.leaves t sound) (no_change_leaves_the_table t (Insert c.args.layer.now c.args.id c.args.bounds))
+    (made.ensures.leaves t sound) (no_change_leaves_the_table t (Insert c.args.layer.now c.args.id c.args.bounds)) (a_change_makes_another_table t (Insert c.args.layer.now c.args.id c.args.bounds))
     (λ r is changed. refused_goes_on old.layers made.new.self t (Insert c.args.layer.now c.args.id c.args.bounds) made.result r (λ as_table. a_change_makes_another_table t (Insert c.args.layer.now c.args.id c.args.bounds) changed) (made.ensures.changed t sound) is))
     (λ t sound. made.ensures.next) (g.met.D.BlockDevice.faults_fit (device_in old)) made.ensures.cause
 

@@ -26,7 +26,7 @@ returns-clause-step g c =
     step_told old c.tell.new.self made.new.self (Load c.args.layer.now c.args.objects.now) made.result c.tell.result c.if-self.false c.tell.ensures.told (c.tell.ensures.failed c.if-self.false) c.tell.ensures.layers tt
     made.ensures.changed
     (λ t stops sound was. change_leaves old.layers made.new.self t (Load c.args.layer.now c.args.objects.now) stops sound.map.honest was (changes t (Load c.args.layer.now c.args.objects.now)) made.result
-    (made.ensures.leaves t sound) (no_change_leaves_the_table t (Load c.args.layer.now c.args.objects.now))
+    (made.ensures.leaves t sound) (no_change_leaves_the_table t (Load c.args.layer.now c.args.objects.now)) (a_change_makes_another_table t (Load c.args.layer.now c.args.objects.now))
     (λ r is changed. refused_goes_on old.layers made.new.self t (Load c.args.layer.now c.args.objects.now) made.result r (λ as_table. a_change_makes_another_table t (Load c.args.layer.now c.args.objects.now) changed) (made.ensures.changed t sound) is))
     (λ t sound. made.ensures.next) (g.met.D.BlockDevice.faults_fit (device_in old)) made.ensures.cause
 
