@@ -1,5 +1,5 @@
 -- A change of layers is a step of their store.
-use Rattle.std.proofs.Common.{◌≡◌, ◌∙◌, ◌≤◌, ◌^◌, ◌<◌, true, false, not, sym, ap, subst}
+use Rattle.std.proofs.Common.{◌≡◌, ◌∙◌, ◌≤◌, ◌^◌, ◌<◌, false, not, sym, ap, subst}
 use Rattle.std.specs.Prelude.{Option, Some, None, is_some, Result, Ok, Err, OnErr, OnOk}
 use Rattle.block_device.specs.Device.{LeavesOnly}
 use Rattle.live_layers.specs.Changes.{ChangeLeaves, IsChanged}

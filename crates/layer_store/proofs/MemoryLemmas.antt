@@ -1,5 +1,5 @@
 -- A command for which memory is wanting is a step of the store that stays as it is.
-use Rattle.std.proofs.Common.{◌≡◌, Bool, true, false, cond, ◌∷◌, refl, inr, arith}
+use Rattle.std.proofs.Common.{◌≡◌, Bool, true, false, cond, refl, inr, arith}
 use Rattle.std.specs.Prelude.{Err}
 use Rattle.live_layers.specs.Keeping.{Leaves}
 use Rattle.live_layers.specs.declared.unmade.Unmade.TheVariants as unmade
