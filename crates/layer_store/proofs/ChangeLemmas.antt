@@ -1,5 +1,5 @@
 -- A change of layers is a step of their store.
-use Rattle.std.proofs.Common.{◌≡◌, ◌∙◌, ◌≤◌, ◌^◌, ◌<◌, true, false, not, sym, ap, subst}
+use Rattle.std.proofs.Common.{◌≡◌, ◌∙◌, ◌≤◌, ◌^◌, ◌<◌, false, not, sym, ap, subst}
 use Rattle.std.specs.Prelude.{Option, Some, None, is_some, Result, Ok, Err, OnErr, OnOk}
 use Rattle.block_device.specs.Device.{LeavesOnly}
 use Rattle.live_layers.specs.Changes.{ChangeLeaves, IsChanged}
@@ -14,8 +14,8 @@ use Rattle.live_layers.specs.declared.unmade.Unmade.TheVariants as unmade
 use Rattle.page_cache.specs.Cache.{device_of, next_of}
 use Rattle.plain_table.specs.Answers.{done_answer}
 use Rattle.plain_table.specs.Commands.{Command, MayGiveUp}
-use Rattle.plain_table.specs.Step.{after, changed, kept_or, refusal_of, refused_or, reply_of}
-use Rattle.plain_table.specs.Step.Answer.{Done}
+use Rattle.plain_table.specs.Step.{after, refusal_of, refused_or, reply_of}
+use Rattle.plain_table.specs.Step.Answer.{Done, Refused}
 use Rattle.plain_table.specs.Table.{Table}
 use Rattle.plain_table.specs.declared.refusal.Refusal.{Refusal}
 use Rattle.store_law.specs.Sessions.{LawfulStep, SessionState, Takes}
@@ -26,11 +26,6 @@ use Rattle.layer_store.specs.Representation.{IsSettled, Represents, StopsLeave, 
 use Rattle.layer_store.specs.declared.store.Store.{Store}
 use Rattle.layer_store.proofs.StopLemmas.{OnlyNow, kept_leaves, left_rests}
 use Rattle.layer_store.proofs.StoreLemmas.{alive_in, change_goes_on, is_settled, no_fewer_faults, settled_so, takes_change, told_cause, what_is_kept}
-
--- a command that does not change the table leaves it
-pub stays : (why : Option Refusal) (t u : Table) → not (is_some why) ≡ false → kept_or why t u ≡ t
-stays None t u e = absurd (cc)
-stays (Some r) t u e = λ i. t
 
 module _ {D A : Type 0} {m : _} (old new : Store D A m) (mid : Layers D A m) (c : Command) (made : Result (Unit {0}) Unmade) (result : Result (Unit {0}) Refusal)
     (going : old.failed ≡ false) (answered : result ≡ told made) (failed : new.failed ≡ is_broken made) (same : new.layers ≡ mid) where
@@ -68,7 +63,7 @@ module _ {D A : Type 0} {m : _} (old new : Store D A m) (mid : Layers D A m) (c 
       (kept_leaves (cache_in old) mid.cache s.stops.now kept.honest now kept.leaves.now ((leaves t (alive_in old s t represents alive).1).quiet unchanged))
 
 -- what leaves the table is refused
-pub not_made : (why : Option Refusal) → not (is_some why) ≡ false → Done ≡ refused_or why Done → ⊥
+not_made : (why : Option Refusal) → not (is_some why) ≡ false → Done ≡ refused_or why Done → ⊥
 not_made None e f = cc
 not_made (Some r) e f = cc
 
@@ -76,20 +71,29 @@ unless_made : (P : Type 0) (made : Result (Unit {0}) Unmade) → ((u : Unit {0})
 unless_made P (Ok u) refused p = absurd (refused u (λ i. Ok u))
 unless_made P (Err why) refused p = p
 
--- and what was settled is so still
-pub settled_told : {D A : Type 0} {m : _} (old new : Store D A m) (mid : Layers D A m) (t : Table) (c : Command) (made : Result (Unit {0}) Unmade) → new.layers ≡ mid → ChangeLeaves old.layers mid t c made → IsChanged old.layers mid t c made
-    → OnErr made (IsWritten old.layers → IsWritten mid) → reply_of t c ≡ refused_or (refusal_of t c) Done → after t c ≡ t → not (is_some (refusal_of t c)) ≡ false → IsSettled old → IsSettled new
-settled_told old new mid t c made same leaves changed written reply unchanged refused was =
-    let settled = is_settled old was in
-    let no_change = λ (u : Unit {0}) (is : made ≡ Ok u). not_made (refusal_of t c) refused ((subst (λ (r : Result (Unit {0}) Unmade). IsChanged old.layers mid t c r) is changed).0 ∙ reply) in
-    settled_so new (subst keeping.IsSettled (sym same) ((leaves.quiet unchanged).gate ∙ settled.0, unless_made (IsWritten old.layers → IsWritten mid) made no_change written settled.1))
+-- and then what was written is so still
+pub refused_written : {D A : Type 0} {m : _} (old mid : Layers D A m) (t : Table) (c : Command) (made : Result (Unit {0}) Unmade) → IsChanged old mid t c made → OnErr made (IsWritten old → IsWritten mid)
+    → reply_of t c ≡ refused_or (refusal_of t c) Done → not (is_some (refusal_of t c)) ≡ false → IsWritten old → IsWritten mid
+refused_written old mid t c made changed written reply refused =
+    let no_change = λ (u : Unit {0}) (is : made ≡ Ok u). not_made (refusal_of t c) refused ((subst (λ (r : Result (Unit {0}) Unmade). IsChanged old mid t c r) is changed).0 ∙ reply) in
+    unless_made (IsWritten old → IsWritten mid) made no_change written
 
--- a refusal where the table would change does not end the store
-pub refused_goes_on : {D A : Type 0} {m : _} (old mid : Layers D A m) (t : Table) (c : Command) (made : Result (Unit {0}) Unmade) (r : Refusal) → reply_of t c ≡ refused_or (refusal_of t c) Done → not (is_some (refusal_of t c)) ≡ true → IsChanged old mid t c made
-    → made ≡ Err (unmade.Refused r) → is_end r ≡ false
-refused_goes_on old mid t c made r reply admitted is e =
-    let h = subst (λ (x : Result (Unit {0}) Unmade). IsChanged old mid t c x) e is in
-    change_goes_on _ _ t c (refusal_of t c) r reply admitted h.1
+-- and what was settled is so
+pub settled_told : {D A : Type 0} {m : _} (old new : Store D A m) (mid : Layers D A m) (t : Table) (c : Command) (made : Result (Unit {0}) Unmade) → new.layers ≡ mid → ChangeLeaves old.layers mid t c made
+    → (IsWritten old.layers → IsWritten mid) → after t c ≡ t → IsSettled old → IsSettled new
+settled_told old new mid t c made same leaves written unchanged was =
+    let settled = is_settled old was in
+    settled_so new (subst keeping.IsSettled (sym same) ((leaves.quiet unchanged).gate ∙ settled.0, written settled.1))
+
+-- a refusal where the table is not asked does not end the store
+pub refused_goes_on : {D A : Type 0} {m : _} (old mid : Layers D A m) (t : Table) (c : Command) (made : Result (Unit {0}) Unmade) (r : Refusal) → (Refused r ≡ reply_of t c → after t c ≡ t → ⊥) → IsChanged old mid t c made → made ≡ Err (unmade.Refused r) → is_end r ≡ false
+refused_goes_on old mid t c made r never e is =
+    let h = subst (λ (x : Result (Unit {0}) Unmade). IsChanged old mid t c x) is e in
+    change_goes_on _ _ t c r never h.1
+
+-- what the table answers so is not refused
+pub not_refused : (r : Refusal) → Refused r ≡ Done → ⊥
+not_refused r e = cc
 
 -- what a change that is made does to the layers it does to those of the store
 pub on_told : {L : Type 0} {mid new : L} (made : Result (Unit {0}) Unmade) (result : Result (Unit {0}) Refusal) (P : L → Type 0) → result ≡ told made → new ≡ mid → OnOk made (P mid) → OnOk result (P new)

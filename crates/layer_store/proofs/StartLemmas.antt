@@ -1,5 +1,5 @@
 -- A new file holds the empty table, and what is read of a file behind its shut gate.
-use Rattle.std.proofs.Common.{◌≡◌, ◌∙◌, ◌⊎◌, ◌<◌, ◌≤◌, ℕ, List, [], length, Option, Some, None, refl, sym, ap, subst, arith, inl, inr, ⊎_elim}
+use Rattle.std.proofs.Common.{◌≡◌, ◌∙◌, ◌⊎◌, ◌<◌, ◌≤◌, ℕ, List, [], length, false, Option, Some, None, refl, sym, ap, subst, arith, inl, inr, ⊎_elim}
 use Rattle.std.specs.Prelude.{IsSome, option_and_then}
 use Rattle.std.specs.FinMap.{empty, empty_of_len, entries, entries-from_sorted, from_sorted, len-entries}
 use Rattle.std.specs.Cmp.Lexicographic.{slice_cmp}
@@ -12,8 +12,11 @@ use Rattle.catalog_page.specs.Layout.{records_at}
 use Rattle.catalog_page.proofs.Named.{begins_empty}
 use Rattle.live_layers.specs.Image.{HasNoCatalog, IsImage}
 use Rattle.live_layers.specs.Layers.{Holds, in_use}
-use Rattle.live_layers.proofs.StopLemmas.{shut_is_durable}
+use Rattle.live_layers.specs.Keeping.{IsSound, records_in}
+use Rattle.live_layers.proofs.StopLemmas.{image_of, shut_is_durable}
 use Rattle.node_page.specs.Standing.{PageMap}
+use Rattle.page_cache.specs.Cache.{IsHonest}
+use Rattle.page_cache.proofs.Behind.{shut_lies}
 use Rattle.page_file.specs.File.{IsNewFile, IsPageMap, LiesIn, blocks_of, next_of, pages}
 use Rattle.page_file.specs.Laws.{a_run_goes_on}
 use Rattle.page_file.specs.Layout.{catalog_block}
@@ -26,8 +29,8 @@ use Rattle.plain_table.specs.Table.{Layer, Table}
 use Rattle.store_law.specs.States.StoreState.{Alive}
 use Rattle.layer_store.specs.Representation.{BeginsWith, IsInState, IsSettled, blocks_in, cache_in, device_in}
 use Rattle.layer_store.specs.declared.store.Store.{Store}
-use Rattle.layer_store.proofs.StopLemmas.{closed_leaves}
-use Rattle.layer_store.proofs.StoreLemmas.{begins, is_alive, is_settled}
+use Rattle.layer_store.proofs.StopLemmas.{OnlyNow, closed_leaves}
+use Rattle.layer_store.proofs.StoreLemmas.{alive_so, begins, is_alive, is_settled}
 
 -- ---- the empty table
 
@@ -118,3 +121,12 @@ module _ {D A : Type 0} {m : _} where
       → ((c : Blocks) → m.left_since (device_in store) moment c → IsRefused c ⊎ IsImage c t) → BeginsWith store moment t
   begins_so store moment t alive settled image begun stops =
       begins store moment t alive (is_alive store t alive).1.map.honest (closed_leaves (cache_in store) moment t (is_settled store settled).0 image begun stops)
+
+  -- a settled store that is sound begins with its table
+  pub settled_begins : (store : Store D A m) (t : Table) → (IsHonest (cache_in store) → OnlyNow (cache_in store)) → IsSettled store → store.failed ≡ false → IsSound store.layers t → BeginsWith store (m.moment (device_in store)) t
+  settled_begins store t now settled going sound =
+      let is = is_settled store settled in
+      let honest = sound.map.honest in
+      let image = image_of (cache_in store) (blocks_in store) (records_in store.layers) t sound.map (shut_lies (cache_in store) honest is.0) (sound.catalog is.1) sound.holds in
+      begins_so store (m.moment (device_in store)) t (alive_so store t going sound) settled image (omega arith)
+      (λ c left. inr (subst (λ (blocks : Blocks). IsImage blocks t) (sym (shut_store store settled honest c (now honest c left))) image))

@@ -50,7 +50,7 @@ left_among : (ts us : List Table) (c : Blocks) → ((t : Table) → Contains ts 
 left_among ts us c among (inl refused) = inl refused
 left_among ts us c among (inr (u, there, image)) = inr (u, among u there, image)
 
-either_among : (t : Table) (ts us : List Table) → ((u : Table) → Contains ts u → Contains us u) → (u : Table) → Contains (t ∷ ts) u → Contains (t ∷ us) u
+pub either_among : (t : Table) (ts us : List Table) → ((u : Table) → Contains ts u → Contains us u) → (u : Table) → Contains (t ∷ ts) u → Contains (t ∷ us) u
 either_among t ts us among u (zero, lt, is) = (0, omega arith, is)
 either_among t ts us among u (suc k, lt, is) = contains_more u t us (among u (k, omega (arith, lt), is))
 

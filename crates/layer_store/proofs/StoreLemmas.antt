@@ -1,6 +1,6 @@
 -- The steps of a store: alive, failed, and failing.
-use Rattle.std.proofs.Common.{◌≡◌, ◌∙◌, ◌≤◌, ◌<◌, ◌⊎◌, ℕ, Bool, true, false, not, cond, ◌^◌, refl, sym, ap, subst, arith, inl, inr}
-use Rattle.std.specs.Prelude.{Option, Some, None, is_some, Result, Ok, Err, IfErr}
+use Rattle.std.proofs.Common.{◌≡◌, ◌∙◌, ◌≤◌, ◌<◌, ◌⊎◌, ℕ, Bool, true, false, cond, ◌^◌, refl, sym, ap, subst, arith, inl, inr}
+use Rattle.std.specs.Prelude.{Result, Ok, Err, IfErr}
 use Rattle.std.proofs.Math.Nat.{le-min}
 use Rattle.block_device.specs.Device.{HasRisen, one_more}
 use Rattle.live_layers.specs.Changes.{IsAnswered, IsChanged, IsFaultOfChange}
@@ -17,8 +17,8 @@ use Rattle.page_file.specs.declared.fault.Fault.{Fault}
 use Rattle.page_file.specs.declared.fault.Fault.TheVariants as fault
 use Rattle.plain_table.specs.Answers.{done_answer}
 use Rattle.plain_table.specs.Commands.{Command, MayGiveUp}
-use Rattle.plain_table.specs.Step.{Answer, after, refused_or, reply_of}
-use Rattle.plain_table.specs.Step.Answer.{Done, Refused}
+use Rattle.plain_table.specs.Step.{Answer, after, reply_of}
+use Rattle.plain_table.specs.Step.Answer.{Refused}
 use Rattle.plain_table.specs.Table.{Table}
 use Rattle.plain_table.specs.declared.refusal.Refusal.{Refusal}
 use Rattle.plain_table.specs.declared.refusal.Refusal.TheVariants as refusal
@@ -50,11 +50,6 @@ end_of_change rose spent fault.WrongVersion h = absurd h
 pub no_end : (rose spent : Type 0) (r : Refusal) → IsFault rose spent r → is_end r ≡ false
 no_end rose spent (refusal.StoreFailed n) h = absurd h
 no_end rose spent r h = refl
-
--- nor does a refusal of the table
-not_refused : (why : Option Refusal) (r : Refusal) → not (is_some why) ≡ true → Refused r ≡ refused_or why Done → ⊥
-not_refused None r e f = cc
-not_refused (Some w) r e f = cc
 
 -- ---- the count of faults
 
@@ -259,8 +254,7 @@ module _ {D A : Type 0} {m : _} where
   takes_reply store c a going stays quiet replied =
       takes_asked store store c a going going quiet (λ t sound. (sound, inl (replied t sound, ap Alive (sym (stays t))))) (λ t stops sound was. was) (omega arith, omega arith)
 
--- the refusal of a change that may change the table is no end of the store
-pub change_goes_on : (rose spent : Type 0) (t : Table) (c : Command) (why : Option Refusal) (r : Refusal) → reply_of t c ≡ refused_or why Done → not (is_some why) ≡ true
-    → ((Refused r ≡ reply_of t c) × (after t c ≡ t)) ⊎ IsFault rose spent r → is_end r ≡ false
-change_goes_on rose spent t c why r reply admitted (inl as_table) = absurd (not_refused why r admitted (as_table.0 ∙ reply))
-change_goes_on rose spent t c why r reply admitted (inr faulty) = no_end rose spent r faulty
+-- a refusal that is not the table's is no end of the store
+pub change_goes_on : (rose spent : Type 0) (t : Table) (c : Command) (r : Refusal) → (Refused r ≡ reply_of t c → after t c ≡ t → ⊥) → ((Refused r ≡ reply_of t c) × (after t c ≡ t)) ⊎ IsFault rose spent r → is_end r ≡ false
+change_goes_on rose spent t c r never (inl as_table) = absurd (never as_table.0 as_table.1)
+change_goes_on rose spent t c r never (inr faulty) = no_end rose spent r faulty

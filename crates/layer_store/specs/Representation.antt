@@ -64,6 +64,13 @@ closed_since moment t = record { now = Surely t; since = moment; so_far = t ∷ 
 abbrev pub BeginsWith : {D A : Type 0} {m : _} → Store D A m → ℕ → Table → Type 0
 BeginsWith store moment t = Reaches Represents store (λ s. (s.state ≡ Alive t) × (s.stops ≡ closed_since moment t))
 
+-- alive with some table; and one that begins so
+abbrev pub IsAliveWithSome : {D A : Type 0} {m : _} → Store D A m → Type 0
+IsAliveWithSome store = (t : Table) × IsInState store (Alive t)
+
+abbrev pub BeginsWithSome : {D A : Type 0} {m : _} → Store D A m → ℕ → Type 0
+BeginsWithSome store moment = (t : Table) × BeginsWith store moment t
+
 -- the same state of a session, seen from this moment on
 abbrev pub from_now : SessionState → ℕ → SessionState
 from_now s moment = record { state = s.state; stops = record { now = s.stops.now; since = moment; so_far = tables_left s.stops.now }; faults = s.faults; next = s.next }

@@ -5,5 +5,5 @@
 pub mod laws;
 mod store;
 
-pub use plain_table::{AnyBox, RawBox, RawPoint, RawQuery, Refusal};
+pub use plain_table::{AnyBox, DumpRow, LayerInfo, RawBox, RawPoint, RawQuery, Refusal};
 pub use store::{Store, create_store, open_store};

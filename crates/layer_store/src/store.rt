@@ -2,8 +2,10 @@
 
 mod changes;
 mod closing;
+mod memory;
 mod questions;
 mod start;
+mod whole;
 
 use block_device::BlockDevice;
 use live_layers::Layers;

@@ -20,6 +20,10 @@ use Rattle.live_layers.specs.Image.{IsImage, IsRefusedOrImageOf}
 use Rattle.live_layers.specs.Layers.{Holds, IsTreeOf, catalog_in}
 use Rattle.live_layers.specs.declared.layers.Layers.{Layers}
 
+-- where their answers take memory from
+abbrev pub alloc_of : {D A : Type 0} {m : _} → Layers D A m → A
+alloc_of kept = kept.alloc
+
 -- the cache of their pages, and the records of the layers
 abbrev pub cache_of : {D A : Type 0} {m : _} → Layers D A m → PageCache D A m
 cache_of kept = kept.cache

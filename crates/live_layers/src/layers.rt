@@ -11,6 +11,7 @@ mod find;
 mod inserting;
 mod loading;
 mod locate;
+mod memory;
 mod named;
 mod noting;
 mod open;

@@ -1,20 +1,22 @@
 //! The commands that only ask.
 
-ghost use Rattle.std.specs.Prelude.{◌≡◌, Err, OnOk};
+ghost use Rattle.std.specs.Prelude.{◌≡◌, ◌*◌, Err, OnOk};
 ghost use Rattle.live_layers.specs.Faults.{HasRefusalCause};
 ghost use Rattle.live_layers.specs.Image.{MayRemain};
 ghost use Rattle.live_layers.specs.Keeping.{LooksAtTree};
-ghost use Rattle.live_layers.specs.Questions.{is_admitted};
+ghost use Rattle.live_layers.specs.Questions.{LooksAtTrees, is_admitted};
 ghost use Rattle.nearest.specs.Nearest.{is_searched};
-ghost use Rattle.plain_table.specs.Answers.{box_answer, boxes_answer, count_answer, distances_answer};
+ghost use Rattle.plain_table.specs.Answers.{box_answer, boxes_answer, count_answer};
+ghost use Rattle.plain_table.specs.Answers.{distances_answer, pairs_answer};
 ghost use Rattle.plain_table.specs.Boxes.{given_point, point_dims};
-ghost use Rattle.plain_table.specs.Commands.Command.{Count, Get, Nearest, Range};
+ghost use Rattle.plain_table.specs.Commands.Command.{Count, Get, Join, Nearest, Range};
 ghost use Rattle.plain_table.specs.Step.{nearest_rows};
 ghost use Rattle.plain_table.specs.Table.{Table, layer_at};
 ghost use Rattle.plain_table.specs.declared.refusal.Refusal.TheVariants as refusal;
 ghost use Rattle.store_law.specs.Sessions.{LawfulStep, SessionState, Takes};
 ghost use Rattle.store_law.specs.States.Request.{Asks};
 ghost use Rattle.store_law.specs.States.StoreState.{Dead};
+ghost use Rattle.tree_node.specs.Joins.{admitted_pairs};
 ghost use Rattle.tree_node.specs.Searches.{admitted};
 ghost use Rattle.layer_store.specs.Representation.{IsInState, KeepsStore, Represents, RepresentsTable, StopsLeave};
 ghost use Rattle.layer_store.specs.Representation.{device_in, layers_in, looks_in};
@@ -180,6 +182,30 @@ impl<D: BlockDevice, A: Allocator + Copy> Store<D, A> {
         ensures cause { HasRefusalCause (D.faults (device_in self.old)) (D.faults (device_in self.new)) result }
     {
         self.range(layer, RawQuery::Point(point))
+    }
+
+    /// All pairs of an object of the first layer and an object of the second whose boxes meet: their identifiers,
+    /// ascending by the first and then by the second. It looks at no more than twice as many nodes as there are pairs
+    /// of nodes of the two trees that a join admits.
+    ///
+    /// Refused, in this order, by BadName, NoLayer and DimsDiffer. Both names are tried before it is asked whether
+    /// there are such layers.
+    pub fn join(&mut self, first: &[u8], second: &[u8]) -> Result<Vec<(u64, u64), A>, Refusal>
+        ensures step { Takes Represents self.old self.new
+            (λ s s'. LawfulStep s (Asks (Join first.now second.now)) (pairs_answer result) s') }
+        ensures looks { (t : Table) → RepresentsTable self.old t →
+            OnOk result (LooksAtTrees (layers_in self.old) (layers_in self.new) first.now second.now
+            (λ tree other. 2 * admitted_pairs (layer_at t first.now).dims tree other)) }
+        ensures kept { KeepsStore self.old self.new }
+        ensures stops { (s : SessionState) → Represents self.old s →
+            StopsLeave self.old self.new (MayRemain s.stops.now) }
+        ensures dead { IsInState self.old Dead → (result ≡ Err (refusal.StoreFailed 19)) × (self.new ≡ self.old) }
+        ensures cause { HasRefusalCause (D.faults (device_in self.old)) (D.faults (device_in self.new)) result }
+    {
+        if self.failed {
+            return Err(FAILED);
+        }
+        self.layers.join(first, second)
     }
 
     /// How many nodes questions have looked at so far, with the pages that other commands have. The count stays at

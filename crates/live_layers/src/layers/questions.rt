@@ -127,6 +127,7 @@ impl<B: BlockDevice, A: Allocator + Copy> Layers<B, A> {
             second.now (λ tree other. 2 * admitted_pairs (layer_at t first.now).dims tree other)) }
         ensures gate { KeepsGate (cache_of self.old) (cache_of self.new) }
         ensures map { KeepsMap (cache_of self.old) (cache_of self.new) }
+        ensures written { IsWritten self.old → IsWritten self.new }
         ensures cause { HasRefusalCause (B.faults (device_of (cache_of self.old)))
             (B.faults (device_of (cache_of self.new))) result }
     {

@@ -9,7 +9,7 @@ ghost use Rattle.store_law.specs.Lawful.{IsFault};
 ghost use Rattle.tree_node.specs.Joins.{admitted_pairs};
 ghost use Rattle.live_layers.specs.Changes.{Rose};
 ghost use Rattle.live_layers.specs.Faults.{HasRefusalCause};
-ghost use Rattle.live_layers.specs.Keeping.{IsSound, cache_of};
+ghost use Rattle.live_layers.specs.Keeping.{IsSound, IsWritten, cache_of};
 ghost use Rattle.live_layers.specs.Located.{IsLocated};
 ghost use Rattle.live_layers.specs.Questions.{LooksAtTrees};
 
@@ -43,6 +43,7 @@ impl<B: BlockDevice, A: Allocator + Copy> Layers<B, A> {
         ensures sound { (t : Table) → IsSound self.old t → IsSound self.new t }
         ensures gate { KeepsGate (cache_of self.old) (cache_of self.new) }
         ensures map { KeepsMap (cache_of self.old) (cache_of self.new) }
+        ensures written { IsWritten self.old → IsWritten self.new }
         ensures cause { HasRefusalCause (B.faults (device_of (cache_of self.old)))
             (B.faults (device_of (cache_of self.new))) result }
     {

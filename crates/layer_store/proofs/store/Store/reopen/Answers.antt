@@ -1,8 +1,8 @@
 -- A reopening of the layers is a step of the store, and a closing.
-use Rattle.std.proofs.Common.{refl, arith}
+use Rattle.std.proofs.Common.{arith}
 use Rattle.plain_table.specs.Commands.Command.{Reopen}
 use Rattle.layer_store.specs.Representation.{device_in}
-use Rattle.layer_store.proofs.ChangeLemmas.{cause_told, refused_goes_on, step_told}
+use Rattle.layer_store.proofs.ChangeLemmas.{cause_told, not_refused, refused_goes_on, step_told}
 use Rattle.layer_store.proofs.ClosingLemmas.{durable_closed, ends_closed, image_closed, quiet_closed, settled_closed, stops_closed}
 use Rattle.layer_store.proofs.StopLemmas.{reopening_leaves}
 use Rattle.layer_store.proofs.StoreLemmas.{alive_in, alive_with, dead_so, is_dead, not_both, takes_nothing}
@@ -18,7 +18,7 @@ returns-clause-step g c =
     step_told old c.tell.new.self made.new.self Reopen made.result c.tell.result c.if-self.false c.tell.ensures.told (c.tell.ensures.failed c.if-self.false) c.tell.ensures.layers tt
     made.ensures.changed
     (λ t stops sound was. reopening_leaves old.layers made.new.self t stops made.result (made.ensures.leaves t sound)
-    (λ r is. refused_goes_on old.layers made.new.self t Reopen made.result r refl refl (made.ensures.changed t sound) is) was)
+    (λ r is. refused_goes_on old.layers made.new.self t Reopen made.result r (λ as_table same. not_refused r as_table) (made.ensures.changed t sound) is) was)
     (λ t sound. let same = made.ensures.next sound.map.honest in omega (arith, same)) (g.met.D.BlockDevice.faults_fit (device_in old)) made.ensures.cause
 
 pub returns-then-self-clause-closed : goal.returns-then-self-clause-closed

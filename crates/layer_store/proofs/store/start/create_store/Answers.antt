@@ -1,5 +1,5 @@
 -- A new file holds the empty table, and its store is read from it.
-use Rattle.std.proofs.Common.{◌⊎◌, ◌∙◌, inr, sym, subst}
+use Rattle.std.proofs.Common.{◌⊎◌, inr, sym, subst}
 use Rattle.std.specs.FinMap.{empty}
 use Rattle.block_device.specs.Device.{Blocks}
 use Rattle.live_layers.specs.Image.{IsImage}
