@@ -14,3 +14,5 @@ pub mod Inserting
 pub mod Creating
 pub mod Located
 pub mod Questions
+pub mod Staying
+pub mod Dropping
