@@ -33,7 +33,7 @@ one_more_entry layer id b was count absent is few more =
 
 module _ {D A : Type 0} {m : _} (kept : Layers D A m) (t : Table) (name : List ℕ) (place : ℕ) (sound : IsSound kept t) (finds : Finds t name place)
     (located : Located) (by_record : (d : Record) → located ≡ located_by (get_or (records_of kept.records) place d)) (dims : ℕ) (is_dims : (layer_at t name).dims ≡ dims) where
-  by_row : located ≡ located_by (reading kept t name place sound finds).row
+  pub by_row : located ≡ located_by (reading kept t name place sound finds).row
   by_row =
       let row : Record = (reading kept t name place sound finds).row in
       by_record row ∙ ap located_by (row_there kept t name place sound finds row)

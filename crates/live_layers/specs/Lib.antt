@@ -16,3 +16,4 @@ pub mod Located
 pub mod Questions
 pub mod Staying
 pub mod Dropping
+pub mod Reaching

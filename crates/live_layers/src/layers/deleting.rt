@@ -9,10 +9,12 @@ ghost use Rattle.live_layers.specs.Faults.{HasUnmadeCause};
 ghost use Rattle.live_layers.specs.Keeping.{ChangesTree, IsSound, IsWritten, cache_of};
 ghost use Rattle.live_layers.specs.Rules.{HasLost};
 
+mod delete_at;
+mod taking;
+
 use crate::layers::Layers;
 use crate::unmade::Unmade;
 use block_device::BlockDevice;
-use plain_table::Refusal;
 use std::alloc::Allocator;
 
 impl<B: BlockDevice, A: Allocator + Copy> Layers<B, A> {
@@ -22,7 +24,8 @@ impl<B: BlockDevice, A: Allocator + Copy> Layers<B, A> {
     /// Refused, in this order, by BadName, NoLayer and NoObject.
     pub fn delete(&mut self, name: &[u8], id: u64) -> Result<(), Unmade>
         ensures changed { (t : Table) → IsSound self.old t → IsChanged self.old self.new t (Delete name.now id) result }
-        ensures leaves { (t : Table) → IsSound self.old t → ChangeLeaves self.old self.new t (Delete name.now id) result }
+        ensures leaves { (t : Table) → IsSound self.old t →
+            ChangeLeaves self.old self.new t (Delete name.now id) result }
         ensures tree { (t : Table) → IsSound self.old t → OnOk result
             (ChangesTree self.old self.new name.now (HasLost (layer_at t name.now) id)) }
         ensures written { OnErr result (IsWritten self.old → IsWritten self.new) }
@@ -31,7 +34,15 @@ impl<B: BlockDevice, A: Allocator + Copy> Layers<B, A> {
         ensures cause { HasUnmadeCause (B.faults (device_of (cache_of self.old)))
             (B.faults (device_of (cache_of self.new))) result }
     {
-        let _ = name.len();
-        Err(Unmade::Refused(Refusal::Memory))
+        let place = match self.named(name) {
+            Ok(place) => place,
+            Err(refusal) => return Err(Unmade::Refused(refusal)),
+        };
+        let located = self.locate(place);
+        if located.dims == 2 {
+            self.delete_at::<2>(place, &located, id)
+        } else {
+            self.delete_at::<3>(place, &located, id)
+        }
     }
 }
