@@ -25,3 +25,4 @@ pub mod CreateLemmas
 pub mod JoinLemmas
 pub mod TakeLemmas
 pub mod DeleteLemmas
+pub mod DropLemmas

@@ -9,10 +9,12 @@ ghost use Rattle.live_layers.specs.Dropping.{KeepsOtherTrees};
 ghost use Rattle.live_layers.specs.Faults.{HasUnmadeCause};
 ghost use Rattle.live_layers.specs.Keeping.{IsSound, IsWritten, cache_of};
 
+mod take_layer;
+
+use crate::faults::change_of;
 use crate::layers::Layers;
 use crate::unmade::Unmade;
 use block_device::BlockDevice;
-use plain_table::Refusal;
 use std::alloc::Allocator;
 
 impl<B: BlockDevice, A: Allocator + Copy> Layers<B, A> {
@@ -30,7 +32,9 @@ impl<B: BlockDevice, A: Allocator + Copy> Layers<B, A> {
         ensures cause { HasUnmadeCause (B.faults (device_of (cache_of self.old)))
             (B.faults (device_of (cache_of self.new))) result }
     {
-        let _ = name.len();
-        Err(Unmade::Refused(Refusal::Memory))
+        match self.named(name) {
+            Ok(place) => change_of(self.take_layer(place)),
+            Err(refusal) => Err(Unmade::Refused(refusal)),
+        }
     }
 }
