@@ -77,6 +77,9 @@ tied Less h = absurd (cc)
 tied Equal h = refl
 tied Greater h = absurd (cc)
 
+not_both : (r : Ordering) → r ≡ Equal → r ≡ Less → ⊥
+not_both r equal less = let no : Equal ≡ Less = sym equal ∙ less in absurd (cc)
+
 module _ {K X : Type 0} (R : K → K → Ordering) where
   below_less : (x : K) (es : List (K × X)) (i : ℕ) → T (below_all R x es) → T (below_all R x (remove es i))
   below_less x [] zero h = tt
@@ -119,13 +122,13 @@ module _ {K X : Type 0} (R : K → K → Ordering) where
     find_less (e ∷ es) (suc i) lt sorted tie =
         let within : i < length es = omega (arith, lt) in
         let below : R e.0 (get_or es i e).0 ≡ Less = below_at R e.0 es i e within (left_of _ _ sorted) in
-        let rest = find_less es i within (right_of _ _ sorted) tie in
+        let rest : find R q (remove es i) ≡ cond (eq_by_cmp R q k) None (find R q es) = find_less es i within (right_of _ _ sorted) tie in
         ap (λ (x : Option X). cond (eq_by_cmp R q e.0) (Some e.1) x) rest
         ∙ later_goes (eq_by_cmp R q e.0) (eq_by_cmp R q k) (Some e.1) (find R q es)
         (λ here there.
         let equal : R q (get_or es i e).0 ≡ Equal = sym (alike_right o k (get_or es i e).0 q (tie e)) ∙ tied (R q k) there in
         let less : R q (get_or es i e).0 ≡ Less = o.congr q e.0 (get_or es i e).0 (tied (R q e.0) here) ∙ below in
-        let no : Equal ≡ Less = sym equal ∙ less in absurd (cc))
+        not_both (R q (get_or es i e).0) equal less)
 
 -- ---- the table
 
