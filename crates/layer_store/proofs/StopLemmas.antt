@@ -129,11 +129,11 @@ module _ {D A : Type 0} {m : _} where
     kept : (made : Result (Unit {0}) Unmade) → ChangeLeaves old new t c made → after t c ≡ t → Leaves new.cache stops
     kept made leaves same = leaves_kept old.cache new.cache stops honest (leaves.quiet same) was
 
-    pub change_leaves : (b : Bool) (made : Result (Unit {0}) Unmade) → ChangeLeaves old new t c made → (b ≡ false → after t c ≡ t) → ((r : Refusal) → made ≡ Err (unmade.Refused r) → b ≡ true → is_end r ≡ false) → After b made
-    change_leaves false made leaves quiet no_end = kept made leaves (quiet refl)
-    change_leaves true (Ok u) leaves quiet no_end = begun_leaves old.cache new.cache stops (leaves.stops (tables_left stops.now) rests) was (leaves.opened tt)
-    change_leaves true (Err (unmade.Broken f)) leaves quiet no_end = begun_leaves old.cache new.cache stops (leaves.stops (tables_left stops.now) rests) was (leaves.opened tt)
-    change_leaves true (Err (unmade.Refused r)) leaves quiet no_end =
+    pub change_leaves : (b : Bool) (made : Result (Unit {0}) Unmade) → ChangeLeaves old new t c made → (b ≡ false → after t c ≡ t) → (b ≡ true → ¬ (after t c ≡ t)) → ((r : Refusal) → made ≡ Err (unmade.Refused r) → b ≡ true → is_end r ≡ false) → After b made
+    change_leaves false made leaves quiet other no_end = kept made leaves (quiet refl)
+    change_leaves true (Ok u) leaves quiet other no_end = begun_leaves old.cache new.cache stops (leaves.stops (tables_left stops.now) rests) was (leaves.opened (other refl) tt)
+    change_leaves true (Err (unmade.Broken f)) leaves quiet other no_end = begun_leaves old.cache new.cache stops (leaves.stops (tables_left stops.now) rests) was (leaves.opened (other refl) tt)
+    change_leaves true (Err (unmade.Refused r)) leaves quiet other no_end =
         subst (λ (now : AfterStop). Leaves new.cache (record { now = now; since = stops.since; so_far = stops.so_far })) (gave_up r stops.now (no_end r refl refl))
         (leaves_after old.cache new.cache stops (Perhaps (tables_left stops.now)) (leaves.stops (tables_left stops.now) rests) was (leaves.rests (tables_left stops.now) rests) (λ u there. there))
 

@@ -59,7 +59,7 @@ module _ {D A : Type 0} {m : _} (old new : Layers D A m) (t : Table) (c : Comman
   refused_leaves r honest now keeps = record {
     stops = λ ts rests. kept_run old.cache new.cache ts honest (now honest) rests keeps;
     rests = λ ts rests. kept_rests old.cache new.cache ts honest keeps rests;
-    opened = λ begun. absurd begun;
+    opened = λ other begun. absurd begun;
     quiet = λ same. keeps;
   }
 
@@ -107,7 +107,7 @@ module _ {D A : Type 0} {m : _} (old mid new : Layers D A m) (t : Table) (c : Co
         (kept_run old.cache mid.cache ts honest (now honest) rests keeps)
         (begins.stops ts (keeps.honest.0 honest) (kept_rests old.cache mid.cache ts honest keeps rests));
     rests = λ ts rests. begins.rests ts (keeps.honest.0 honest) (kept_rests old.cache mid.cache ts honest keeps rests);
-    opened = opened_by made begins;
+    opened = λ other. opened_by made begins;
     quiet = λ same. absurd (grows same);
   }
 

@@ -26,3 +26,7 @@ pub mod JoinLemmas
 pub mod TakeLemmas
 pub mod DeleteLemmas
 pub mod DropLemmas
+pub mod FillLemmas
+pub mod RepeatLemmas
+pub mod GivenObjectLemmas
+pub mod LoadLemmas

@@ -11,6 +11,7 @@ pub mod Unmade
 pub mod Closings
 pub mod Begun
 pub mod Inserting
+pub mod Loading
 pub mod Creating
 pub mod Located
 pub mod Questions

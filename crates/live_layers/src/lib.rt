@@ -5,9 +5,11 @@
 mod catalog;
 mod faults;
 mod given;
+mod given_objects;
 pub mod laws;
 mod layers;
 mod located;
+mod repeats;
 mod search;
 mod unmade;
 

@@ -4,6 +4,7 @@ use Rattle.layer_pages.specs.Changes.{IsEmptyLeaf}
 use Rattle.live_layers.specs.Creating.{BringsTree}
 use Rattle.live_layers.specs.declared.layers.Layers.{Layers}
 use Rattle.plain_table.specs.Commands.Command.{Create}
+use Rattle.plain_table.specs.Laws.{a_change_makes_another_table}
 use Rattle.plain_table.specs.Step.{changed, changes, refusal_of}
 use Rattle.layer_store.specs.Representation.{device_in}
 use Rattle.layer_store.proofs.ChangeLemmas.{cause_told, on_told, quiet_told, refused_goes_on, settled_told, stays, step_told, stops_told}
@@ -21,7 +22,7 @@ returns-clause-step g c =
     step_told old c.tell.new.self made.new.self (Create c.args.layer.now c.args.dims c.args.fanout) made.result c.tell.result c.if-self.false c.tell.ensures.told (c.tell.ensures.failed c.if-self.false) c.tell.ensures.layers tt
     made.ensures.changed
     (λ t stops sound was. change_leaves old.layers made.new.self t (Create c.args.layer.now c.args.dims c.args.fanout) stops sound.map.honest was (changes t (Create c.args.layer.now c.args.dims c.args.fanout)) made.result
-    (made.ensures.leaves t sound) (λ unchanged. stays (refusal_of t (Create c.args.layer.now c.args.dims c.args.fanout)) t (changed t (Create c.args.layer.now c.args.dims c.args.fanout)) unchanged)
+    (made.ensures.leaves t sound) (λ unchanged. stays (refusal_of t (Create c.args.layer.now c.args.dims c.args.fanout)) t (changed t (Create c.args.layer.now c.args.dims c.args.fanout)) unchanged) (a_change_makes_another_table t (Create c.args.layer.now c.args.dims c.args.fanout))
     (λ r is admitted. refused_goes_on old.layers made.new.self t (Create c.args.layer.now c.args.dims c.args.fanout) made.result r refl admitted (made.ensures.changed t sound) is))
     (λ t sound. made.ensures.next) (g.met.D.BlockDevice.faults_fit (device_in old)) made.ensures.cause
 

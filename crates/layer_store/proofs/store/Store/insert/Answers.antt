@@ -6,6 +6,7 @@ use Rattle.plain_table.specs.Boxes.{given_bounds}
 use Rattle.plain_table.specs.Table.{layer_at}
 use Rattle.live_layers.specs.declared.layers.Layers.{Layers}
 use Rattle.plain_table.specs.Commands.Command.{Insert}
+use Rattle.plain_table.specs.Laws.{a_change_makes_another_table}
 use Rattle.plain_table.specs.Step.{changed, changes, refusal_of}
 use Rattle.layer_store.specs.Representation.{device_in}
 use Rattle.layer_store.proofs.ChangeLemmas.{cause_told, on_told, quiet_told, refused_goes_on, settled_told, stays, step_told, stops_told}
@@ -23,7 +24,7 @@ returns-clause-step g c =
     step_told old c.tell.new.self made.new.self (Insert c.args.layer.now c.args.id c.args.bounds) made.result c.tell.result c.if-self.false c.tell.ensures.told (c.tell.ensures.failed c.if-self.false) c.tell.ensures.layers tt
     made.ensures.changed
     (λ t stops sound was. change_leaves old.layers made.new.self t (Insert c.args.layer.now c.args.id c.args.bounds) stops sound.map.honest was (changes t (Insert c.args.layer.now c.args.id c.args.bounds)) made.result
-    (made.ensures.leaves t sound) (λ unchanged. stays (refusal_of t (Insert c.args.layer.now c.args.id c.args.bounds)) t (changed t (Insert c.args.layer.now c.args.id c.args.bounds)) unchanged)
+    (made.ensures.leaves t sound) (λ unchanged. stays (refusal_of t (Insert c.args.layer.now c.args.id c.args.bounds)) t (changed t (Insert c.args.layer.now c.args.id c.args.bounds)) unchanged) (a_change_makes_another_table t (Insert c.args.layer.now c.args.id c.args.bounds))
     (λ r is admitted. refused_goes_on old.layers made.new.self t (Insert c.args.layer.now c.args.id c.args.bounds) made.result r refl admitted (made.ensures.changed t sound) is))
     (λ t sound. made.ensures.next) (g.met.D.BlockDevice.faults_fit (device_in old)) made.ensures.cause
 

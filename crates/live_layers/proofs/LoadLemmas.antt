@@ -1,0 +1,246 @@
+-- Why a load is refused, and what one that is not does to the table.
+use Rattle.std.proofs.Common.{◌≡◌, ◌∙◌, ◌⊎◌, inl, inr, ℕ, ◌+◌, ◌-◌, ◌<◌, ◌≤◌, List, [], ◌∷◌, length, get_or, map, true, false, Bool, cond, eqb, not, Option, Some, None, refl, sym, ap, subst, arith}
+use Rattle.std.specs.Prelude.{Result, Ok, Err, IsPermutation, ◌&&◌, is_some, nat_lt, unwrap_or}
+use Rattle.std.specs.FinMap.{contains_key, entries, find, from_entries, len, len-entries}
+use Rattle.std.specs.Ordering.{nat_cmp}
+use Rattle.std.proofs.lemmas.Bool.Decides.{nat_tests}
+use Rattle.std.proofs.lemmas.List.{length-map}
+use Rattle.block_device.specs.Device.{Blocks}
+use Rattle.box_math.specs.Bounds.{Bounds}
+use Rattle.catalog_page.specs.Layout.{Record, records_of}
+use Rattle.id_table.proofs.AddLemmas.{same_key}
+use Rattle.layer_pages.specs.Layers.{Objects}
+use Rattle.page_cache.specs.Cache.{IsHonest, device_of}
+use Rattle.page_cache.specs.Laws.{no_call_keeps_the_gate, no_call_keeps_the_map}
+use Rattle.plain_table.specs.Commands.Command.{Load}
+use Rattle.plain_table.specs.Laws.{no_change_leaves_the_table, none_holds}
+use Rattle.plain_table.specs.Loads.{GivenObjects, are_ordered, given_object, have_dims, ids_of, least_repeated, with_objects}
+use Rattle.plain_table.specs.Step.{changes, first_refusal, is_admitted, load_refusals, refusal_of, refused_or}
+use Rattle.plain_table.specs.Step.Answer.{Done}
+use Rattle.plain_table.specs.Table.{Layer, Table, is_layer_name, layer_at, most_objects, object_count}
+use Rattle.plain_table.specs.declared.refusal.Refusal.{Refusal}
+use Rattle.plain_table.specs.declared.refusal.Refusal.TheVariants as refusal
+use Rattle.store_law.specs.Lawful.{IsFault}
+use Rattle.live_layers.specs.Changes.{ChangeLeaves, IsChanged}
+use Rattle.live_layers.specs.Inserting.{IsAllowedOr}
+use Rattle.live_layers.specs.Keeping.{Finds, IsSound}
+use Rattle.live_layers.specs.Loading.{ReachesObjects, boxes_refusals, times_in}
+use Rattle.live_layers.specs.Staying.{KeepsTrees}
+use Rattle.live_layers.specs.declared.layers.Layers.{Layers}
+use Rattle.live_layers.proofs.AskLemmas.{named_there}
+use Rattle.live_layers.proofs.FillLemmas.{AreApart, entries_made}
+use Rattle.live_layers.proofs.RepeatLemmas.{each_once, times_more}
+use Rattle.live_layers.proofs.ReplaceLemmas.{count_there, reading, row_there}
+use Rattle.live_layers.proofs.StopLemmas.{kept_run}
+
+-- ---- names
+
+module _ (t : Table) (name : List ℕ) (given : GivenObjects) where
+  pub no_name : is_layer_name name ≡ false → refusal_of t (Load name given) ≡ Some refusal.BadName
+  no_name e = rw e refl
+
+  pub no_layer_there : is_layer_name name ≡ true → contains_key t name ≡ false → refusal_of t (Load name given) ≡ Some refusal.NoLayer
+  no_layer_there e none = rw (e, none) refl
+
+-- what may be refused of a layer that is there
+pub as_load : (t : Table) (name : List ℕ) (place : ℕ) (given : GivenObjects) → is_layer_name name ≡ true → Finds t name place → refusal_of t (Load name given) ≡ first_refusal (load_refusals (layer_at t name) given (object_count t))
+as_load t name place given good finds = let there = named_there t name place finds in rw (good, there) refl
+
+-- ---- boxes
+
+first_of : (wrong bad : Bool) (more : List (Bool × Refusal)) (r : Refusal) → first_refusal ((wrong, refusal.WrongDims) ∷ (bad, refusal.BadBox) ∷ []) ≡ Some r → first_refusal ((wrong, refusal.WrongDims) ∷ (bad, refusal.BadBox) ∷ more) ≡ Some r
+first_of true bad more r is = is
+first_of false true more r is = is
+first_of false false more r is = absurd (cc)
+
+-- what is tried after the boxes
+abbrev after_boxes : Layer → GivenObjects → ℕ → List (Bool × Refusal)
+after_boxes layer given count =
+    (nat_lt 0 (len layer.objects), refusal.NotEmpty)
+    ∷ (is_some (least_repeated (ids_of given)), refusal.DuplicateInLoad (unwrap_or (least_repeated (ids_of given)) 0))
+    ∷ (nat_lt most_objects (count + length given), refusal.TooManyObjects) ∷ []
+
+-- one that is refused is why the load is
+pub box_refused_there : (t : Table) (name : List ℕ) (place : ℕ) (given : GivenObjects) (dims : ℕ) → is_layer_name name ≡ true → Finds t name place → (layer_at t name).dims ≡ dims → (r : Refusal)
+    → (first_refusal (boxes_refusals dims given) ≡ Some r) ⊎ IsFault ⊥ ⊥ r → (refusal_of t (Load name given) ≡ Some r) ⊎ IsFault ⊥ ⊥ r
+box_refused_there t name place given dims good finds axes r (inl is) =
+    inl (as_load t name place given good finds ∙ first_of (not (have_dims (layer_at t name).dims given)) (not (are_ordered given)) (after_boxes (layer_at t name) given (object_count t)) r (ap (λ (k : ℕ). first_refusal (boxes_refusals k given)) axes ∙ is))
+box_refused_there t name place given dims good finds axes r (inr h) = inr h
+
+-- where none is refused, the objects reach the layer
+pub all_reach : (t : Table) (name : List ℕ) (place : ℕ) (given : GivenObjects) (dims : ℕ) (objects : List (ℕ × Bounds)) → is_layer_name name ≡ true → Finds t name place → (layer_at t name).dims ≡ dims
+    → first_refusal (boxes_refusals dims given) ≡ None → objects ≡ map given_object given → ReachesObjects t name place given dims objects
+all_reach t name place given dims objects good finds axes none boxes =
+    let hold = none_holds (boxes_refusals dims given) none in
+    record { good = good; finds = finds; axes = axes; right = no_more (have_dims dims given) hold.0; ordered = no_more (are_ordered given) hold.1.0; boxes = boxes }
+  where
+    no_more : (b : Bool) → not b ≡ false → b ≡ true
+    no_more true e = refl
+    no_more false e = absurd (cc)
+
+-- ---- faults
+
+-- want of memory, which may refuse anything
+pub only_memory : (rose spent : Type 0) (r : Refusal) → IsFault ⊥ ⊥ r → IsFault rose spent r
+only_memory rose spent refusal.Memory h = h
+only_memory rose spent refusal.Device h = absurd h
+only_memory rose spent refusal.NoPages h = absurd h
+only_memory rose spent r h = h
+
+pub allowed_anyhow : (rose : Type 0) (why : Option Refusal) (r : Refusal) → (why ≡ Some r) ⊎ IsFault ⊥ ⊥ r → (why ≡ Some r) ⊎ IsFault rose ⊥ r
+allowed_anyhow rose why r (inl h) = inl h
+allowed_anyhow rose why r (inr h) = inr (only_memory rose ⊥ r h)
+
+-- ---- objects of different identifiers
+
+same_ids : (given : GivenObjects) → map (λ (o : ℕ × Bounds). o.0) (map given_object given) ≡ ids_of given
+same_ids [] = refl
+same_ids (o ∷ rest) = ap (λ (ids : List ℕ). o.0 ∷ ids) (same_ids rest)
+
+not_found : (q : ℕ) (os : List (ℕ × Bounds)) → times_in q (map (λ (o : ℕ × Bounds). o.0) os) ≡ 0 → find nat_cmp q os ≡ None
+not_found q [] none = refl
+not_found q (o ∷ os) none = ap (λ b. cond b (Some o.1) (find nat_cmp q os)) (same_key q o.0)
+    ∙ step (eqb o.0 q) (times_in q (map (λ (o : ℕ × Bounds). o.0) os)) (sym (times_more q o.0 (map (λ (o : ℕ × Bounds). o.0) os)) ∙ none) (not_found q os)
+  where
+    step : (b : Bool) (n : ℕ) → cond b 1 0 + n ≡ 0 → (n ≡ 0 → find nat_cmp q os ≡ None) → cond b (Some o.1) (find nat_cmp q os) ≡ None
+    step true n none rest = absurd (omega (arith, none))
+    step false n none rest = rest (omega (arith, none))
+
+are_apart : (os : List (ℕ × Bounds)) → ((q : ℕ) → times_in q (map (λ (o : ℕ × Bounds). o.0) os) ≤ 1) → AreApart os
+are_apart [] once = tt
+are_apart (o ∷ os) once = (
+  not_found o.0 os (alone (times_more o.0 o.0 (map (λ (o : ℕ × Bounds). o.0) os)) (once o.0)),
+  are_apart os (λ q. fewer q (times_more q o.0 (map (λ (o : ℕ × Bounds). o.0) os)) (once q)),
+)
+  where
+    itself : (x n : ℕ) → cond (eqb x x) 1 0 + n ≡ 1 + n
+    itself x n = grind (arith, nat_tests)
+
+    alone : {m n : ℕ} → m ≡ cond (eqb o.0 o.0) 1 0 + n → m ≤ 1 → n ≡ 0
+    alone {m} {n} is few = omega (arith, itself o.0 n, is, few)
+
+    fewer : (q : ℕ) → {m n : ℕ} → m ≡ cond (eqb o.0 q) 1 0 + n → m ≤ 1 → n ≤ 1
+    fewer q is few = omega (arith, is, few)
+
+-- ---- objects that reach a layer
+
+module _ (t : Table) (name : List ℕ) (place : ℕ) (given : GivenObjects) (dims : ℕ) (objects : List (ℕ × Bounds)) (reaches : ReachesObjects t name place given dims objects) where
+  right : have_dims (layer_at t name).dims given ≡ true
+  right = ap (λ (k : ℕ). have_dims k given) reaches.axes ∙ reaches.right
+
+  pub ids_are : map (λ (o : ℕ × Bounds). o.0) objects ≡ ids_of given
+  ids_are = ap (map (λ (o : ℕ × Bounds). o.0)) reaches.boxes ∙ same_ids given
+
+  pub as_many : length objects ≡ length given
+  as_many = ap length reaches.boxes ∙ length-map given given_object
+
+  -- why they are refused
+  pub not_empty : 0 < len (layer_at t name).objects → first_refusal (load_refusals (layer_at t name) given (object_count t)) ≡ Some refusal.NotEmpty
+  not_empty some =
+      let has : nat_lt 0 (len (layer_at t name).objects) ≡ true = grind (arith, nat_tests) in
+      let wide = right in rw (wide, reaches.ordered, has) refl
+
+  none_there : len (layer_at t name).objects ≡ 0 → nat_lt 0 (len (layer_at t name).objects) ≡ false
+  none_there none = grind (arith, nat_tests)
+
+  pub twice_given : (id : ℕ) → len (layer_at t name).objects ≡ 0 → Some id ≡ least_repeated (map (λ (o : ℕ × Bounds). o.0) objects) → first_refusal (load_refusals (layer_at t name) given (object_count t)) ≡ Some (refusal.DuplicateInLoad id)
+  twice_given id none least =
+      let wide = right in
+      let empty = none_there none in
+      let is : least_repeated (ids_of given) ≡ Some id = sym (least ∙ ap least_repeated ids_are) in
+      rw (wide, reaches.ordered, empty, is) refl
+
+  pub too_many_given : len (layer_at t name).objects ≡ 0 → None ≡ least_repeated (map (λ (o : ℕ × Bounds). o.0) objects) → most_objects < object_count t + length objects
+      → first_refusal (load_refusals (layer_at t name) given (object_count t)) ≡ Some refusal.TooManyObjects
+  too_many_given none once many =
+      let wide = right in
+      let empty = none_there none in
+      let is : least_repeated (ids_of given) ≡ None = sym (once ∙ ap least_repeated ids_are) in
+      let full : nat_lt most_objects (object_count t + length given) ≡ true = over (object_count t + length given) (omega (arith, many, as_many)) in
+      rw (wide, reaches.ordered, empty, is, full) refl
+    where
+      over : (n : ℕ) → most_objects < n → nat_lt most_objects n ≡ true
+      over n lt = grind (arith, nat_tests)
+
+  pub may_be_given : len (layer_at t name).objects ≡ 0 → None ≡ least_repeated (map (λ (o : ℕ × Bounds). o.0) objects) → object_count t + length objects ≤ most_objects
+      → first_refusal (load_refusals (layer_at t name) given (object_count t)) ≡ None
+  may_be_given none once few =
+      let wide = right in
+      let empty = none_there none in
+      let is : least_repeated (ids_of given) ≡ None = sym (once ∙ ap least_repeated ids_are) in
+      let fits : nat_lt most_objects (object_count t + length given) ≡ false = within (object_count t + length given) (omega (arith, few, as_many)) in
+      rw (wide, reaches.ordered, empty, is, fits) refl
+    where
+      within : (n : ℕ) → n ≤ most_objects → nat_lt most_objects n ≡ false
+      within n le = grind (arith, nat_tests)
+
+  -- where nothing refuses them
+  module _ (none : first_refusal (load_refusals (layer_at t name) given (object_count t)) ≡ None) where
+    pub had_none : len (layer_at t name).objects ≡ 0
+    had_none = zero_of (len (layer_at t name).objects) (none_holds (load_refusals (layer_at t name) given (object_count t)) none).1.1.0
+      where
+        zero_of : (n : ℕ) → nat_lt 0 n ≡ false → n ≡ 0
+        zero_of n e = grind (arith, nat_tests)
+
+    -- they are the entries of the layer that they make
+    pub made_of : IsPermutation objects (entries (with_objects (layer_at t name) given).objects)
+    made_of =
+        let once = nothing (least_repeated (ids_of given)) (none_holds (load_refusals (layer_at t name) given (object_count t)) none).1.1.1.0 in
+        let apart = are_apart (map given_object given) (λ q. subst (λ (ids : List ℕ). times_in q ids ≤ 1) (sym (same_ids given)) (each_once (ids_of given) once q)) in
+        subst (λ (os : List (ℕ × Bounds)). IsPermutation os (entries (from_entries {R = nat_cmp} (map given_object given)))) (sym reaches.boxes) (entries_made (map given_object given) apart)
+      where
+        nothing : (o : Option ℕ) → is_some o ≡ false → o ≡ None
+        nothing None e = refl
+        nothing (Some id) e = absurd (cc)
+
+    admitted : is_admitted t (Load name given) ≡ true
+    admitted = ap (λ (o : Option Refusal). not (is_some o)) (as_load t name place given reaches.good reaches.finds ∙ none)
+
+    -- objects that are there change the table, and no objects do not
+    pub some_change : 0 < length objects → changes t (Load name given) ≡ true
+    some_change some =
+        let more : nat_lt 0 (length given) ≡ true = positive (length given) (omega (arith, some, as_many)) in
+        ap (λ (b : Bool). b && nat_lt 0 (length given)) admitted ∙ more
+      where
+        positive : (n : ℕ) → 0 < n → nat_lt 0 n ≡ true
+        positive n lt = grind (arith, nat_tests)
+
+    pub none_change : length objects ≡ 0 → changes t (Load name given) ≡ false
+    none_change less =
+        let more : nat_lt 0 (length given) ≡ false = empty (length given) (omega (arith, less, as_many)) in
+        ap (λ (b : Bool). b && nat_lt 0 (length given)) admitted ∙ more
+      where
+        empty : (n : ℕ) → n ≡ 0 → nat_lt 0 n ≡ false
+        empty n e = grind (arith, nat_tests)
+
+  -- what is refused changes nothing
+  pub refused_change : (r : Refusal) → refusal_of t (Load name given) ≡ Some r → changes t (Load name given) ≡ false
+  refused_change r why = ap (λ (o : Option Refusal). not (is_some o) && nat_lt 0 (length given)) why
+
+-- ---- layers
+
+module _ {D A : Type 0} {m : _} (kept : Layers D A m) (t : Table) (name : List ℕ) (place : ℕ) (sound : IsSound kept t) (finds : Finds t name place) where
+  -- a layer has as many objects as its record says
+  pub counted_there : (n : ℕ) → ((d : Record) → n ≡ (get_or (records_of kept.records) place d).count) → len (layer_at t name).objects ≡ n
+  counted_there n by =
+      let row : Record = (reading kept t name place sound finds).row in
+      len-entries (layer_at t name).objects ∙ sym (count_there kept t name place sound finds) ∙ sym (by row ∙ ap (λ (r : Record). r.count) (row_there kept t name place sound finds row))
+
+pub nothing_moved : {D A : Type 0} {m : _} (kept : Layers D A m) → KeepsTrees kept kept
+nothing_moved kept = record { map = no_call_keeps_the_map kept.cache; records = refl; written = λ w. w }
+
+-- a load that leaves the table is made, and opens no gate
+module _ {D A : Type 0} {m : _} (kept : Layers D A m) (t : Table) (name : List ℕ) (given : GivenObjects) (unchanged : changes t (Load name given) ≡ false) where
+  pub nothing_changed : refusal_of t (Load name given) ≡ None → IsSound kept t → IsChanged kept kept t (Load name given) (Ok tt)
+  nothing_changed none sound = (
+    sym (ap (λ (o : Option Refusal). refused_or o Done) none),
+    subst (IsSound kept) (sym (no_change_leaves_the_table t (Load name given) unchanged)) sound,
+  )
+
+  pub nothing_left : IsHonest kept.cache → (IsHonest kept.cache → (b : Blocks) → m.left_since (device_of kept.cache) (m.moment (device_of kept.cache)) b → m.may_leave (device_of kept.cache) b) → ChangeLeaves kept kept t (Load name given) (Ok tt)
+  nothing_left honest now = record {
+    stops = λ ts rests. kept_run kept.cache kept.cache ts honest (now honest) rests (no_call_keeps_the_gate kept.cache);
+    rests = λ ts rests. rests;
+    opened = λ other begun. absurd (other (no_change_leaves_the_table t (Load name given) unchanged));
+    quiet = λ same. no_call_keeps_the_gate kept.cache;
+  }

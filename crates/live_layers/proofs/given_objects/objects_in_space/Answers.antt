@@ -1,0 +1,30 @@
+-- The first box that is refused has a low above its high, since all have as many axes as the layer.
+use Rattle.std.proofs.Common.{◌≡◌, ◌∙◌, false, inl, map, refl, subst, sym, take, arith}
+use Rattle.plain_table.specs.Loads.{given_object}
+use Rattle.plain_table.specs.declared.refusal.Refusal.{Refusal}
+use Rattle.store_law.specs.Lawful.{blames_device}
+use Rattle.live_layers.proofs.GivenObjectLemmas.{boxes_more, is_bad, none_bad, one_is_bad, ordered_more, refused_so, whole_boxes, whole_ordered}
+use Rattle.live_layers.proofs.Results.{the_err}
+use Rattle.live_layers.proofs.given_objects.objects_in_space.Goals as goal
+
+pub returns-in_err-box_in_space-clause-allowed : goal.returns-in_err-box_in_space-clause-allowed
+returns-in_err-box_in_space-clause-allowed g c = refused_so c.from_residual-in_err-box_in_space.result _ _ c.from_residual-in_err-box_in_space.ensures.1
+    (one_is_bad 3 c.args.objects.now c.loop-object.object-index _ (sym c.are_spatial.ensures ∙ c.if-not-are_spatial.false) c.loop-object-test.true c.in_err-box_in_space.field-0.0 c.in_err-box_in_space.ensures)
+
+pub returns-in_err-box_in_space-clause-quiet : goal.returns-in_err-box_in_space-clause-quiet
+returns-in_err-box_in_space-clause-quiet g c = the_err c.from_residual-in_err-box_in_space.result c.in_err-box_in_space.field-0.0 (λ r. blames_device r ≡ false) c.from_residual-in_err-box_in_space.ensures.1
+    (subst (λ (r : Refusal). blames_device r ≡ false) (sym (is_bad 3 c.args.objects.now c.loop-object.object-index _ (sym c.are_spatial.ensures ∙ c.if-not-are_spatial.false) c.loop-object-test.true c.in_err-box_in_space.field-0.0 c.in_err-box_in_space.ensures)) refl)
+
+pub loop-object-preserved : goal.loop-object-preserved
+loop-object-preserved g c =
+    let right = sym c.are_spatial.ensures ∙ c.if-not-are_spatial.false in (
+      c.in_ok-push.ensures.items ∙ boxes_more c.args.objects.now c.loop-object.object-index _ c.loop-object-test.true c.loop-object.boxes.items c.loop-object.invariant.0 c.in_ok-box_in_space.field-0 c.in_ok-box_in_space.ensures.1,
+      ordered_more 3 c.args.objects.now c.loop-object.object-index _ right c.loop-object-test.true c.loop-object.invariant.1 c.in_ok-box_in_space.ensures.0,
+    )
+
+pub returns-clause-allowed : goal.returns-clause-allowed
+returns-clause-allowed g c =
+    none_bad 3 c.args.objects.now (sym c.are_spatial.ensures ∙ c.if-not-are_spatial.false) (whole_ordered c.args.objects.now c.loop-object.object-index c.loop-object-test.false c.loop-object.invariant.1)
+
+pub returns-clause-boxes : goal.returns-clause-boxes
+returns-clause-boxes g c = whole_boxes c.args.objects.now c.loop-object.object-index c.loop-object-test.false c.loop-object.boxes.items c.loop-object.invariant.0

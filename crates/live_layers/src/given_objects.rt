@@ -1,0 +1,75 @@
+//! Objects of a load into a layer of so many axes, as they were given.
+
+ghost use Rattle.std.specs.Prelude.{◌≡◌, false, IfErr, IfOk, map};
+ghost use Rattle.plain_table.specs.Loads.{given_object, have_dims};
+ghost use Rattle.plain_table.specs.Step.{first_refusal};
+ghost use Rattle.store_law.specs.Lawful.{blames_device};
+ghost use Rattle.live_layers.specs.Inserting.{IsAllowedOr};
+ghost use Rattle.live_layers.specs.Loading.{boxes_refusals};
+
+use crate::given::{box_in_plane, box_in_space};
+use box_math::BBox;
+use plain_table::{RawBox, Refusal};
+use std::alloc::Allocator;
+
+/// The objects of a layer of two axes. Refused, in this order, by WrongDims and BadBox.
+pub(crate) fn objects_in_plane<A: Allocator>(
+    alloc: A,
+    objects: &[(u64, RawBox)],
+) -> Result<Vec<(u64, BBox<2>), A>, Refusal>
+    ensures allowed { IsAllowedOr ⊥ (first_refusal (boxes_refusals 2 objects.now)) result }
+    ensures boxes { IfOk result (λ boxes. boxes.items ≡ map given_object objects.now) }
+    ensures quiet { IfErr result (λ r. blames_device r ≡ false) }
+{
+    if !are_plane(objects) {
+        return Err(Refusal::WrongDims);
+    }
+    let mut boxes = Vec::with_capacity(alloc, objects.len())?;
+    for object in objects {
+        boxes.push((object.0, box_in_plane(object.1)?))?;
+    }
+    Ok(boxes)
+}
+
+/// The objects of a layer of three axes. Refused, in this order, by WrongDims and BadBox.
+pub(crate) fn objects_in_space<A: Allocator>(
+    alloc: A,
+    objects: &[(u64, RawBox)],
+) -> Result<Vec<(u64, BBox<3>), A>, Refusal>
+    ensures allowed { IsAllowedOr ⊥ (first_refusal (boxes_refusals 3 objects.now)) result }
+    ensures boxes { IfOk result (λ boxes. boxes.items ≡ map given_object objects.now) }
+    ensures quiet { IfErr result (λ r. blames_device r ≡ false) }
+{
+    if !are_spatial(objects) {
+        return Err(Refusal::WrongDims);
+    }
+    let mut boxes = Vec::with_capacity(alloc, objects.len())?;
+    for object in objects {
+        boxes.push((object.0, box_in_space(object.1)?))?;
+    }
+    Ok(boxes)
+}
+
+// Whether all boxes have two axes.
+fn are_plane(objects: &[(u64, RawBox)]) -> bool
+    ensures { result ≡ have_dims 2 objects.now }
+{
+    for object in objects {
+        if let RawBox::Three(..) = object.1 {
+            return false;
+        }
+    }
+    true
+}
+
+// Whether all boxes have three axes.
+fn are_spatial(objects: &[(u64, RawBox)]) -> bool
+    ensures { result ≡ have_dims 3 objects.now }
+{
+    for object in objects {
+        if let RawBox::Two(..) = object.1 {
+            return false;
+        }
+    }
+    true
+}

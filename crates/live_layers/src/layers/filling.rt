@@ -1,0 +1,63 @@
+//! The objects of a layer that has none.
+
+ghost use Rattle.std.specs.Prelude.{◌≡◌, ◌+◌, ◌<◌, ◌≤◌, ℕ, List, false, IfErr, IsPermutation, OnErr, OnOk, length};
+ghost use Rattle.std.specs.FinMap as map;
+ghost use Rattle.box_math.specs.Bounds.{IsDims};
+ghost use Rattle.layer_pages.specs.Layers.{Objects};
+ghost use Rattle.node_page.specs.Faults.{IsNoDamage};
+ghost use Rattle.plain_table.specs.Table.{Table, layer_at, most_objects};
+ghost use Rattle.live_layers.specs.Begun.{Begins};
+ghost use Rattle.live_layers.specs.Keeping.{ChangesTree, Finds, IsSound, IsWritten, cache_of, records_in};
+ghost use Rattle.live_layers.specs.Rules.{HasFilled};
+
+use crate::layers::Layers;
+use block_device::BlockDevice;
+use box_math::BBox;
+use layer_pages::load;
+use node_page::Broken;
+use std::alloc::Allocator;
+
+impl<B: BlockDevice, A: Allocator + Copy> Layers<B, A> {
+    // Puts these objects into the layer at a place, which has none: a packed tree, and a table of their identifiers,
+    // which are all different. They are left in another order.
+    pub(crate) fn fill<const D: usize>(
+        &mut self,
+        place: usize,
+        objects: &mut [(u64, BBox<D>)],
+    ) -> Result<(), Broken>
+        requires dims { IsDims D }
+        requires within { place < length (records_in self.old) }
+        requires room { self.old.object_count + length objects.old ≤ most_objects }
+        ensures filled { (t : Table) (name : List ℕ) (all : Objects) → IsSound self.old t → Finds t name place →
+            (layer_at t name).dims ≡ D → map.len (layer_at t name).objects ≡ 0 →
+            IsPermutation objects.old (map.entries all) →
+            OnOk result (IsSound self.new (map.insert t name (record (layer_at t name) { objects = all }))) }
+        ensures tree { (t : Table) (name : List ℕ) (all : Objects) → IsSound self.old t → Finds t name place →
+            (layer_at t name).dims ≡ D → map.len (layer_at t name).objects ≡ 0 →
+            IsPermutation objects.old (map.entries all) →
+            OnOk result (ChangesTree self.old self.new name (HasFilled (layer_at t name) objects.old)) }
+        ensures untouched { (t : Table) → IsSound self.old t →
+            IfErr result (λ b. b.touched ≡ false → IsSound self.new t) }
+        ensures faults { (t : Table) (name : List ℕ) (all : Objects) → IsSound self.old t → Finds t name place →
+            (layer_at t name).dims ≡ D → map.len (layer_at t name).objects ≡ 0 →
+            IsPermutation objects.old (map.entries all) →
+            IfErr result (λ b. IsNoDamage (cache_of self.new) b.cause) }
+        ensures begins { Begins (cache_of self.old) (cache_of self.new) result }
+        ensures written { OnErr result (IsWritten self.old → IsWritten self.new) }
+    {
+        self.begin()?;
+        let located = self.locate(place);
+        let count = objects.len() as u64;
+        let root = load(
+            self.alloc,
+            &mut self.cache,
+            located.root,
+            located.directory,
+            objects,
+            located.fanout,
+        )?;
+        self.note(place, root, count);
+        self.object_count += count;
+        Ok(())
+    }
+}

@@ -1,0 +1,58 @@
+//! Objects put into the layer at a place.
+
+ghost use Rattle.std.specs.Prelude.{◌≡◌, ◌≤◌, ◌<◌, ℕ, List, true, false, OnErr, OnOk, length};
+ghost use Rattle.box_math.specs.Bounds.{IsDims};
+ghost use Rattle.page_cache.specs.Cache.{IsHonest, device_of, next_of};
+ghost use Rattle.plain_table.specs.Commands.Command.{Load};
+ghost use Rattle.plain_table.specs.Loads.{GivenObjects};
+ghost use Rattle.plain_table.specs.Step.{changes};
+ghost use Rattle.plain_table.specs.Table.{Table, layer_at};
+ghost use Rattle.live_layers.specs.Changes.{ChangeLeaves, IsChanged};
+ghost use Rattle.live_layers.specs.Faults.{HasUnmadeCause};
+ghost use Rattle.live_layers.specs.Keeping.{ChangesTree, IsSound, IsWritten, cache_of, records_in};
+ghost use Rattle.live_layers.specs.Loading.{ReachesObjects};
+ghost use Rattle.live_layers.specs.Rules.{HasFilled};
+ghost use Rattle.live_layers.specs.Staying.{KeepsTrees};
+
+use crate::faults::change_of;
+use crate::layers::Layers;
+use crate::unmade::Unmade;
+use block_device::BlockDevice;
+use box_math::BBox;
+use std::alloc::Allocator;
+
+impl<B: BlockDevice, A: Allocator + Copy> Layers<B, A> {
+    // Puts objects of the layer's axes into the layer at a place. They are left in another order.
+    pub(crate) fn load_boxes<const D: usize>(
+        &mut self,
+        place: usize,
+        objects: &mut [(u64, BBox<D>)],
+    ) -> Result<(), Unmade>
+        requires dims { IsDims D }
+        requires within { place < length (records_in self.old) }
+        ensures changed { (t : Table) (name : List ℕ) (given : GivenObjects) → IsSound self.old t →
+            ReachesObjects t name place given D objects.old → IsChanged self.old self.new t (Load name given) result }
+        ensures leaves { (t : Table) (name : List ℕ) (given : GivenObjects) → IsSound self.old t →
+            ReachesObjects t name place given D objects.old →
+            ChangeLeaves self.old self.new t (Load name given) result }
+        ensures tree { (t : Table) (name : List ℕ) (given : GivenObjects) → IsSound self.old t →
+            ReachesObjects t name place given D objects.old → changes t (Load name given) ≡ true →
+            OnOk result (ChangesTree self.old self.new name (HasFilled (layer_at t name) objects.old)) }
+        ensures same { (t : Table) (name : List ℕ) (given : GivenObjects) → IsSound self.old t →
+            ReachesObjects t name place given D objects.old → changes t (Load name given) ≡ false →
+            KeepsTrees self.old self.new }
+        ensures written { OnErr result (IsWritten self.old → IsWritten self.new) }
+        ensures honest { IsHonest (cache_of self.old) → IsHonest (cache_of self.new) }
+        ensures next { next_of (cache_of self.old) ≤ next_of (cache_of self.new) }
+        ensures cause { HasUnmadeCause (B.faults (device_of (cache_of self.old)))
+            (B.faults (device_of (cache_of self.new))) result }
+    {
+        if let Err(refusal) = self.check_load(place, objects) {
+            return Err(Unmade::Refused(refusal));
+        }
+        if objects.is_empty() {
+            return Ok(());
+        }
+        change_of(self.fill(place, objects))
+    }
+}
