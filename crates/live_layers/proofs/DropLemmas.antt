@@ -39,7 +39,8 @@ use Rattle.live_layers.proofs.EntryLemmas.{left_of, less_is, right_of}
 use Rattle.live_layers.proofs.FindLemmas.{below_at, finds_at, no_reading, ties}
 use Rattle.live_layers.proofs.HoldLemmas.{catalog_good, few_objects, here, in_layers, in_records, other_place, other_stays, rows_good, the_rest, used_here}
 use Rattle.live_layers.proofs.LayerLemmas.{layer_stays, layers_stay, of_others}
-use Rattle.live_layers.proofs.ReplaceLemmas.{count_there, reading, row_there, same_tree_of}
+use Rattle.live_layers.proofs.LoadLemmas.{counted_there}
+use Rattle.live_layers.proofs.ReplaceLemmas.{reading, same_tree_of}
 use Rattle.live_layers.proofs.TableLemmas.{layer_found}
 
 -- ---- a list without one of its elements
@@ -269,8 +270,7 @@ module _ {D A : Type 0} {m : _} (kept new : Layers D A m) (t : Table) (name : Li
   -- they are sound without it
   pub sound_less : (count : ℕ) → ((d : Record) → count ≡ (get_or (records_of kept.records) place d).count) → IsPageMap new.cache → new.object_count ≡ kept.object_count - count → new.written ≡ false → IsSound new (map_remove t name)
   sound_less count is is_map total unwritten =
-      let row : Record = (reading kept t name place sound finds).row in
-      let its : count ≡ len (layer_at t name).objects = is row ∙ ap (λ (r : Record). r.count) (row_there kept t name place sound finds row) ∙ count_there kept t name place sound finds ∙ sym (len-entries (layer_at t name).objects) in
+      let its : len (layer_at t name).objects ≡ count = counted_there kept t name place sound finds count is in
       let left : new.object_count ≡ object_count (map_remove t name) = omega (arith, total, its, fewer_objects t name place finds, sound.counted) in
       record {
         map = is_map;

@@ -30,3 +30,4 @@ pub mod FillLemmas
 pub mod RepeatLemmas
 pub mod GivenObjectLemmas
 pub mod LoadLemmas
+pub mod MoveLemmas

@@ -23,7 +23,8 @@ use Rattle.live_layers.specs.Rules.{HasGained, HasLost}
 use Rattle.live_layers.specs.declared.layers.Layers.{Layers}
 use Rattle.live_layers.specs.declared.located.Located.{Located}
 use Rattle.live_layers.proofs.AddLemmas.{by_row}
-use Rattle.live_layers.proofs.ReplaceLemmas.{count_replaced, count_there, fanout_here, reading, row_there, sound_replaced, tree_replaced}
+use Rattle.live_layers.proofs.LoadLemmas.{counted_there}
+use Rattle.live_layers.proofs.ReplaceLemmas.{count_replaced, fanout_here, reading, sound_replaced, tree_replaced}
 
 -- ---- one object less
 
@@ -69,12 +70,6 @@ module _ {D A : Type 0} {m : _} (kept : Layers D A m) (t : Table) (name : List �
   pub fanout_there : (layer_at t name).fanout ≡ located.fanout
   fanout_there = fanout_here kept t name place sound finds located (by_row kept t name place sound finds located by_record dims is_dims) dims is_dims
 
-  -- its record counts its objects
-  pub counted_there : (was : ℕ) → ((d : Record) → was ≡ (get_or (records_of kept.records) place d).count) → was ≡ len (layer_at t name).objects
-  counted_there was is =
-      let row : Record = (reading kept t name place sound finds).row in
-      is row ∙ ap (λ (r : Record). r.count) (row_there kept t name place sound finds row) ∙ count_there kept t name place sound finds ∙ sym (len-entries (layer_at t name).objects)
-
   module _ (cache : PageCache D A m) (root : Root) (objects : Objects) (IsSo : Tree → Type 0)
       (became : BecomesLayer dims located.fanout (pages kept.cache) (pages cache) (part_of_layer read) root located.directory objects IsSo)
       (new : Layers D A m) (same : new.cache ≡ cache) (count : ℕ) (counts : len objects ≡ count) (can : CanBeRoot root) (le : next_of kept.cache ≤ next_of cache)
@@ -110,7 +105,7 @@ module _ {D A : Type 0} {m : _} (kept : Layers D A m) (t : Table) (name : List �
     less = one_object_less (layer_at t name) id bounds there
 
     counts : len (remove (layer_at t name).objects id) ≡ count
-    counts = omega (arith, less, count_is, counted_there was was_is)
+    counts = omega (arith, less, count_is, counted_there kept t name place sound finds was was_is)
 
     fewer : object_count (map_insert t name (without_object (layer_at t name) id)) + 1 ≡ object_count t
     fewer = omega (arith, less, count_replaced t name place finds (without_object (layer_at t name) id))

@@ -12,10 +12,14 @@ ghost use Rattle.live_layers.specs.Keeping.{ChangesTree, IsSound, IsWritten, cac
 ghost use Rattle.live_layers.specs.Rules.{HasMoved};
 ghost use Rattle.live_layers.specs.Staying.{KeepsTrees};
 
+mod check_move;
+mod move_box;
+mod replacing;
+
 use crate::layers::Layers;
 use crate::unmade::Unmade;
 use block_device::BlockDevice;
-use plain_table::{RawBox, Refusal};
+use plain_table::RawBox;
 use std::alloc::Allocator;
 
 impl<B: BlockDevice, A: Allocator + Copy> Layers<B, A> {
@@ -39,7 +43,13 @@ impl<B: BlockDevice, A: Allocator + Copy> Layers<B, A> {
         ensures cause { HasUnmadeCause (B.faults (device_of (cache_of self.old)))
             (B.faults (device_of (cache_of self.new))) result }
     {
-        let _ = name.len();
-        Err(Unmade::Refused(Refusal::Memory))
+        let place = match self.named(name) {
+            Ok(place) => place,
+            Err(refusal) => return Err(Unmade::Refused(refusal)),
+        };
+        match bounds {
+            RawBox::Two(low, high) => self.move_box::<2>(place, id, low, high),
+            RawBox::Three(low, high) => self.move_box::<3>(place, id, low, high),
+        }
     }
 }
