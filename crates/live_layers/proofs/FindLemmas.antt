@@ -22,7 +22,7 @@ is_true true h = refl
 is_true false h = absurd h
 
 module _ {K X : Type 0} (R : K → K → Ordering) where
-  below_at : (x : K) (es : List (K × X)) (i : ℕ) (d : K × X) → i < length es → T (below_all R x es) → R x (get_or es i d).0 ≡ Less
+  pub below_at : (x : K) (es : List (K × X)) (i : ℕ) (d : K × X) → i < length es → T (below_all R x es) → R x (get_or es i d).0 ≡ Less
   below_at x [] i d lt h = absurd (omega (arith, lt))
   below_at x (e ∷ es) zero d lt h = less_is _ (left_of _ _ h)
   below_at x (e ∷ es) (suc i) d lt h = below_at x es i d (omega (arith, lt)) (right_of _ _ h)
@@ -41,7 +41,7 @@ own_reverse Equal e = refl
 own_reverse Greater e = absurd (cc)
 
 -- a name ties with itself
-ties : (name : List ℕ) → slice_cmp nat_cmp name name ≡ Equal
+pub ties : (name : List ℕ) → slice_cmp nat_cmp name name ≡ Equal
 ties name = own_reverse (slice_cmp nat_cmp name name) (nat_list_cmp_total.antisymm name name)
 
 -- a layer whose key is the name is found in its place

@@ -126,6 +126,28 @@ module _ (pages : PageMap) (next : ℕ) (records : List Record) (t : Table) (h :
     pub used_here : IsAllOf pages (both (of_layer here) the_rest)
     used_here = all_of_same pages (in_use h.layers) (both (of_layer here) the_rest) (λ n. omega (arith, one_and_others h.layers place n no_reading in_layers)) h.used
 
+    -- a layer of another name stands in another place
+    pub other_place : (other : List ℕ) (r : Record) (k : ℕ) → ¬ (other ≡ name) → r.name ≡ other → get_or records k r ≡ r → ¬ (k ≡ place)
+    other_place other r k ne called is same =
+        ne (sym called ∙ ap (λ (x : Record). x.name) (sym is ∙ ap (λ (j : ℕ). get_or records j r) same ∙ here_row r) ∙ here_named)
+
+    -- where the pages of the other layers stay, so do their trees
+    pub other_stays : (new : PageMap) → ((n : ℕ) → 0 < of_others h.layers place n → new n ≡ pages n) → (r : Record) (k : ℕ) (s : Tree) → k < length records → get_or records k r ≡ r → ¬ (k ≡ place)
+        → IsTreeAt r.dims r.fanout pages (root_of r) s → IsTreeAt r.dims r.fanout new (root_of r) s
+    other_stays new stay r k s lt is ne there =
+        let hk : Reading = get_or h.layers k no_reading in
+        let within : k < length h.layers = omega (arith, lt, ap length h.rows, length-map h.layers row_of) in
+        let row : r ≡ hk.row = sym is ∙ ap (λ (rs : List Record). get_or rs k r) (sym h.rows) ∙ get_or-map row_of h.layers k no_reading r within in
+        let stands_k = layer_at_stands pages h.layers k no_reading within h.stand in
+        let its : IsTreeAt r.dims r.fanout pages (root_of r) hk.pages.tree = subst (λ (x : Record). IsTreeAt x.dims x.fanout pages (root_of x) hk.pages.tree) (sym row) stands_k.at.tree in
+        let same : s ≡ hk.pages.tree = one_tree_stands r.dims pages s hk.pages.tree (there.page_is ∙ sym its.page_is) there.stands its.stands in
+        record {
+          page_is = there.page_is;
+          level_is = there.level_is;
+          stands = equal_pages_stand r.dims pages new s (λ n p. stay n (omega (arith, p, ap (λ (x : Tree). occurs_in n x) same, other_part h.layers place k n no_reading within ne))) there.stands;
+          shape = there.shape;
+        }
+
 -- ---- a layer replaced
 
 module _ (old new : PageMap) (next next' : ℕ) (records : List Record) (t : Table) (h : Holds old next records t) (name : List ℕ) (place : ℕ) (finds : Finds t name place)
@@ -189,36 +211,15 @@ module _ (old new : PageMap) (next next' : ℕ) (records : List Record) (t : Tab
     tree = stands.at.tree;
   }
 
-  -- a layer of another name stands in another place
-  other_place : (other : List ℕ) (r : Record) (k : ℕ) → ¬ (other ≡ name) → r.name ≡ other → get_or records k r ≡ r → ¬ (k ≡ place)
-  other_place other r k ne called is same =
-      ne (sym called ∙ ap (λ (x : Record). x.name) (sym is ∙ ap (λ (j : ℕ). get_or records j r) same ∙ here_row old next records t h name place finds r) ∙ here_named old next records t h name place finds)
-
-  -- the tree of another layer stays
-  other_stays : (r : Record) (k : ℕ) (s : Tree) → k < length records → get_or records k r ≡ r → ¬ (k ≡ place) → IsTreeAt r.dims r.fanout old (root_of r) s → IsTreeAt r.dims r.fanout new (root_of r) s
-  other_stays r k s lt' is ne there =
-      let hk : Reading = get_or h.layers k no_reading in
-      let within : k < length h.layers = omega (arith, lt', ap length h.rows, length-map h.layers row_of) in
-      let row : r ≡ hk.row = sym is ∙ ap (λ (rs : List Record). get_or rs k r) (sym h.rows) ∙ get_or-map row_of h.layers k no_reading r within in
-      let stands_k = layer_at_stands old h.layers k no_reading within h.stand in
-      let its : IsTreeAt r.dims r.fanout old (root_of r) hk.pages.tree = subst (λ (x : Record). IsTreeAt x.dims x.fanout old (root_of x) hk.pages.tree) (sym row) stands_k.at.tree in
-      let same : s ≡ hk.pages.tree = one_tree_stands r.dims old s hk.pages.tree (there.page_is ∙ sym its.page_is) there.stands its.stands in
-      record {
-        page_is = there.page_is;
-        level_is = there.level_is;
-        stands = equal_pages_stand r.dims old new s (λ n p. others_stay n (omega (arith, p, ap (λ (x : Tree). occurs_in n x) same, other_part h.layers place k n no_reading within ne))) there.stands;
-        shape = there.shape;
-      }
-
   pub other_trees_stay : (other : List ℕ) (s : Tree) → ¬ (other ≡ name) → IsTreeOf old records other s → IsTreeOf new (slice_set records place h'.row) other s
   other_trees_stay other s ne there =
       let k = there.among.0 in
-      let apart = other_place other there.row k ne there.named there.among.2 in
+      let apart = other_place old next records t h name place finds other there.row k ne there.named there.among.2 in
       record {
         row = there.row;
         among = (k, omega (arith, there.among.1, length-set records place h'.row), get_or-set_other records place k h'.row there.row apart ∙ there.among.2);
         named = there.named;
-        tree = other_stays there.row k s there.among.1 there.among.2 apart there.tree;
+        tree = other_stays old next records t h name place finds new others_stay there.row k s there.among.1 there.among.2 apart there.tree;
       }
 
 -- ---- a layer more

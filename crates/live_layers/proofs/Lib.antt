@@ -22,7 +22,11 @@ pub mod InsertLemmas
 pub mod AddLemmas
 pub mod CreateLemmas
 pub mod JoinLemmas
+pub mod TakeLemmas
+pub mod DeleteLemmas
+pub mod DropLemmas
 pub mod FillLemmas
 pub mod RepeatLemmas
 pub mod GivenObjectLemmas
 pub mod LoadLemmas
+pub mod MoveLemmas

@@ -15,3 +15,5 @@ pub mod Creating
 pub mod Located
 pub mod Questions
 pub mod Staying
+pub mod Dropping
+pub mod Reaching

@@ -1,9 +1,10 @@
 -- What changes make of the trees of layers.
 use Rattle.std.specs.Prelude.{ℕ, List}
 use Rattle.box_math.specs.Bounds.{Bounds}
+use Rattle.condense.specs.Removal.{IsRemoval}
 use Rattle.layer_pages.specs.Changes.{HasPacked}
 use Rattle.node_page.specs.Parts.{Part}
-use Rattle.plain_table.specs.Table.{Layer}
+use Rattle.plain_table.specs.Table.{Layer, object_box}
 use Rattle.reinsert.specs.Insertion.{IsInsertion}
 use Rattle.tree_node.specs.Trees.{Tree, object}
 
@@ -15,3 +16,14 @@ HasGained layer id bounds was now = (elsewhere : Part) × IsInsertion layer.dims
 -- the tree of a layer is packed from these objects (our rule, docs/RULES.md), whatever it was
 abbrev pub HasFilled : Layer → List (ℕ × Bounds) → Tree → Tree → Type 0
 HasFilled layer objects was now = HasPacked layer.dims layer.fanout objects now
+
+-- A lawful removal of an object with its box from the tree of a layer led to another (Guttman 1984). No page of some part
+-- elsewhere came in.
+abbrev pub HasLost : Layer → ℕ → Tree → Tree → Type 0
+HasLost layer id was now = (elsewhere : Part) × IsRemoval layer.dims layer.fanout elsewhere id (object_box layer id) was now
+
+-- an object of a layer has got another box: by a lawful removal, and then a lawful insertion
+pub record HasMoved (layer : Layer) (id : ℕ) (bounds : Bounds) (was now : Tree) : Type 0 where
+  pub between : Tree
+  pub removed : HasLost layer id was between
+  pub inserted : HasGained layer id bounds between now

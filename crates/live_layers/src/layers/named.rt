@@ -1,7 +1,7 @@
 //! The layer that a question names.
 
-ghost use Rattle.std.specs.Prelude.{◌≡◌, ◌<◌, false, length, IfOk, IfErr};
-ghost use Rattle.plain_table.specs.Table.{Table};
+ghost use Rattle.std.specs.Prelude.{◌≡◌, ◌<◌, false, true, length, IfOk, IfErr};
+ghost use Rattle.plain_table.specs.Table.{Table, is_layer_name};
 ghost use Rattle.store_law.specs.Lawful.{blames_device};
 ghost use Rattle.live_layers.specs.Keeping.{Finds, IsSound, records_in};
 ghost use Rattle.live_layers.specs.Questions.{IsNamed, IsUnnamed};
@@ -15,6 +15,7 @@ impl<D: BlockDevice, A: Allocator> Layers<D, A> {
     // The place of the layer of that name. Refused, in this order, by BadName and NoLayer.
     pub(crate) fn named(&self, name: &[u8]) -> Result<usize, Refusal>
         ensures within { IfOk result (λ place. place < length (records_in self.now)) }
+        ensures good { IfOk result (λ _. is_layer_name name.now ≡ true) }
         ensures found { (t : Table) → IsSound self.now t → IfOk result (λ place. Finds t name.now place) }
         ensures named { (t : Table) → IsSound self.now t → IfOk result (λ _. IsNamed t name.now) }
         ensures unnamed { (t : Table) → IsSound self.now t → IfErr result (IsUnnamed t name.now) }

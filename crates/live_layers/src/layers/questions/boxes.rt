@@ -8,7 +8,7 @@ ghost use Rattle.plain_table.specs.Step.Answer.{Boxes};
 ghost use Rattle.plain_table.specs.Table.{Table, layer_at};
 ghost use Rattle.live_layers.specs.Changes.{Rose};
 ghost use Rattle.live_layers.specs.Faults.{HasRefusalCause};
-ghost use Rattle.live_layers.specs.Keeping.{IsSound, IsWritten, cache_of};
+ghost use Rattle.live_layers.specs.Keeping.{IsSound, IsWritten, cache_of, records_in};
 ghost use Rattle.live_layers.specs.Located.{IsLocated};
 ghost use Rattle.live_layers.specs.Questions.{IsReply, bounds_answer};
 
@@ -34,6 +34,7 @@ impl<B: BlockDevice, A: Allocator + Copy> Layers<B, A> {
             IsReply (Rose self.old self.new) (first_refusal (missing_refusals (layer_at t name) id))
             (Boxes (object_row (layer_at t name) id ∷ [])) (bounds_answer id result) }
         ensures sound { (t : Table) → IsSound self.old t → IsSound self.new t }
+        ensures records { records_in self.new ≡ records_in self.old }
         ensures gate { KeepsGate (cache_of self.old) (cache_of self.new) }
         ensures map { KeepsMap (cache_of self.old) (cache_of self.new) }
         ensures written { IsWritten self.old → IsWritten self.new }

@@ -1,0 +1,65 @@
+-- The pages are free, and the record is out; or the change was refused, or broke off.
+use Rattle.std.proofs.Common.{length, ap, arith, refl, inl}
+use Rattle.catalog_page.specs.Layout.{records_of}
+use Rattle.plain_table.specs.Table.{layer_at}
+use Rattle.live_layers.proofs.AddLemmas.{stands_at}
+use Rattle.live_layers.proofs.BegunLemmas.{begun_and_broke, begun_and_made}
+use Rattle.live_layers.proofs.DropLemmas.{keeps_before, one_less_may_be, sound_less, taken_out, trees_left}
+use Rattle.live_layers.proofs.KeepLemmas.{sound_kept}
+use Rattle.live_layers.proofs.ReplaceLemmas.{reading}
+use Rattle.live_layers.proofs.Results.{if_err, the_err}
+use Rattle.live_layers.proofs.layers.Layers.take_layer.Goals as goal
+
+pub returns-in_err-free_pages-clause-untouched : goal.returns-in_err-free_pages-clause-untouched
+returns-in_err-free_pages-clause-untouched g c = λ t sound. the_err c.from_residual-in_err-free_pages.result c.in_err-free_pages.field-0.0 _ c.from_residual-in_err-free_pages.ensures.1
+    (λ quiet. sound_kept c.begin.new.self _ t (c.in_err-free_pages.ensures.alters.untouched quiet) refl refl (λ w. w) (c.begin.ensures.sound t sound))
+
+pub returns-in_err-free_pages-clause-faults : goal.returns-in_err-free_pages-clause-faults
+returns-in_err-free_pages-clause-faults g c = λ t name sound finds.
+    let kept = c.begin.new.self in
+    let before = c.begin.ensures.sound t sound in
+    let located = c.locate-located.result in
+    let dims = (c.locate-located.ensures.located t name before finds).dims in
+    let at = stands_at kept t name c.args.place before finds located c.locate-located.ensures.by_record located.dims dims in
+    the_err c.from_residual-in_err-free_pages.result c.in_err-free_pages.field-0.0 _ c.from_residual-in_err-free_pages.ensures.1
+    (inl (c.in_err-free_pages.ensures.faults before.map (reading kept t name c.args.place before finds).pages located.fanout (layer_at t name).objects at))
+
+pub returns-in_err-free_pages-clause-begins : goal.returns-in_err-free_pages-clause-begins
+returns-in_err-free_pages-clause-begins g c =
+    begun_and_broke c.args.self.now.cache c.begin.new.self.cache c.free_pages.new.cache tt c.in_err-free_pages.field-0.0 c.from_residual-in_err-free_pages.result c.from_residual-in_err-free_pages.ensures.1 c.in_ok-begin.ensures.begins
+    c.in_err-free_pages.ensures.alters
+
+pub invariant_of-self-2 : goal.invariant_of-self-2
+invariant_of-self-2 g c =
+    let kept = c.begin.new.self in
+    let records = taken_out kept.records.items c.remove.new.self.items c.args.place c.remove.ensures.items in
+    record { are_layers = one_less_may_be (records_of kept.records) (records_of c.remove.new.self) c.args.place (omega (arith, ap length c.begin.ensures.records, c.requires.within)) records kept.are_layers }
+
+pub returns-clause-taken : goal.returns-clause-taken
+returns-clause-taken g c = λ t name sound finds.
+    let kept = c.begin.new.self in
+    let before = c.begin.ensures.sound t sound in
+    let located = c.locate-located.result in
+    let dims = (c.locate-located.ensures.located t name before finds).dims in
+    let at = stands_at kept t name c.args.place before finds located c.locate-located.ensures.by_record located.dims dims in
+    let l = (reading kept t name c.args.place before finds).pages in
+    let objects = (layer_at t name).objects in
+    let records = taken_out kept.records.items c.remove.new.self.items c.args.place c.remove.ensures.items in
+    sound_less kept _ t name c.args.place before finds (c.in_ok-free_pages.ensures.freed before.map l located.fanout objects at) c.in_ok-free_pages.ensures.alters.changes.next records c.count_at-count.result c.count_at-count.ensures
+    (c.in_ok-free_pages.ensures.sound before.map l located.fanout objects at) c.saturating_sub-self.ensures refl
+
+pub returns-clause-others : goal.returns-clause-others
+returns-clause-others g c = λ t name sound finds.
+    let kept = c.begin.new.self in
+    let before = c.begin.ensures.sound t sound in
+    let located = c.locate-located.result in
+    let dims = (c.locate-located.ensures.located t name before finds).dims in
+    let at = stands_at kept t name c.args.place before finds located c.locate-located.ensures.by_record located.dims dims in
+    let l = (reading kept t name c.args.place before finds).pages in
+    let records = taken_out kept.records.items c.remove.new.self.items c.args.place c.remove.ensures.items in
+    keeps_before c.args.self.now kept _ name (c.begin.ensures.map.pages_stay sound.map.honest) c.begin.ensures.records
+    (trees_left kept _ t name c.args.place before finds (c.in_ok-free_pages.ensures.freed before.map l located.fanout (layer_at t name).objects at) c.in_ok-free_pages.ensures.alters.changes.next records)
+
+pub returns-clause-begins : goal.returns-clause-begins
+returns-clause-begins g c =
+    begun_and_made c.args.self.now.cache c.begin.new.self.cache c.free_pages.new.cache tt tt c.in_ok-begin.ensures.begins c.in_ok-free_pages.ensures.alters.changes

@@ -1,0 +1,65 @@
+//! An object taken out of the tree and the identifier table of a layer.
+
+ghost use Rattle.std.specs.Prelude.{◌≡◌, ◌<◌, ℕ, List, Some, false, IfErr, OnErr, OnOk, length};
+ghost use Rattle.std.specs.FinMap as map;
+ghost use Rattle.box_math.specs.Bounds.{IsDims};
+ghost use Rattle.node_page.specs.Faults.{IsNoDamage};
+ghost use Rattle.plain_table.specs.Table.{Table, layer_at, without_object};
+ghost use Rattle.live_layers.specs.Begun.{Begins};
+ghost use Rattle.live_layers.specs.Keeping.{ChangesTree, Finds, IsSound, IsWritten, cache_of, records_in};
+ghost use Rattle.live_layers.specs.Rules.{HasLost};
+
+use crate::layers::Layers;
+use block_device::BlockDevice;
+use box_math::BBox;
+use condense::Kept;
+use layer_pages::remove;
+use node_page::Broken;
+use reinsert::Waiting;
+use std::alloc::Allocator;
+
+impl<B: BlockDevice, A: Allocator + Copy> Layers<B, A> {
+    // Takes out an object that the layer at a place has with that box. The memory of what is inserted again, and of
+    // what waits in that, is taken before the gate is opened.
+    pub(crate) fn take_object<const D: usize>(
+        &mut self,
+        place: usize,
+        id: u64,
+        bounds: &BBox<D>,
+    ) -> Result<(), Broken>
+        requires dims { IsDims D }
+        requires within { place < length (records_in self.old) }
+        ensures taken { (t : Table) (name : List ℕ) → IsSound self.old t → Finds t name place →
+            (layer_at t name).dims ≡ D → map.get (layer_at t name).objects id ≡ Some bounds.now →
+            OnOk result (IsSound self.new (map.insert t name (without_object (layer_at t name) id))) }
+        ensures tree { (t : Table) (name : List ℕ) → IsSound self.old t → Finds t name place →
+            (layer_at t name).dims ≡ D → map.get (layer_at t name).objects id ≡ Some bounds.now →
+            OnOk result (ChangesTree self.old self.new name (HasLost (layer_at t name) id)) }
+        ensures untouched { (t : Table) → IsSound self.old t →
+            IfErr result (λ b. b.touched ≡ false → IsSound self.new t) }
+        ensures faults { (t : Table) (name : List ℕ) → IsSound self.old t → Finds t name place →
+            (layer_at t name).dims ≡ D → map.get (layer_at t name).objects id ≡ Some bounds.now →
+            IfErr result (λ b. IsNoDamage (cache_of self.new) b.cause) }
+        ensures begins { Begins (cache_of self.old) (cache_of self.new) result }
+        ensures written { OnErr result (IsWritten self.old → IsWritten self.new) }
+    {
+        let mut waiting = Waiting::make(self.alloc)?;
+        let mut kept = Kept::make(self.alloc)?;
+        self.begin()?;
+        let located = self.locate(place);
+        let root = remove(
+            &mut self.cache,
+            located.root,
+            located.directory,
+            id,
+            bounds,
+            located.fanout,
+            &mut waiting,
+            &mut kept,
+        )?;
+        let count = self.count_at(place).saturating_sub(1);
+        self.note(place, root, count);
+        self.object_count = self.object_count.saturating_sub(1);
+        Ok(())
+    }
+}

@@ -1,0 +1,76 @@
+//! The pages and the record of a layer that goes.
+
+ghost use Rattle.std.specs.Prelude.{◌≡◌, ◌<◌, ℕ, List, IfErr, OnErr, OnOk, false, length};
+ghost use Rattle.std.specs.FinMap as map;
+ghost use Rattle.box_math.specs.Bounds.{IsDims};
+ghost use Rattle.layer_pages.specs.Layers.{CanBeRoot, IsLayerAt, LayerPages, Objects, part_of_layer};
+ghost use Rattle.node_page.specs.Broken.{Alters};
+ghost use Rattle.node_page.specs.Faults.{IsNoDamage};
+ghost use Rattle.node_page.specs.Parts.{Moves, no_page};
+ghost use Rattle.page_cache.specs.Cache.{IsPageMap, gate_of, pages};
+ghost use Rattle.page_file.specs.Fault.{IsOfDevice};
+ghost use Rattle.page_file.specs.declared.gate.Gate.TheVariants.{Open};
+ghost use Rattle.plain_table.specs.Table.{Table};
+ghost use Rattle.live_layers.specs.Begun.{Begins};
+ghost use Rattle.live_layers.specs.Dropping.{KeepsOtherTrees};
+ghost use Rattle.live_layers.specs.Keeping.{Finds, IsSound, IsWritten, cache_of, records_in};
+
+use crate::layers::Layers;
+use crate::located::Located;
+use block_device::BlockDevice;
+use layer_pages::free;
+use node_page::Broken;
+use page_cache::PageCache;
+use std::alloc::Allocator;
+
+impl<B: BlockDevice, A: Allocator + Copy> Layers<B, A> {
+    // Frees the pages of the layer at a place, and takes its record out.
+    pub(crate) fn take_layer(&mut self, place: usize) -> Result<(), Broken>
+        requires within { place < length (records_in self.old) }
+        ensures taken { (t : Table) (name : List ℕ) → IsSound self.old t → Finds t name place →
+            OnOk result (IsSound self.new (map.remove t name)) }
+        ensures others { (t : Table) (name : List ℕ) → IsSound self.old t → Finds t name place →
+            OnOk result (KeepsOtherTrees self.old self.new name) }
+        ensures untouched { (t : Table) → IsSound self.old t →
+            IfErr result (λ b. b.touched ≡ false → IsSound self.new t) }
+        ensures faults { (t : Table) (name : List ℕ) → IsSound self.old t → Finds t name place →
+            IfErr result (λ b. IsNoDamage (cache_of self.new) b.cause) }
+        ensures begins { Begins (cache_of self.old) (cache_of self.new) result }
+        ensures written { OnErr result (IsWritten self.old → IsWritten self.new) }
+    {
+        self.begin()?;
+        let located = self.locate(place);
+        let count = self.count_at(place);
+        free_pages(&mut self.cache, &located)?;
+        self.records.remove(place);
+        self.object_count = self.object_count.saturating_sub(count);
+        self.written = false;
+        Ok(())
+    }
+}
+
+// Frees all pages of the layer that stands there.
+fn free_pages<B: BlockDevice, A: Allocator + Copy>(
+    cache: &mut PageCache<B, A>,
+    located: &Located,
+) -> Result<(), Broken>
+    requires dims { IsDims located.now.dims }
+    requires open { gate_of cache.old ≡ Open }
+    requires root { CanBeRoot located.now.root }
+    ensures alters { Alters cache.old cache.new result }
+    ensures sound { IsPageMap cache.old → (l : LayerPages) (most : ℕ) (objects : Objects)
+        → IsLayerAt located.now.dims most (pages cache.old) located.now.root located.now.directory l objects
+        → IsPageMap cache.new }
+    ensures freed { IsPageMap cache.old → (l : LayerPages) (most : ℕ) (objects : Objects)
+        → IsLayerAt located.now.dims most (pages cache.old) located.now.root located.now.directory l objects
+        → OnOk result (Moves (pages cache.old) (pages cache.new) (part_of_layer l) no_page) }
+    ensures faults { IsPageMap cache.old → (l : LayerPages) (most : ℕ) (objects : Objects)
+        → IsLayerAt located.now.dims most (pages cache.old) located.now.root located.now.directory l objects
+        → IfErr result (λ b. IsOfDevice b.cause) }
+{
+    if located.dims == 2 {
+        free::<2, B, A>(cache, located.root, located.directory)
+    } else {
+        free::<3, B, A>(cache, located.root, located.directory)
+    }
+}

@@ -1,0 +1,61 @@
+//! Whether an object may get another box.
+
+ghost use Rattle.std.specs.Prelude.{◌≡◌, ℕ, List, IfOk, Some};
+ghost use Rattle.std.specs.FinMap as map;
+ghost use Rattle.box_math.specs.Bounds.{IsDims};
+ghost use Rattle.page_cache.specs.Cache.{KeepsGate, KeepsMap, device_of};
+ghost use Rattle.plain_table.specs.Boxes.{dims_of, given_bounds};
+ghost use Rattle.plain_table.specs.Step.{box_refusals, first_refusal, missing_refusals};
+ghost use Rattle.plain_table.specs.Table.{Table, layer_at};
+ghost use Rattle.plain_table.specs.declared.boxes.RawBox.{RawBox as GivenBox};
+ghost use Rattle.live_layers.specs.Changes.{Rose};
+ghost use Rattle.live_layers.specs.Faults.{HasRefusalCause};
+ghost use Rattle.live_layers.specs.Inserting.{IsAllowedOr};
+ghost use Rattle.live_layers.specs.Keeping.{IsSound, IsWritten, cache_of, records_in};
+ghost use Rattle.live_layers.specs.Located.{IsLocated};
+
+use crate::layers::Layers;
+use crate::located::Located;
+use block_device::BlockDevice;
+use box_math::BBox;
+use plain_table::Refusal;
+use std::alloc::Allocator;
+
+impl<B: BlockDevice, A: Allocator + Copy> Layers<B, A> {
+    // The box that an object of the layer that stands there has, and the one that it may get; or why it may not.
+    pub(crate) fn check_move<const D: usize>(
+        &mut self,
+        located: &Located,
+        id: u64,
+        low: [i32; D],
+        high: [i32; D],
+    ) -> Result<(BBox<D>, BBox<D>), Refusal>
+        requires dims { IsDims D }
+        ensures allowed { (t : Table) (name : List ℕ) (box : GivenBox) → IsSound self.old t →
+            IsLocated self.old t name located.now → dims_of box ≡ D →
+            given_bounds box ≡ record { low = low.entry; high = high.entry } → IsAllowedOr (Rose self.old self.new)
+            (first_refusal (box_refusals (layer_at t name).dims box (missing_refusals (layer_at t name) id))) result }
+        ensures axes { IfOk result (λ _. located.now.dims ≡ D) }
+        ensures has { (t : Table) (name : List ℕ) → IsSound self.old t → IsLocated self.old t name located.now →
+            IfOk result (λ boxes. map.get (layer_at t name).objects id ≡ Some boxes.0) }
+        ensures gets { IfOk result (λ boxes. boxes.1 ≡ record { low = low.entry; high = high.entry }) }
+        ensures sound { (t : Table) → IsSound self.old t → IsSound self.new t }
+        ensures records { records_in self.new ≡ records_in self.old }
+        ensures written { IsWritten self.old → IsWritten self.new }
+        ensures gate { KeepsGate (cache_of self.old) (cache_of self.new) }
+        ensures map { KeepsMap (cache_of self.old) (cache_of self.new) }
+        ensures cause { HasRefusalCause (B.faults (device_of (cache_of self.old)))
+            (B.faults (device_of (cache_of self.new))) result }
+    {
+        if usize::from(located.dims) != D {
+            return Err(Refusal::WrongDims);
+        }
+        let Some(bounds) = BBox::try_new(low, high) else {
+            return Err(Refusal::BadBox);
+        };
+        match self.box_of::<D>(located, id) {
+            Ok(known) => Ok((known, bounds)),
+            Err(refusal) => Err(refusal),
+        }
+    }
+}
