@@ -14,3 +14,4 @@ pub mod Inserting
 pub mod Creating
 pub mod Located
 pub mod Questions
+pub mod Checked

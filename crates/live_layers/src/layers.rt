@@ -4,10 +4,13 @@ ghost use Rattle.catalog_page.specs.Layout.{records_of};
 ghost use Rattle.live_layers.specs.Catalog.{AreLayers};
 
 mod beginning;
+mod checking;
 mod closing;
 mod creating;
+mod dumping;
 mod find;
 mod inserting;
+mod listing;
 mod locate;
 mod named;
 mod noting;
