@@ -15,3 +15,4 @@ pub mod Creating
 pub mod Located
 pub mod Questions
 pub mod Checked
+pub mod Listing

@@ -8,6 +8,7 @@ mod given;
 pub mod laws;
 mod layers;
 mod located;
+mod names;
 mod search;
 mod unmade;
 
