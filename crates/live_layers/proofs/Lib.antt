@@ -23,3 +23,4 @@ pub mod InsertLemmas
 pub mod AddLemmas
 pub mod CreateLemmas
 pub mod JoinLemmas
+pub mod OnceLemmas

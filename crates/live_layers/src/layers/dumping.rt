@@ -78,29 +78,29 @@ fn dump_layers<B: BlockDevice, A: Allocator + Copy>(
 fn dump_layer<B: BlockDevice, A: Allocator + Copy>(
     alloc: A,
     cache: &mut PageCache<B, A>,
-    record: &LayerRecord,
+    layer: &LayerRecord,
     rows: &mut Vec<DumpRow, A>,
 ) -> Result<(), Fault>
-    requires { IsDims record.now.dims }
+    requires { IsDims layer.now.dims }
     ensures asks { Asks cache.old cache.new result }
-    ensures rows { IsHonest cache.old → (h : Reading) → h.row ≡ record_of record.now →
+    ensures rows { IsHonest cache.old → (h : Reading) → h.row ≡ record_of layer.now →
         LayerStands (pages cache.old) h →
         OnOk result (lines_of rows.new.items ≡ lines_of rows.old.items ++ dump_lines (entry_of h)) }
-    ensures stands { IsHonest cache.old → (h : Reading) → h.row ≡ record_of record.now →
+    ensures stands { IsHonest cache.old → (h : Reading) → h.row ≡ record_of layer.now →
         LayerStands (pages cache.old) h → IfErr result IsOfDevice }
 {
     let root = Root {
-        page: record.root,
-        level: record.level,
+        page: layer.root,
+        level: layer.level,
     };
-    let create = DumpRow::Create(name_of(&record.name), record.dims, record.fanout);
+    let create = DumpRow::Create(name_of(&layer.name), layer.dims, layer.fanout);
     rows.push(create)?;
-    if record.dims == 2 {
+    if layer.dims == 2 {
         let objects = objects_at::<2, B, A>(alloc, cache, root)?;
-        Ok(add_in_plane(&record.name, &objects, rows)?)
+        Ok(add_in_plane(&layer.name, &objects, rows)?)
     } else {
         let objects = objects_at::<3, B, A>(alloc, cache, root)?;
-        Ok(add_in_space(&record.name, &objects, rows)?)
+        Ok(add_in_space(&layer.name, &objects, rows)?)
     }
 }
 

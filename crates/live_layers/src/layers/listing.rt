@@ -31,13 +31,13 @@ impl<B: BlockDevice, A: Allocator> Layers<B, A> {
 }
 
 // What a listing shows of the layer of a record.
-fn info_of(record: &LayerRecord) -> LayerInfo
-    ensures { line_of_layer result ≡ record_line (record_of record.now) }
+fn info_of(layer: &LayerRecord) -> LayerInfo
+    ensures { line_of_layer result ≡ record_line (record_of layer.now) }
 {
     LayerInfo {
-        name: name_of(&record.name),
-        dims: record.dims,
-        fanout: record.fanout,
-        count: record.count,
+        name: name_of(&layer.name),
+        dims: layer.dims,
+        fanout: layer.fanout,
+        count: layer.count,
     }
 }
