@@ -24,3 +24,4 @@ pub mod AddLemmas
 pub mod CreateLemmas
 pub mod JoinLemmas
 pub mod OnceLemmas
+pub mod CheckLemmas
