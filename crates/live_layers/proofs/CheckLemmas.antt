@@ -12,7 +12,7 @@ use Rattle.tree_node.proofs.PositionLemmas.{total-append}
 use Rattle.live_layers.specs.Checked.{AddsLayer, AddsLayers}
 use Rattle.live_layers.specs.Layers.{LayerStands, LayersStand, Reading, of_layer, of_layers, root_of, row_of}
 use Rattle.live_layers.proofs.FindLemmas.{no_reading}
-use Rattle.live_layers.proofs.LayerLemmas.{layer_at_stands, layer_stays}
+use Rattle.live_layers.proofs.LayerLemmas.{layer_at_stands, layer_stays, layers_stay}
 
 -- ---- one layer
 
@@ -85,3 +85,9 @@ adds_more pages rs r before mid now a b = record {
 -- in equal pages
 pub adds_in : (old new : PageMap) (r : Record) (before now : List ℕ) → ((n : ℕ) → new n ≡ old n) → AddsLayer new r before now → AddsLayer old r before now
 adds_in old new r before now same a = subst (λ (p : PageMap). AddsLayer p r before now) (λ i n. same n i) a
+
+pub all_in : (old new : PageMap) (rs : List Record) (before now : List ℕ) → ((n : ℕ) → new n ≡ old n) → AddsLayers new rs before now → AddsLayers old rs before now
+all_in old new rs before now same a = subst (λ (p : PageMap). AddsLayers p rs before now) (λ i n. same n i) a
+
+pub stand_in : (old new : PageMap) (hs : List Reading) → ((n : ℕ) → new n ≡ old n) → LayersStand old hs → LayersStand new hs
+stand_in old new hs same stand = layers_stay old new hs (λ n p. same n) stand

@@ -25,3 +25,5 @@ pub mod CreateLemmas
 pub mod JoinLemmas
 pub mod OnceLemmas
 pub mod CheckLemmas
+pub mod UsedLemmas
+pub mod FoundLemmas

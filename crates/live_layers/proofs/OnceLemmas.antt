@@ -10,10 +10,10 @@ use Rattle.node_page.specs.Checked.{named_pages}
 use Rattle.node_page.proofs.PartLemmas.{none_or_some}
 use Rattle.live_layers.specs.Checked.{NamesEach}
 
-here_once : (a b : ℕ) → a ≡ b → ◌≡◌ {A = ℕ} (cond (eqb a b) 1 0) 1
+pub here_once : (a b : ℕ) → a ≡ b → ◌≡◌ {A = ℕ} (cond (eqb a b) 1 0) 1
 here_once a b e = grind (arith, nat_tests)
 
-not_here : (a b : ℕ) → ¬ (a ≡ b) → ◌≡◌ {A = ℕ} (cond (eqb a b) 1 0) 0
+pub not_here : (a b : ℕ) → ¬ (a ≡ b) → ◌≡◌ {A = ℕ} (cond (eqb a b) 1 0) 0
 not_here a b differs = grind (arith, nat_tests)
 
 -- the numbers rise by one from the first
