@@ -3,7 +3,8 @@ use Rattle.std.proofs.Common.{◌≡◌, ◌∙◌, ℕ, ◌≤◌, List, [], �
 use Rattle.std.specs.Cmp.Lexicographic.{slice_cmp}
 use Rattle.std.specs.FinMap.{entries-from_sorted, from_sorted, is_sorted}
 use Rattle.std.specs.Ordering.{nat_cmp}
-use Rattle.catalog_page.specs.Layout.{Record, records_of}
+use Rattle.catalog_page.specs.Layout.{Record, record_of, records_of}
+use Rattle.catalog_page.specs.declared.layer_record.LayerRecord.{LayerRecord}
 use Rattle.node_page.specs.Standing.{PageMap}
 use Rattle.page_cache.specs.Cache.{IsHonest, IsPageMap, KeepsMap, next_of, pages}
 use Rattle.page_cache.specs.declared.cache.PageCache.{PageCache}
@@ -64,3 +65,11 @@ module _ {D A : Type 0} {m : _} where
   -- what was found in equal pages
   pub found_in : (old new : PageCache D A m) (records : List Record) → IsHonest old → KeepsMap old new → FindsLayers (pages new) records → FindsLayers (pages old) records
   found_in old new records honest keeps found = subst (λ (p : PageMap). FindsLayers p records) (λ i n. keeps.pages_stay honest n i) found
+
+  -- what sound layers pass, with their records as a slice
+  pub records_pass : (kept : Layers D A m) (t : Table) (next : ℕ) (items : List LayerRecord) → IsSound kept t → next ≡ next_of kept.cache → items ≡ kept.records.items
+      → (is_good_catalog next (map record_of items) ≡ true) × (kept.object_count ≡ objects_named (map record_of items))
+  records_pass kept t next items sound number same = (
+    (λ i. is_good_catalog (number i) (map record_of (same i))) ∙ sound.holds.good,
+    sound.counted ∙ sym (counted (pages kept.cache) (next_of kept.cache) (records_of kept.records) t sound.holds) ∙ sym (λ i. objects_named (map record_of (same i))),
+  )

@@ -28,7 +28,8 @@ returns-clause-found g c = λ honest.
     let sound = c.in_ok-found.ensures.sound honest in
     let records = map record_of c.args.records.now in
     let before : List ℕ = c.push.new.self.items in
-    let begun : before ≡ free_of old ++ 2 ∷ [] = c.in_ok-push.ensures.items ∙ ap (λ (xs : List ℕ). xs ++ 2 ∷ []) (c.in_ok-found.ensures.pages honest) in
+    let pushed : before ≡ c.in_ok-found.found.items ++ 2 ∷ [] = c.in_ok-push.ensures.items in
+    let begun : before ≡ free_of old ++ 2 ∷ [] = pushed ∙ ap (λ (xs : List ℕ). xs ++ 2 ∷ []) (c.in_ok-found.ensures.pages honest) in
     let adds = all_in (pages old) (pages c.free_pages.new.self) records before c.list_layers.new.found.items (asked.map.pages_stay honest) (c.in_ok-list_layers.ensures.layers (asked.map.sound.0 sound)) in
     let number = c.next_number.ensures ∙ c.in_ok-list_layers.ensures.asks.map.next ∙ asked.map.next in
     on_ok c.each_once.result (λ each. (sound, layers_found old sound records before c.list_layers.new.found.items c.as_mut_slice.result.now c.next_number.result begun adds c.as_mut_slice.ensures.value number each)) c.each_once.ensures.once
@@ -39,7 +40,8 @@ returns-clause-stands g c = λ sound hs rows stand used.
     let asked = c.in_ok-found.ensures.asks in
     let records = map record_of c.args.records.now in
     let before : List ℕ = c.push.new.self.items in
-    let begun : before ≡ free_of old ++ 2 ∷ [] = c.in_ok-push.ensures.items ∙ ap (λ (xs : List ℕ). xs ++ 2 ∷ []) (c.in_ok-found.ensures.pages sound.honest) in
+    let pushed : before ≡ c.in_ok-found.found.items ++ 2 ∷ [] = c.in_ok-push.ensures.items in
+    let begun : before ≡ free_of old ++ 2 ∷ [] = pushed ∙ ap (λ (xs : List ℕ). xs ++ 2 ∷ []) (c.in_ok-found.ensures.pages sound.honest) in
     let adds = all_in (pages old) (pages c.free_pages.new.self) records before c.list_layers.new.found.items (asked.map.pages_stay sound.honest) (c.in_ok-list_layers.ensures.layers (asked.map.sound.0 sound)) in
     let number = c.next_number.ensures ∙ c.in_ok-list_layers.ensures.asks.map.next ∙ asked.map.next in
     no_err c.each_once.result IsOfDevice
