@@ -27,3 +27,4 @@ pub mod OnceLemmas
 pub mod CheckLemmas
 pub mod UsedLemmas
 pub mod FoundLemmas
+pub mod ListingLemmas
