@@ -28,3 +28,4 @@ pub mod CheckLemmas
 pub mod UsedLemmas
 pub mod FoundLemmas
 pub mod ListingLemmas
+pub mod DumpLemmas
