@@ -102,7 +102,7 @@ same_lists (x ∷ xs) (y ∷ ys) d many same =
     let rest = same_lists xs ys d (omega (arith, many)) (λ k lt. same (suc k) (omega (arith, lt))) in
     cc
 
-one_table : (dims : ℕ) (m : PageMap) (s t : IdTable) → s.page ≡ t.page → IdsStand dims m s → IdsStand dims m t → s ≡ t
+pub one_table : (dims : ℕ) (m : PageMap) (s t : IdTable) → s.page ≡ t.page → IdsStand dims m s → IdsStand dims m t → s ≡ t
 one_table dims m s t at a b =
     let there : ◌≡◌ {A = Option (List ℕ)} (Some a.directory) (Some b.directory) = sym a.there ∙ ap m at ∙ b.there in
     let same : ◌≡◌ {A = List ℕ} a.directory b.directory = cc in

@@ -30,3 +30,9 @@ pub mod RepeatLemmas
 pub mod GivenObjectLemmas
 pub mod LoadLemmas
 pub mod MoveLemmas
+pub mod OnceLemmas
+pub mod CheckLemmas
+pub mod UsedLemmas
+pub mod FoundLemmas
+pub mod ListingLemmas
+pub mod DumpLemmas

@@ -17,3 +17,5 @@ pub mod Questions
 pub mod Staying
 pub mod Dropping
 pub mod Reaching
+pub mod Checked
+pub mod Listing

@@ -4,13 +4,16 @@ ghost use Rattle.catalog_page.specs.Layout.{records_of};
 ghost use Rattle.live_layers.specs.Catalog.{AreLayers};
 
 mod beginning;
+mod checking;
 mod closing;
 mod creating;
 mod deleting;
 mod dropping;
+mod dumping;
 mod filling;
 mod find;
 mod inserting;
+mod listing;
 mod loading;
 mod locate;
 mod memory;

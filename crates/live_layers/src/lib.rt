@@ -8,6 +8,7 @@ mod given_objects;
 pub mod laws;
 mod layers;
 mod located;
+mod names;
 mod repeats;
 mod search;
 mod unmade;

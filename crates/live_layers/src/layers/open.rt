@@ -1,13 +1,13 @@
 //! Live layers over the pages of a file that was opened.
 
-ghost use Rattle.std.specs.Prelude.{◌≡◌, ◌≤◌, ◌⊎◌, Some, None, IsTrue, IfOk, IfErr, map as each, option_map};
+ghost use Rattle.std.specs.Prelude.{◌≡◌, ◌+◌, ◌≤◌, ◌⊎◌, Some, None, IsTrue, IfOk, IfErr, map as each, option_map};
 ghost use Rattle.block_device.specs.Device.{Blocks};
 ghost use Rattle.catalog_page.specs.Layout.{record_of, records_of};
 ghost use Rattle.page_file.specs.Fault.{IsDamage, IsOfDevice, faults_after};
 ghost use Rattle.page_file.specs.Stops.{AddsOnly, StopSince};
 ghost use Rattle.page_file.specs.declared.fault.Fault.TheVariants as fault;
 ghost use Rattle.page_file.specs.declared.gate.Gate.TheVariants.{Open};
-ghost use Rattle.page_cache.specs.Cache.{IsHonest, LiesIn, blocks_of, device_of, gate_of, next_of, pages};
+ghost use Rattle.page_cache.specs.Cache.{IsHonest, LiesIn, blocks_of, device_of, gate_of, looks_of, next_of, pages};
 ghost use Rattle.page_cache.specs.Calls.{Asks, AsksUntil};
 ghost use Rattle.plain_table.specs.Table.{Table, most_objects};
 ghost use Rattle.live_layers.specs.Catalog.{is_good_catalog, objects_named};
@@ -89,7 +89,7 @@ pub(super) fn read_catalog<B: BlockDevice, A: Allocator + Copy>(
 
 // The records that the page of the catalog spells, if it spells any.
 #[tactic(auto, using(page_cache::specs::Calls::ends_so))]
-fn decode_catalog<B: BlockDevice, A: Allocator + Copy>(
+pub(super) fn decode_catalog<B: BlockDevice, A: Allocator + Copy>(
     cache: &mut PageCache<B, A>,
 ) -> Result<Option<ArrayVec<LayerRecord, 60>>, Fault>
     ensures asks { Asks cache.old cache.new result }
@@ -97,6 +97,7 @@ fn decode_catalog<B: BlockDevice, A: Allocator + Copy>(
         IfOk result (λ records. option_map records_of records ≡ catalog_in (pages cache.old)) }
     ensures faults { IsHonest cache.old → IfErr result IsOfDevice }
     ensures only { IfErr result (λ f. IsOfDevice f ⊎ IsDamage f) }
+    ensures looks { looks_of cache.new ≤ looks_of cache.old + 1 }
 {
     let page = cache.page(CATALOG)?;
     Ok(decode(page))

@@ -15,7 +15,7 @@ ghost use Rattle.live_layers.specs.Creating.{BringsTree, MayBeLayer, new_layer};
 ghost use Rattle.live_layers.specs.Keeping.{Belongs, IsSound, IsWritten, cache_of, records_in};
 
 use crate::layers::Layers;
-use arrayvec::ArrayVec;
+use crate::names::name_of;
 use block_device::BlockDevice;
 use catalog_page::LayerRecord;
 use layer_pages::make;
@@ -82,14 +82,4 @@ fn make_pages<B: BlockDevice, A: Allocator + Copy>(
     } else {
         make::<3, B, A>(cache)
     }
-}
-
-// A name as a record has it.
-fn name_of(name: &[u8]) -> ArrayVec<u8, 24>
-    requires { length name.now ≤ 24 }
-    ensures { result.items ≡ name.now }
-{
-    let mut copy = ArrayVec::new();
-    copy.try_extend_from_slice(name).unwrap();
-    copy
 }

@@ -1,0 +1,61 @@
+-- All objects of a layer, and the lines of layers in a dump.
+use Rattle.std.proofs.Common.{◌≡◌, ◌∙◌, ℕ, ◌<◌, ◌≤ℤ◌, pos, negsuc, Bool, true, cond, List, [], ◌∷◌, All, get_or, replicate, refl, sym, ap, subst, arith}
+use Rattle.std.specs.Int.{w32}
+use Rattle.std.specs.Prelude.{FitsSigned, filter}
+use Rattle.std.specs.FinMap.{entries}
+use Rattle.std.proofs.lemmas.Int.{ints}
+use Rattle.std.proofs.lemmas.List.{get_or-replicate}
+use Rattle.std.proofs.lemmas.List.Elements.{All-append, All-cons, All-head, All-nil, All-tail}
+use Rattle.std.proofs.lemmas.List.Sorted.{All-permutation}
+use Rattle.box_math.specs.Bounds.{Bounds, IsBox, meets_test}
+use Rattle.box_math.proofs.TestLaws.{meets_test_true}
+use Rattle.layer_pages.specs.Layers.{IsLayerAt, LayerPages, Objects}
+use Rattle.node_page.specs.Standing.{PageMap}
+use Rattle.tree_node.specs.Boxes.{RowHasBoxes}
+use Rattle.tree_node.specs.Trees.{Row, child, end, more, object, objects_in}
+use Rattle.tree_node.specs.declared.node.Root.{Root}
+
+-- ---- the window of all points
+
+-- the box of all points
+abbrev pub everywhere : ℕ → Bounds
+everywhere dims = record { low = replicate dims (negsuc 2147483647); high = replicate dims (pos 2147483647) }
+
+-- each box meets it
+meets_everywhere : (dims : ℕ) (b : Bounds) → IsBox dims b → meets_test dims b (everywhere dims) ≡ true
+meets_everywhere dims b box =
+    (meets_test_true dims b (everywhere dims)).1 (λ axis lt.
+    let span = box.spans axis lt in (
+      subst (λ z. get_or b.low axis (pos 0) ≤ℤ z) (sym (get_or-replicate dims axis (pos 2147483647) (pos 0) lt)) (not_above _ span.low_fits),
+      subst (λ z. z ≤ℤ get_or b.high axis (pos 0)) (sym (get_or-replicate dims axis (negsuc 2147483647) (pos 0) lt)) (not_below _ span.high_fits),
+    ))
+  where
+    not_above : (z : _) → FitsSigned w32 z → z ≤ℤ pos 2147483647
+    not_above (pos n) fits = omega (arith, ints, fits.sfits)
+    not_above (negsuc n) fits = omega (arith, ints, fits.sfits)
+
+    not_below : (z : _) → FitsSigned w32 z → negsuc 2147483647 ≤ℤ z
+    not_below (pos n) fits = omega (arith, ints, fits.sfits)
+    not_below (negsuc n) fits = omega (arith, ints, fits.sfits)
+
+-- the boxes of a tree are those of its objects, among others
+abbrev HasBox : ℕ → ℕ × Bounds → Type 0
+HasBox dims o = IsBox dims o.1
+
+boxes_in : (dims : ℕ) (row : Row) → RowHasBoxes dims row → All (HasBox dims) (objects_in row)
+boxes_in dims end boxes = All-nil (HasBox dims)
+boxes_in dims (more (object bounds id) rest) boxes = All-cons (HasBox dims) (id, bounds) (objects_in rest) boxes.0 (boxes_in dims rest boxes.1)
+boxes_in dims (more (child bounds page below) rest) boxes = All-append (HasBox dims) (objects_in below) (objects_in rest) (boxes_in dims below boxes.1) (boxes_in dims rest boxes.2)
+
+all_meet : (dims : ℕ) (objects : List (ℕ × Bounds)) → All (HasBox dims) objects → filter (λ (o : ℕ × Bounds). meets_test dims o.1 (everywhere dims)) objects ≡ objects
+all_meet dims [] boxes = refl
+all_meet dims (o ∷ os) boxes =
+    let rest = filter (λ (x : ℕ × Bounds). meets_test dims x.1 (everywhere dims)) os in
+    ap (λ (b : Bool). cond b (o ∷ rest) rest) (meets_everywhere dims o.1 (All-head (HasBox dims) o os boxes))
+    ∙ ap (λ (xs : List (ℕ × Bounds)). o ∷ xs) (all_meet dims os (All-tail (HasBox dims) o os boxes))
+
+-- so all objects of a layer meet it
+pub all_objects_meet : (dims most : ℕ) (pages : PageMap) (root : Root) (directory : ℕ) (l : LayerPages) (objects : Objects) → IsLayerAt dims most pages root directory l objects
+    → filter (λ (o : ℕ × Bounds). meets_test dims o.1 (everywhere dims)) (entries objects) ≡ entries objects
+all_objects_meet dims most pages root directory l objects at =
+    all_meet dims (entries objects) (All-permutation (HasBox dims) (objects_in l.tree.row) (entries objects) at.leaves (boxes_in dims l.tree.row at.boxes))

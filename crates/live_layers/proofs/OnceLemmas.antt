@@ -1,0 +1,106 @@
+-- Lists that have each number of a range once.
+use Rattle.std.proofs.Common.{◌≡◌, ◌∙◌, ℕ, zero, suc, ◌+◌, ◌<◌, ◌≤◌, cond, eqb, List, [], ◌∷◌, length, get_or, ap, arith, ⊎_elim}
+use Rattle.std.specs.Prelude.{IsPermutation}
+use Rattle.std.specs.List.Sorted.{IsNonDecreasing}
+use Rattle.std.proofs.lemmas.Bool.{cases_eq}
+use Rattle.std.proofs.lemmas.Bool.Decides.{nat_tests}
+use Rattle.std.proofs.lemmas.List.Sorted.{IsPermutation-sym}
+use Rattle.bulk_load.proofs.RowWords.{total-permutation}
+use Rattle.node_page.specs.Checked.{named_pages}
+use Rattle.node_page.proofs.PartLemmas.{none_or_some}
+use Rattle.live_layers.specs.Checked.{NamesEach}
+
+pub here_once : (a b : ℕ) → a ≡ b → ◌≡◌ {A = ℕ} (cond (eqb a b) 1 0) 1
+here_once a b e = grind (arith, nat_tests)
+
+pub not_here : (a b : ℕ) → ¬ (a ≡ b) → ◌≡◌ {A = ℕ} (cond (eqb a b) 1 0) 0
+not_here a b differs = grind (arith, nat_tests)
+
+-- the numbers rise by one from the first
+abbrev pub Counts : ℕ → List ℕ → Type 0
+Counts from list = (k : ℕ) → k < length list → get_or list k 0 ≡ k + from
+
+-- each number from one up to another is in the list once, and no other
+record HasEach (from next : ℕ) (list : List ℕ) : Type 0 where
+  once : (n : ℕ) → from ≤ n → n < next → named_pages list n ≡ 1
+  given : (n : ℕ) → 0 < named_pages list n → (from ≤ n) × (n < next)
+
+-- ---- numbers that rise by one are so
+
+counts_each : (from next : ℕ) (list : List ℕ) → Counts from list → length list + from ≡ next → HasEach from next list
+counts_each from next [] counts many = record { once = λ n low below. absurd (omega (arith, low, below, many)); given = λ n p. absurd (omega (arith, p)) }
+counts_each from next (x ∷ xs) counts many =
+    let first : x ≡ from = omega (arith, counts 0 (omega arith)) in
+    let rest = counts_each (from + 1) next xs (λ k lt. omega (arith, counts (suc k) (omega (arith, lt)))) (omega (arith, many)) in
+    record {
+      once = λ n low below. ⊎_elim
+          (λ (is : x ≡ n).
+          ⊎_elim
+          (λ (none : named_pages xs n ≡ 0). omega (arith, here_once x n is, none))
+          (λ (some : 0 < named_pages xs n). absurd (omega (arith, (rest.given n some).0, is, first)))
+          (none_or_some (named_pages xs n)))
+          (λ (other : ¬ (x ≡ n)). omega (arith, not_here x n other, rest.once n (omega (arith, low, other, first)) below))
+          (cases_eq x n);
+      given = λ n p. ⊎_elim
+          (λ (is : x ≡ n). (omega (arith, is, first), omega (arith, is, first, many)))
+          (λ (other : ¬ (x ≡ n)).
+          let later = rest.given n (omega (arith, p, not_here x n other)) in (omega (arith, later.0), later.1))
+          (cases_eq x n);
+    }
+
+-- ---- and in order no others are
+
+-- what is below all of them is not in the list
+below_all : (n : ℕ) (list : List ℕ) → ((k : ℕ) → k < length list → n < get_or list k 0) → named_pages list n ≡ 0
+below_all n [] below = omega arith
+below_all n (x ∷ xs) below =
+    let here = below 0 (omega arith) in
+    omega (arith, not_here x n (λ (is : x ≡ n). omega (arith, is, here)), below_all n xs (λ k lt. below (suc k) (omega (arith, lt))))
+
+each_counts : (from next : ℕ) (list : List ℕ) → IsNonDecreasing list → from ≤ next → HasEach from next list → Counts from list × (length list + from ≡ next)
+each_counts from next [] order le each = (
+  λ k lt. absurd (omega (arith, lt)),
+  ⊎_elim
+      (λ (none : next ≡ from). omega (arith, none))
+      (λ (other : ¬ (next ≡ from)). let one : named_pages [] from ≡ 1 = each.once from (omega arith) (omega (arith, le, other)) in absurd (omega (arith, one)))
+      (cases_eq next from),
+)
+each_counts from next (x ∷ xs) order le each =
+    let here = each.given x (omega (arith, here_once x x (λ i. x))) in
+    let first : x ≡ from = ⊎_elim
+    (λ (is : x ≡ from). is)
+    (λ (other : ¬ (x ≡ from)).
+    let none = below_all from (x ∷ xs) (λ k lt. omega (arith, order 0 k 0 (omega arith) lt, here.0, other)) in
+    absurd (omega (arith, none, each.once from (omega arith) (omega (arith, here)))))
+    (cases_eq x from) in
+    let later : HasEach (from + 1) next xs = record {
+      once = λ n low below. omega (arith, each.once n (omega (arith, low)) below, not_here x n (λ (is : x ≡ n). omega (arith, is, first, low)));
+      given = λ n p.
+          let whole = each.given n (omega (arith, p)) in
+          let other : ¬ (x ≡ n) = λ (is : x ≡ n). omega (arith, each.once n whole.0 whole.1, here_once x n is, p) in
+          (omega (arith, whole.0, other, first), whole.1);
+    } in
+    let rest = each_counts (from + 1) next xs (λ i j d le' lt. order (suc i) (suc j) d (omega (arith, le')) (omega (arith, lt))) (omega (arith, here, first)) later in (
+      counted first rest.0,
+      omega (arith, rest.1),
+    )
+  where
+    counted : x ≡ from → Counts (from + 1) xs → Counts from (x ∷ xs)
+    counted first rest zero lt = omega (arith, first)
+    counted first rest (suc k) lt = omega (arith, rest k (omega (arith, lt)))
+
+-- ---- the same of a list and of the list in order
+
+module _ (next : ℕ) (list sorted : List ℕ) (moved : IsPermutation list sorted) where
+  same_times : (n : ℕ) → named_pages sorted n ≡ named_pages list n
+  same_times n = total-permutation (λ (page : ℕ). cond (eqb page n) 1 0) list sorted moved
+
+  pub counts_names_each : Counts 2 sorted → length sorted + 2 ≡ next → NamesEach next list
+  counts_names_each counts many =
+      let each = counts_each 2 next sorted counts many in
+      record { once = λ n low below. omega (arith, same_times n, each.once n low below); given = λ n p. each.given n (omega (arith, same_times n, p)) }
+
+  pub names_each_counts : IsNonDecreasing sorted → 2 ≤ next → NamesEach next list → Counts 2 sorted × (length sorted + 2 ≡ next)
+  names_each_counts order le each =
+      each_counts 2 next sorted order le
+      (record { once = λ n low below. omega (arith, same_times n, each.once n low below); given = λ n p. each.given n (omega (arith, same_times n, p)) })

@@ -1,0 +1,22 @@
+-- The objects that meet the window of all points are all objects.
+use Rattle.std.proofs.Common.{◌≡◌, ◌∙◌, ℕ, List, ap, subst, sym}
+use Rattle.std.specs.FinMap.{entries}
+use Rattle.std.specs.Prelude.{filter}
+use Rattle.box_math.specs.Bounds.{Bounds, meets_test}
+use Rattle.layer_pages.proofs.AnswerLemmas.{ranges_answer_objects}
+use Rattle.page_cache.specs.Cache.{pages}
+use Rattle.live_layers.proofs.DumpLemmas.{all_objects_meet}
+use Rattle.live_layers.proofs.Results.{if_ok}
+use Rattle.live_layers.proofs.layers.dumping.objects_at.Goals as goal
+
+pub returns-clause-rows : goal.returns-clause-rows
+returns-clause-rows g c = λ honest most directory l objects at.
+    let dims = g.row.D in
+    let all = c.new-all.result in
+    let old = pages c.args.cache.now in
+    if_ok c.window.result
+    (λ rows answer.
+    ranges_answer_objects dims most old c.args.root directory l objects (λ b. meets_test dims b all) rows.items at answer
+    ∙ ap (λ (w : Bounds). filter (λ (o : ℕ × Bounds). meets_test dims o.1 w) (entries objects)) c.new-all.ensures
+    ∙ all_objects_meet dims most old c.args.root directory l objects at)
+    (c.window.ensures.rows honest l.tree most at.tree)

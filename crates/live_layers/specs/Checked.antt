@@ -1,0 +1,50 @@
+-- What a check of all pages finds (our rule, docs/FORMAT.md, "Opening").
+use Rattle.std.specs.Prelude.{ℕ, ◌≡◌, ◌+◌, ◌<◌, ◌≤◌, ◌⊎◌, List, map}
+use Rattle.catalog_page.specs.Layout.{Record}
+use Rattle.node_page.specs.Checked.{named_pages}
+use Rattle.node_page.specs.Parts.{IsAllOf}
+use Rattle.node_page.specs.Standing.{PageMap}
+use Rattle.page_file.specs.Fault.{IsDamage, IsOfDevice}
+use Rattle.page_file.specs.declared.fault.Fault.{Fault}
+use Rattle.plain_table.specs.Table.{Table}
+use Rattle.plain_table.specs.declared.refusal.Refusal.{Refusal}
+use Rattle.live_layers.specs.Faults.{as_refusal}
+use Rattle.live_layers.specs.Keeping.{IsSound}
+use Rattle.live_layers.specs.Layers.{LayerStands, LayersStand, Reading, in_use, of_layer, of_layers, row_of}
+use Rattle.live_layers.specs.declared.layers.Layers.{Layers}
+
+-- the layers are sound with some table
+abbrev pub IsFoundSound : {D A : Type 0} {m : _} → Layers D A m → Type 0
+IsFoundSound kept = (t : Table) × IsSound kept t
+
+-- want of memory, a device that failed, or damage
+abbrev pub IsCheckRefusal : Refusal → Type 0
+IsCheckRefusal r = (f : Fault) × (r ≡ as_refusal f) × (IsOfDevice f ⊎ IsDamage f)
+
+-- the layers of the records stand in the pages, and the live pages are those in use and no others, each in one place
+pub record FindsLayers (pages : PageMap) (records : List Record) : Type 0 where
+  pub layers : List Reading
+  pub rows : map row_of layers ≡ records
+  pub stand : LayersStand pages layers
+  pub used : IsAllOf pages (in_use layers)
+
+-- ---- its steps
+
+-- the layer of a record stands, and its pages were appended to a list
+pub record AddsLayer (pages : PageMap) (r : Record) (before now : List ℕ) : Type 0 where
+  pub layer : Reading
+  pub row : layer.row ≡ r
+  pub stands : LayerStands pages layer
+  pub listed : (n : ℕ) → named_pages now n ≡ named_pages before n + of_layer layer n
+
+-- the same of the layers of records
+pub record AddsLayers (pages : PageMap) (records : List Record) (before now : List ℕ) : Type 0 where
+  pub layers : List Reading
+  pub rows : map row_of layers ≡ records
+  pub stand : LayersStand pages layers
+  pub listed : (n : ℕ) → named_pages now n ≡ named_pages before n + of_layers layers n
+
+-- the list has each page once whose number is below one, from the catalog on, and no other
+pub record NamesEach (next : ℕ) (list : List ℕ) : Type 0 where
+  pub once : (n : ℕ) → 2 ≤ n → n < next → named_pages list n ≡ 1
+  pub given : (n : ℕ) → 0 < named_pages list n → (2 ≤ n) × (n < next)

@@ -1,0 +1,115 @@
+//! All pages checked: whether the layers are sound.
+
+ghost use Rattle.std.specs.Prelude.{◌≡◌, ◌+◌, ◌*◌, ◌≤◌, ◌⊎◌, List, true, IfErr, IsTrue, IfOk, OnOk, length, map as each};
+ghost use Rattle.catalog_page.specs.Layout.{record_of};
+ghost use Rattle.page_cache.specs.Cache.{IsHonest, IsPageMap, KeepsGate, KeepsMap, device_of, looks_of};
+ghost use Rattle.page_cache.specs.Cache.{next_of, pages};
+ghost use Rattle.page_cache.specs.Calls.{Asks};
+ghost use Rattle.page_file.specs.Fault.{IsDamage, IsOfDevice};
+ghost use Rattle.node_page.specs.Parts.{IsAllOf};
+ghost use Rattle.plain_table.specs.Answers.{done_answer};
+ghost use Rattle.plain_table.specs.Commands.Command.{Check};
+ghost use Rattle.plain_table.specs.Table.{Table};
+ghost use Rattle.live_layers.specs.Catalog as catalog;
+ghost use Rattle.live_layers.specs.Catalog.{AreLayers, objects_named};
+ghost use Rattle.live_layers.specs.Changes.{IsAnswered};
+ghost use Rattle.live_layers.specs.Checked.{FindsLayers, IsCheckRefusal, IsFoundSound};
+ghost use Rattle.live_layers.specs.Faults.{HasRefusalCause};
+ghost use Rattle.live_layers.specs.Keeping.{IsSound, IsWritten, cache_of, records_in};
+ghost use Rattle.live_layers.specs.Layers.{LayersStand, Reading, in_use, row_of};
+
+mod lists;
+mod once;
+mod spelled;
+
+use crate::catalog::is_good_catalog;
+use crate::faults::as_refusal;
+use crate::layers::checking::lists::list_layers;
+use crate::layers::checking::once::each_once;
+use crate::layers::checking::spelled::check_catalog;
+use crate::layers::open::count_of;
+use crate::layers::{CATALOG, Layers};
+use block_device::BlockDevice;
+use catalog_page::LayerRecord;
+use page_cache::PageCache;
+use page_file::Fault;
+use plain_table::Refusal;
+use std::alloc::Allocator;
+
+impl<B: BlockDevice, A: Allocator + Copy> Layers<B, A> {
+    /// Checks all pages: on an honest device it answers so only where the layers are sound with some table, and else
+    /// `Damaged` with the number of a page. Layers that are sound are refused by `Memory` or `Device` alone.
+    ///
+    /// It makes at most two looks for each layer and page number given out, and one at the catalog.
+    pub fn check(&mut self) -> Result<(), Refusal>
+        ensures answered { (t : Table) → IsSound self.old t →
+            IsAnswered self.old self.new t Check (done_answer result) }
+        ensures sound { IsHonest (cache_of self.old) → OnOk result (IsFoundSound self.new) }
+        ensures looks { looks_of (cache_of self.new) ≤ looks_of (cache_of self.old) +
+            (1 + 2 * (length (records_in self.old) * next_of (cache_of self.old))) }
+        ensures gate { KeepsGate (cache_of self.old) (cache_of self.new) }
+        ensures map { KeepsMap (cache_of self.old) (cache_of self.new) }
+        ensures written { IsWritten self.old → IsWritten self.new }
+        ensures refused { IfErr result IsCheckRefusal }
+        ensures cause { HasRefusalCause (B.faults (device_of (cache_of self.old)))
+            (B.faults (device_of (cache_of self.new))) result }
+    {
+        match self.check_all() {
+            Ok(()) => Ok(()),
+            Err(fault) => Err(as_refusal(fault)),
+        }
+    }
+
+    // The same, with the fault of the file that a refusal is.
+    fn check_all(&mut self) -> Result<(), Fault>
+        ensures asks { Asks (cache_of self.old) (cache_of self.new) result }
+        ensures found { IsHonest (cache_of self.old) → OnOk result (IsFoundSound self.new) }
+        ensures stands { (t : Table) → IsSound self.old t → IfErr result IsOfDevice }
+        ensures sound { (t : Table) → IsSound self.old t → IsSound self.new t }
+        ensures looks { looks_of (cache_of self.new) ≤ looks_of (cache_of self.old) +
+            (1 + 2 * (length (records_in self.old) * next_of (cache_of self.old))) }
+        ensures written { IsWritten self.old → IsWritten self.new }
+        ensures faults { IfErr result (λ f. IsOfDevice f ⊎ IsDamage f) }
+    {
+        if !are_good(&self.records, self.cache.next_number(), self.object_count) {
+            return Err(Fault::Damaged(CATALOG));
+        }
+        check_catalog(&mut self.cache, &self.records, self.written)?;
+        check_pages(self.alloc, &mut self.cache, &self.records)
+    }
+}
+
+// Whether the records may stand in a catalog, and have so many objects together.
+fn are_good(records: &[LayerRecord], next: u32, object_count: u64) -> bool
+    ensures good { result ≡ true → IsTrue (catalog.is_good_catalog next (each record_of records.now)) }
+    ensures counted { result ≡ true → object_count ≡ objects_named (each record_of records.now) }
+    ensures found { IsTrue (catalog.is_good_catalog next (each record_of records.now)) →
+        object_count ≡ objects_named (each record_of records.now) → result ≡ true }
+{
+    if !is_good_catalog(records, next) {
+        return false;
+    }
+    count_of(records) == object_count
+}
+
+// Sees that the layers of the records stand in the pages, and that each page given out stands in one place: in the
+// catalog, in a layer, or among the free pages.
+fn check_pages<B: BlockDevice, A: Allocator + Copy>(
+    alloc: A,
+    cache: &mut PageCache<B, A>,
+    records: &[LayerRecord],
+) -> Result<(), Fault>
+    requires { AreLayers (each record_of records.now) }
+    ensures asks { Asks cache.old cache.new result }
+    ensures found { IsHonest cache.old → OnOk result (IsPageMap cache.old ×
+        FindsLayers (pages cache.old) (each record_of records.now)) }
+    ensures stands { IsPageMap cache.old → (hs : List Reading) → each row_of hs ≡ each record_of records.now →
+        LayersStand (pages cache.old) hs → IsAllOf (pages cache.old) (in_use hs) → IfErr result IsOfDevice }
+    ensures looks { looks_of cache.new ≤ looks_of cache.old + 2 * (length records.now * next_of cache.old) }
+    ensures faults { IfErr result (λ f. IsOfDevice f ⊎ IsDamage f) }
+{
+    let mut found = cache.free_pages(alloc)?;
+    found.push(CATALOG)?;
+    list_layers(alloc, cache, records, &mut found)?;
+    each_once(found.as_mut_slice(), cache.next_number())
+}

@@ -1,0 +1,97 @@
+//! The pages of the layers listed, while each layer is checked.
+
+ghost use Rattle.std.specs.Prelude.{◌≡◌, ◌+◌, ◌*◌, ◌≤◌, ◌⊎◌, List, IfErr, OnOk, length, map as each};
+ghost use Rattle.box_math.specs.Bounds.{IsDims};
+ghost use Rattle.catalog_page.specs.Layout.{record_of};
+ghost use Rattle.page_cache.specs.Cache.{IsHonest, IsPageMap, looks_of, next_of, pages};
+ghost use Rattle.page_cache.specs.Calls.{Asks};
+ghost use Rattle.page_file.specs.Fault.{IsDamage, IsOfDevice};
+ghost use Rattle.live_layers.specs.Catalog.{AreLayers};
+ghost use Rattle.live_layers.specs.Checked.{AddsLayer, AddsLayers};
+ghost use Rattle.live_layers.specs.Layers.{LayerStands, LayersStand, Reading, row_of};
+
+use block_device::BlockDevice;
+use catalog_page::LayerRecord;
+use layer_pages::check;
+use node_page::Root;
+use page_cache::PageCache;
+use page_file::Fault;
+use std::alloc::Allocator;
+
+/// Checks the layers of the records, and appends the pages of each.
+pub fn list_layers<B: BlockDevice, A: Allocator + Copy>(
+    alloc: A,
+    cache: &mut PageCache<B, A>,
+    records: &[LayerRecord],
+    found: &mut Vec<u32, A>,
+) -> Result<(), Fault>
+    requires { AreLayers (each record_of records.now) }
+    ensures asks { Asks cache.old cache.new result }
+    ensures layers { IsPageMap cache.old → OnOk result (AddsLayers (pages cache.old) (each record_of records.now)
+        found.old.items found.new.items) }
+    ensures stands { IsHonest cache.old → (hs : List Reading) → each row_of hs ≡ each record_of records.now →
+        LayersStand (pages cache.old) hs → IfErr result IsOfDevice }
+    ensures looks { looks_of cache.new ≤ looks_of cache.old + 2 * (length records.now * next_of cache.old) }
+    ensures faults { IfErr result (λ f. IsOfDevice f ⊎ IsDamage f) }
+{
+    for record in records {
+        list_layer(alloc, cache, record, found)?;
+    }
+    Ok(())
+}
+
+// Checks the layer of a record, and appends its pages.
+fn list_layer<B: BlockDevice, A: Allocator + Copy>(
+    alloc: A,
+    cache: &mut PageCache<B, A>,
+    layer: &LayerRecord,
+    found: &mut Vec<u32, A>,
+) -> Result<(), Fault>
+    requires { IsDims layer.now.dims }
+    ensures asks { Asks cache.old cache.new result }
+    ensures layer { IsPageMap cache.old → OnOk result (AddsLayer (pages cache.old) (record_of layer.now)
+        found.old.items found.new.items) }
+    ensures stands { IsHonest cache.old → (h : Reading) → h.row ≡ record_of layer.now →
+        LayerStands (pages cache.old) h → IfErr result IsOfDevice }
+    ensures looks { looks_of cache.new ≤ looks_of cache.old + 2 * next_of cache.old }
+    ensures faults { IfErr result (λ f. IsOfDevice f ⊎ IsDamage f) }
+{
+    if layer.dims == 2 {
+        list_pages::<2, B, A>(alloc, cache, layer, found)
+    } else {
+        list_pages::<3, B, A>(alloc, cache, layer, found)
+    }
+}
+
+// The same of a layer of D axes.
+fn list_pages<const D: usize, B: BlockDevice, A: Allocator + Copy>(
+    alloc: A,
+    cache: &mut PageCache<B, A>,
+    layer: &LayerRecord,
+    found: &mut Vec<u32, A>,
+) -> Result<(), Fault>
+    requires dims { IsDims D }
+    requires axes { layer.now.dims ≡ D }
+    ensures asks { Asks cache.old cache.new result }
+    ensures layer { IsPageMap cache.old → OnOk result (AddsLayer (pages cache.old) (record_of layer.now)
+        found.old.items found.new.items) }
+    ensures stands { IsHonest cache.old → (h : Reading) → h.row ≡ record_of layer.now →
+        LayerStands (pages cache.old) h → IfErr result IsOfDevice }
+    ensures looks { looks_of cache.new ≤ looks_of cache.old + 2 * next_of cache.old }
+    ensures faults { IfErr result (λ f. IsOfDevice f ⊎ IsDamage f) }
+{
+    let root = Root {
+        page: layer.root,
+        level: layer.level,
+    };
+    let list = check::<D, B, A, A>(
+        &alloc,
+        cache,
+        root,
+        layer.directory,
+        layer.fanout,
+        layer.count,
+    )?;
+    found.extend_from_slice(list.as_slice())?;
+    Ok(())
+}
