@@ -1,6 +1,8 @@
 -- What a line was answered.
-use Rattle.std.proofs.Common.{◌≡◌, ℕ, List, [], ◌∷◌, Option, Result, Ok, Err, refl, sym, subst}
-use Rattle.plain_table.specs.Commands.{Command}
+use Rattle.std.proofs.Common.{◌≡◌, ℕ, List, [], ◌∷◌, Option, Some, None, IsSome, Result, Ok, Err, refl, sym, subst}
+use Rattle.plain_table.specs.Commands.{Command, MayGiveUp}
+use Rattle.plain_table.specs.Commands.Command.{Load}
+use Rattle.plain_table.specs.Loads.{GivenObjects}
 use Rattle.store_law.specs.Sessions.{SessionState, LawfulStep, Takes}
 use Rattle.store_law.specs.Laws.{a_bad_line_is_lawful}
 use Rattle.store_law.specs.States.Request.{BadCommand, Asks}
@@ -8,7 +10,7 @@ use Rattle.plain_table.specs.Step.{Answer}
 use Rattle.plain_table.specs.Step.Answer.{Refused}
 use Rattle.plain_table.specs.declared.refusal.Refusal.TheVariants as refusal
 use Rattle.command_shell.specs.Answering.{AnswersLine, Replies}
-use Rattle.command_shell.specs.TextCommands.{AsksAlone}
+use Rattle.command_shell.specs.TextCommands.{AsksAlone, load_request}
 use Rattle.command_shell.specs.Meanings.{Meaning}
 use Rattle.command_shell.specs.Meanings.Meaning.{Means, Bad, Blank}
 use Rattle.command_shell.specs.Serving.{WroteAs}
@@ -30,7 +32,7 @@ replied_bad m e = takes_none _ (λ s. record { requests = BadCommand ∷ []; ask
 pub replied_blank : {S : Type 0} {Represents : S → SessionState → Type 0} {old : S} (m : Meaning) → m ≡ Blank → Takes Represents old old (λ s s'. Replies m s s' [])
 replied_blank m e = takes_none _ (λ s. record { requests = []; asked = subst (λ x. AsksAlone x []) (sym e) refl; lawful = refl })
 
-wrote_reply : {A E T : Type 0} (r : Reply A) (a b : Option (List ℕ)) (result : Result T E) → Writes a b result (answer_text (reply_answer r)) → WroteAs a b result (reply_answer r ∷ [])
+pub wrote_reply : {A E T : Type 0} (r : Reply A) (a b : Option (List ℕ)) (result : Result T E) → Writes a b result (answer_text (reply_answer r)) → WroteAs a b result (reply_answer r ∷ [])
 wrote_reply r a b (Ok u) h = rw append_none h
 wrote_reply r a b (Err e) h = record { before = []; last = reply_answer r; are = refl; shown = h.0; is_part = h.1; written = h.2 }
 
@@ -41,3 +43,9 @@ written m w w' r result s s' h k = record { requests = h.requests; asked = h.ask
 -- there was no reply to write
 pub unwritten : {E : Type 0} (m : Meaning) (w : Option (List ℕ)) (s s' : SessionState) → Replies m s s' [] → AnswersLine {E = E} m s s' w w (Ok tt)
 unwritten m w s s' h = record { requests = h.requests; asked = h.asked; answers = []; lawful = h.lawful; written = appends_none w }
+
+-- a load for which there is no room gave up
+pub out_of_room : {S : Type 0} {Represents : S → SessionState → Type 0} {old new : S} (layer : List ℕ) (all : Option GivenObjects) (a : Answer) → IsSome all
+    → ((c : Command) → MayGiveUp c → Takes Represents old new (λ s s'. LawfulStep s (Asks c) a s')) → Takes Represents old new (λ s s'. LawfulStep s (load_request layer all) a s')
+out_of_room layer (Some objects) a h t = t (Load layer objects) tt
+out_of_room layer None a h t = absurd (cc)

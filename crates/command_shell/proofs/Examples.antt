@@ -1,8 +1,8 @@
 -- Worked examples of the command language: lines, words, numbers, what lines mean, and the texts of replies.
 -- No other proof rests on them. A definition that says another thing than docs/COMMANDS.md is refused here.
-use Rattle.std.proofs.Common.{◌≡◌, ℕ, List, [], ◌∷◌, ◌++◌, Bool, true, refl, sym, ap, ap₂, ◌∙◌, pos, negsuc, Some, None, codes, replicate, map, length, length-append, get_or, arith}
+use Rattle.std.proofs.Common.{◌≡◌, ℕ, List, [], ◌∷◌, ◌++◌, Bool, true, refl, sym, ap, ap₂, ◌∙◌, pos, negsuc, Some, None, codes, replicate, map, length, length-append, get_or, arith, subst, take, drop}
 use Rattle.std.specs.Fmt.{digits}
-use Rattle.plain_table.specs.Commands.Command.{Create, Insert, Get, Count, Range, Nearest, Reopen}
+use Rattle.plain_table.specs.Commands.Command.{Create, Insert, Load, Move, Delete, Drop, Get, Count, Range, Nearest, Join, Layers, Dump, Check, Reopen}
 use Rattle.store_law.specs.States.{Request}
 use Rattle.store_law.specs.States.Request.{BadCommand, Asks}
 use Rattle.plain_table.specs.Step.Answer.{Done, Refused, Boxes, Counted, Distances, Pairs, Listed, Dumped}
@@ -11,12 +11,13 @@ use Rattle.plain_table.specs.declared.boxes.RawBox.TheVariants.{Two, Three}
 use Rattle.plain_table.specs.declared.boxes.RawPoint.TheVariants as point
 use Rattle.plain_table.specs.declared.queries.RawQuery.TheVariants.{Window, Inside, Around, Point}
 use Rattle.plain_table.specs.declared.refusal.Refusal.TheVariants as refusal
-use Rattle.command_shell.specs.TextCommands.{AreCommands, AsksAlone}
-use Rattle.command_shell.specs.TextCommands.AreCommands.{none, one}
+use Rattle.command_shell.specs.Entries.{entry_in, objects_in}
+use Rattle.command_shell.specs.TextCommands.{AreCommands, AsksAlone, load_request}
+use Rattle.command_shell.specs.TextCommands.AreCommands.{load, none, one, short}
 use Rattle.command_shell.specs.Lines.{lines_of, words_of, IsWhole}
 use Rattle.command_shell.specs.Lines.IsWhole.{none as nothing, ends}
 use Rattle.command_shell.specs.Meanings.{Meaning, meaning_of, words_mean}
-use Rattle.command_shell.specs.Meanings.Meaning.{Blank, Bad, Means}
+use Rattle.command_shell.specs.Meanings.Meaning.{Blank, Bad, Loads, Means}
 use Rattle.command_shell.specs.Numbers.{number_in, coordinate_of}
 use Rattle.command_shell.specs.Texts.{answer_text, texts_of}
 
@@ -136,6 +137,27 @@ nearest_gives_a_number_and_a_point = refl
 bad_nearests : map meaning_of (codes "nearest a" ∷ codes "nearest a 1" ∷ codes "nearest a 1 2" ∷ codes "nearest a -1 0 0" ∷ codes "nearest a 1 0 0 0 0" ∷ []) ≡ replicate 5 Bad
 bad_nearests = refl
 
+move_is_as_insert : meaning_of (codes "move a 7 1 -2 3 -4") ≡ Means (Move a 7 (Two (pos 1 ∷ negsuc 1 ∷ []) (pos 3 ∷ negsuc 3 ∷ [])))
+move_is_as_insert = refl
+
+delete_names_a_layer_and_an_identifier : meaning_of (codes "delete delete 007") ≡ Means (Delete (codes "delete") 7)
+delete_names_a_layer_and_an_identifier = refl
+
+drop_names_a_layer : meaning_of (codes "drop drop") ≡ Means (Drop (codes "drop"))
+drop_names_a_layer = refl
+
+bad_changes : map meaning_of (codes "move a 1" ∷ codes "move a 1 0 0 0" ∷ codes "move a -1 0 0 0 0" ∷ codes "delete a" ∷ codes "delete a 1 2" ∷ codes "delete a +1" ∷ codes "drop" ∷ codes "drop a b" ∷ []) ≡ replicate 8 Bad
+bad_changes = refl
+
+join_names_two_layers : map meaning_of (codes "join a b" ∷ codes "join a a" ∷ []) ≡ Means (Join a b) ∷ Means (Join a a) ∷ []
+join_names_two_layers = refl
+
+layers_dump_and_check_are_one_word : map meaning_of (codes "layers" ∷ codes " dump\t" ∷ codes "check\r" ∷ []) ≡ Means Layers ∷ Means Dump ∷ Means Check ∷ []
+layers_dump_and_check_are_one_word = refl
+
+bad_questions : map meaning_of (codes "join" ∷ codes "join a" ∷ codes "join a b c" ∷ codes "layers a" ∷ codes "dump a" ∷ codes "check a" ∷ codes "Layers" ∷ codes "dumps" ∷ []) ≡ replicate 8 Bad
+bad_questions = refl
+
 reopen_is_one_word : map meaning_of (codes "reopen" ∷ codes "\t reopen \r" ∷ []) ≡ replicate 2 (Means Reopen)
 reopen_is_one_word = refl
 
@@ -149,8 +171,22 @@ a_low_above_its_high_is_a_box = refl
 blank_lines_and_comments : map meaning_of ([] ∷ codes " \t\r" ∷ codes "#" ∷ codes "# create a 2 4" ∷ codes " \t#create a 2 4" ∷ codes "##" ∷ []) ≡ replicate 6 Blank
 blank_lines_and_comments = refl
 
-names_of_no_command : map meaning_of (codes "CREATE a 2 4" ∷ codes "Create a 2 4" ∷ codes "creat a 2 4" ∷ codes "creates a 2 4" ∷ codes "drop a" ∷ codes "load a 1" ∷ codes "a" ∷ []) ≡ replicate 7 Bad
+names_of_no_command : map meaning_of (codes "CREATE a 2 4" ∷ codes "Create a 2 4" ∷ codes "creat a 2 4" ∷ codes "creates a 2 4" ∷ codes "drops a" ∷ codes "loads a 1" ∷ codes "a" ∷ []) ≡ replicate 7 Bad
 names_of_no_command = refl
+
+load_names_a_layer_and_a_number_of_lines : map meaning_of (codes "load a 5" ∷ codes "load load 0" ∷ codes "load a 1073741824" ∷ []) ≡ Loads a 5 ∷ Loads (codes "load") 0 ∷ Loads a 1073741824 ∷ []
+load_names_a_layer_and_a_number_of_lines = refl
+
+bad_loads : map meaning_of (codes "load" ∷ codes "load a" ∷ codes "load a -1" ∷ codes "load a 1 2" ∷ codes "load a 1073741825" ∷ []) ≡ replicate 5 Bad
+bad_loads = refl
+
+entry_lines : map entry_in (codes "7 1 -2 3 -4" ∷ codes " 007 1 2 3 4 5 6\r" ∷ [])
+    ≡ Some (7, Two (pos 1 ∷ negsuc 1 ∷ []) (pos 3 ∷ negsuc 3 ∷ [])) ∷ Some (7, Three (pos 1 ∷ pos 2 ∷ pos 3 ∷ []) (pos 4 ∷ pos 5 ∷ pos 6 ∷ [])) ∷ []
+entry_lines = refl
+
+-- a blank line and a comment among them
+no_entry_lines : map entry_in ([] ∷ codes "# 1 0 0 0 0" ∷ codes "7" ∷ codes "7 1 2 3" ∷ codes "-7 1 2 3 4" ∷ codes "insert a 7 1 2 3 4" ∷ []) ≡ replicate 6 None
+no_entry_lines = refl
 
 bad_creates : map meaning_of (codes "create" ∷ codes "create a" ∷ codes "create a 2" ∷ codes "create a 2 4 4" ∷ codes "create a +2 4" ∷ codes "create a 2 -4" ∷ codes "create a 2 4 # more" ∷ []) ≡ replicate 7 Bad
 bad_creates = refl
@@ -171,8 +207,18 @@ a_line_of_4096_bytes_is_read line fits = rw fits refl
 -- ---- the requests of a text
 
 -- the last line has no newline, and a comment and an empty line ask nothing
-a_text_asks_line_by_line : AreCommands true (lines_of (codes "create a 2 4\n# more\n\ndrop a\ncreate b 3 5")) (Asks (Create a 2 4) ∷ BadCommand ∷ Asks (Create b 3 5) ∷ [])
+a_text_asks_line_by_line : AreCommands true (lines_of (codes "create a 2 4\n# more\n\ndrops a\ncreate b 3 5")) (Asks (Create a 2 4) ∷ BadCommand ∷ Asks (Create b 3 5) ∷ [])
 a_text_asks_line_by_line = one (Asks (Create a 2 4) ∷ []) refl (one [] refl (one [] refl (one (BadCommand ∷ []) refl (one (Asks (Create b 3 5) ∷ []) refl none))))
+
+a_load_takes_its_entry_lines : AreCommands true (lines_of (codes "load a 1\n7 1 2 3 4\ncreate b 3 5")) (Asks (Load a ((7, Two (pos 1 ∷ pos 2 ∷ []) (pos 3 ∷ pos 4 ∷ [])) ∷ [])) ∷ Asks (Create b 3 5) ∷ [])
+a_load_takes_its_entry_lines = load a 1 refl (omega arith) (one (Asks (Create b 3 5) ∷ []) refl none)
+
+-- whatever they hold
+a_bad_entry_line_makes_the_load_bad : AreCommands true (lines_of (codes "load a 2\ncreate b 3 5\n7 1 2 3 4")) (BadCommand ∷ [])
+a_bad_entry_line_makes_the_load_bad = load a 2 refl (omega arith) none
+
+a_load_that_lacks_entry_lines_is_bad : AreCommands true (lines_of (codes "load a 3\n7 1 2 3 4\n8 1 2 3 4")) (BadCommand ∷ [])
+a_load_that_lacks_entry_lines_is_bad = short a 3 refl (omega arith) refl
 
 no_text_asks_nothing : (ended : Bool) → AreCommands ended (lines_of []) []
 no_text_asks_nothing ended = none
@@ -182,11 +228,23 @@ asked_alone : (m : Meaning) (rs ss : List Request) → AsksAlone m rs → AsksAl
 asked_alone Blank rs ss h g = h ∙ sym g
 asked_alone Bad rs ss h g = h ∙ sym g
 asked_alone (Means c) rs ss h g = h ∙ sym g
+asked_alone (Loads layer count) rs ss h g = absurd h
 
 -- lines ask one list of requests, and no other
 pub one_reading : {ended : Bool} {lines : List (List ℕ)} {rs ss : List Request} → AreCommands ended lines rs → AreCommands ended lines ss → rs ≡ ss
 one_reading none none = refl
 one_reading (one {line = line} rs h p) (one ss g q) = ap₂ (λ x y. x ++ y) (asked_alone (meaning_of line) rs ss h g) (one_reading p q)
+one_reading (one {line = line} rs h p) (load layer count means enough q) = absurd (subst (λ m. AsksAlone m rs) means h)
+one_reading (one {line = line} rs h p) (short layer count means few last) = absurd (subst (λ m. AsksAlone m rs) means h)
+one_reading (load layer count means enough p) (one ss g q) = absurd (subst (λ m. AsksAlone m ss) means g)
+one_reading {ended = ended} (load {line = line} {lines = lines} {ss = ts} layer count means enough p) (load other number reads _ q) =
+    let layers : layer ≡ other = cc in
+    let counts : count ≡ number = cc in
+    ap₂ (λ x y. x ∷ y) (ap₂ (λ (l : List ℕ) (n : ℕ). load_request l (objects_in (take n lines))) layers counts) (one_reading (subst (λ (n : ℕ). AreCommands ended (drop n lines) ts) counts p) q)
+one_reading (load layer count means enough p) (short other number reads few last) = let counts : count ≡ number = cc in absurd (omega (arith, enough, few, counts))
+one_reading (short layer count means few last) (one ss g q) = absurd (subst (λ m. AsksAlone m ss) means g)
+one_reading (short layer count means few last) (load other number reads enough q) = let counts : count ≡ number = cc in absurd (omega (arith, enough, few, counts))
+one_reading (short layer count means few last) (short other number reads _ _) = refl
 
 -- ---- the texts of replies
 

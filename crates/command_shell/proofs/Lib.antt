@@ -5,7 +5,9 @@ pub mod LineLemmas
 pub mod CommandLemmas
 pub mod WriteLemmas
 pub mod ReadLemmas
+pub mod GatherLemmas
 pub mod SessionLemmas
 pub mod AnswerLemmas
+pub mod LoadLemmas
 pub mod Examples
 pub mod RunExamples

@@ -1,5 +1,5 @@
 -- Where the first newline stands, and how the bytes of a buffer move.
-use Rattle.std.proofs.Common.{◌≡◌, ℕ, suc, add-suc, true, ◌+◌, ◌-◌, ◌<◌, ◌≤◌, ◌==◌, List, [], ◌∷◌, ◌++◌, length, take, drop, get_or, Option, Some, None, MatchOption, refl, sym, ap, ◌∙◌, arith}
+use Rattle.std.proofs.Common.{◌≡◌, ℕ, suc, add-suc, true, ◌+◌, ◌-◌, ◌<◌, ◌≤◌, ◌==◌, List, [], ◌∷◌, ◌++◌, length, take, drop, get_or, Option, Some, None, MatchOption, Result, Ok, Err, OnErr, is_err, refl, sym, ap, ◌∙◌, arith}
 use Rattle.std.proofs.lemmas.Bool.Decides.{nat_tests}
 use Rattle.std.proofs.lemmas.List.{take-append-drop, drop-take, drop-drop, get_or-take, take-append-le, length-take-le, length-drop}
 use Rattle.std.proofs.Math.Seq.{take-append-add, take-add, drop-cons}
@@ -58,3 +58,8 @@ filled buffer new post s e n z h k =
     let a : e + n - 0 ≡ length (take e buffer) + n = omega (arith, l) in
     let b : e - 0 ≡ e = omega arith in
     rw (z, a, take-append-add (take e buffer) (new ++ post) n, take-append-le n new post k, b) refl
+
+-- what a refusal says
+pub of_err : {T E : Type 0} (r : Result T E) (X : Type 0) → OnErr r X → true ≡ is_err r → X
+of_err (Ok v) X h e = absurd (cc)
+of_err (Err x) X h e = h

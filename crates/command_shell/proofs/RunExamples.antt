@@ -14,6 +14,7 @@ use Rattle.plain_table.specs.Step.Answer.{Refused}
 use Rattle.plain_table.specs.declared.refusal.Refusal.TheVariants as refusal
 use Rattle.command_shell.specs.TextCommands.{AreCommands}
 use Rattle.command_shell.specs.TextCommands.AreCommands.{none, one}
+use Rattle.command_shell.specs.TextCommands.IsUnfinished.{in_line}
 use Rattle.command_shell.specs.Lines.{lines_of, IsWhole}
 use Rattle.command_shell.specs.Lines.IsWhole.{none as nothing, ends}
 use Rattle.command_shell.specs.Runs.{Runs}
@@ -57,7 +58,7 @@ a_run_that_a_read_ended : Runs ReadFault (at fresh (codes "x\ny") []) (at fresh 
 unfolding digits
 a_run_that_a_read_ended = (
   codes "y",
-  (λ e. absurd (omega (arith, e)), tt),
+  in_line (λ e. absurd (omega (arith, e)), tt),
   record {
     text = codes "x\n";
     requests = BadCommand ∷ [];
@@ -91,7 +92,7 @@ a_run_that_a_flush_ended : Runs WriteFault (at fresh (codes "x\ny") []) (at fres
 unfolding digits
 a_run_that_a_flush_ended = inr (
   codes "y",
-  (λ e. absurd (omega (arith, e)), tt),
+  in_line (λ e. absurd (omega (arith, e)), tt),
   record {
     text = codes "x\n";
     requests = BadCommand ∷ [];

@@ -105,7 +105,7 @@ runs_kept WriteFault before after flushed h k = ⊎_elim
     h
 
 -- a text was taken, and its commands answered
-steps_after : {E : Type 0} (before after : RunState) (pending left text : List ℕ) (requests : List Request) (answers : List Answer) (ended : Bool) (end : Option RunEnd) (result : Result (Unit {0}) E) → MatchResult result (λ _. end ≡ cond ended (Some Finished) None) (λ _. end ≡ Some WriteFault) → Reads ended before.unread after.unread pending left text → AreCommands ended (lines_of text) requests → Session before.session requests answers after.session → WroteAs before.written after.written result answers → StepsTo end before after pending left
+pub steps_after : {E : Type 0} (before after : RunState) (pending left text : List ℕ) (requests : List Request) (answers : List Answer) (ended : Bool) (end : Option RunEnd) (result : Result (Unit {0}) E) → MatchResult result (λ _. end ≡ cond ended (Some Finished) None) (λ _. end ≡ Some WriteFault) → Reads ended before.unread after.unread pending left text → AreCommands ended (lines_of text) requests → Session before.session requests answers after.session → WroteAs before.written after.written result answers → StepsTo end before after pending left
 steps_after before after pending left text requests answers true end (Ok u) e h a l o =
     let P : Option RunEnd → Type 0 = λ x. StepsTo x before after pending left in
     let all : Serves true true before after pending left = record { text = text; requests = requests; answers = answers; reads = h; asked = a; lawful = l; written = o } in

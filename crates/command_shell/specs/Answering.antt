@@ -1,13 +1,19 @@
 -- What one line makes a store and a writer do.
-use Rattle.std.specs.Prelude.{ℕ, List, [], ◌∷◌, Option, Some, None, Result}
-use Rattle.store_law.specs.Sessions.{SessionState, Session}
+use Rattle.std.specs.Prelude.{ℕ, true, List, [], ◌∷◌, Option, Some, None, Result}
+use Rattle.store_law.specs.Sessions.{LawfulStep, SessionState, Session}
 use Rattle.store_law.specs.States.{Request}
 use Rattle.plain_table.specs.Step.{Answer}
-use Rattle.command_shell.specs.TextCommands.{AsksAlone}
+use Rattle.command_shell.specs.TextCommands.{AreCommands, AsksAlone}
 use Rattle.command_shell.specs.Meanings.{Meaning}
+use Rattle.command_shell.specs.Meanings.Meaning.{Loads}
 use Rattle.command_shell.specs.Serving.{WroteAs}
 use Rattle.command_shell.specs.Texts.{reply_answer}
 use Rattle.command_shell.specs.declared.replies.Reply.{Reply}
+
+-- the line asks by itself, with no further lines
+abbrev pub IsPlain : Meaning → Type 0
+IsPlain (Loads layer count) = ⊥
+IsPlain m = Unit {0}
 
 -- the answers that a reply is, if there is one
 abbrev pub reply_answers : {A : Type 0} → Option (Reply A) → List Answer
@@ -24,6 +30,20 @@ pub record Replies (m : Meaning) (old new : SessionState) (answers : List Answer
 pub record AnswersLine {E : Type 0} (m : Meaning) (old new : SessionState) (before after : Option (List ℕ)) (result : Result (Unit {0}) E) : Type 0 where
   pub requests : List Request
   pub asked : AsksAlone m requests
+  pub answers : List Answer
+  pub lawful : Session old requests answers new
+  pub written : WroteAs before after result answers
+
+-- the last line of a text asks one request, which was answered lawfully
+pub record RepliesLast (line : List ℕ) (old new : SessionState) (answer : Answer) : Type 0 where
+  pub request : Request
+  pub asked : AreCommands true (line ∷ []) (request ∷ [])
+  pub step : LawfulStep old request answer new
+
+-- what the last line of a text asks was answered lawfully, and the answers were written
+pub record AnswersLast {E : Type 0} (line : List ℕ) (old new : SessionState) (before after : Option (List ℕ)) (result : Result (Unit {0}) E) : Type 0 where
+  pub requests : List Request
+  pub asked : AreCommands true (line ∷ []) requests
   pub answers : List Answer
   pub lawful : Session old requests answers new
   pub written : WroteAs before after result answers

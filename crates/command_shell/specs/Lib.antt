@@ -2,11 +2,13 @@
 pub mod Lines
 pub mod Numbers
 pub mod Meanings
+pub mod Entries
 pub mod Said
 pub mod Texts
 pub mod Writing
 pub mod Reading
 pub mod Pending
+pub mod Gathering
 pub mod Answering
 pub mod TextCommands
 pub mod Serving

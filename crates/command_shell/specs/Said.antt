@@ -1,8 +1,8 @@
 -- What a `Line` says.
 use Rattle.std.specs.Prelude.{Option, Some, None}
-use Rattle.plain_table.specs.Commands.Command.{Create, Insert, Get, Count, Range, Nearest, Reopen}
+use Rattle.plain_table.specs.Commands.Command.{Create, Insert, Move, Delete, Drop, Get, Count, Range, Nearest, Join, Layers, Dump, Check, Reopen}
 use Rattle.command_shell.specs.Meanings.{Meaning}
-use Rattle.command_shell.specs.Meanings.Meaning.{Blank, Bad, Means}
+use Rattle.command_shell.specs.Meanings.Meaning.{Blank, Bad, Loads, Means}
 use Rattle.command_shell.specs.declared.parse.Line.{Line}
 use Rattle.command_shell.specs.declared.parse.Line.TheVariants as line
 
@@ -12,10 +12,18 @@ said line.Blank = Blank
 said line.Bad = Bad
 said (line.Create layer dims fanout) = Means (Create layer.now dims fanout)
 said (line.Insert layer id bounds) = Means (Insert layer.now id bounds)
+said (line.Load layer count) = Loads layer.now count
+said (line.Move layer id bounds) = Means (Move layer.now id bounds)
+said (line.Delete layer id) = Means (Delete layer.now id)
+said (line.Drop layer) = Means (Drop layer.now)
 said (line.Get layer id) = Means (Get layer.now id)
 said (line.Count layer) = Means (Count layer.now)
 said (line.Range layer query) = Means (Range layer.now query)
 said (line.Nearest layer k point) = Means (Nearest layer.now k point)
+said (line.Join first second) = Means (Join first.now second.now)
+said line.Layers = Means Layers
+said line.Dump = Means Dump
+said line.Check = Means Check
 said line.Reopen = Means Reopen
 
 -- the same of a line that may be missing, which is bad

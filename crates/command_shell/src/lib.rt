@@ -7,6 +7,7 @@
 
 mod in_memory;
 mod lines;
+mod loading;
 mod parse;
 mod program;
 mod replies;
@@ -18,7 +19,7 @@ mod tests;
 mod words;
 
 pub use in_memory::answers_to;
-pub use parse::{Line, MAX_LINE, parse_line};
+pub use parse::{Line, MAX_LINE, parse_entry, parse_line};
 pub use program::{Ended, run_and_close, tell_refusal};
 pub use replies::{Reply, write_reply};
 pub use session::{RunEnd, run};

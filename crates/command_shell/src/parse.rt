@@ -1,14 +1,19 @@
 //! Lines, and what each of them asks.
 
 ghost use Rattle.std.specs.Prelude.{◌≡◌, ◌<◌, length, Some, IfSome, IfNone};
-ghost use Rattle.command_shell.specs.Meanings.{meaning_of, create_of, insert_of, get_of, count_of, box_query_of};
-ghost use Rattle.command_shell.specs.Meanings.{point_query_of, nearest_of, reopen_of, command_of, asked};
+ghost use Rattle.plain_table.specs.Commands.Command.{Insert, Move, Delete, Drop, Get, Count};
+ghost use Rattle.plain_table.specs.Commands.Command.{Layers, Dump, Check, Reopen};
+ghost use Rattle.command_shell.specs.Meanings.{meaning_of, create_of, box_for_of, object_of, layer_of, box_query_of};
+ghost use Rattle.command_shell.specs.Entries.{entry_in};
+ghost use Rattle.command_shell.specs.Meanings.{point_query_of, nearest_of, join_of, alone_of, load_of};
+ghost use Rattle.command_shell.specs.Meanings.{command_of, question_of, asked};
 ghost use Rattle.command_shell.specs.Numbers.{coordinates_of, box_of, point_of};
 ghost use Rattle.command_shell.specs.Said.{said, said_or_bad};
 
 use crate::words::{Words, coordinate, number};
 use arrayvec::ArrayVec;
 use layer_store::{RawBox, RawPoint, RawQuery};
+use plain_table::MOST_OBJECTS;
 
 /// How many bytes a line may have, without its newline. A longer one is bad.
 pub const MAX_LINE: usize = 4096;
@@ -41,6 +46,34 @@ pub enum Line<'a> {
         /// The object's box.
         bounds: RawBox,
     },
+    /// `load LAYER NUM`: adds so many objects to a layer that has none. Their entry lines follow.
+    Load {
+        /// The layer's name.
+        layer: &'a [u8],
+        /// How many entry lines follow, no more than a store has objects.
+        count: u64,
+    },
+    /// `move LAYER NUM BOX`: gives an object another box.
+    Move {
+        /// The layer's name.
+        layer: &'a [u8],
+        /// The object's identifier.
+        id: u64,
+        /// The box that the object is to have.
+        bounds: RawBox,
+    },
+    /// `delete LAYER NUM`: takes out an object.
+    Delete {
+        /// The layer's name.
+        layer: &'a [u8],
+        /// The object's identifier.
+        id: u64,
+    },
+    /// `drop LAYER`: takes out a layer.
+    Drop {
+        /// The layer's name.
+        layer: &'a [u8],
+    },
     /// `get LAYER NUM`: asks for an object.
     Get {
         /// The layer's name.
@@ -70,6 +103,19 @@ pub enum Line<'a> {
         /// The point.
         point: RawPoint,
     },
+    /// `join LAYER LAYER`: asks for the pairs of objects whose boxes meet.
+    Join {
+        /// The first layer's name.
+        first: &'a [u8],
+        /// The second layer's name.
+        second: &'a [u8],
+    },
+    /// `layers`: asks which layers there are.
+    Layers,
+    /// `dump`: asks for all layers and objects.
+    Dump,
+    /// `check`: asks whether the store's pages are as they have to be.
+    Check,
     /// `reopen`: closes the store and opens it again.
     Reopen,
 }
@@ -94,6 +140,19 @@ pub fn parse_line(line: &[u8]) -> Line<'_>
     }
 }
 
+/// The object that an entry line of a load gives: its identifier and its box.
+pub fn parse_entry(line: &[u8]) -> Option<(u64, RawBox)>
+    ensures { result ≡ entry_in line.now }
+{
+    if MAX_LINE < line.len() {
+        return None;
+    }
+    let mut words = Words::new(line);
+    let id = number(words.next()?)?;
+    let bounds = bounds(words)?;
+    Some((id, bounds))
+}
+
 // The command of that name, from the words after it.
 fn command<'a>(name: &[u8], words: Words<'a>) -> Option<Line<'a>>
     ensures { said_or_bad result ≡ command_of name.now words.entry }
@@ -102,7 +161,26 @@ fn command<'a>(name: &[u8], words: Words<'a>) -> Option<Line<'a>>
         create(words)
     } else if name == b"insert".as_slice() {
         insert(words)
-    } else if name == b"get".as_slice() {
+    } else if name == b"load".as_slice() {
+        load(words)
+    } else if name == b"move".as_slice() {
+        move_object(words)
+    } else if name == b"delete".as_slice() {
+        delete(words)
+    } else if name == b"drop".as_slice() {
+        drop_layer(words)
+    } else if name == b"reopen".as_slice() {
+        reopen(words)
+    } else {
+        question(name, words)
+    }
+}
+
+// The question of that name, from the words after it.
+fn question<'a>(name: &[u8], words: Words<'a>) -> Option<Line<'a>>
+    ensures { said_or_bad result ≡ question_of name.now words.entry }
+{
+    if name == b"get".as_slice() {
         get(words)
     } else if name == b"count".as_slice() {
         count(words)
@@ -116,8 +194,14 @@ fn command<'a>(name: &[u8], words: Words<'a>) -> Option<Line<'a>>
         point(words)
     } else if name == b"nearest".as_slice() {
         nearest(words)
-    } else if name == b"reopen".as_slice() {
-        reopen(words)
+    } else if name == b"join".as_slice() {
+        join(words)
+    } else if name == b"layers".as_slice() {
+        layers(words)
+    } else if name == b"dump".as_slice() {
+        dump(words)
+    } else if name == b"check".as_slice() {
+        check(words)
     } else {
         None
     }
@@ -143,7 +227,7 @@ fn create(mut words: Words<'_>) -> Option<Line<'_>>
 
 // `LAYER NUM BOX`
 fn insert(mut words: Words<'_>) -> Option<Line<'_>>
-    ensures { said_or_bad result ≡ asked (insert_of words.entry) }
+    ensures { said_or_bad result ≡ asked (box_for_of (λ layer id b. Insert layer id b) words.entry) }
 {
     let layer = words.next()?;
     let id = number(words.next()?)?;
@@ -152,8 +236,56 @@ fn insert(mut words: Words<'_>) -> Option<Line<'_>>
 }
 
 // `LAYER NUM`
+fn load(mut words: Words<'_>) -> Option<Line<'_>>
+    ensures { said_or_bad result ≡ load_of words.entry }
+{
+    let layer = words.next()?;
+    let count = number(words.next()?)?;
+    if words.is_done() && count <= MOST_OBJECTS {
+        Some(Line::Load { layer, count })
+    } else {
+        None
+    }
+}
+
+// `LAYER NUM BOX`
+fn move_object(mut words: Words<'_>) -> Option<Line<'_>>
+    ensures { said_or_bad result ≡ asked (box_for_of (λ layer id b. Move layer id b) words.entry) }
+{
+    let layer = words.next()?;
+    let id = number(words.next()?)?;
+    let bounds = bounds(words)?;
+    Some(Line::Move { layer, id, bounds })
+}
+
+// `LAYER NUM`
+fn delete(mut words: Words<'_>) -> Option<Line<'_>>
+    ensures { said_or_bad result ≡ asked (object_of (λ layer id. Delete layer id) words.entry) }
+{
+    let layer = words.next()?;
+    let id = number(words.next()?)?;
+    if words.is_done() {
+        Some(Line::Delete { layer, id })
+    } else {
+        None
+    }
+}
+
+// `LAYER`
+fn drop_layer(mut words: Words<'_>) -> Option<Line<'_>>
+    ensures { said_or_bad result ≡ asked (layer_of (λ layer. Drop layer) words.entry) }
+{
+    let layer = words.next()?;
+    if words.is_done() {
+        Some(Line::Drop { layer })
+    } else {
+        None
+    }
+}
+
+// `LAYER NUM`
 fn get(mut words: Words<'_>) -> Option<Line<'_>>
-    ensures { said_or_bad result ≡ asked (get_of words.entry) }
+    ensures { said_or_bad result ≡ asked (object_of (λ layer id. Get layer id) words.entry) }
 {
     let layer = words.next()?;
     let id = number(words.next()?)?;
@@ -166,7 +298,7 @@ fn get(mut words: Words<'_>) -> Option<Line<'_>>
 
 // `LAYER`
 fn count(mut words: Words<'_>) -> Option<Line<'_>>
-    ensures { said_or_bad result ≡ asked (count_of words.entry) }
+    ensures { said_or_bad result ≡ asked (layer_of (λ layer. Count layer) words.entry) }
 {
     let layer = words.next()?;
     if words.is_done() {
@@ -222,9 +354,52 @@ fn nearest(mut words: Words<'_>) -> Option<Line<'_>>
     Some(Line::Nearest { layer, k, point })
 }
 
+// `LAYER LAYER`
+fn join(mut words: Words<'_>) -> Option<Line<'_>>
+    ensures { said_or_bad result ≡ asked (join_of words.entry) }
+{
+    let first = words.next()?;
+    let second = words.next()?;
+    if words.is_done() {
+        Some(Line::Join { first, second })
+    } else {
+        None
+    }
+}
+
+// No further word.
+fn layers(mut words: Words<'_>) -> Option<Line<'_>>
+    ensures { said_or_bad result ≡ asked (alone_of Layers words.entry) }
+{
+    match words.next() {
+        None => Some(Line::Layers),
+        Some(_) => None,
+    }
+}
+
+// No further word.
+fn dump(mut words: Words<'_>) -> Option<Line<'_>>
+    ensures { said_or_bad result ≡ asked (alone_of Dump words.entry) }
+{
+    match words.next() {
+        None => Some(Line::Dump),
+        Some(_) => None,
+    }
+}
+
+// No further word.
+fn check(mut words: Words<'_>) -> Option<Line<'_>>
+    ensures { said_or_bad result ≡ asked (alone_of Check words.entry) }
+{
+    match words.next() {
+        None => Some(Line::Check),
+        Some(_) => None,
+    }
+}
+
 // No further word.
 fn reopen(mut words: Words<'_>) -> Option<Line<'_>>
-    ensures { said_or_bad result ≡ asked (reopen_of words.entry) }
+    ensures { said_or_bad result ≡ asked (alone_of Reopen words.entry) }
 {
     match words.next() {
         None => Some(Line::Reopen),

@@ -1,23 +1,37 @@
 //! The session of a reader's lines with a store, and how it ends.
 
-ghost use Rattle.std.specs.Prelude.{◌≡◌, ◌<◌, Some, None, MatchResult, OnErr, IfNone, IfSome, if◌then◌else◌};
+ghost use Rattle.std.specs.Prelude.{◌≡◌, ◌<◌, ◌≤◌, ◌++◌, ◌∷◌, [], ℕ, false, List, Option, Some, None};
+ghost use Rattle.std.specs.Prelude.{MatchResult, OnErr, IfNone, IfSome, if◌then◌else◌};
 ghost use Rattle.std.specs.Io.KnownBytes.{Keeps};
 ghost use Rattle.plain_table.specs.Answers.{done_answer, box_answer, boxes_answer, count_answer, distances_answer};
-ghost use Rattle.store_law.specs.Sessions.{Takes};
+ghost use Rattle.plain_table.specs.Answers.{dump_answer, layers_answer, pairs_answer};
+ghost use Rattle.plain_table.specs.Step.Answer.{Refused};
+ghost use Rattle.plain_table.specs.declared.refusal.Refusal.TheVariants as refusal;
+ghost use Rattle.store_law.specs.Sessions.{LawfulStep, Takes};
 ghost use Rattle.layer_store.specs.Representation.{Represents};
-ghost use Rattle.command_shell.specs.Answering.{AnswersLine, Replies, reply_answers};
+ghost use Rattle.command_shell.specs.Answering.{AnswersLast, AnswersLine, IsPlain, Replies, RepliesLast};
+ghost use Rattle.command_shell.specs.Answering.{reply_answers};
+ghost use Rattle.command_shell.specs.Entries.{objects_in};
+ghost use Rattle.command_shell.specs.Gathering.{IsGathered};
+ghost use Rattle.command_shell.specs.Lines.{IsOneLine, newline};
+ghost use Rattle.command_shell.specs.Meanings.{meaning_of};
+ghost use Rattle.command_shell.specs.Meanings.Meaning.{Loads};
 ghost use Rattle.command_shell.specs.Pending.{pending, work_left};
-ghost use Rattle.command_shell.specs.Reading.{BeginsLine};
+ghost use Rattle.command_shell.specs.Reading.{BeginsLine, Reads, ReadsTo};
 ghost use Rattle.command_shell.specs.Runs.{Runs, StepsTo};
 ghost use Rattle.command_shell.specs.Said.{said};
 ghost use Rattle.command_shell.specs.Serving.{run_state};
+ghost use Rattle.command_shell.specs.TextCommands.{load_request};
 ghost use Rattle.command_shell.specs.Texts.{reply_answer};
 
 use crate::lines::{Found, LineReader};
+use crate::loading::{Gathered, Gathering, gather};
 use crate::parse::{Line, parse_line};
 use crate::replies::{Reply, write_reply};
+use arrayvec::ArrayVec;
 use block_device::BlockDevice;
 use layer_store::{AnyBox, Refusal, Store};
+use plain_table::{DumpRow, LayerInfo, MOST_LAYERS};
 use std::alloc::Allocator;
 use std::io;
 use std::io::{Read, Write};
@@ -35,8 +49,8 @@ pub enum RunEnd {
     WriteFault,
 }
 
-/// Answers the lines of a reader, each before the next one is looked for, until the text ends or a read or a write
-/// fails.
+/// Answers the commands of a reader's lines, each before the next line is looked for, until the text ends or a read or
+/// a write fails.
 ///
 /// Whatever the store represents, the commands of the text that was read are a lawful session from there, the store
 /// represents its end, and what was written are the texts of its answers; [`RunEnd`] says how much of the text and of
@@ -45,7 +59,7 @@ pub enum RunEnd {
 /// store"). Where reader or writer does not make its bytes known, nothing is said of them.
 ///
 /// The writer is flushed before more is read, unless a whole line is pending; at the end it is not. An interrupted
-/// read is a fault like any other. Beside what the store takes, it takes no memory.
+/// read is a fault like any other. Beside what the store takes, it takes memory for the objects of a load alone.
 pub fn run<D: BlockDevice, A: Allocator + Copy, R: Read, W: Write>(
     store: &mut Store<D, A>,
     input: &mut R,
@@ -68,7 +82,7 @@ pub fn run<D: BlockDevice, A: Allocator + Copy, R: Read, W: Write>(
 }
 
 // Flushes the replies so far where no line is pending, so that who waits for one before the next line is sent has it.
-fn hand_on<W: Write>(line: Option<usize>, output: &mut W) -> io::Result<()>
+pub(crate) fn hand_on<W: Write>(line: Option<usize>, output: &mut W) -> io::Result<()>
     ensures kept { Keeps (W.contents output.old) (W.contents output.new) }
     ensures none { OnErr result (line ≡ None) }
 {
@@ -94,13 +108,9 @@ fn step<D: BlockDevice, A: Allocator + Copy, R: Read, W: Write>(
     ensures fewer { IfNone result (work_left lines.new < work_left lines.old) }
 {
     match lines.find(line, input) {
-        Ok(Found::Line(len)) => {
-            let written = answer(store, parse_line(lines.front(len)), output);
-            lines.take(len + 1);
-            end_after(written, false)
-        }
+        Ok(Found::Line(len)) => step_line(store, lines, len, input, output),
         Ok(Found::Last(len)) => {
-            let written = answer(store, parse_line(lines.front(len)), output);
+            let written = answer_last(store, parse_line(lines.front(len)), output);
             lines.take(len);
             end_after(written, true)
         }
@@ -109,6 +119,120 @@ fn step<D: BlockDevice, A: Allocator + Copy, R: Read, W: Write>(
         Ok(Found::End) => Some(RunEnd::Finished),
         Err(_) => Some(RunEnd::ReadFault),
     }
+}
+
+// Answers the line of this length that is pending with its newline, and its entry lines if it begins a load.
+fn step_line<D: BlockDevice, A: Allocator + Copy, R: Read, W: Write>(
+    store: &mut Store<D, A>,
+    lines: &mut LineReader,
+    len: usize,
+    input: &mut R,
+    output: &mut W,
+) -> Option<RunEnd>
+    requires { BeginsLine (pending lines.old) len }
+    ensures steps { (before : Option (List ℕ)) (unread : List ℕ) →
+        ReadsTo before (R.remaining input.old) (λ more. unread ++ more ≡ pending lines.old) →
+        Takes Represents store.old store.new (λ s s'. StepsTo result
+        (run_state s before (W.contents output.old))
+        (run_state s' (R.remaining input.new) (W.contents output.new))
+        unread (pending lines.new)) }
+    ensures fewer { IfNone result (work_left lines.new < work_left lines.old) }
+{
+    let line = parse_line(lines.front(len));
+    if let Line::Load { layer, count } = line {
+        let gathered = Gathered::new(store.alloc(), layer);
+        lines.take(len + 1);
+        return load(store, lines, gathered, count, input, output);
+    }
+    let written = answer(store, line, output);
+    lines.take(len + 1);
+    end_after(written, false)
+}
+
+// Answers a load whose first line was taken: takes its entry lines, makes the call of the store and writes the reply.
+fn load<D: BlockDevice, A: Allocator + Copy, R: Read, W: Write>(
+    store: &mut Store<D, A>,
+    lines: &mut LineReader,
+    gathered: Gathered<A>,
+    count: u64,
+    input: &mut R,
+    output: &mut W,
+) -> Option<RunEnd>
+    ensures steps { (before : Option (List ℕ)) (unread first layer : List ℕ) → IsOneLine first →
+        meaning_of first ≡ Loads layer count → IsGathered gathered layer [] →
+        Reads false before (R.remaining input.old) unread (pending lines.old) (first ++ newline ∷ []) →
+        Takes Represents store.old store.new (λ s s'. StepsTo result
+        (run_state s before (W.contents output.old))
+        (run_state s' (R.remaining input.new) (W.contents output.new))
+        unread (pending lines.new)) }
+    ensures fewer { IfNone result (work_left lines.new ≤ work_left lines.old) }
+{
+    let mut gathered = gathered;
+    match gather(&mut gathered, count, lines, input, output) {
+        Gathering::Full(ended) => {
+            let reply = load_reply(store, &gathered);
+            end_after(write_reply(&reply, output), ended)
+        }
+        Gathering::Short => end_after(write_reply(&bad_reply::<A>(), output), true),
+        Gathering::Broken(end) => Some(end),
+    }
+}
+
+// The reply to a load of what was gathered.
+fn load_reply<D: BlockDevice, A: Allocator + Copy>(
+    store: &mut Store<D, A>,
+    gathered: &Gathered<A>,
+) -> Reply<A>
+    ensures { (layer : List ℕ) (entries : List (List ℕ)) → IsGathered gathered.now layer entries →
+        Takes Represents store.old store.new
+        (λ s s'. LawfulStep s (load_request layer (objects_in entries)) (reply_answer result) s') }
+{
+    if !gathered.good {
+        return bad_reply();
+    }
+    if !gathered.room {
+        return Reply::Refused(store.out_of_memory());
+    }
+    change_reply(store.load(gathered.layer.as_slice(), gathered.objects.as_slice()))
+}
+
+// The reply to a bad line.
+fn bad_reply<A: Allocator>() -> Reply<A>
+    ensures { reply_answer result ≡ Refused refusal.BadLine }
+{
+    Reply::Refused(Refusal::BadLine)
+}
+
+// Answers the last line, which has no newline. One that begins a load lacks its entry lines, unless it has none.
+fn answer_last<D: BlockDevice, A: Allocator + Copy, W: Write>(
+    store: &mut Store<D, A>,
+    line: Line<'_>,
+    output: &mut W,
+) -> io::Result<()>
+    ensures { (text : List ℕ) → said line.entry ≡ meaning_of text → Takes Represents store.old store.new (λ s s'.
+        AnswersLast text s s' (W.contents output.old) (W.contents output.new) result) }
+{
+    if let Line::Load { layer, count } = line {
+        let reply = last_load_reply(store, layer, count);
+        return write_reply(&reply, output);
+    }
+    answer(store, line, output)
+}
+
+// The reply to a load whose first line is the last of the text.
+fn last_load_reply<D: BlockDevice, A: Allocator + Copy>(
+    store: &mut Store<D, A>,
+    layer: &[u8],
+    count: u64,
+) -> Reply<A>
+    ensures { (line : List ℕ) → meaning_of line ≡ Loads layer.now count → Takes Represents store.old store.new
+        (λ s s'. RepliesLast line s s' (reply_answer result)) }
+{
+    if count > 0 {
+        return bad_reply();
+    }
+    let gathered = Gathered::new(store.alloc(), layer);
+    load_reply(store, &gathered)
 }
 
 // How the run ends after an answer, if it does. The text may have ended after the line.
@@ -129,6 +253,7 @@ fn answer<D: BlockDevice, A: Allocator + Copy, W: Write>(
     line: Line<'_>,
     output: &mut W,
 ) -> io::Result<()>
+    requires { IsPlain (said line) }
     ensures { Takes Represents store.old store.new (λ s s'.
         AnswersLine (said line.entry) s s' (W.contents output.old) (W.contents output.new) result) }
 {
@@ -143,6 +268,7 @@ fn reply_to<D: BlockDevice, A: Allocator + Copy>(
     store: &mut Store<D, A>,
     line: Line<'_>,
 ) -> Option<Reply<A>>
+    requires { IsPlain (said line) }
     ensures { Takes Represents store.old store.new (λ s s'. Replies (said line.entry) s s' (reply_answers result)) }
 {
     match line {
@@ -154,10 +280,21 @@ fn reply_to<D: BlockDevice, A: Allocator + Copy>(
             fanout,
         } => Some(change_reply(store.create(layer, dims, fanout))),
         Line::Insert { layer, id, bounds } => Some(change_reply(store.insert(layer, id, bounds))),
+        // a load is not answered here, since it takes further lines with it
+        Line::Load { .. } => None,
+        Line::Move { layer, id, bounds } => Some(change_reply(store.move_object(
+            layer, id, bounds,
+        ))),
+        Line::Delete { layer, id } => Some(change_reply(store.delete(layer, id))),
+        Line::Drop { layer } => Some(change_reply(store.drop_layer(layer))),
         Line::Get { layer, id } => Some(object_reply(id, store.get(layer, id))),
         Line::Count { layer } => Some(count_reply(store.count(layer))),
         Line::Range { layer, query } => Some(range_reply(store.range(layer, query))),
         Line::Nearest { layer, k, point } => Some(distances_reply(store.nearest(layer, k, point))),
+        Line::Join { first, second } => Some(pairs_reply(store.join(first, second))),
+        Line::Layers => Some(layers_reply(store.layers())),
+        Line::Dump => Some(dump_reply(store.dump())),
+        Line::Check => Some(change_reply(store.check())),
         Line::Reopen => Some(change_reply(store.reopen())),
     }
 }
@@ -208,6 +345,38 @@ fn distances_reply<A: Allocator>(outcome: Result<Vec<(u64, u128), A>, Refusal>) 
 {
     match outcome {
         Ok(rows) => Reply::Distances(rows),
+        Err(refusal) => Reply::Refused(refusal),
+    }
+}
+
+// The reply that the outcome of a join is.
+fn pairs_reply<A: Allocator>(outcome: Result<Vec<(u64, u64), A>, Refusal>) -> Reply<A>
+    ensures { reply_answer result ≡ pairs_answer outcome }
+{
+    match outcome {
+        Ok(pairs) => Reply::Pairs(pairs),
+        Err(refusal) => Reply::Refused(refusal),
+    }
+}
+
+// The reply that the outcome of a listing is.
+fn layers_reply<A: Allocator>(
+    outcome: Result<ArrayVec<LayerInfo, MOST_LAYERS>, Refusal>,
+) -> Reply<A>
+    ensures { reply_answer result ≡ layers_answer outcome }
+{
+    match outcome {
+        Ok(layers) => Reply::Layers(layers),
+        Err(refusal) => Reply::Refused(refusal),
+    }
+}
+
+// The reply that the outcome of a dump is.
+fn dump_reply<A: Allocator>(outcome: Result<Vec<DumpRow, A>, Refusal>) -> Reply<A>
+    ensures { reply_answer result ≡ dump_answer outcome }
+{
+    match outcome {
+        Ok(rows) => Reply::Dump(rows),
         Err(refusal) => Reply::Refused(refusal),
     }
 }

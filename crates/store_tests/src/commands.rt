@@ -1,8 +1,12 @@
 //! Commands as plain data, their answers as numbers, and a store beside the plain list.
 
+use crate::listing::{
+    all_pairs, check_load, dumped, infos, loaded, moved, without_layer, without_object,
+};
 use block_device::BlockDevice;
 use layer_store::{AnyBox, RawBox, RawPoint, RawQuery, Refusal, Store};
 use list_table::ListTable;
+use plain_table::{DumpRow, LayerInfo};
 use std::alloc::{AllocError, Allocator, Global};
 
 /// The window that all boxes of two axes meet.
@@ -11,35 +15,62 @@ pub const PLANE: RawBox = RawBox::Two([i32::MIN; 2], [i32::MAX; 2]);
 /// The window that all boxes of three axes meet.
 pub const SPACE: RawBox = RawBox::Three([i32::MIN; 3], [i32::MAX; 3]);
 
-/// A command. All but the last are on the layer of a name.
+/// An object as it is given: its identifier, and its box, unchecked.
+pub type Object = (u64, RawBox);
+
+/// A command. Those before the joins are on the layer of a name.
 #[derive(Clone, Copy, Debug)]
-pub enum Command {
+pub enum Command<'a> {
     /// A new layer with so many axes and such a fanout.
-    Create(&'static [u8], u64, u64),
+    Create(&'a [u8], u64, u64),
     /// A new object.
-    Insert(&'static [u8], u64, RawBox),
+    Insert(&'a [u8], u64, RawBox),
+    /// All objects of a layer that has none.
+    Load(&'a [u8], &'a [Object]),
+    /// Another box for an object.
+    Move(&'a [u8], u64, RawBox),
+    /// An object taken out.
+    Delete(&'a [u8], u64),
+    /// The layer taken out.
+    Drop(&'a [u8]),
     /// The box of an object.
-    Get(&'static [u8], u64),
+    Get(&'a [u8], u64),
     /// How many objects there are.
-    Count(&'static [u8]),
+    Count(&'a [u8]),
     /// The objects that meet a box.
-    Window(&'static [u8], RawBox),
+    Window(&'a [u8], RawBox),
     /// The objects within a box.
-    Inside(&'static [u8], RawBox),
+    Inside(&'a [u8], RawBox),
     /// The objects that enclose a box.
-    Around(&'static [u8], RawBox),
+    Around(&'a [u8], RawBox),
     /// The objects that hold a point.
-    Point(&'static [u8], RawPoint),
+    Point(&'a [u8], RawPoint),
     /// So many objects nearest to a point.
-    Nearest(&'static [u8], u64, RawPoint),
+    Nearest(&'a [u8], u64, RawPoint),
+    /// The pairs of objects of two layers that meet.
+    Join(&'a [u8], &'a [u8]),
+    /// All layers.
+    Layers,
+    /// All layers and objects.
+    Dump,
+    /// Whether the pages are as they have to be.
+    Check,
     /// A closing, after which the store reads again.
     Reopen,
 }
 
-impl Command {
+impl Command<'_> {
     /// Whether it may change the table.
     pub fn is_change(self) -> bool {
-        matches!(self, Command::Create(..) | Command::Insert(..))
+        matches!(
+            self,
+            Command::Create(..)
+                | Command::Insert(..)
+                | Command::Load(..)
+                | Command::Move(..)
+                | Command::Delete(..)
+                | Command::Drop(..)
+        )
     }
 
     /// Whether it is a closing.
@@ -48,40 +79,76 @@ impl Command {
     }
 }
 
-/// The numbers of an answer's rows, one after the other: a count, or identifiers with bounds or squared distances. A
-/// change has none.
+/// The numbers of an answer's rows, one after the other: a count, or identifiers with bounds, squared distances or
+/// other identifiers, or the bytes of names with numbers. A change has none.
 pub type Answer = Result<Vec<i128>, Refusal>;
 
 /// Puts the command to a store.
 pub fn answer<D: BlockDevice, A: Allocator + Copy + Drop>(
     alloc: Global,
     store: &mut Store<D, A>,
-    command: Command,
+    command: Command<'_>,
 ) -> Answer {
     let mut numbers = Vec::new(alloc);
     match command {
         Command::Create(name, dims, fanout) => store.create(name, dims, fanout)?,
         Command::Insert(name, id, bounds) => store.insert(name, id, bounds)?,
-        Command::Get(name, id) => push_row(&mut numbers, id, store.get(name, id)?)?,
-        Command::Count(name) => numbers.push(i128::from(store.count(name)?))?,
-        Command::Window(name, bounds) => push_rows(&mut numbers, &store.window(name, bounds)?)?,
-        Command::Inside(name, bounds) => push_rows(&mut numbers, &store.inside(name, bounds)?)?,
-        Command::Around(name, bounds) => push_rows(&mut numbers, &store.around(name, bounds)?)?,
-        Command::Point(name, point) => push_rows(&mut numbers, &store.point(name, point)?)?,
-        Command::Nearest(name, k, point) => {
-            push_distances(&mut numbers, &store.nearest(name, k, point)?)?
-        }
+        Command::Load(name, objects) => store.load(name, objects)?,
+        Command::Move(name, id, bounds) => store.move_object(name, id, bounds)?,
+        Command::Delete(name, id) => store.delete(name, id)?,
+        Command::Drop(name) => store.drop_layer(name)?,
+        Command::Check => store.check()?,
         Command::Reopen => store.reopen()?,
+        _ => ask(&mut numbers, store, command)?,
     }
     Ok(numbers)
 }
 
+// Puts a question to a store, and adds the numbers of its answer.
+fn ask<D: BlockDevice, A: Allocator + Copy + Drop>(
+    numbers: &mut Vec<i128>,
+    store: &mut Store<D, A>,
+    question: Command<'_>,
+) -> Result<(), Refusal> {
+    match question {
+        Command::Get(name, id) => push_row(numbers, id, store.get(name, id)?)?,
+        Command::Count(name) => numbers.push(i128::from(store.count(name)?))?,
+        Command::Window(name, bounds) => push_rows(numbers, &store.window(name, bounds)?)?,
+        Command::Inside(name, bounds) => push_rows(numbers, &store.inside(name, bounds)?)?,
+        Command::Around(name, bounds) => push_rows(numbers, &store.around(name, bounds)?)?,
+        Command::Point(name, point) => push_rows(numbers, &store.point(name, point)?)?,
+        Command::Nearest(name, k, point) => {
+            push_distances(numbers, &store.nearest(name, k, point)?)?
+        }
+        Command::Join(first, second) => push_pairs(numbers, &store.join(first, second)?)?,
+        Command::Layers => push_infos(numbers, &store.layers()?)?,
+        Command::Dump => push_dump(numbers, &store.dump()?)?,
+        _ => {}
+    }
+    Ok(())
+}
+
 /// Puts the command to the plain list.
-pub fn listed(alloc: Global, table: &mut ListTable<Global>, command: Command) -> Answer {
-    let mut numbers = Vec::new(alloc);
+pub fn listed(alloc: Global, table: &mut ListTable<Global>, command: Command<'_>) -> Answer {
     match command {
         Command::Create(name, dims, fanout) => table.create(name, dims, fanout)?,
         Command::Insert(name, id, bounds) => table.insert(name, id, bounds)?,
+        Command::Load(name, objects) => {
+            check_load(alloc, table, name, objects)?;
+            *table = loaded(alloc, table, name, objects)?;
+        }
+        Command::Move(name, id, bounds) => *table = moved(alloc, table, name, id, bounds)?,
+        Command::Delete(name, id) => *table = without_object(alloc, table, name, id)?,
+        Command::Drop(name) => *table = without_layer(alloc, table, name)?,
+        _ => return list_answer(alloc, table, command),
+    }
+    Ok(Vec::new(alloc))
+}
+
+// Puts a question to the plain list. A check and a closing find nothing to do.
+fn list_answer(alloc: Global, table: &ListTable<Global>, question: Command<'_>) -> Answer {
+    let mut numbers = Vec::new(alloc);
+    match question {
         Command::Get(name, id) => push_row(&mut numbers, id, table.get(name, id)?)?,
         Command::Count(name) => numbers.push(i128::from(table.count(name)?))?,
         Command::Window(name, bounds) => {
@@ -99,7 +166,12 @@ pub fn listed(alloc: Global, table: &mut ListTable<Global>, command: Command) ->
         Command::Nearest(name, k, point) => {
             push_distances(&mut numbers, &table.nearest(name, k, point)?)?
         }
-        Command::Reopen => {}
+        Command::Join(first, second) => {
+            push_pairs(&mut numbers, &all_pairs(alloc, table, first, second)?)?
+        }
+        Command::Layers => push_infos(&mut numbers, &infos(alloc, table)?)?,
+        Command::Dump => push_dump(&mut numbers, &dumped(alloc, table)?)?,
+        _ => {}
     }
     Ok(numbers)
 }
@@ -140,15 +212,68 @@ fn push_distances(numbers: &mut Vec<i128>, rows: &[(u64, u128)]) -> Result<(), A
     Ok(())
 }
 
-/// Whether the store has the layers of these names as the plain list has them: their objects by their trees, those with
-/// an identifier below a bound by their identifier tables too, and their counts.
+fn push_pairs(numbers: &mut Vec<i128>, pairs: &[(u64, u64)]) -> Result<(), AllocError> {
+    for pair in pairs {
+        numbers.push(i128::from(pair.0))?;
+        numbers.push(i128::from(pair.1))?;
+    }
+    Ok(())
+}
+
+fn push_layer(
+    numbers: &mut Vec<i128>,
+    name: &[u8],
+    dims: u8,
+    fanout: u8,
+) -> Result<(), AllocError> {
+    for &byte in name {
+        numbers.push(i128::from(byte))?;
+    }
+    numbers.push(i128::from(dims))?;
+    numbers.push(i128::from(fanout))?;
+    Ok(())
+}
+
+fn push_infos(numbers: &mut Vec<i128>, layers: &[LayerInfo]) -> Result<(), AllocError> {
+    for layer in layers {
+        push_layer(numbers, layer.name.as_slice(), layer.dims, layer.fanout)?;
+        numbers.push(i128::from(layer.count))?;
+    }
+    Ok(())
+}
+
+fn push_dump(numbers: &mut Vec<i128>, rows: &[DumpRow]) -> Result<(), AllocError> {
+    for row in rows {
+        match row {
+            DumpRow::Create(name, dims, fanout) => {
+                push_layer(numbers, name.as_slice(), *dims, *fanout)?
+            }
+            DumpRow::Insert(name, id, bounds) => {
+                for &byte in name.as_slice() {
+                    numbers.push(i128::from(byte))?;
+                }
+                push_row(numbers, *id, *bounds)?;
+            }
+        }
+    }
+    Ok(())
+}
+
+/// Whether the store's pages are as they have to be, and it has the layers and objects that the plain list has: by a
+/// dump, and the objects of the layers of these names by windows, those with an identifier below a bound by their
+/// identifier tables too, and their counts.
 pub fn represents<D: BlockDevice, A: Allocator + Copy + Drop>(
     alloc: Global,
     store: &mut Store<D, A>,
     table: &mut ListTable<Global>,
-    names: &[&'static [u8]],
+    names: &[&[u8]],
     ids: u64,
 ) -> bool {
+    for question in [Command::Layers, Command::Dump, Command::Check] {
+        if answer(alloc, store, question) != listed(alloc, table, question) {
+            return false;
+        }
+    }
     for &name in names {
         for question in [
             Command::Window(name, PLANE),

@@ -69,6 +69,27 @@ fn a_thousand_objects_come_back(rt: HostRuntime) -> Result<(), Fail> {
     Ok(())
 }
 
+// Two thousand are loaded, and the second half is taken out again.
+#[test]
+fn a_thousand_objects_are_left(rt: HostRuntime) -> Result<(), Fail> {
+    let mut store = new_store(rt.alloc(), 8)?;
+    store.create(b"b", 2, 4)?;
+    let mut objects = Vec::new(rt.alloc());
+    for number in 1..=2000u16 {
+        let i = i32::from(number);
+        let bounds = RawBox::Two([i, 2 * i], [i + 1, 2 * i + 1]);
+        objects.push((u64::from(number), bounds))?;
+    }
+    store.load(b"b", &objects)?;
+    store.check()?;
+    for number in 1001..=2000u16 {
+        store.delete(b"b", u64::from(number))?;
+    }
+    store.check()?;
+    ask_thrice(&rt, rt.alloc(), store, 8, &THOUSAND)?;
+    Ok(())
+}
+
 #[test]
 fn sixty_layers_come_back(rt: HostRuntime) -> Result<(), Fail> {
     let mut store = new_store(rt.alloc(), 64)?;

@@ -3,6 +3,8 @@
 #![tactic(auto)]
 
 #[cfg(test)]
+mod change_rows;
+#[cfg(test)]
 mod commands;
 #[cfg(test)]
 mod files;
@@ -10,6 +12,8 @@ mod files;
 mod fixture;
 #[cfg(test)]
 mod larger;
+#[cfg(test)]
+mod listing;
 #[cfg(test)]
 mod refused;
 #[cfg(test)]

@@ -14,12 +14,12 @@ use std::test::Fail;
 // More growths, and more calls of the device, than the script makes.
 const MOST: u32 = 10000;
 
-const NAMES: [&[u8]; 4] = [b"a", b"c", b"l", b"r"];
+const NAMES: [&[u8]; 5] = [b"a", b"c", b"l", b"r", b"u"];
 
 // Identifiers are below this.
 const IDS: u64 = 9;
 
-// Each command, on the trees of worked rows, with pages held, changed and read anew.
+// Insertions and queries, on the trees of worked rows, with pages held, changed and read anew.
 const SCRIPT: [Command; 42] = [
     Command::Create(b"c", 3, 4),
     Command::Insert(b"c", 1, SPACE),
@@ -65,6 +65,66 @@ const SCRIPT: [Command; 42] = [
     Command::Inside(b"r", PLANE),
 ];
 
+// Loads, moves, removals, joins and listings, in the same way.
+const REMOVALS: [Command; 38] = [
+    Command::Create(b"a", 2, 4),
+    Command::Insert(b"a", 1, RawBox::Two([0, 0], [1, 1])),
+    Command::Insert(b"a", 2, RawBox::Two([1, 1], [2, 2])),
+    Command::Create(b"l", 2, 4),
+    Command::Load(
+        b"l",
+        &[
+            (1, RawBox::Two([0, 0], [0, 0])),
+            (2, RawBox::Two([1, 0], [1, 0])),
+            (3, RawBox::Two([2, 0], [2, 0])),
+            (4, RawBox::Two([3, 0], [3, 0])),
+            (5, RawBox::Two([10, 0], [10, 0])),
+        ],
+    ),
+    Command::Reopen,
+    Command::Join(b"l", b"a"),
+    Command::Join(b"a", b"l"),
+    Command::Layers,
+    Command::Reopen,
+    Command::Dump,
+    Command::Reopen,
+    Command::Check,
+    Command::Move(b"a", 1, RawBox::Two([0, 0], [1, 1])),
+    Command::Move(b"a", 1, RawBox::Two([5, 5], [6, 6])),
+    Command::Reopen,
+    Command::Move(b"l", 5, RawBox::Two([1, 1], [1, 1])),
+    Command::Move(b"l", 9, RawBox::Two([1, 1], [1, 1])),
+    Command::Reopen,
+    Command::Delete(b"l", 1),
+    Command::Delete(b"l", 1),
+    Command::Delete(b"l", 2),
+    Command::Window(b"l", PLANE),
+    Command::Reopen,
+    Command::Insert(b"l", 2, RawBox::Two([7, 7], [8, 8])),
+    Command::Load(b"l", &[]),
+    Command::Create(b"u", 2, 4),
+    Command::Load(
+        b"u",
+        &[
+            (1, RawBox::Two([0, 0], [0, 0])),
+            (2, RawBox::Two([0, 0], [0, 0])),
+            (1, RawBox::Two([0, 0], [0, 0])),
+        ],
+    ),
+    Command::Load(b"u", &[]),
+    Command::Load(b"u", &[(8, RawBox::Two([0, 0], [0, 0]))]),
+    Command::Drop(b"l"),
+    Command::Drop(b"l"),
+    Command::Check,
+    Command::Reopen,
+    Command::Drop(b"a"),
+    Command::Create(b"a", 3, 4),
+    Command::Check,
+    Command::Dump,
+];
+
+const SCRIPTS: [&[Command]; 2] = [&SCRIPT, &REMOVALS];
+
 // A change after the script.
 const OBJECT: Command = Command::Insert(b"l", 7, RawBox::Two([4, 0], [4, 0]));
 
@@ -88,7 +148,7 @@ fn put<D: BlockDevice>(
     store: &mut Store<D, &Heap>,
     table: &mut ListTable<Global>,
     heap: &Heap,
-    command: Command,
+    command: Command<'_>,
     cause: Refusal,
 ) -> Ending {
     let given = answer(alloc, store, command);
@@ -120,11 +180,11 @@ fn check_failed<'a, D: BlockDevice + Drop>(
     store: Store<D, &'a Heap>,
     table: &mut ListTable<Global>,
     heap: &'a Heap,
-    command: Command,
+    command: Command<'_>,
 ) {
     let failed = Refusal::StoreFailed(19);
     let mut store = store;
-    for &later in SCRIPT.iter() {
+    for &later in SCRIPT.iter().chain(REMOVALS.iter()) {
         assert!(rt;
             answer(alloc, &mut store, later) == Err(failed),
             "{later:?}"
@@ -202,13 +262,14 @@ fn run<'a, D: BlockDevice + Drop>(
     rt: &impl Abort,
     alloc: Global,
     store: Store<D, &'a Heap>,
+    script: &[Command<'_>],
     heap: &'a Heap,
     cause: Refusal,
 ) -> Result<Ending, Refusal> {
     let mut store = store;
     let mut table = ListTable::new(alloc);
     let mut is_refused = false;
-    for &command in SCRIPT.iter() {
+    for &command in script {
         match put(rt, alloc, &mut store, &mut table, heap, command, cause) {
             Ending::Answered => {}
             Ending::Refused => is_refused = true,
@@ -227,6 +288,7 @@ fn make_and_run<'a, D: BlockDevice + Drop>(
     rt: &impl Abort,
     alloc: Global,
     device: D,
+    script: &[Command<'_>],
     heap: &'a Heap,
     cause: Refusal,
 ) -> Result<Ending, Refusal> {
@@ -234,7 +296,7 @@ fn make_and_run<'a, D: BlockDevice + Drop>(
         return Err(Refusal::NotAStore);
     }
     let (refusal, device) = match create_store(heap, device, 8) {
-        Ok(store) => return run(rt, alloc, store, heap, cause),
+        Ok(store) => return run(rt, alloc, store, script, heap, cause),
         Err(refused) => refused,
     };
     heap.relent();
@@ -250,51 +312,78 @@ fn make_and_run<'a, D: BlockDevice + Drop>(
     Ok(Ending::Refused)
 }
 
-#[test]
-fn each_growth_is_refused_in_turn(rt: HostRuntime) -> Result<(), Fail> {
-    let heap = Refusing::new(rt.alloc());
-    let (mut goes_on, mut fails, mut ends) = (false, false, false);
-    for k in 0..MOST {
-        heap.refuse_from(k);
-        match make_and_run(
-            &rt,
-            rt.alloc(),
-            MemoryDevice::new(&heap),
-            &heap,
-            Refusal::Memory,
-        )? {
-            Ending::Answered => {
-                ends = true;
-                break;
-            }
-            Ending::Refused => goes_on = true,
-            Ending::Failed => fails = true,
+// Whether some of these runs went on after a refusal, some failed, and the last was answered throughout.
+#[derive(Clone, Copy, Debug, PartialEq, Eq)]
+struct Seen {
+    goes_on: bool,
+    fails: bool,
+    ends: bool,
+}
+
+const NOTHING: Seen = Seen {
+    goes_on: false,
+    fails: false,
+    ends: false,
+};
+
+const ALL: Seen = Seen {
+    goes_on: true,
+    fails: true,
+    ends: true,
+};
+
+impl Seen {
+    fn see(&mut self, ending: Ending) {
+        match ending {
+            Ending::Answered => self.ends = true,
+            Ending::Refused => self.goes_on = true,
+            Ending::Failed => self.fails = true,
         }
     }
-    assert!(rt; goes_on && fails && ends);
+}
+
+// Each growth of a script is refused in turn.
+fn refuse_growths(rt: &impl Abort, alloc: Global, script: &[Command<'_>]) -> Result<Seen, Refusal> {
+    let heap = Refusing::new(alloc);
+    let mut seen = NOTHING;
+    for k in 0..MOST {
+        heap.refuse_from(k);
+        let device = MemoryDevice::new(&heap);
+        seen.see(make_and_run(rt, alloc, device, script, &heap, Refusal::Memory)?);
+        if seen.ends {
+            break;
+        }
+    }
+    Ok(seen)
+}
+
+// Each call of the device fails in turn.
+fn fail_calls(rt: &impl Abort, alloc: Global, script: &[Command<'_>]) -> Result<Seen, Refusal> {
+    let heap = Refusing::new(alloc);
+    let mut seen = NOTHING;
+    for passes in 0..MOST {
+        let device = FuseDevice::new(MemoryDevice::new(alloc), u64::from(passes), FuseMode::Once);
+        seen.see(make_and_run(rt, alloc, device, script, &heap, Refusal::Device)?);
+        if seen.ends {
+            break;
+        }
+    }
+    Ok(seen)
+}
+
+#[test]
+fn each_growth_is_refused_in_turn(rt: HostRuntime) -> Result<(), Fail> {
+    for script in SCRIPTS {
+        assert_eq!(rt; refuse_growths(&rt, rt.alloc(), script)?, ALL);
+    }
     Ok(())
 }
 
 #[test]
 fn each_call_of_the_device_fails_in_turn(rt: HostRuntime) -> Result<(), Fail> {
-    let heap = Refusing::new(rt.alloc());
-    let (mut goes_on, mut fails, mut ends) = (false, false, false);
-    for passes in 0..MOST {
-        let device = FuseDevice::new(
-            MemoryDevice::new(rt.alloc()),
-            u64::from(passes),
-            FuseMode::Once,
-        );
-        match make_and_run(&rt, rt.alloc(), device, &heap, Refusal::Device)? {
-            Ending::Answered => {
-                ends = true;
-                break;
-            }
-            Ending::Refused => goes_on = true,
-            Ending::Failed => fails = true,
-        }
+    for script in SCRIPTS {
+        assert_eq!(rt; fail_calls(&rt, rt.alloc(), script)?, ALL);
     }
-    assert!(rt; goes_on && fails && ends);
     Ok(())
 }
 

@@ -10,13 +10,19 @@ use std::process::Abort;
 use std::test::Fail;
 
 /// A command, its answer, and how many nodes it looks at, where that is told.
-pub type Row = (Command, Result<&'static [i128], Refusal>, Option<u64>);
+pub type Row = (
+    Command<'static>,
+    Result<&'static [i128], Refusal>,
+    Option<u64>,
+);
 
 /// Changes that are made, and what is answered then.
 #[derive(Clone, Copy)]
 pub struct Scene {
-    made: &'static [Command],
-    asked: &'static [Row],
+    /// The changes.
+    pub made: &'static [Command<'static>],
+    /// The questions.
+    pub asked: &'static [Row],
 }
 
 // An empty layer, and one with the greatest identifier.

@@ -2,10 +2,13 @@
 
 ghost use Rattle.std.specs.Prelude.{◌<◌};
 
-use crate::commands::{Command, answer, listed, represents};
+use crate::commands::{Command, Object, answer, listed, represents};
 use crate::fixture::{device_of, new_store, opened};
-use layer_store::{RawBox, RawPoint};
+use block_device::MemoryDevice;
+use layer_store::{RawBox, RawPoint, Store};
 use list_table::ListTable;
+use std::alloc::{AllocError, Global};
+use std::process::Abort;
 use std::test::Fail;
 
 // Names of layers. The last three are none.
@@ -22,6 +25,14 @@ const NAMES: [&[u8]; 8] = [
 
 // Fanouts. The first and the last are none.
 const FANOUTS: [u64; 8] = [3, 4, 4, 5, 7, 20, 100, 101];
+
+// Identifiers of single objects are below this.
+const IDS: u32 = 160;
+
+// How many axes the layer of that place mostly has.
+fn axes_of(place: usize) -> u64 {
+    if place == 0 { 2 } else { 3 }
+}
 
 // Numbers by chance, after George Marsaglia, "Xorshift RNGs", 2003. The state is not 0.
 #[derive(Drop)]
@@ -74,9 +85,47 @@ impl Dice {
         }
     }
 
-    // A command on one of the layers: `a` has two axes, and the others mostly have three. Seldom a box does not fit.
-    fn command(&mut self) -> Command {
-        let place = self.place();
+    // The objects of a load of a layer of that place. Seldom an identifier stands twice, or a box does not fit.
+    fn objects(&mut self, alloc: Global, place: usize) -> Result<Vec<Object>, AllocError> {
+        let mut objects = Vec::new(alloc);
+        let fits = self.below(8) > 0;
+        let dims = if place == 0 || !fits && self.below(8) == 0 {
+            2
+        } else {
+            3
+        };
+        let mut id = 0;
+        for _ in 0..self.below(80) {
+            id += u64::from(self.below(4)) + u64::from(fits);
+            let span = self.bounds(dims);
+            let bounds = if fits { ordered(span) } else { span };
+            objects.push((id, bounds))?;
+        }
+        Ok(objects)
+    }
+
+    // A change of one of the layers: `a` has two axes, and the others mostly have three. Seldom a box does not fit.
+    fn change(&mut self, place: usize) -> Command<'static> {
+        let name = NAMES[place];
+        let misfits = self.below(16) == 0;
+        let bounds = self.bounds(if (place == 0) == misfits { 3 } else { 2 });
+        let id = u64::from(self.below(IDS));
+        match self.below(64) {
+            0 => Command::Create(
+                name,
+                u64::from(self.below(6)),
+                FANOUTS[self.below(8) as usize],
+            ),
+            1..=3 => Command::Create(name, axes_of(place), 4),
+            4 => Command::Load(name, &[]),
+            5..=20 => Command::Move(name, id, bounds),
+            21..=32 => Command::Delete(name, id),
+            _ => Command::Insert(name, id, bounds),
+        }
+    }
+
+    // A question.
+    fn question(&mut self, place: usize) -> Command<'static> {
         let name = NAMES[place];
         let misfits = self.below(16) == 0;
         let bounds = self.bounds(if (place == 0) == misfits { 3 } else { 2 });
@@ -84,24 +133,64 @@ impl Dice {
             RawBox::Two(low, _) => RawPoint::Two(low),
             RawBox::Three(low, _) => RawPoint::Three(low),
         };
-        let id = u64::from(self.below(2000));
-        match self.below(32) {
-            0 => Command::Create(
-                name,
-                u64::from(self.below(6)),
-                FANOUTS[self.below(8) as usize],
-            ),
-            1 => Command::Create(name, if place == 0 { 2 } else { 3 }, 4),
-            2 | 3 => Command::Get(name, id),
-            4 => Command::Count(name),
-            5 | 6 => Command::Inside(name, bounds),
-            7 => Command::Around(name, bounds),
-            8 | 9 => Command::Point(name, point),
-            10 | 11 => Command::Nearest(name, u64::from(self.below(12)), point),
-            12..=14 => Command::Window(name, bounds),
-            _ => Command::Insert(name, id, bounds),
+        match self.below(16) {
+            0..=2 => Command::Get(name, u64::from(self.below(IDS))),
+            3 => Command::Count(name),
+            4 | 5 => Command::Inside(name, bounds),
+            6 => Command::Around(name, bounds),
+            7 | 8 => Command::Point(name, point),
+            9 | 10 => Command::Nearest(name, u64::from(self.below(12)), point),
+            11 => Command::Join(name, NAMES[self.place()]),
+            12 if self.below(4) == 0 => Command::Dump,
+            12 if self.below(2) == 0 => Command::Check,
+            12 => Command::Layers,
+            _ => Command::Window(name, bounds),
         }
     }
+}
+
+// The box with each low at most its high.
+fn ordered(bounds: RawBox) -> RawBox {
+    match bounds {
+        RawBox::Two([a, b], [c, d]) => RawBox::Two([a.min(c), b.min(d)], [a.max(c), b.max(d)]),
+        RawBox::Three([a, b, c], [d, e, f]) => RawBox::Three(
+            [a.min(d), b.min(e), c.min(f)],
+            [a.max(d), b.max(e), c.max(f)],
+        ),
+    }
+}
+
+// Puts a command to both, which answer the same.
+fn put(
+    rt: &impl Abort,
+    alloc: Global,
+    store: &mut Store<MemoryDevice>,
+    table: &mut ListTable<Global>,
+    command: Command<'_>,
+) {
+    let given = answer(alloc, store, command);
+    let wanted = listed(alloc, table, command);
+    assert!(rt; given == wanted, "{command:?}");
+}
+
+// Puts a load, mostly into a layer that is made anew.
+fn put_load(
+    rt: &impl Abort,
+    alloc: Global,
+    store: &mut Store<MemoryDevice>,
+    table: &mut ListTable<Global>,
+    dice: &mut Dice,
+) -> Result<(), AllocError> {
+    let place = dice.place();
+    let name = NAMES[place];
+    if dice.below(4) > 0 {
+        put(rt, alloc, store, table, Command::Drop(name));
+        let create = Command::Create(name, axes_of(place), 4);
+        put(rt, alloc, store, table, create);
+    }
+    let objects = dice.objects(alloc, place)?;
+    put(rt, alloc, store, table, Command::Load(name, &objects));
+    Ok(())
 }
 
 #[test]
@@ -111,30 +200,32 @@ fn sessions_answer_as_the_plain_list_does(rt: HostRuntime) -> Result<(), Fail> {
         let mut dice = Dice { state: seed };
         let mut store = new_store(alloc, 8)?;
         let mut table = ListTable::new(alloc);
-        for step in 0..2000 {
+        for _ in 0..2000 {
+            let place = dice.place();
             match dice.below(128) {
                 0 => store = opened(alloc, device_of(store)?, 8 + dice.below(60))?,
                 1 => store.reopen()?,
-                _ => {
-                    let command = dice.command();
-                    let given = answer(alloc, &mut store, command);
-                    let wanted = listed(alloc, &mut table, command);
-                    assert!(rt;
-                        given == wanted,
-                        "{command:?}, step {step} of session {seed}"
-                    );
-                }
+                2 => put_load(&rt, alloc, &mut store, &mut table, &mut dice)?,
+                3..=90 => put(&rt, alloc, &mut store, &mut table, dice.change(place)),
+                _ => put(&rt, alloc, &mut store, &mut table, dice.question(place)),
             }
         }
         assert!(rt;
-            represents(alloc, &mut store, &mut table, &NAMES, 2000),
+            represents(alloc, &mut store, &mut table, &NAMES, u64::from(IDS)),
             "session {seed}"
         );
-        table.insert(b"a", 2000, RawBox::Two([0, 0], [0, 0]))?;
-        assert!(rt;
-            !represents(alloc, &mut store, &mut table, &NAMES, 0),
-            "one is missing"
-        );
     }
+    Ok(())
+}
+
+#[test]
+fn a_missing_object_is_seen(rt: HostRuntime) -> Result<(), Fail> {
+    let mut store = new_store(rt.alloc(), 8)?;
+    let mut table = ListTable::new(rt.alloc());
+    let create = Command::Create(b"a", 2, 4);
+    put(&rt, rt.alloc(), &mut store, &mut table, create);
+    assert!(rt; represents(rt.alloc(), &mut store, &mut table, &NAMES, 2));
+    table.insert(b"a", 1, RawBox::Two([0, 0], [0, 0]))?;
+    assert!(rt; !represents(rt.alloc(), &mut store, &mut table, &NAMES, 2));
     Ok(())
 }

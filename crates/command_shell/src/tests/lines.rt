@@ -1,6 +1,6 @@
 //! What lines mean.
 
-use crate::{Line, MAX_LINE, parse_line};
+use crate::{Line, MAX_LINE, parse_entry, parse_line};
 use layer_store::{RawBox, RawPoint, RawQuery};
 use std::test::Fail;
 
@@ -10,7 +10,7 @@ const CREATE: Line<'static> = Line::Create {
     fanout: 4,
 };
 
-const GOOD: [(&[u8], Line<'static>); 17] = [
+const GOOD: [(&[u8], Line<'static>); 25] = [
     (b"create a 2 4", CREATE),
     (b" \t\rcreate\ta  0002 4\t \r", CREATE),
     (
@@ -74,6 +74,33 @@ const GOOD: [(&[u8], Line<'static>); 17] = [
             point: RawPoint::Two([1, -2]),
         },
     ),
+    (
+        b"move a 7 1 2 3 4",
+        Line::Move {
+            layer: b"a",
+            id: 7,
+            bounds: RawBox::Two([1, 2], [3, 4]),
+        },
+    ),
+    (
+        b"load a 1073741824",
+        Line::Load {
+            layer: b"a",
+            count: 1 << 30,
+        },
+    ),
+    (b"delete a 007", Line::Delete { layer: b"a", id: 7 }),
+    (b"drop drop", Line::Drop { layer: b"drop" }),
+    (
+        b"join a b",
+        Line::Join {
+            first: b"a",
+            second: b"b",
+        },
+    ),
+    (b"layers", Line::Layers),
+    (b" dump ", Line::Dump),
+    (b"check", Line::Check),
     (b"\treopen \r", Line::Reopen),
     (b"", Line::Blank),
     (b" \t\r", Line::Blank),
@@ -89,7 +116,7 @@ fn reads_good_lines(rt: HostRuntime) -> Result<(), Fail> {
     Ok(())
 }
 
-const BAD: [&[u8]; 41] = [
+const BAD: [&[u8]; 52] = [
     b"create",
     b"create a 2",
     b"create a 2 4 4",
@@ -126,7 +153,18 @@ const BAD: [&[u8]; 41] = [
     b"nearest a 3",
     b"nearest a 3 0",
     b"nearest a -3 0 0",
-    b"load a 1",
+    b"load a",
+    b"load a -1",
+    b"load a 1 2",
+    b"load a 1073741825",
+    b"move a 1 0 0 0",
+    b"delete a",
+    b"delete a 1 2",
+    b"drop",
+    b"drop a b",
+    b"join a",
+    b"join a b c",
+    b"layers a",
     b"reopen a",
     b"REOPEN",
     b"\xff\xfe",
@@ -157,6 +195,25 @@ fn takes_lines_of_4096_bytes(rt: HostRuntime) -> Result<(), Fail> {
         assert_eq!(rt; parse_line(&text), line);
         text.push(b' ')?;
         assert_eq!(rt; parse_line(&text), Line::Bad);
+    }
+    Ok(())
+}
+
+#[test]
+fn reads_entry_lines(rt: HostRuntime) -> Result<(), Fail> {
+    let plane = Some((7, RawBox::Two([1, -2], [3, 4])));
+    assert_eq!(rt; parse_entry(b" 007 1 -2 3 4\r"), plane);
+    let space = Some((0, RawBox::Three([1, 2, 3], [4, 5, 6])));
+    assert_eq!(rt; parse_entry(b"0 1 2 3 4 5 6"), space);
+    let bad = [
+        b"".as_slice(),
+        b"# 7 1 2 3 4".as_slice(),
+        b"7 1 2 3".as_slice(),
+        b"-7 1 2 3 4".as_slice(),
+        b"insert a 7 1 2 3 4".as_slice(),
+    ];
+    for line in bad {
+        assert_eq!(rt; parse_entry(line), None);
     }
     Ok(())
 }

@@ -12,8 +12,8 @@ use std::test::Fail;
 // A line and its reply.
 type Row = (&'static [u8], &'static [u8]);
 
-// Lines with their replies: windows, an empty layer, the greatest boxes.
-fn first_rows() -> [Row; 20] {
+// Lines with their replies: windows, and an empty layer.
+fn first_rows() -> [Row; 12] {
     [
         (b"# the first run", b""),
         (b"create a 2 4", b"ok\n"),
@@ -30,6 +30,12 @@ fn first_rows() -> [Row; 20] {
         ),
         (b"count b", b"ok 1\n0\n"),
         (b"nearest b 3 0 0", b"ok 0\n"),
+    ]
+}
+
+// Lines with their replies: the greatest boxes.
+fn extreme_rows() -> [Row; 8] {
+    [
         (b"# extremes", b""),
         (b"create c 3 4", b"ok\n"),
         (
@@ -149,6 +155,93 @@ fn layer_rows() -> [Row; 16] {
     ]
 }
 
+// Lines with their replies: what there is, and joins.
+fn listing_rows() -> [Row; 12] {
+    [
+        (b"# all that there is", b""),
+        (b"layers", b"ok 4\na 2 4 2\nb 2 100 3\nc 3 4 2\nn 2 4 5\n"),
+        (
+            b"join b b",
+            b"ok 7\n1 1\n1 2\n1 18446744073709551615\n2 1\n2 2\n\
+              18446744073709551615 1\n18446744073709551615 18446744073709551615\n",
+        ),
+        (b"join n b", b"ok 0\n"),
+        (b"join a b", b"ok 3\n1 1\n1 2\n1 18446744073709551615\n"),
+        (b"join b c", b"fail 15 DimsDiffer\n"),
+        (b"join b q", b"fail 3 NoLayer\n"),
+        (b"join q B", b"fail 1 BadName\n"),
+        (b"join b", b"fail 24 BadLine\n"),
+        (b"layers b", b"fail 24 BadLine\n"),
+        (b"check", b"ok\n"),
+        (b"check b", b"fail 24 BadLine\n"),
+    ]
+}
+
+// Lines with their replies: moves, removals, and a dump of what is left.
+fn change_rows() -> [Row; 21] {
+    [
+        (b"# moves and removals", b""),
+        (b"move b 1 0 0 1 1", b"ok\n"),
+        (b"move b 1 5 5 6 6", b"ok\n"),
+        (b"point b 0 0", b"ok 1\n18446744073709551615 0 0 0 0\n"),
+        (b"point b 6 6", b"ok 1\n1 5 5 6 6\n"),
+        (b"move b 9 0 0 1 1", b"fail 10 NoObject\n"),
+        (b"move b 9 1 0 0 0", b"fail 7 BadBox\n"),
+        (b"move b 1 0 0 0 1 1 1", b"fail 8 WrongDims\n"),
+        (b"move q 1 0 0 1 1", b"fail 3 NoLayer\n"),
+        (b"delete b 99", b"fail 10 NoObject\n"),
+        (b"delete q 1", b"fail 3 NoLayer\n"),
+        (b"delete b 18446744073709551615", b"ok\n"),
+        (b"point b 0 0", b"ok 0\n"),
+        (b"drop c", b"ok\n"),
+        (b"drop c", b"fail 3 NoLayer\n"),
+        (b"drop C", b"fail 1 BadName\n"),
+        (b"drop n", b"ok\n"),
+        (b"drop a", b"ok\n"),
+        (
+            b"dump",
+            b"ok 3\ncreate b 2 100\ninsert b 1 5 5 6 6\ninsert b 2 1 1 2 2\n",
+        ),
+        (b"check", b"ok\n"),
+        (b"reopen", b"ok\n"),
+    ]
+}
+
+// Lines with their replies: loads.
+fn load_rows() -> [Row; 20] {
+    [
+        (b"# loads", b""),
+        (b"create t 2 4", b"ok\n"),
+        (
+            b"load t 5\n1 0 0 0 0\n2 1 0 1 0\n3 2 0 2 0\n4 3 0 3 0\n5 10 0 10 0",
+            b"ok\n",
+        ),
+        (b"window t 10 0 10 0", b"ok 1\n5 10 0 10 0\n"),
+        (b"load t 0", b"fail 12 NotEmpty\n"),
+        (b"create u 2 4", b"ok\n"),
+        (
+            b"load u 3\n1 0 0 0 0\n2 0 0 0 0\n1 0 0 0 0",
+            b"fail 13 DuplicateInLoad 1\n",
+        ),
+        (b"load u 2\n1 0 0 0 0\n\n", b"fail 24 BadLine\n"),
+        (b"load u 2\n1 0 0 0 0\n# 2 0 0 0 0", b"fail 24 BadLine\n"),
+        (
+            b"load u 2\ncount u\n1 0 0 0 0\ncount u",
+            b"fail 24 BadLine\nok 1\n0\n",
+        ),
+        (b"load u 1\n1 0 0 0 0 0 0", b"fail 8 WrongDims\n"),
+        (b"load u 1\n1 1 0 0 0", b"fail 7 BadBox\n"),
+        (b"load q 1\n1 0 0 0 0", b"fail 3 NoLayer\n"),
+        (b"load U 1\n1 0 0 0 0", b"fail 1 BadName\n"),
+        (b"load u 1073741825", b"fail 24 BadLine\n"),
+        (b"load u 0", b"ok\n"),
+        (b"count u", b"ok 1\n0\n"),
+        (b"load u 1\n  7 0 0 1 1 \ncount u", b"ok\nok 1\n1\n"),
+        (b"layers", b"ok 3\nb 2 100 2\nt 2 4 5\nu 2 4 1\n"),
+        (b"check", b"ok\n"),
+    ]
+}
+
 // Whether the store answers each line so.
 fn answers(alloc: Global, store: &mut Store<MemoryDevice>, rows: &[Row]) -> bool {
     for row in rows {
@@ -167,10 +260,14 @@ fn answers(alloc: Global, store: &mut Store<MemoryDevice>, rows: &[Row]) -> bool
 fn answers_the_worked_rows(rt: HostRuntime) -> Result<(), Fail> {
     let mut store = new_store(rt.alloc())?;
     assert!(rt; answers(rt.alloc(), &mut store, &first_rows()));
+    assert!(rt; answers(rt.alloc(), &mut store, &extreme_rows()));
     assert!(rt; answers(rt.alloc(), &mut store, &nearest_rows()));
     assert!(rt; answers(rt.alloc(), &mut store, &touching_rows()));
     assert!(rt; answers(rt.alloc(), &mut store, &object_rows()));
     assert!(rt; answers(rt.alloc(), &mut store, &layer_rows()));
+    assert!(rt; answers(rt.alloc(), &mut store, &listing_rows()));
+    assert!(rt; answers(rt.alloc(), &mut store, &change_rows()));
+    assert!(rt; answers(rt.alloc(), &mut store, &load_rows()));
     Ok(())
 }
 
@@ -203,10 +300,14 @@ fn answers_the_worked_rows_as_one_text(rt: HostRuntime) -> Result<(), Fail> {
     let mut text = Vec::new(rt.alloc());
     let mut replies = Vec::new(rt.alloc());
     add(&first_rows(), &mut text, &mut replies)?;
+    add(&extreme_rows(), &mut text, &mut replies)?;
     add(&nearest_rows(), &mut text, &mut replies)?;
     add(&touching_rows(), &mut text, &mut replies)?;
     add(&object_rows(), &mut text, &mut replies)?;
     add(&layer_rows(), &mut text, &mut replies)?;
+    add(&listing_rows(), &mut text, &mut replies)?;
+    add(&change_rows(), &mut text, &mut replies)?;
+    add(&load_rows(), &mut text, &mut replies)?;
     let mut store = new_store(rt.alloc())?;
     let mut input = Slow {
         rest: &text,
@@ -216,7 +317,7 @@ fn answers_the_worked_rows_as_one_text(rt: HostRuntime) -> Result<(), Fail> {
     let end = run(&mut store, &mut input, &mut output);
     assert_eq!(rt; end, RunEnd::Finished);
     assert_eq!(rt; output.as_slice(), replies.as_slice());
-    for room in 0..replies.len() {
+    for room in (0..replies.len()).step_by(7) {
         assert!(rt; breaks_off(rt.alloc(), &text, &replies, room)?);
     }
     Ok(())
@@ -245,14 +346,25 @@ fn refuses_a_layer_too_many(rt: HostRuntime) -> Result<(), Fail> {
     Ok(())
 }
 
+// What a window over the layer answers where it has one object.
+const ONE: &[u8] = b"ok 1\n1 0 0 9 9\n";
+
 // Lines, and what a window over the layer answers before each.
-fn lines() -> [Row; 5] {
+fn lines() -> [Row; 13] {
     [
         (b"create a 2 4", b"fail 3 NoLayer\n"),
-        (b"insert a 1 0 0 9 9", b"ok 0\n"),
-        (b"window a 0 0 9 9", b"ok 1\n1 0 0 9 9\n"),
-        (b"point a 9 9", b"ok 1\n1 0 0 9 9\n"),
-        (b"nearest a 1 9 9", b"ok 1\n1 0 0 9 9\n"),
+        (b"load a 2\n5 9 0 9 0\n1 0 0 9 9", b"ok 0\n"),
+        (b"delete a 5", b"ok 2\n1 0 0 9 9\n5 9 0 9 0\n"),
+        (b"insert a 2 0 0 9 9", ONE),
+        (b"move a 2 20 20 30 30", b"ok 2\n1 0 0 9 9\n2 0 0 9 9\n"),
+        (b"window a 0 0 9 9", ONE),
+        (b"point a 9 9", ONE),
+        (b"nearest a 1 9 9", ONE),
+        (b"join a a", ONE),
+        (b"dump", ONE),
+        (b"check", ONE),
+        (b"reopen", ONE),
+        (b"drop a", ONE),
     ]
 }
 
@@ -359,6 +471,25 @@ fn answers_a_count_filled_up_with_blanks(rt: HostRuntime) -> Result<(), Fail> {
         assert_eq!(rt; end, RunEnd::Finished);
         assert_eq!(rt; output.as_slice(), reply);
         line.push(b' ')?;
+    }
+    Ok(())
+}
+
+// A load that lacks entry lines is answered once, at the end of the text.
+#[test]
+fn refuses_a_load_that_lacks_entry_lines(rt: HostRuntime) -> Result<(), Fail> {
+    let mut store = new_store(rt.alloc())?;
+    store.create(b"a", 2, 4)?;
+    for text in [
+        b"load a 3\n1 0 0 1 1\n2 0 0 1 1\n".as_slice(),
+        b"load a 3\n1 0 0 1 1\n2 0 0 1 1".as_slice(),
+        b"load a 1".as_slice(),
+    ] {
+        let mut input = text;
+        let mut output = Vec::new(rt.alloc());
+        let end = run(&mut store, &mut input, &mut output);
+        assert_eq!(rt; end, RunEnd::Finished);
+        assert_eq!(rt; output.as_slice(), b"fail 24 BadLine\n".as_slice());
     }
     Ok(())
 }

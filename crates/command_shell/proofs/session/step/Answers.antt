@@ -1,39 +1,53 @@
 -- The goals of `step` that are proved by hand.
-use Rattle.std.proofs.Common.{[], ◌∷◌, ◌++◌, take, true, false, subst, ap, ◌∙◌}
+use Rattle.std.proofs.Common.{◌≡◌, ℕ, List, Option, [], ◌∷◌, ◌++◌, true, false, subst, ap, sym, ◌∙◌}
 use Rattle.std.specs.Io.KnownBytes.{IsAtEnd}
 use Rattle.command_shell.specs.Lines.{newline}
 use Rattle.command_shell.specs.Meanings.{meaning_of}
-use Rattle.command_shell.specs.Pending.{pending}
-use Rattle.command_shell.specs.Reading.{Reads}
+use Rattle.command_shell.specs.Pending.{Finds, pending}
+use Rattle.command_shell.specs.Reading.{BeginsLine, Reads, ReadsTo}
+use Rattle.command_shell.specs.Serving.{run_state}
+use Rattle.command_shell.specs.TextCommands.{AreCommands}
+use Rattle.command_shell.specs.declared.lines.Found.TheVariants as Found
+use Rattle.command_shell.specs.TextCommands.IsUnfinished.{in_line}
 use Rattle.command_shell.proofs.CommandLemmas.{lines_of-line, long_meaning}
-use Rattle.command_shell.proofs.ReadLemmas.{begun_read, line_read, one_line, last_read, last_front, last_left, last_line, long_read, long_last_read, long_last_line, end_read}
-use Rattle.command_shell.proofs.SessionLemmas.{takes_end, takes_fault, steps_line}
+use Rattle.command_shell.proofs.ReadLemmas.{begun_read, last_read, last_front, last_left, last_line, long_read, long_last_read, long_last_line, end_read}
+use Rattle.command_shell.proofs.SessionLemmas.{steps_after, steps_line, takes_end, takes_fault, takes_on}
 use Rattle.command_shell.proofs.session.step.Goals as goal
+
+-- what was found is pending
+pending_read : (before after : Option (List ℕ)) (at_end : Type 0) (bytes mid : List ℕ) (n : ℕ) → ReadsTo before after (λ more. Finds at_end (Found.Line n) (bytes ++ more) mid) → ReadsTo before after (λ more. bytes ++ more ≡ mid)
+pending_read before after at_end bytes mid n found = record { more = found.more; read = found.read; so = sym found.so.0 }
+
+pub step_line-requires : goal.step_line-requires
+step_line-requires g c =
+    let found = rw c.in-Ok-Line.field-0-is at c.in-Ok-Line.ensures.found in
+    subst (λ (b : List ℕ). BeginsLine b c.in-Ok-Line.len) (sym found.so.0) found.so.1
 
 pub returns-in-Ok-Line-clause-steps : goal.returns-in-Ok-Line-clause-steps
 returns-in-Ok-Line-clause-steps g c =
-    let mid = pending c.find.new.self in
+    let r = g.R.Read.remaining c.args.input.now in
+    let r' = g.R.Read.remaining c.find.new.reader in
     let bytes = pending c.args.lines.now in
-    let n = c.in-Ok-Line.len in
-    let at_end = IsAtEnd (g.R.Read.remaining c.find.new.reader) in
     let found = rw c.in-Ok-Line.field-0-is at c.in-Ok-Line.ensures.found in
-    steps_line (g.R.Read.remaining c.args.input.now) (g.R.Read.remaining c.find.new.reader) (g.W.Write.contents c.args.output.now) (g.W.Write.contents c.answer-written.new.output) bytes (pending c.take.new.self) (take n mid ++ newline ∷ []) (take n mid) _ false c.end_after.result c.answer-written.result c.end_after.ensures
-    (line_read (g.R.Read.remaining c.args.input.now) (g.R.Read.remaining c.find.new.reader) bytes mid (pending c.take.new.self) n at_end found c.take.ensures.pending)
-    (lines_of-line (take n mid) (one_line (g.R.Read.remaining c.args.input.now) (g.R.Read.remaining c.find.new.reader) bytes mid (pending c.take.new.self) n at_end found))
-    (c.parse_line.ensures ∙ ap meaning_of c.front.ensures) c.answer-written.ensures
+    c.step_line.ensures.steps r bytes (pending_read r r' (IsAtEnd r') bytes (pending c.find.new.self) c.in-Ok-Line.len found)
 
 pub returns-in-Ok-Last-clause-steps : goal.returns-in-Ok-Last-clause-steps
 returns-in-Ok-Last-clause-steps g c =
+    let r = g.R.Read.remaining c.args.input.now in
+    let r' = g.R.Read.remaining c.find.new.reader in
+    let w = g.W.Write.contents c.args.output.now in
+    let w' = g.W.Write.contents c.answer_last-written.new.output in
     let mid = pending c.find.new.self in
     let bytes = pending c.args.lines.now in
-    let left = pending c.take-in-Ok-Last.new.self in
+    let left = pending c.take.new.self in
     let n = c.in-Ok-Last.len in
-    let at_end = IsAtEnd (g.R.Read.remaining c.find.new.reader) in
+    let at_end = IsAtEnd r' in
     let found = rw c.in-Ok-Last.field-0-is at c.in-Ok-Last.ensures.found in
-    steps_line (g.R.Read.remaining c.args.input.now) (g.R.Read.remaining c.find.new.reader) (g.W.Write.contents c.args.output.now) (g.W.Write.contents c.answer-written-in-Ok-Last.new.output) bytes left mid mid _ true c.end_after-in-Ok-Last.result c.answer-written-in-Ok-Last.result c.end_after-in-Ok-Last.ensures
-    (last_read (g.R.Read.remaining c.args.input.now) (g.R.Read.remaining c.find.new.reader) bytes mid left n found (c.take-in-Ok-Last.ensures.pending ∙ last_left (g.R.Read.remaining c.args.input.now) (g.R.Read.remaining c.find.new.reader) bytes mid n at_end found))
-    (last_line (g.R.Read.remaining c.args.input.now) (g.R.Read.remaining c.find.new.reader) bytes mid n at_end found)
-    (c.parse_line-in-Ok-Last.ensures ∙ ap meaning_of (c.front-in-Ok-Last.ensures ∙ last_front (g.R.Read.remaining c.args.input.now) (g.R.Read.remaining c.find.new.reader) bytes mid n at_end found)) c.answer-written-in-Ok-Last.ensures
+    let line = last_line r r' bytes mid n at_end found in
+    let reads = last_read r r' bytes mid left n found (c.take.ensures.pending ∙ last_left r r' bytes mid n at_end found) in
+    takes_on (c.answer_last-written.ensures mid (c.parse_line.ensures ∙ ap meaning_of (c.front.ensures ∙ last_front r r' bytes mid n at_end found)))
+    (λ s s' a. steps_after (run_state s r w) (run_state s' r' w') bytes left mid a.requests a.answers true c.end_after.result c.answer_last-written.result c.end_after.ensures reads
+    (subst (λ (ls : List (List ℕ)). AreCommands true ls a.requests) (sym line) a.asked) a.lawful a.written)
 
 pub returns-in-Ok-TooLong-clause-steps : goal.returns-in-Ok-TooLong-clause-steps
 returns-in-Ok-TooLong-clause-steps g c =
@@ -67,4 +81,4 @@ returns-in-Ok-End-clause-steps g c =
 pub returns-in-Err-clause-steps : goal.returns-in-Err-clause-steps
 returns-in-Err-clause-steps g c =
     let bytes = pending c.args.lines.now in
-    takes_fault (g.R.Read.remaining c.args.input.now) (g.R.Read.remaining c.find.new.reader) (g.W.Write.contents c.args.output.now) bytes (pending c.find.new.self) _ c.in-Err.ensures.found.so (begun_read (g.R.Read.remaining c.args.input.now) (g.R.Read.remaining c.find.new.reader) bytes c.in-Err.ensures.found)
+    takes_fault (g.R.Read.remaining c.args.input.now) (g.R.Read.remaining c.find.new.reader) (g.W.Write.contents c.args.output.now) bytes (pending c.find.new.self) _ (in_line c.in-Err.ensures.found.so) (begun_read (g.R.Read.remaining c.args.input.now) (g.R.Read.remaining c.find.new.reader) bytes c.in-Err.ensures.found)

@@ -1,0 +1,95 @@
+-- The goals of `take_entry` that are proved by hand.
+use Rattle.std.proofs.Common.{◌≡◌, ◌∙◌, ℕ, List, [], ◌∷◌, ◌++◌, Bool, None, take, false, subst, sym}
+use Rattle.std.specs.Io.KnownBytes.{IsAtEnd}
+use Rattle.plain_table.specs.Loads.{GivenObjects}
+use Rattle.command_shell.specs.Entries.{objects_in}
+use Rattle.command_shell.specs.Gathering.{IsGathered, Tells}
+use Rattle.command_shell.specs.Lines.{newline}
+use Rattle.command_shell.specs.Pending.{pending}
+use Rattle.command_shell.proofs.CommandLemmas.{lines_of-line}
+use Rattle.command_shell.proofs.GatherLemmas.{bad_more, long_entry}
+use Rattle.command_shell.proofs.LineLemmas.{none_found, of_err}
+use Rattle.command_shell.proofs.ReadLemmas.{begun_read, last_front, last_left, last_line, last_read, line_read, long_last_line, long_last_read, long_read, one_line, reads_none}
+use Rattle.command_shell.proofs.loading.take_entry.Goals as goal
+
+pub returns-then-is_err-clause-takes : goal.returns-then-is_err-clause-takes
+returns-then-is_err-clause-takes g c =
+    let unread = pending c.args.lines.now in record {
+      unread = unread;
+      one_line = none_found unread c.line-line.result c.line-line.ensures (of_err c.hand_on.result _ c.hand_on.ensures.none c.if-is_err.ensures.value);
+      reads = reads_none (g.R.Read.remaining c.args.input.now) unread;
+    }
+
+pub returns-in-Ok-Line-clause-takes : goal.returns-in-Ok-Line-clause-takes
+returns-in-Ok-Line-clause-takes g c =
+    let r = g.R.Read.remaining c.args.input.now in
+    let r' = g.R.Read.remaining c.find.new.reader in
+    let mid = pending c.find.new.self in
+    let bytes = pending c.args.lines.now in
+    let n = c.in-Ok-Line.len in
+    let at_end = IsAtEnd r' in
+    let found = rw c.in-Ok-Line.field-0-is at c.in-Ok-Line.ensures.found in record {
+      text = take n mid ++ newline ∷ [];
+      line = take n mid;
+      reads = line_read r r' bytes mid (pending c.take.new.self) n at_end found c.take.ensures.pending;
+      is_line = lines_of-line (take n mid) (one_line r r' bytes mid (pending c.take.new.self) n at_end found);
+      gathers = λ layer lines h. subst (λ (l : List ℕ). IsGathered c.add.new.self layer (lines ++ l ∷ [])) c.front.ensures (c.add.ensures layer lines h);
+    }
+
+pub returns-in-Ok-Last-clause-takes : goal.returns-in-Ok-Last-clause-takes
+returns-in-Ok-Last-clause-takes g c =
+    let r = g.R.Read.remaining c.args.input.now in
+    let r' = g.R.Read.remaining c.find.new.reader in
+    let mid = pending c.find.new.self in
+    let bytes = pending c.args.lines.now in
+    let left = pending c.take-in-Ok-Last.new.self in
+    let n = c.in-Ok-Last.len in
+    let at_end = IsAtEnd r' in
+    let found = rw c.in-Ok-Last.field-0-is at c.in-Ok-Last.ensures.found in record {
+      text = mid;
+      line = mid;
+      reads = last_read r r' bytes mid left n found (c.take-in-Ok-Last.ensures.pending ∙ last_left r r' bytes mid n at_end found);
+      is_line = last_line r r' bytes mid n at_end found;
+      gathers = λ layer lines h. subst (λ (l : List ℕ). IsGathered c.add-in-Ok-Last.new.self layer (lines ++ l ∷ [])) (c.front-in-Ok-Last.ensures ∙ last_front r r' bytes mid n at_end found) (c.add-in-Ok-Last.ensures layer lines h);
+    }
+
+-- a line that is too long was gathered
+spoiled : (good room : Bool) (name : List ℕ) (objects : GivenObjects) (layer : List ℕ) (lines : List (List ℕ)) (line : List ℕ) → good ≡ false → objects_in (lines ++ line ∷ []) ≡ None → Tells good room name objects layer (objects_in (lines ++ line ∷ []))
+spoiled good room name objects layer lines line is bad = subst (λ (b : Bool). Tells b room name objects layer (objects_in (lines ++ line ∷ []))) (sym is) bad
+
+pub returns-in-Ok-TooLong-clause-takes : goal.returns-in-Ok-TooLong-clause-takes
+returns-in-Ok-TooLong-clause-takes g c =
+    let r = g.R.Read.remaining c.args.input.now in
+    let r' = g.R.Read.remaining c.find.new.reader in
+    let left = pending c.find.new.self in
+    let bytes = pending c.args.lines.now in
+    let found = rw c.in-Ok-TooLong.field-0-is at c.in-Ok-TooLong.ensures.found in record {
+      text = found.so.0 ++ newline ∷ [];
+      line = found.so.0;
+      reads = long_read r r' bytes left (IsAtEnd r') found;
+      is_line = lines_of-line found.so.0 found.so.2;
+      gathers = λ layer lines h. spoiled c.spoil.new.self.good c.spoil.new.self.room c.spoil.new.self.layer.items c.spoil.new.self.objects.items layer lines found.so.0 c.spoil.ensures (bad_more lines found.so.0 (long_entry found.so.0 found.so.1));
+    }
+
+pub returns-in-Ok-LastTooLong-clause-takes : goal.returns-in-Ok-LastTooLong-clause-takes
+returns-in-Ok-LastTooLong-clause-takes g c =
+    let r = g.R.Read.remaining c.args.input.now in
+    let r' = g.R.Read.remaining c.find.new.reader in
+    let left = pending c.find.new.self in
+    let bytes = pending c.args.lines.now in
+    let found = rw c.in-Ok-LastTooLong.field-0-is at c.in-Ok-LastTooLong.ensures.found in
+    let line = bytes ++ found.more in record {
+      text = line;
+      line = line;
+      reads = long_last_read r r' bytes left found;
+      is_line = long_last_line line found.so.0 found.so.1;
+      gathers = λ layer lines h. spoiled c.spoil-in-Ok-LastTooLong.new.self.good c.spoil-in-Ok-LastTooLong.new.self.room c.spoil-in-Ok-LastTooLong.new.self.layer.items c.spoil-in-Ok-LastTooLong.new.self.objects.items layer lines line c.spoil-in-Ok-LastTooLong.ensures (bad_more lines line (long_entry line found.so.0));
+    }
+
+pub returns-in-Err-clause-takes : goal.returns-in-Err-clause-takes
+returns-in-Err-clause-takes g c =
+    let bytes = pending c.args.lines.now in record {
+      unread = bytes ++ c.in-Err.ensures.found.more;
+      one_line = c.in-Err.ensures.found.so;
+      reads = begun_read (g.R.Read.remaining c.args.input.now) (g.R.Read.remaining c.find.new.reader) bytes c.in-Err.ensures.found;
+    }

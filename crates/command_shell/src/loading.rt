@@ -1,0 +1,164 @@
+//! The entry lines of a load, read and gathered one after the other.
+
+ghost use Rattle.std.specs.Prelude.{◌≡◌, ℕ, ◌<◌, ◌≤◌, ◌++◌, ◌∷◌, [], false, List, OnOk, OnErr, IfErr};
+ghost use Rattle.std.specs.Io.KnownBytes.{Keeps};
+ghost use Rattle.command_shell.specs.Gathering.{GathersTo, IsGathered, TakesEntry};
+ghost use Rattle.command_shell.specs.Pending.{pending, work_left};
+ghost use Rattle.command_shell.specs.declared.session.RunEnd.TheVariants as run_end;
+
+use crate::lines::{Found, LineReader};
+use crate::parse::parse_entry;
+use crate::session::{RunEnd, hand_on};
+use layer_store::RawBox;
+use std::alloc::Allocator;
+use std::io::{Read, Write};
+
+/// What was gathered of a load so far.
+#[derive(Drop)]
+pub struct Gathered<A: Allocator> {
+    /// The layer's name.
+    pub layer: Vec<u8, A>,
+    /// The objects of the entry lines.
+    pub objects: Vec<(u64, RawBox), A>,
+    /// Whether each entry line gave an object.
+    pub good: bool,
+    /// Whether there was room for the name and each object.
+    pub room: bool,
+}
+
+/// What was taken of a text.
+#[derive(Clone, Copy)]
+pub enum Taken {
+    /// A line with its newline.
+    Line,
+    /// The last line, without.
+    Last,
+    /// Nothing, since the text has ended.
+    End,
+}
+
+/// How the reading of entry lines ended.
+#[derive(Clone, Copy)]
+pub enum Gathering {
+    /// All were there; whether the text has ended with them.
+    Full(bool),
+    /// The text has ended before.
+    Short,
+    /// It could not be read further, or a flush failed.
+    Broken(RunEnd),
+}
+
+impl<A: Allocator + Copy> Gathered<A> {
+    /// Nothing yet, of a load into the layer of that name.
+    pub fn new(alloc: A, layer: &[u8]) -> Self
+        ensures { IsGathered result layer.now [] }
+    {
+        match Vec::from_slice(alloc, layer) {
+            Ok(layer) => Gathered {
+                layer,
+                objects: Vec::new(alloc),
+                good: true,
+                room: true,
+            },
+            Err(_) => Gathered {
+                layer: Vec::new(alloc),
+                objects: Vec::new(alloc),
+                good: true,
+                room: false,
+            },
+        }
+    }
+
+    // An entry line more.
+    fn add(&mut self, line: &[u8])
+        ensures { (layer : List ℕ) (lines : List (List ℕ)) → IsGathered self.old layer lines →
+            IsGathered self.new layer (lines ++ line.now ∷ []) }
+    {
+        match parse_entry(line) {
+            None => self.good = false,
+            Some(object) => {
+                if self.objects.push(object).is_err() {
+                    self.room = false;
+                }
+            }
+        }
+    }
+
+    // An entry line more that is too long.
+    fn spoil(&mut self)
+        ensures { self.new.good ≡ false }
+    {
+        self.good = false;
+    }
+}
+
+// Takes the next entry line, and gathers what it gives. The replies so far are flushed where more is read.
+fn take_entry<A: Allocator + Copy, R: Read, W: Write>(
+    gathered: &mut Gathered<A>,
+    lines: &mut LineReader,
+    input: &mut R,
+    output: &mut W,
+) -> Result<Taken, RunEnd>
+    ensures takes { TakesEntry result gathered.old gathered.new (R.remaining input.old) (R.remaining input.new)
+        (pending lines.old) (pending lines.new) }
+    ensures kept { Keeps (W.contents output.old) (W.contents output.new) }
+    ensures going { IfErr result (λ end. end ≡ run_end.Finished → ⊥) }
+    ensures fewer { OnOk result (work_left lines.new ≤ work_left lines.old) }
+{
+    let line = lines.line();
+    if hand_on(line, output).is_err() {
+        return Err(RunEnd::WriteFault);
+    }
+    match lines.find(line, input) {
+        Ok(Found::Line(len)) => {
+            gathered.add(lines.front(len));
+            lines.take(len + 1);
+            Ok(Taken::Line)
+        }
+        Ok(Found::Last(len)) => {
+            gathered.add(lines.front(len));
+            lines.take(len);
+            Ok(Taken::Last)
+        }
+        Ok(Found::TooLong) => {
+            gathered.spoil();
+            Ok(Taken::Line)
+        }
+        Ok(Found::LastTooLong) => {
+            gathered.spoil();
+            Ok(Taken::Last)
+        }
+        Ok(Found::End) => Ok(Taken::End),
+        Err(_) => Err(RunEnd::ReadFault),
+    }
+}
+
+/// Takes so many entry lines, and gathers what they give.
+pub fn gather<A: Allocator + Copy, R: Read, W: Write>(
+    gathered: &mut Gathered<A>,
+    count: u64,
+    lines: &mut LineReader,
+    input: &mut R,
+    output: &mut W,
+) -> Gathering
+    ensures gathers { GathersTo result count gathered.old gathered.new (R.remaining input.old)
+        (R.remaining input.new) (pending lines.old) (pending lines.new) }
+    ensures kept { Keeps (W.contents output.old) (W.contents output.new) }
+    ensures going { result ≡ Gathering.Broken run_end.Finished → ⊥ }
+    ensures fewer { result ≡ Gathering.Full false → work_left lines.new ≤ work_left lines.old }
+{
+    for taken in 0..count {
+        match take_entry(gathered, lines, input, output) {
+            Err(end) => return Gathering::Broken(end),
+            Ok(Taken::Line) => {}
+            Ok(Taken::Last) => {
+                if taken + 1 < count {
+                    return Gathering::Short;
+                }
+                return Gathering::Full(true);
+            }
+            Ok(Taken::End) => return Gathering::Short,
+        }
+    }
+    Gathering::Full(false)
+}
