@@ -35,7 +35,7 @@ use Rattle.live_layers.specs.Layers.{Holds, IsTreeOf, LayersStand, Reading, entr
 use Rattle.live_layers.specs.declared.layers.Layers.{Layers}
 use Rattle.live_layers.proofs.AskLemmas.{named_there}
 use Rattle.live_layers.proofs.CatalogGood.{more_record}
-use Rattle.live_layers.proofs.EntryLemmas.{left_of, less_is, right_of}
+use Rattle.plain_table.proofs.EntryLemmas.{left_of, less_is, right_of}
 use Rattle.live_layers.proofs.FindLemmas.{below_at, finds_at, no_reading, ties}
 use Rattle.live_layers.proofs.HoldLemmas.{catalog_good, few_objects, here, in_layers, in_records, other_place, other_stays, rows_good, the_rest, used_here}
 use Rattle.live_layers.proofs.LayerLemmas.{layer_stays, layers_stay, of_others}
