@@ -1,6 +1,5 @@
 -- The first box that is refused has a low above its high, since all have as many axes as the layer.
-use Rattle.std.proofs.Common.{◌≡◌, ◌∙◌, false, inl, map, refl, subst, sym, take, arith}
-use Rattle.plain_table.specs.Loads.{given_object}
+use Rattle.std.proofs.Common.{◌≡◌, ◌∙◌, false, refl, subst, sym}
 use Rattle.plain_table.specs.declared.refusal.Refusal.{Refusal}
 use Rattle.store_law.specs.Lawful.{blames_device}
 use Rattle.live_layers.proofs.GivenObjectLemmas.{boxes_more, is_bad, none_bad, one_is_bad, ordered_more, refused_so, whole_boxes, whole_ordered}
