@@ -1,19 +1,29 @@
 -- All objects of a layer, and the lines of layers in a dump.
-use Rattle.std.proofs.Common.{◌≡◌, ◌∙◌, ℕ, ◌<◌, ◌≤ℤ◌, pos, negsuc, Bool, true, cond, List, [], ◌∷◌, All, get_or, replicate, refl, sym, ap, subst, arith}
+use Rattle.std.proofs.Common.{◌≡◌, ◌∙◌, ℕ, zero, suc, ◌+◌, ◌<◌, ◌≤ℤ◌, pos, negsuc, Bool, true, cond, List, [], ◌∷◌, ◌++◌, All, append-nil, append_assoc, get_or, length, map, replicate, take, refl, sym, ap, subst, arith}
 use Rattle.std.specs.Int.{w32}
-use Rattle.std.specs.Prelude.{FitsSigned, filter}
+use Rattle.std.specs.Prelude.{FitsSigned, filter, flat_map}
 use Rattle.std.specs.FinMap.{entries}
+use Rattle.std.proofs.lemmas.Grind.{flat_map-append}
 use Rattle.std.proofs.lemmas.Int.{ints}
-use Rattle.std.proofs.lemmas.List.{get_or-replicate}
+use Rattle.std.proofs.lemmas.List.{get_or-replicate, map-append, take_more}
 use Rattle.std.proofs.lemmas.List.Elements.{All-append, All-cons, All-head, All-nil, All-tail}
 use Rattle.std.proofs.lemmas.List.Sorted.{All-permutation}
 use Rattle.box_math.specs.Bounds.{Bounds, IsBox, meets_test}
 use Rattle.box_math.proofs.TestLaws.{meets_test_true}
+use Rattle.catalog_page.specs.Layout.{Record, record_of}
+use Rattle.catalog_page.specs.declared.layer_record.LayerRecord.{LayerRecord}
 use Rattle.layer_pages.specs.Layers.{IsLayerAt, LayerPages, Objects}
 use Rattle.node_page.specs.Standing.{PageMap}
+use Rattle.plain_table.specs.Answers.{line_of_row}
+use Rattle.plain_table.specs.Listings.{DumpLine, dump_lines}
+use Rattle.plain_table.specs.Listings.DumpLine.{CreateLine, InsertLine}
+use Rattle.plain_table.specs.declared.rows.DumpRow.{DumpRow}
 use Rattle.tree_node.specs.Boxes.{RowHasBoxes}
 use Rattle.tree_node.specs.Trees.{Row, child, end, more, object, objects_in}
 use Rattle.tree_node.specs.declared.node.Root.{Root}
+use Rattle.live_layers.specs.Layers.{LayerStands, Reading, entry_of}
+use Rattle.live_layers.specs.Listing.{lines_of, lines_of_layers}
+use Rattle.live_layers.proofs.FindLemmas.{no_reading}
 
 -- ---- the window of all points
 
@@ -59,3 +69,27 @@ pub all_objects_meet : (dims most : ℕ) (pages : PageMap) (root : Root) (direct
     → filter (λ (o : ℕ × Bounds). meets_test dims o.1 (everywhere dims)) (entries objects) ≡ entries objects
 all_objects_meet dims most pages root directory l objects at =
     all_meet dims (entries objects) (All-permutation (HasBox dims) (objects_in l.tree.row) (entries objects) at.leaves (boxes_in dims l.tree.row at.boxes))
+
+-- ---- the lines of a layer
+
+-- the line that makes it, and then those of its objects
+pub layer_dumped : (pages : PageMap) (r : LayerRecord) (h : Reading) → h.row ≡ record_of r → LayerStands pages h → (before pushed now : List DumpRow) (create : DumpRow) (objects : List (ℕ × Bounds))
+    → pushed ≡ before ++ create ∷ [] → line_of_row create ≡ CreateLine r.name.items r.dims r.fanout → objects ≡ entries h.layer.objects
+    → lines_of now ≡ lines_of pushed ++ map (λ (o : ℕ × Bounds). InsertLine r.name.items o.0 o.1) objects → lines_of now ≡ lines_of before ++ dump_lines (entry_of h)
+layer_dumped pages r h row stands before pushed now create objects added made all rest =
+    let name : r.name.items ≡ h.row.name = sym (ap (λ (x : Record). x.name) row) in
+    let dims : r.dims ≡ h.layer.dims = sym (stands.dims ∙ ap (λ (x : Record). x.dims) row) in
+    let fanout : r.fanout ≡ h.layer.fanout = sym (stands.fanout ∙ ap (λ (x : Record). x.fanout) row) in
+    let inserts : List DumpLine = map (λ (o : ℕ × Bounds). InsertLine r.name.items o.0 o.1) objects in
+    let first : lines_of pushed ≡ lines_of before ++ CreateLine r.name.items r.dims r.fanout ∷ [] =
+    ap lines_of added ∙ map-append line_of_row before (create ∷ []) ∙ ap (λ (line : DumpLine). lines_of before ++ line ∷ []) made in
+    let same : CreateLine r.name.items r.dims r.fanout ∷ inserts ≡ dump_lines (entry_of h) = λ i. CreateLine (name i) (dims i) (fanout i) ∷ map (λ (o : ℕ × Bounds). InsertLine (name i) o.0 o.1) (all i) in
+    rest ∙ ap (λ (lines : List DumpLine). lines ++ inserts) first ∙ append_assoc (lines_of before) (CreateLine r.name.items r.dims r.fanout ∷ []) inserts
+    ∙ ap (λ (lines : List DumpLine). lines_of before ++ lines) same
+
+-- one layer after the other
+pub layers_dumped : (hs : List Reading) (i : ℕ) → i < length hs → lines_of_layers (take (i + 1) hs) ≡ lines_of_layers (take i hs) ++ dump_lines (entry_of (get_or hs i no_reading))
+layers_dumped hs i lt =
+    let h = get_or hs i no_reading in
+    ap lines_of_layers (take_more hs i no_reading lt) ∙ ap (flat_map dump_lines) (map-append entry_of (take i hs) (h ∷ []))
+    ∙ flat_map-append dump_lines (map entry_of (take i hs)) (entry_of h ∷ []) ∙ ap (λ (lines : List DumpLine). lines_of_layers (take i hs) ++ lines) (append-nil (dump_lines (entry_of h)))
