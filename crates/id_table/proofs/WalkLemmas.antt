@@ -14,7 +14,7 @@ in_front q (x ∷ xs) ys b is = step (eqb x.0 q) (box_in q xs) (box_in q (xs ++ 
     step true front all later e = e
     step false front all later e = later e
 
--- What is left of a chain behind so many buckets without an identifier: it stands from a page on.
+-- What is left of a chain after so many buckets without an identifier: it stands from a page on.
 pub record Rest (dims : ℕ) (pages : PageMap) (id : ℕ) (chain : List Bucket) (walked number : ℕ) : Type 0 where
   pub rest : List Bucket
   pub stands : ChainStands dims pages number rest

@@ -95,6 +95,6 @@ pub record IsRun (class : ℕ) (objects : List Object) (count : ℕ) : Type 0 wh
   pub few : count ≤ length objects
   pub placed : All (λ object. class_of object.0 ≡ class) (take count objects)
 
--- a bucket with these objects behind its own
+-- a bucket with these objects after its own
 abbrev pub with_more : BucketContent → List Object → BucketContent
 with_more c objects = record { next = c.next; entries = c.entries ++ objects }

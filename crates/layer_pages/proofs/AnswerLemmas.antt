@@ -4,11 +4,11 @@ use Rattle.std.specs.Prelude.{IsPermutation, filter, ℤ}
 use Rattle.std.specs.FinMap.{entries, entries_sorted}
 use Rattle.std.proofs.lemmas.List.Sorted.{IsPermutation-sym, IsPermutation-trans}
 use Rattle.box_math.specs.Bounds.{Bounds}
+use Rattle.box_math.specs.Nearest.{by_distance, nearest_first, with_distance}
 use Rattle.tree_node.specs.Positions.{total}
 use Rattle.tree_node.specs.Searches.{passing_objects}
 use Rattle.tree_node.specs.Trees.{objects_in}
 use Rattle.bulk_load.proofs.RowWords.{total-permutation}
-use Rattle.nearest.specs.Nearest.{nearest_first, with_distances}
 use Rattle.nearest.proofs.OrderLemmas as order
 use Rattle.nearest.proofs.OrderLemmas.{listed, listed-nearest_first, same_row, Ascends-nearest_first}
 use Rattle.layer_pages.specs.Laws.{NearestAreObjects, ObjectsGiveBoxes, RangesAnswerObjects}
@@ -28,10 +28,10 @@ listed-map : (z : ℕ × ℕ) (row_of : ℕ × Bounds → ℕ × ℕ) (objects :
 listed-map z row_of [] = refl
 listed-map z row_of (o ∷ objects) = ap (λ n. cond (same_row z (row_of o)) 1 0 + n) (listed-map z row_of objects)
 
-same_order : (dims : ℕ) (point : List ℤ) (xs ys : List (ℕ × Bounds)) → IsPermutation xs ys → nearest_first (with_distances dims point xs) ≡ nearest_first (with_distances dims point ys)
+same_order : (dims : ℕ) (point : List ℤ) (xs ys : List (ℕ × Bounds)) → IsPermutation xs ys → by_distance dims point xs ≡ by_distance dims point ys
 same_order dims point xs ys same =
-    let ds = with_distances dims point xs in
-    let es = with_distances dims point ys in
+    let ds = map (with_distance dims point) xs in
+    let es = map (with_distance dims point) ys in
     order.one_order (nearest_first ds) (nearest_first es) (Ascends-nearest_first ds) (Ascends-nearest_first es)
     (λ z. listed-nearest_first z ds ∙ listed-map z _ xs ∙ sym (total-permutation _ xs ys same) ∙ sym (listed-map z _ ys) ∙ sym (listed-nearest_first z es))
 

@@ -3,7 +3,7 @@ use Rattle.std.specs.Prelude.{ℕ, Bool, List, ℤ, take}
 use Rattle.std.specs.FinMap.{entries}
 use Rattle.std.specs.List.{filter}
 use Rattle.box_math.specs.Bounds.{Bounds}
-use Rattle.nearest.specs.Nearest.{nearest_first, with_distances}
+use Rattle.box_math.specs.Nearest.{by_distance}
 use Rattle.layer_pages.specs.Layers.{Objects}
 
 -- the objects whose boxes pass the test, by identifier
@@ -12,4 +12,4 @@ objects_that test objects = filter (λ object. test object.1) (entries objects)
 
 -- the k objects nearest to a point, or all of fewer, by distance and then by identifier
 abbrev pub nearest_objects : ℕ → ℕ → List ℤ → Objects → List (ℕ × ℕ)
-nearest_objects dims k point objects = take k (nearest_first (with_distances dims point (entries objects)))
+nearest_objects dims k point objects = take k (by_distance dims point (entries objects))

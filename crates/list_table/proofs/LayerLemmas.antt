@@ -8,11 +8,12 @@ use Rattle.std.specs.FinMap.{from_sorted, is_sorted, insert as map_insert}
 use Rattle.box_math.specs.Bounds.{Bounds}
 use Rattle.plain_table.specs.Answers.{row_of}
 use Rattle.plain_table.specs.Boxes.{dims_of, given_bounds, given_point, point_dims}
-use Rattle.list_table.specs.Entries.{BelongsAt}
+use Rattle.plain_table.specs.Entries.{BelongsAt}
 use Rattle.list_table.specs.InMemory.{layer_of}
 use Rattle.list_table.specs.Objects.{axes_of, entries_of, object_checks}
 use Rattle.plain_table.specs.Step.{first_refusal, nearest_refusals, nearest_rows, object_refusals, query_refusals, range_rows}
-use Rattle.plain_table.specs.Nearest.{by_distance, is_count}
+use Rattle.box_math.specs.Nearest.{by_distance}
+use Rattle.plain_table.specs.Nearest.{is_count}
 use Rattle.plain_table.specs.Table.{with_object}
 use Rattle.plain_table.specs.declared.boxes.AnyBox.{AnyBox}
 use Rattle.plain_table.specs.declared.boxes.AnyBox.TheVariants as any
@@ -22,7 +23,7 @@ use Rattle.plain_table.specs.declared.queries.RawQuery.{RawQuery}
 use Rattle.plain_table.specs.Queries.{is_sought}
 use Rattle.list_table.specs.declared.layer.ListedLayer.{ListedLayer}
 use Rattle.list_table.specs.declared.objects.ListedObjects.{ListedObjects}
-use Rattle.list_table.proofs.EntryLemmas.{inserted_in_order, inserted_map, entries_in_order}
+use Rattle.plain_table.proofs.EntryLemmas.{inserted_in_order, inserted_map, entries_in_order}
 
 -- rows of one dimension are those rows
 pub two_rows : (rows : List (ℕ × Bounds)) → map row_of (map (λ (row : ℕ × Bounds). (row.0, any.Two row.1)) rows) ≡ rows

@@ -1,5 +1,4 @@
 -- The files of lemmas.
-pub mod EntryLemmas
 pub mod LayerLemmas
 pub mod ListLemmas
 pub mod OrderLemmas

@@ -11,7 +11,7 @@ use Rattle.plain_table.specs.Answers.{box_answer, boxes_answer, distances_answer
 use Rattle.plain_table.specs.Boxes.{bounds_of, given_bounds}
 use Rattle.plain_table.specs.Commands.{Command, MayGiveUp}
 use Rattle.plain_table.specs.Commands.Command.{Create, Insert, Get, Count, Range, Nearest}
-use Rattle.list_table.specs.Entries.{IsEntryAt, BelongsAt}
+use Rattle.plain_table.specs.Entries.{IsEntryAt, BelongsAt}
 use Rattle.list_table.specs.Objects.{entries_of}
 use Rattle.list_table.specs.InMemory.{entry_of, layer_of, IsRefusalOrMemory}
 use Rattle.list_table.specs.InMemory.{AnsweredInMemory}
@@ -28,7 +28,7 @@ use Rattle.plain_table.specs.declared.refusal.Refusal.{Refusal}
 use Rattle.plain_table.specs.declared.refusal.Refusal.TheVariants as refusal
 use Rattle.plain_table.proofs.StepLemmas.{create_exists, create_full, create_passes, insert_missing, insert_refusal, get_missing, get_refusal, count_missing, count_passes, range_missing, range_refusal, nearest_missing, nearest_refusal, object_passes, has_room, len-with_object}
 use Rattle.list_table.proofs.TableLemmas.{refused, answered, without_memory, len_listed, named, layer_named, more_table, other_table, same_table, grown_listed}
-use Rattle.list_table.proofs.EntryLemmas.{entries_in_order}
+use Rattle.plain_table.proofs.EntryLemmas.{entries_in_order}
 
 -- the table's refusal, or want of memory
 refused_or_without : (t u : Table) (c : Command) (o : Option Refusal) (r : Refusal) → MayGiveUp c → refusal_of t c ≡ o → IsRefusalOrMemory o r → u ≡ t → AnsweredInMemory t c (Refused r) u

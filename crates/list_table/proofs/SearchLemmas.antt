@@ -9,8 +9,8 @@ use Rattle.std.specs.Ordering.{ordering_reverse}
 use Rattle.std.specs.declared.cmp.Ordering.{Ordering}
 use Rattle.std.specs.declared.cmp.Ordering.TheVariants.{Less, Equal, Greater}
 use Rattle.std.proofs.lemmas.Bool.{cases_lt}
-use Rattle.list_table.specs.Entries.{BelongsAt, IsEntryAt}
-use Rattle.list_table.proofs.EntryLemmas.{belongs_at, is_entry_at, left_of, less_is, right_of, yes}
+use Rattle.plain_table.specs.Entries.{BelongsAt, IsEntryAt}
+use Rattle.plain_table.proofs.EntryLemmas.{belongs_at, is_entry_at, left_of, less_is, right_of, yes}
 
 module _ {K X : Type 0} (R : K → K → Ordering) where
   below_at : (x : K) (es : List (K × X)) (j : ℕ) (d : K × X) → T (below_all R x es) → j < length es → R x (get_or es j d).0 ≡ Less

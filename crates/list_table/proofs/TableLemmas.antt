@@ -12,7 +12,7 @@ use Rattle.std.proofs.Math.Seq.{map-set_same}
 use Rattle.std.proofs.lemmas.List.Sums.{sum_by-insert, sum_by-set}
 use Rattle.box_math.specs.Bounds.{Bounds}
 use Rattle.plain_table.specs.Commands.{Command, MayGiveUp}
-use Rattle.list_table.specs.Entries.{IsEntryAt, BelongsAt, IsSearched}
+use Rattle.plain_table.specs.Entries.{IsEntryAt, BelongsAt, IsSearched}
 use Rattle.list_table.specs.InMemory.{entry_of, layer_of}
 use Rattle.list_table.specs.InMemory.{AnsweredInMemory}
 use Rattle.list_table.specs.Listed.{table_from, IsListed}
@@ -22,7 +22,7 @@ use Rattle.plain_table.specs.Table.{Table, Layer, object_count, most_layers, mos
 use Rattle.list_table.specs.declared.layer.ListedLayer.{ListedLayer}
 use Rattle.plain_table.specs.declared.refusal.Refusal.{Refusal}
 use Rattle.plain_table.specs.declared.refusal.Refusal.TheVariants as refusal
-use Rattle.list_table.proofs.EntryLemmas.{found_key, inserted_in_order, inserted_map, replaced_in_order, replaced_map, entries_in_order, yes}
+use Rattle.plain_table.proofs.EntryLemmas.{found_key, inserted_in_order, inserted_map, replaced_in_order, replaced_map, entries_in_order, yes}
 
 -- a command that was refused as the table refuses it
 pub refused : (t : Table) (c : Command) (r : Refusal) → refusal_of t c ≡ Some r → AnsweredInMemory t c (Refused r) t

@@ -1,5 +1,4 @@
 -- The files of definitions, and of the laws that callers cite.
-pub mod Entries
 pub mod Objects
 pub mod InMemory
 pub mod Listed

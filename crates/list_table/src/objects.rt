@@ -7,9 +7,9 @@ ghost use Rattle.std.specs.List.{prefix_len};
 ghost use Rattle.std.specs.FinMap.{is_sorted};
 ghost use Rattle.std.specs.Ordering.{nat_cmp};
 ghost use Rattle.box_math.specs.Bounds.{IsDims};
-ghost use Rattle.list_table.specs.Entries.{IsSearched, BelongsAt};
+ghost use Rattle.plain_table.specs.Entries.{IsSearched, BelongsAt};
 ghost use Rattle.list_table.specs.Objects.{object_checks};
-ghost use Rattle.plain_table.specs.Nearest.{by_distance, comes_first};
+ghost use Rattle.box_math.specs.Nearest.{by_distance, comes_first};
 ghost use Rattle.plain_table.specs.Queries.{seeks};
 ghost use Rattle.plain_table.specs.Step.{first_refusal};
 

@@ -6,7 +6,7 @@ ghost use Rattle.std.specs.FinMap.{is_sorted, empty};
 ghost use Rattle.std.specs.Ordering.{nat_cmp};
 ghost use Rattle.plain_table.specs.Answers.{done_answer, box_answer, boxes_answer, count_answer, distances_answer};
 ghost use Rattle.plain_table.specs.Commands.Command.{Create, Insert, Get, Count, Range, Nearest};
-ghost use Rattle.list_table.specs.Entries.{IsSearched};
+ghost use Rattle.plain_table.specs.Entries.{IsSearched};
 ghost use Rattle.list_table.specs.InMemory.{entry_of};
 ghost use Rattle.list_table.specs.InMemory.{AnsweredInMemory};
 ghost use Rattle.list_table.specs.Listed.{table_from, IsListed};

@@ -1,4 +1,4 @@
--- What a closing of live layers leaves, and what a reading behind it finds.
+-- What a closing of live layers leaves, and what a reading after it finds.
 use Rattle.std.proofs.Common.{◌≡◌, ◌∙◌, ◌⊎◌, List, ◌∷◌, Some, sym, ap, subst, arith, inl, inr, ⊎_elim}
 use Rattle.std.specs.Prelude.{option_and_then}
 use Rattle.block_device.specs.Device.{Blocks, LeavesOnly}

@@ -15,7 +15,7 @@ use Rattle.box_math.specs.Bounds.{Bounds, meets_test}
 use Rattle.bulk_load.proofs.RowWords.{total-permutation}
 use Rattle.layer_pages.specs.Layers.{IsLayerAt, LayerPages}
 use Rattle.layer_pages.proofs.ObjectLemmas.{filter_permuted, filter_sorted}
-use Rattle.nearest.specs.Nearest.{comes_first}
+use Rattle.box_math.specs.Nearest.{comes_first}
 use Rattle.nearest.proofs.OrderLemmas.{Ascends, Ascends-append, Heads, Heads-append, comes_first-trans, listed, nearer_first, one_order, same_row, same_row-is}
 use Rattle.node_page.specs.Standing.{PageMap}
 use Rattle.plain_table.specs.Answers.{pairs_answer}
@@ -34,7 +34,7 @@ use Rattle.tree_node.proofs.PositionLemmas.{total-append, total-same}
 use Rattle.live_layers.specs.Keeping.{Belongs, Finds}
 use Rattle.live_layers.specs.Questions.{IsReply}
 use Rattle.live_layers.proofs.AskLemmas.{named_there, not_there}
-use Rattle.live_layers.proofs.EntryLemmas.{left_of, right_of}
+use Rattle.plain_table.proofs.EntryLemmas.{left_of, right_of}
 
 -- a pair with its second first
 abbrev turned : ℕ × ℕ → ℕ × ℕ

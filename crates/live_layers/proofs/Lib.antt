@@ -1,7 +1,6 @@
 -- The files of lemmas.
 pub mod CatalogLemmas
 pub mod CatalogGood
-pub mod EntryLemmas
 pub mod LayerLemmas
 pub mod FindLemmas
 pub mod TableLemmas

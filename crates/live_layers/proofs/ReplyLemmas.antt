@@ -3,24 +3,22 @@ use Rattle.std.proofs.Common.{◌≡◌, ◌∙◌, ◌⊎◌, ℕ, List, [], �
 use Rattle.std.specs.Prelude.{IsErrAnd, Ok, Err, Result, Vec, ◌==◌, ℤ, filter, nat_lt, nat_le, ◌&&◌, ◌||◌, is_some, unwrap_or}
 use Rattle.std.specs.FinMap.{entries, get}
 use Rattle.box_math.specs.Bounds.{Bounds}
-use Rattle.nearest.specs.Nearest.{nearest_first, put_nearest_first, with_distances}
 use Rattle.plain_table.specs.Answers.{box_answer, boxes_answer, count_answer, distances_answer}
 use Rattle.plain_table.specs.Commands.{Command}
-use Rattle.plain_table.specs.Nearest.{by_distance, in_order, is_count, put_in_order}
-use Rattle.plain_table.specs.Queries.{is_sought, seeks}
+use Rattle.plain_table.specs.Nearest.{is_count}
+use Rattle.plain_table.specs.Queries.{given_query, is_sought, seeks}
 use Rattle.plain_table.specs.Step.{Answer, answer_of, first_refusal, missing_refusals, object_row, query_refusals, range_rows, refusal_of, refused_or, reply_of}
 use Rattle.plain_table.specs.Step.Answer.{Boxes, Refused}
 use Rattle.plain_table.specs.Table.{Layer, Table, is_layer_name, no_box}
 use Rattle.plain_table.specs.declared.boxes.AnyBox.{AnyBox}
 use Rattle.plain_table.specs.declared.queries.Query.{Query}
 use Rattle.plain_table.specs.declared.queries.RawQuery.{RawQuery}
-use Rattle.plain_table.specs.declared.queries.RawQuery.TheVariants.{Window, Inside, Around, Point}
 use Rattle.plain_table.specs.declared.refusal.Refusal.{Refusal}
 use Rattle.plain_table.specs.declared.refusal.Refusal.TheVariants as refusal
 use Rattle.store_law.specs.Lawful.{IsFault, RefusedBy}
 use Rattle.tree_node.specs.Searches.{admitted}
 use Rattle.live_layers.specs.Keeping.{Belongs, Finds, LooksAtTree}
-use Rattle.live_layers.specs.Questions.{IsNamed, IsReply, IsUnnamed, admits, given_query, is_admitted}
+use Rattle.live_layers.specs.Questions.{IsNamed, IsReply, IsUnnamed, admits, is_admitted}
 use Rattle.live_layers.specs.declared.layers.Layers.{Layers}
 use Rattle.live_layers.proofs.AskLemmas.{named_there, not_there}
 
@@ -80,22 +78,9 @@ refused t c r e = ap (λ (o : Option Refusal). refused_or o (answer_of t c)) (sy
 -- ---- ranges
 
 module _ (D : ℕ) where
-  -- a query whose axes are known seeks and admits the same
-  seeks_same : (query : RawQuery) → seeks {D = D} (given_query query) ≡ is_sought D query
-  seeks_same (Window window) = refl
-  seeks_same (Inside window) = refl
-  seeks_same (Around inner) = refl
-  seeks_same (Point point) = refl
-
-  admits_same : (query : RawQuery) → admits {D = D} (given_query query) ≡ is_admitted D query
-  admits_same (Window window) = refl
-  admits_same (Inside window) = refl
-  admits_same (Around inner) = refl
-  admits_same (Point point) = refl
-
   -- the nodes that it admits
   nodes_same : (layer : Layer) (query : RawQuery) (asked : Query D) → layer.dims ≡ D → asked ≡ given_query query → admitted (admits asked) ≡ admitted (is_admitted layer.dims query)
-  nodes_same layer query asked dims is = ap (λ (q : Query D). admitted (admits q)) is ∙ ap admitted (admits_same query) ∙ ap (λ (d : ℕ). admitted (is_admitted d query)) (sym dims)
+  nodes_same layer query asked dims is = ap (λ (q : Query D). admitted (admits q)) is ∙ ap (λ (d : ℕ). admitted (is_admitted d query)) (sym dims)
 
   pub looks_same : {B A : Type 0} {m : _} (old new : Layers B A m) (name : List ℕ) (layer : Layer) (query : RawQuery) (asked : Query D) → layer.dims ≡ D → asked ≡ given_query query
       → LooksAtTree old new name (admitted (admits asked)) → LooksAtTree old new name (admitted (is_admitted layer.dims query))
@@ -108,7 +93,6 @@ module _ (D : ℕ) where
       let none : first_refusal (query_refusals layer.dims query) ≡ None = ap (λ (d : ℕ). first_refusal (query_refusals d query)) dims ∙ good in
       let same : rows ≡ range_rows layer query =
       found ∙ ap (λ (q : Query D). filter (λ row. seeks q row.1) (entries layer.objects)) is
-      ∙ ap (λ (test : Bounds → Bool). filter (λ row. test row.1) (entries layer.objects)) (seeks_same query)
       ∙ ap (λ (d : ℕ). filter (λ row. is_sought d query row.1) (entries layer.objects)) (sym dims) in
       inl (ap Boxes same ∙ ap (λ (o : Option Refusal). refused_or o (Boxes (range_rows layer query))) (sym none))
 
@@ -120,18 +104,7 @@ object_missing rose layer id e =
 
 -- ---- the nearest
 
-same_place : (x : ℕ × ℕ) (xs : List (ℕ × ℕ)) → put_nearest_first x xs ≡ put_in_order x xs
-same_place x [] = refl
-same_place x (y ∷ ys) = ap (λ (zs : List (ℕ × ℕ)). cond (nat_lt x.1 y.1 || (x.1 == y.1 && nat_le x.0 y.0)) (x ∷ y ∷ ys) (y ∷ zs)) (same_place x ys)
-
-same_order : (xs : List (ℕ × ℕ)) → nearest_first xs ≡ in_order xs
-same_order [] = refl
-same_order (x ∷ xs) = same_place x (nearest_first xs) ∙ ap (put_in_order x) (same_order xs)
-
 -- a point of as many axes as the layer has, and a number that may be asked for
 pub good_count : (dims k : ℕ) (layer : Layer) → (dims == layer.dims) ≡ true → is_count k ≡ true → first_refusal ((not (dims == layer.dims), refusal.WrongDims) ∷ (not (is_count k), refusal.BadCount) ∷ []) ≡ None
 good_count dims k layer e f = rw (e, f) refl
 
--- the nearest first of the tree's crate are those of the table
-pub nearest_same : (dims : ℕ) (point : List ℤ) (objects : List (ℕ × Bounds)) → nearest_first (with_distances dims point objects) ≡ by_distance dims point objects
-nearest_same dims point objects = same_order (with_distances dims point objects)

@@ -15,7 +15,7 @@ use Rattle.store_law.specs.Stops.{AfterStop, Stops, tables_left}
 use Rattle.store_law.specs.Stops.AfterStop.{Surely, Perhaps}
 use Rattle.tree_node.specs.Searches.{counted}
 use Rattle.tree_node.specs.Trees.{Tree}
-use Rattle.live_layers.specs.Entries.{BelongsAt, IsEntryAt}
+use Rattle.plain_table.specs.Entries.{BelongsAt, IsEntryAt}
 use Rattle.live_layers.specs.Image.{IsImage, IsRefusedOrImageOf}
 use Rattle.live_layers.specs.Layers.{Holds, IsTreeOf, catalog_in}
 use Rattle.live_layers.specs.declared.layers.Layers.{Layers}

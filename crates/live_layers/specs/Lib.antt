@@ -3,7 +3,6 @@ pub mod Catalog
 pub mod Layers
 pub mod Image
 pub mod Faults
-pub mod Entries
 pub mod Keeping
 pub mod Changes
 pub mod Rules

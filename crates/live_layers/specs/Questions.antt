@@ -3,14 +3,13 @@
 use Rattle.std.specs.Prelude.{ℕ, ◌≡◌, ◌+◌, ◌≤◌, ◌⊎◌, Bool, List, [], ◌∷◌, Option, Some, Result, Ok, Err, Vec}
 use Rattle.box_math.specs.Bounds.{Bounds, holds_test, meets_test, within_test}
 use Rattle.page_cache.specs.Cache.{looks_of, pages}
-use Rattle.plain_table.specs.Boxes.{given_bounds, given_point}
+use Rattle.plain_table.specs.Queries.{given_query}
 use Rattle.plain_table.specs.Step.{Answer, first_refusal, layer_refusals, refused_or}
 use Rattle.plain_table.specs.Step.Answer.{Boxes, Refused}
 use Rattle.plain_table.specs.Table.{Table}
 use Rattle.plain_table.specs.declared.queries.Query.{Query}
 use Rattle.plain_table.specs.declared.queries.Query.TheVariants as query
 use Rattle.plain_table.specs.declared.queries.RawQuery.{RawQuery}
-use Rattle.plain_table.specs.declared.queries.RawQuery.TheVariants.{Window, Inside, Around, Point}
 use Rattle.plain_table.specs.declared.refusal.Refusal.{Refusal}
 use Rattle.store_law.specs.Lawful.{IsFault, RefusedBy}
 use Rattle.tree_node.specs.Trees.{Tree}
@@ -30,26 +29,16 @@ IsUnnamed t name why = (more : List (Bool × Refusal)) → first_refusal (layer_
 
 -- ---- ranges
 
--- a query whose axes are known, as it was given
-abbrev pub given_query : {D : ℕ} → RawQuery → Query D
-given_query (Window window) = query.Window (given_bounds window)
-given_query (Inside window) = query.Inside (given_bounds window)
-given_query (Around inner) = query.Around (given_bounds inner)
-given_query (Point point) = query.Point (given_point point)
-
--- whether a query looks into a node with this box, in a layer of so many axes
-abbrev pub is_admitted : ℕ → RawQuery → Bounds → Bool
-is_admitted dims (Window window) b = meets_test dims b (given_bounds window)
-is_admitted dims (Inside window) b = meets_test dims b (given_bounds window)
-is_admitted dims (Around inner) b = within_test dims (given_bounds inner) b
-is_admitted dims (Point point) b = holds_test dims b (given_point point)
-
--- the same of a query whose axes are known
+-- whether a query whose axes are known looks into a node with this box
 abbrev pub admits : {D : ℕ} → Query D → Bounds → Bool
 admits {D} (query.Window window) b = meets_test D b window
 admits {D} (query.Inside window) b = meets_test D b window
 admits {D} (query.Around inner) b = within_test D inner b
 admits {D} (query.Point point) b = holds_test D b point
+
+-- the same of a query as it was given, in a layer of so many axes
+abbrev pub is_admitted : ℕ → RawQuery → Bounds → Bool
+is_admitted dims query b = admits {D = dims} (given_query query) b
 
 -- ---- answers
 

@@ -4,7 +4,6 @@
 
 mod catalog;
 mod faults;
-mod given;
 pub mod laws;
 mod layers;
 mod located;

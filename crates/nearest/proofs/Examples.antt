@@ -1,9 +1,10 @@
 -- Worked examples of what is nearest.
-use Rattle.std.proofs.Common.{◌≡◌, ℕ, true, false, ℤ, pos, negsuc, List, [], ◌∷◌, refl}
+use Rattle.std.proofs.Common.{◌≡◌, true, false, ℤ, pos, negsuc, List, [], ◌∷◌, refl}
 use Rattle.box_math.specs.Bounds.{Bounds}
 use Rattle.tree_node.specs.Searches.{admitted, counted}
-use Rattle.tree_node.specs.Trees.{Row, end, more, object, child, Tree}
-use Rattle.nearest.specs.Nearest.{comes_first, nearest_first, is_searched, nearest_rows}
+use Rattle.tree_node.specs.Trees.{end, more, object, child, Tree}
+use Rattle.box_math.specs.Nearest.{comes_first, nearest_first}
+use Rattle.nearest.specs.Nearest.{is_searched, nearest_rows}
 
 -- the nearer comes first, and of equal distances the lesser identifier
 of_two : (comes_first (9, 24) (4, 25) ≡ true) × (comes_first (4, 25) (9, 25) ≡ true) × (comes_first (9, 25) (4, 25) ≡ false)

@@ -1,21 +1,19 @@
 -- A search for the nearest objects over plain values: what was answered, what waits, and what lies below that.
-use Rattle.std.proofs.Common.{◌≡◌, ◌∙◌, ◌⊎◌, ℕ, zero, suc, ◌+◌, ◌-◌, ◌^◌, ◌<◌, ◌≤◌, min, Bool, true, false, cond, ◌==◌, nat_lt, nat_le, List, [], ◌∷◌, ◌++◌, length, take, get_or, map, sum_by, All, IsPermutation, refl, sym, ap, subst, inl, inr, ⊎_elim, arith}
+use Rattle.std.proofs.Common.{◌≡◌, ◌∙◌, ◌⊎◌, ℕ, zero, suc, ◌+◌, ◌-◌, ◌<◌, ◌≤◌, Bool, true, false, cond, ◌==◌, List, [], ◌∷◌, ◌++◌, length, take, get_or, map, sum_by, All, IsPermutation, refl, sym, ap, subst, inl, inr, ⊎_elim, arith}
 use Rattle.std.specs.Prelude.{⊤}
-use Rattle.std.specs.List.{swap}
 use Rattle.std.proofs.lemmas.Bool.Decides.{nat_tests}
-use Rattle.std.proofs.lemmas.List.{append_assoc, append-nil, map-append, take_at, take_all, length-append}
+use Rattle.std.proofs.lemmas.List.{append-nil, take_at, take_all}
 use Rattle.std.proofs.lemmas.List.Elements.{All-nil, All-cons, All-head, All-tail, All-append}
 use Rattle.std.proofs.lemmas.List.Sums.{sum_by-cons, sum_by-append}
-use Rattle.std.proofs.lemmas.List.Sorted.{All-permutation, IsPermutation-keeps, IsPermutation-refl, IsPermutation-swap, IsPermutation-trans, length_permutation, sum_by-IsPermutation}
+use Rattle.std.proofs.lemmas.List.Sorted.{All-permutation, sum_by-IsPermutation}
 use Rattle.block_device.specs.Device.{one_more}
 use Rattle.box_math.specs.Bounds.{Bounds}
 use Rattle.tree_node.specs.Searches.{counted, reached}
-use Rattle.tree_node.specs.Nodes.{Item}
 use Rattle.tree_node.specs.Trees.{Row, end, more, object, child, row_items}
 use Rattle.node_page.specs.Standing.{PageMap, RowStands, StandsAt}
 use Rattle.nearest.specs.declared.candidate.Candidate.{Candidate}
 use Rattle.nearest.specs.Candidates.{Leads, candidate_at}
-use Rattle.nearest.specs.Nearest.{comes_first, nearest_first}
+use Rattle.box_math.specs.Nearest.{comes_first, nearest_first}
 use Rattle.nearest.proofs.OrderLemmas.{Ascends, Ascends-append, Ascends-nearest_first, Ascends-push, Heads, Heads-append, Heads-nearest_first, listed, listed-append, listed-nearest_first, nearer_first, one_order, same_row, same_row-is}
 
 -- ---- what waits

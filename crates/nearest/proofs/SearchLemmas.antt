@@ -1,10 +1,9 @@
 -- A search at a cache: what waits in the queue, what was answered, and how often it looked.
-use Rattle.std.proofs.Common.{◌≡◌, ◌∙◌, ◌⊎◌, ℕ, suc, ◌+◌, ◌-◌, ◌^◌, ◌<◌, ◌≤◌, min, None, Bool, true, false, ◌||◌, nat_lt, nat_le, ℤ, Some, List, [], ◌∷◌, ◌++◌, length, take, set, get_or, map, sum_by, All, IsPermutation, refl, sym, ap, subst, inl, inr, ⊎_elim, arith}
+use Rattle.std.proofs.Common.{◌≡◌, ◌∙◌, ℕ, suc, ◌+◌, ◌-◌, ◌^◌, ◌<◌, ◌≤◌, None, Bool, true, false, ◌||◌, nat_lt, nat_le, ℤ, Some, List, [], ◌∷◌, ◌++◌, length, take, set, get_or, map, sum_by, All, IsPermutation, refl, sym, ap, subst, arith}
 use Rattle.std.specs.List.{swap}
 use Rattle.std.proofs.lemmas.Bool.Decides.{nat_tests}
-use Rattle.std.proofs.lemmas.List.{append_assoc, append-nil, map-append, length-append, length-map, map-set}
-use Rattle.std.proofs.lemmas.List.Elements.{All-nil, All-cons, All-head}
-use Rattle.std.proofs.lemmas.List.Sorted.{IsPermutation-keeps, IsPermutation-refl, IsPermutation-swap, IsPermutation-trans, length_permutation}
+use Rattle.std.proofs.lemmas.List.{map-append, length-append, length-map, map-set}
+use Rattle.std.proofs.lemmas.List.Sorted.{IsPermutation-keeps, IsPermutation-refl, IsPermutation-swap, IsPermutation-trans}
 use Rattle.std.proofs.Math.ListN.{get_or-map}
 use Rattle.block_device.specs.Device.{one_more}
 use Rattle.box_math.specs.Bounds.{Bounds}
@@ -16,19 +15,18 @@ use Rattle.page_cache.specs.Laws.{looks_are_few}
 use Rattle.page_cache.specs.declared.cache.PageCache.{PageCache}
 use Rattle.tree_node.specs.Searches.{Guards, admitted, counted, reached}
 use Rattle.node_page.specs.Rooted.{IsTreeAt}
-use Rattle.tree_node.specs.Nodes.{NodeContent, Item}
+use Rattle.tree_node.specs.Nodes.{NodeContent}
 use Rattle.tree_node.specs.Trees.{Row, Tree, row_items}
 use Rattle.node_page.specs.Standing.{PageMap, StandsAt, node_in}
 use Rattle.node_page.proofs.RootedLemmas.{boxes_ordered, loose, tree_at}
 use Rattle.tree_node.specs.declared.node.Root.{Root}
 use Rattle.tree_node.specs.Shape.{HasLooseShape}
 use Rattle.tree_node.proofs.SearchLemmas.{admitted_are_reached}
-use Rattle.node_page.proofs.StandingLemmas.{same_content}
 use Rattle.nearest.specs.declared.candidate.Candidate.{Candidate}
 use Rattle.nearest.specs.Candidates.{Leads, candidate_at}
-use Rattle.nearest.specs.Nearest.{nearest_first, is_searched, nearest_rows}
+use Rattle.box_math.specs.Nearest.{nearest_first}
+use Rattle.nearest.specs.Nearest.{is_searched, nearest_rows}
 use Rattle.nearest.proofs.FrontierLemmas.{Front, Pending, object_waits, node_waits, IsAfter, admitted_of, all_after, all_answered, all_least, answered, branches, branches_candidates, candidate_for, front_begins, front_reordered, near_in, node_opened, none_admitted, object_taken}
-use Rattle.nearest.proofs.OrderLemmas.{Ascends, listed, listed-append}
 use Rattle.nearest.proofs.ShapeLemmas.{near_in_is, nested_root}
 
 -- ---- what waits, in the order of the queue

@@ -1,5 +1,5 @@
 -- In a tree with least boxes no box is nearer than the one above it.
-use Rattle.std.proofs.Common.{◌≡◌, ℕ, ◌<◌, ◌≤◌, ◌∙◌, ℤ, ◌-ℤ◌, ◌≤ℤ◌, unsigned_abs, List, map, ◌∷◌, ◌++◌, refl, sym, ap, arith}
+use Rattle.std.proofs.Common.{◌≡◌, ℕ, ◌≤◌, ◌∙◌, ℤ, ◌-ℤ◌, ◌≤ℤ◌, unsigned_abs, List, map, ◌∷◌, ◌++◌, refl, sym, ap, arith}
 use Rattle.std.specs.Int.{int_min, int_max}
 use Rattle.std.proofs.lemmas.Int.{ints, clamps}
 use Rattle.std.proofs.lemmas.List.{map-append}
@@ -10,7 +10,7 @@ use Rattle.box_math.proofs.Growth.{sum_over-le, point_dist2_of-falls}
 use Rattle.tree_node.specs.Shape.{RowHasShape, RowWithin}
 use Rattle.tree_node.specs.Trees.{Row, end, more, object, child, objects_in}
 use Rattle.node_page.proofs.RootedLemmas.{HasOrderedBoxes}
-use Rattle.nearest.specs.Nearest.{with_distances}
+use Rattle.box_math.specs.Nearest.{with_distance}
 use Rattle.nearest.proofs.FrontierLemmas.{Nested, near_in}
 
 clamp_falls : (low high inner_low inner_high p : ℤ) → inner_low ≤ℤ inner_high → low ≤ℤ inner_low → inner_high ≤ℤ high
@@ -50,11 +50,11 @@ nested_root dims most point (more (child bounds page below) rest) shape ordered 
 )
 
 -- the objects of a tree with their distances
-pub near_in_is : (dims : ℕ) (point : List ℤ) (row : Row) → near_in (λ c. point_dist2_of dims c point) row ≡ with_distances dims point (objects_in row)
+pub near_in_is : (dims : ℕ) (point : List ℤ) (row : Row) → near_in (λ c. point_dist2_of dims c point) row ≡ map (with_distance dims point) (objects_in row)
 near_in_is dims point end = refl
 near_in_is dims point (more (object bounds id) rest) = ap (λ (xs : List (ℕ × ℕ)). (id, point_dist2_of dims bounds point) ∷ xs) (near_in_is dims point rest)
 near_in_is dims point (more (child bounds page below) rest) =
     let both = map-append (λ (o : ℕ × Bounds). (o.0, point_dist2_of dims o.1 point)) (objects_in below) (objects_in rest) in
     let first = near_in_is dims point below in
     let later = near_in_is dims point rest in
-    ap (λ (xs : List (ℕ × ℕ)). xs ++ near_in (λ c. point_dist2_of dims c point) rest) first ∙ ap (λ (xs : List (ℕ × ℕ)). with_distances dims point (objects_in below) ++ xs) later ∙ sym both
+    ap (λ (xs : List (ℕ × ℕ)). xs ++ near_in (λ c. point_dist2_of dims c point) rest) first ∙ ap (λ (xs : List (ℕ × ℕ)). map (with_distance dims point) (objects_in below) ++ xs) later ∙ sym both

@@ -80,7 +80,7 @@ behind dims count k from few (inr above) (inr (place, lt, inl (axis, ax, le, to)
 behind dims count k from few (inr above) (inr (place, lt, inr (inl (axis, ax, le, to)))) = absurd (omega arith)
 behind dims count k from few (inr above) (inr (place, lt, inr (inr (le, to)))) = absurd (omega arith)
 
--- behind the head, behind the entries of a column, and behind the references
+-- after the head, after the entries of a column, and after the references
 others_are_not_named : IsNamed 2 1 5 ⊎ IsNamed 2 1 15 ⊎ IsNamed 2 1 20 ⊎ IsNamed 2 1 1624 ⊎ IsNamed 3 100 3216 → ⊥
 others_are_not_named (inl h) = behind 2 1 5 (omega arith) (omega arith) (inl (omega arith)) h
 others_are_not_named (inr (inl h)) = behind 2 1 15 (omega arith) (omega arith) (inl (omega arith)) h

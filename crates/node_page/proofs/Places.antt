@@ -11,7 +11,7 @@ use Rattle.node_page.specs.Layout.{low_place, high_place, reference_place, item_
 pub le_or_lt : (a b : ℕ) → (a ≤ b) ⊎ (b < a)
 le_or_lt a b = grind arith
 
--- bytes are apart if they are behind others whenever they are not before them
+-- bytes are apart if they are after others whenever they are not before them
 pub apart : (n at m to : ℕ) → (to < at + n → to + m ≤ at) → IsApart n at m to
 apart n at m to h = ⊎_elim (λ (le : at + n ≤ to). inl le) (λ (lt : to < at + n). inr (h lt)) (le_or_lt (at + n) to)
 

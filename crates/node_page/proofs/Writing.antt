@@ -13,7 +13,7 @@ outside : (n at k : ℕ) → ((at ≤ k) × (k < at + n) → ⊥) → IsApart 1 
 outside n at k h =
     ⊎_elim (λ (le : at + n ≤ k). inr le) (λ (lt : k < at + n). ⊎_elim (λ (le : at ≤ k). absurd (h (le, lt))) (λ (below : k < at). inl (omega arith)) (le_or_lt at k)) (le_or_lt (at + n) k)
 
--- a byte that is not named is behind the head, and outside each entry
+-- a byte that is not named is after the head, and outside each entry
 unnamed_behind : (dims count k : ℕ) → (IsNamed dims count k → ⊥) → 5 ≤ k
 unnamed_behind dims count k unnamed = ⊎_elim (λ (le : 5 ≤ k). le) (λ (lt : k < 5). absurd (unnamed (inl lt))) (le_or_lt 5 k)
 

@@ -1,3 +1,4 @@
 -- The files of lemmas.
+pub mod EntryLemmas
 pub mod StepLemmas
 pub mod Examples

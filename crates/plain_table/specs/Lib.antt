@@ -8,6 +8,7 @@ pub mod Queries
 pub mod Nearest
 pub mod Loads
 pub mod Listings
+pub mod Entries
 pub mod Step
 pub mod Answers
 pub mod Laws

@@ -1,32 +1,6 @@
--- The objects nearest to a point (the distance is MINDIST of Roussopoulos, Kelley and Vincent 1995; the order of ties, and
--- how many may be asked for, are our rule, docs/COMMANDS.md).
-use Rattle.std.specs.Prelude.{ℕ, ℤ, Bool, ◌||◌, ◌&&◌, ◌==◌, nat_lt, nat_le, List, [], ◌∷◌, map, if◌then◌else◌}
-use Rattle.box_math.specs.Bounds.{Bounds}
-use Rattle.box_math.specs.Measures.{point_dist2_of}
+-- How many nearest objects may be asked for. Our rule, docs/COMMANDS.md.
+use Rattle.std.specs.Prelude.{ℕ, Bool, ◌&&◌, nat_le}
 
--- how many nearest objects may be asked for: 1 to 1,000,000
+-- 1 to 1,000,000
 abbrev pub is_count : ℕ → Bool
 is_count k = nat_le 1 k && nat_le k 1000000
-
--- whether an object, by its identifier and its squared distance, comes before another or is the same: the nearer one does,
--- and of equal distances the lesser identifier
-abbrev pub comes_first : ℕ × ℕ → ℕ × ℕ → Bool
-comes_first a b = nat_lt a.1 b.1 || (a.1 == b.1 && nat_le a.0 b.0)
-
--- some objects in order and one more, in its place
-abbrev pub put_in_order : ℕ × ℕ → List (ℕ × ℕ) → List (ℕ × ℕ)
-put_in_order x [] = x ∷ []
-put_in_order x (y ∷ ys) = if comes_first x y then x ∷ y ∷ ys else y ∷ put_in_order x ys
-
--- the objects in order
-abbrev pub in_order : List (ℕ × ℕ) → List (ℕ × ℕ)
-in_order [] = []
-in_order (x ∷ xs) = put_in_order x (in_order xs)
-
--- the identifier of an object with the squared distance of its box from the point
-abbrev pub with_distance : ℕ → List ℤ → ℕ × Bounds → ℕ × ℕ
-with_distance dims point object = (object.0, point_dist2_of dims object.1 point)
-
--- the same of all objects, in order
-abbrev pub by_distance : ℕ → List ℤ → List (ℕ × Bounds) → List (ℕ × ℕ)
-by_distance dims point objects = in_order (map (with_distance dims point) objects)

@@ -9,16 +9,20 @@ use Rattle.plain_table.specs.declared.queries.Query.TheVariants as query
 use Rattle.plain_table.specs.declared.queries.RawQuery.{RawQuery}
 use Rattle.plain_table.specs.declared.queries.RawQuery.TheVariants.{Window, Inside, Around, Point}
 
--- whether a query seeks an object with this box, in a layer of so many axes
-abbrev pub is_sought : ℕ → RawQuery → Bounds → Bool
-is_sought dims (Window window) b = meets_test dims b (given_bounds window)
-is_sought dims (Inside window) b = within_test dims b (given_bounds window)
-is_sought dims (Around inner) b = within_test dims (given_bounds inner) b
-is_sought dims (Point point) b = holds_test dims b (given_point point)
+-- a query whose axes are known, as it was given
+abbrev pub given_query : {D : ℕ} → RawQuery → Query D
+given_query (Window window) = query.Window (given_bounds window)
+given_query (Inside window) = query.Inside (given_bounds window)
+given_query (Around inner) = query.Around (given_bounds inner)
+given_query (Point point) = query.Point (given_point point)
 
--- the same of a query whose axes are known
+-- whether a query whose axes are known seeks an object with this box
 abbrev pub seeks : {D : ℕ} → Query D → Bounds → Bool
 seeks {D} (query.Window window) b = meets_test D b window
 seeks {D} (query.Inside window) b = within_test D b window
 seeks {D} (query.Around inner) b = within_test D inner b
 seeks {D} (query.Point point) b = holds_test D b point
+
+-- the same of a query as it was given, in a layer of so many axes
+abbrev pub is_sought : ℕ → RawQuery → Bounds → Bool
+is_sought dims query b = seeks {D = dims} (given_query query) b

@@ -2,12 +2,13 @@
 use Rattle.std.specs.Prelude.{ℕ, ◌+◌, Bool, false, not, ◌&&◌, ◌==◌, nat_le, nat_lt, List, [], ◌∷◌, length, if◌then◌else◌, Option, Some, None, is_some, filter, flat_map, map as each, take, unwrap_or}
 use Rattle.std.specs.FinMap as map
 use Rattle.box_math.specs.Bounds.{Bounds, meets_test}
+use Rattle.box_math.specs.Nearest.{by_distance}
 use Rattle.plain_table.specs.Boxes.{dims_of, given_bounds, given_point, is_ordered, point_dims, same_bounds}
 use Rattle.plain_table.specs.Commands.{Command}
 use Rattle.plain_table.specs.Commands.Command.{Create, Insert, Load, Move, Delete, Drop, Get, Count, Range, Nearest, Join, Layers, Dump, Check, Reopen}
 use Rattle.plain_table.specs.Listings.{DumpLine, LayerLine, all_layers, all_lines}
 use Rattle.plain_table.specs.Loads.{GivenObjects, are_ordered, have_dims, ids_of, least_repeated, with_objects}
-use Rattle.plain_table.specs.Nearest.{by_distance, is_count}
+use Rattle.plain_table.specs.Nearest.{is_count}
 use Rattle.plain_table.specs.Queries.{is_sought}
 use Rattle.plain_table.specs.Table.{Table, Layer, is_layer_name, is_dims, is_fanout, most_layers, most_objects, object_count, layer_at, object_box, with_object, without_object}
 use Rattle.plain_table.specs.declared.boxes.RawBox.{RawBox}

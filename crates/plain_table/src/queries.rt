@@ -1,10 +1,9 @@
 //! Range queries: as commands give them, and in a layer of so many axes.
 
 ghost use Rattle.std.specs.Prelude.{◌≡◌, [], MatchResult, None, Some};
-ghost use Rattle.box_math.specs.Bounds.{Bounds};
 ghost use Rattle.plain_table.specs.Boxes.{given_bounds, given_point};
 ghost use Rattle.plain_table.specs.Nearest.{is_count};
-ghost use Rattle.plain_table.specs.Queries.{is_sought, seeks};
+ghost use Rattle.plain_table.specs.Queries.{given_query, seeks};
 ghost use Rattle.plain_table.specs.Step.{box_refusals, first_refusal, point_refusals, query_refusals};
 
 use crate::boxes::{RawBox, RawPoint};
@@ -63,8 +62,7 @@ impl RawQuery {
     /// The query in a layer of two axes. Refused, in this order, by WrongDims and BadBox.
     pub fn two_axes(self) -> Result<Query<2>, Refusal>
         ensures { MatchResult result
-            (λ query. (first_refusal (query_refusals 2 self) ≡ None)
-            × ((b : Bounds) → seeks query b ≡ is_sought 2 self b))
+            (λ query. (first_refusal (query_refusals 2 self) ≡ None) × (query ≡ given_query self))
             (λ e. first_refusal (query_refusals 2 self) ≡ Some e) }
     {
         match self {
@@ -78,8 +76,7 @@ impl RawQuery {
     /// The query in a layer of three axes. Refused, in this order, by WrongDims and BadBox.
     pub fn three_axes(self) -> Result<Query<3>, Refusal>
         ensures { MatchResult result
-            (λ query. (first_refusal (query_refusals 3 self) ≡ None)
-            × ((b : Bounds) → seeks query b ≡ is_sought 3 self b))
+            (λ query. (first_refusal (query_refusals 3 self) ≡ None) × (query ≡ given_query self))
             (λ e. first_refusal (query_refusals 3 self) ≡ Some e) }
     {
         match self {

@@ -1,4 +1,4 @@
-//! The records written into the catalog, the gate shut behind all pages, and the layers closed.
+//! The records written into the catalog, the gate shut after all pages, and the layers closed.
 
 ghost use Rattle.std.specs.Prelude.{◌≡◌, ◌⊎◌, ◌↔◌, List, ◌∷◌, Ok, IsOk, IfErr, IfOk, OnErr, OnOk};
 ghost use Rattle.block_device.specs.Device.{LeavesOnly, Only};
@@ -48,7 +48,7 @@ impl<B: BlockDevice, A: Allocator + Copy> Layers<B, A> {
         Ok(())
     }
 
-    /// Writes the records into the page of the catalog, if it does not spell them, and shuts the gate behind all pages.
+    /// Writes the records into the page of the catalog, if it does not spell them, and shuts the gate after all pages.
     /// The table stays, and the blocks are an image of it then.
     ///
     /// On an honest device with a sound store it is refused by `Memory` or `Device`.

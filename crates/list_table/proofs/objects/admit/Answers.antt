@@ -3,7 +3,7 @@ use Rattle.std.proofs.Common.{◌≡◌, sym, refl, Ok, Err, true, false}
 use Rattle.std.specs.FinMap.{contains_key, from_sorted}
 use Rattle.std.specs.Ordering.{nat_cmp}
 use Rattle.box_math.specs.Bounds.{ordered_test}
-use Rattle.list_table.proofs.EntryLemmas.{found_key}
+use Rattle.plain_table.proofs.EntryLemmas.{found_key}
 use Rattle.list_table.proofs.objects.admit.Goals as goal
 
 pub returns-in_default-search : goal.returns-in_default-search

@@ -1,7 +1,7 @@
 -- The goals of `nearest` that are proved by hand.
-use Rattle.std.proofs.Common.{◌∙◌, ℕ, List, not, sym, ap, arith}
+use Rattle.std.proofs.Common.{◌∙◌, ℕ, List, not, ap, arith}
 use Rattle.std.specs.List.{insert, prefix_len}
-use Rattle.plain_table.specs.Nearest.{comes_first}
+use Rattle.box_math.specs.Nearest.{comes_first}
 use Rattle.list_table.proofs.OrderLemmas.{one_more}
 use Rattle.list_table.proofs.objects.nearest.Goals as goal
 

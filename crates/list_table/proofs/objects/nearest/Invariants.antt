@@ -1,6 +1,6 @@
 -- What holds at each turn of the loop of `nearest`.
 use Rattle.std.proofs.Common.{◌≡◌, ◌-◌, drop, length}
-use Rattle.plain_table.specs.Nearest.{by_distance}
+use Rattle.box_math.specs.Nearest.{by_distance}
 use Rattle.list_table.proofs.objects.nearest.Given as goal
 
 -- the last of the objects are in order

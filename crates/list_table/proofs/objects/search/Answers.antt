@@ -3,7 +3,7 @@ use Rattle.std.proofs.Common.{ℕ, ap, ◌+◌, ◌-◌, ◌/◌, arith, sym, �
 use Rattle.std.specs.Cmp.{nat_cmp_total}
 use Rattle.std.specs.Ordering.{nat_cmp}
 use Rattle.box_math.specs.Bounds.{Bounds}
-use Rattle.list_table.proofs.EntryLemmas.{at_default}
+use Rattle.plain_table.proofs.EntryLemmas.{at_default}
 use Rattle.list_table.proofs.SearchLemmas.{belongs_there, found_there, narrowed_at_first, narrowed_down, narrowed_up}
 use Rattle.list_table.proofs.objects.search.Goals as goal
 

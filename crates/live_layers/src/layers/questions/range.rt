@@ -23,7 +23,6 @@ ghost use Rattle.live_layers.specs.Located.{IsLocated};
 ghost use Rattle.live_layers.specs.Questions.{IsReply, admits, is_admitted};
 
 use crate::faults::as_refusal;
-use crate::given::{in_plane, in_space};
 use crate::layers::Layers;
 use crate::located::Located;
 use block_device::BlockDevice;
@@ -55,7 +54,7 @@ impl<B: BlockDevice, A: Allocator + Copy> Layers<B, A> {
         ensures cause { HasRefusalCause (B.faults (device_of (cache_of self.old)))
             (B.faults (device_of (cache_of self.new))) result }
     {
-        let asked = in_plane(query)?;
+        let asked = query.two_axes()?;
         let rows = self.seek::<2>(located, &asked)?;
         Ok(two_axes(self.alloc, &rows)?)
     }
@@ -79,7 +78,7 @@ impl<B: BlockDevice, A: Allocator + Copy> Layers<B, A> {
         ensures cause { HasRefusalCause (B.faults (device_of (cache_of self.old)))
             (B.faults (device_of (cache_of self.new))) result }
     {
-        let asked = in_space(query)?;
+        let asked = query.three_axes()?;
         let rows = self.seek::<3>(located, &asked)?;
         Ok(three_axes(self.alloc, &rows)?)
     }

@@ -1,5 +1,4 @@
 -- What holds at each turn of the loop of `nearest`, and that it ends.
-use Rattle.page_cache.specs.Cache.{looks_of}
 use Rattle.nearest.specs.Candidates.{work_in}
 use Rattle.nearest.proofs.SearchLemmas.{Searching}
 use Rattle.nearest.proofs.search.nearest.Given as goal

@@ -1,4 +1,4 @@
--- The numbers read so far, and zeros behind them.
+-- The numbers read so far, and zeros after them.
 use Rattle.std.proofs.Common.{◌≡◌, ℕ, ◌+◌, ◌*◌, ◌<◌, ◌≤◌, length, pos}
 use Rattle.block_bytes.specs.Numbers.{signed_at}
 use Rattle.box_math.specs.Bounds.{on_axis}

@@ -1,4 +1,4 @@
--- The box stays where the reference is written behind it, and nothing outside the entry changes.
+-- The box stays where the reference is written after it, and nothing outside the entry changes.
 use Rattle.std.proofs.Common.{arith}
 use Rattle.node_page.proofs.Places.{item_written, entry_keeps}
 use Rattle.node_page.proofs.entries.write_entry.Goals as goal

@@ -1,4 +1,4 @@
--- The level is written behind the head.
+-- The level is written after the head.
 use Rattle.std.proofs.Common.{arith}
 use Rattle.node_page.proofs.HeadWritten.{head_written, head_rest}
 use Rattle.node_page.proofs.head.write_head.Goals as goal

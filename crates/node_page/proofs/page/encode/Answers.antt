@@ -1,4 +1,4 @@
--- Each entry is written behind those before it.
+-- Each entry is written after those before it.
 use Rattle.std.proofs.Common.{◌≡◌, ◌<◌, List, length, get_or, map, sym, ◌∙◌, ap, arith}
 use Rattle.std.proofs.lemmas.List.{get_or-map, length-map}
 use Rattle.tree_node.specs.declared.node.Entry.{Entry}

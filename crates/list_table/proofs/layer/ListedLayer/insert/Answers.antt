@@ -5,7 +5,7 @@ use Rattle.std.specs.List.{insert}
 use Rattle.std.specs.FinMap.{is_sorted}
 use Rattle.std.specs.Ordering.{nat_cmp}
 use Rattle.box_math.specs.Bounds.{Bounds}
-use Rattle.list_table.specs.Entries.{BelongsAt}
+use Rattle.plain_table.specs.Entries.{BelongsAt}
 use Rattle.list_table.specs.Objects.{axes_of, entries_of}
 use Rattle.plain_table.specs.declared.boxes.RawBox.TheVariants as raw
 use Rattle.list_table.specs.declared.objects.ListedObjects.TheVariants as kept

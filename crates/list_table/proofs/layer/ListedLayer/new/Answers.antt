@@ -4,7 +4,7 @@ use Rattle.std.proofs.lemmas.Bool.Decides.{nat_tests}
 use Rattle.std.specs.FinMap.{from_sorted, empty}
 use Rattle.std.specs.Ordering.{nat_cmp}
 use Rattle.list_table.specs.Objects.{axes_of, entries_of}
-use Rattle.list_table.proofs.EntryLemmas.{empty_map}
+use Rattle.plain_table.proofs.EntryLemmas.{empty_map}
 use Rattle.list_table.proofs.layer.ListedLayer.new.Goals as goal
 use Rattle.list_table.proofs.layer.ListedLayer.new.Goals.{then-dims-eq2, else-dims-eq2}
 

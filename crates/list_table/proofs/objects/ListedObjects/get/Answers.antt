@@ -4,9 +4,9 @@ use Rattle.std.specs.Prelude.{IsTrue}
 use Rattle.std.specs.FinMap.{from_sorted, get, is_sorted}
 use Rattle.std.specs.Ordering.{nat_cmp}
 use Rattle.box_math.specs.Bounds.{Bounds}
-use Rattle.list_table.specs.Entries.{IsEntryAt, BelongsAt}
+use Rattle.plain_table.specs.Entries.{IsEntryAt, BelongsAt}
 use Rattle.list_table.specs.Objects.{entries_of}
-use Rattle.list_table.proofs.EntryLemmas.{absent_value, found_value}
+use Rattle.plain_table.proofs.EntryLemmas.{absent_value, found_value}
 use Rattle.list_table.proofs.objects.ListedObjects.get.Goals as goal
 
 pub returns-in-Ok : goal.returns-in-Ok

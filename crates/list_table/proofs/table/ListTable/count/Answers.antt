@@ -3,7 +3,7 @@ use Rattle.std.proofs.Common.{◌∙◌, sym, subst, map}
 use Rattle.std.specs.Cmp.Lexicographic.{slice_cmp}
 use Rattle.std.specs.Ordering.{nat_cmp}
 use Rattle.plain_table.specs.Commands.Command.{Count}
-use Rattle.list_table.specs.Entries.{IsEntryAt, BelongsAt}
+use Rattle.plain_table.specs.Entries.{IsEntryAt, BelongsAt}
 use Rattle.list_table.specs.InMemory.{entry_of}
 use Rattle.list_table.specs.InMemory.{AnsweredInMemory}
 use Rattle.plain_table.specs.Step.Answer.{Counted, Refused}

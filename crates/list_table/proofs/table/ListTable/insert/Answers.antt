@@ -5,7 +5,7 @@ use Rattle.std.specs.Cmp.Lexicographic.{slice_cmp}
 use Rattle.std.specs.Ordering.{nat_cmp}
 use Rattle.std.proofs.lemmas.List.{length-map}
 use Rattle.plain_table.specs.Commands.Command.{Insert}
-use Rattle.list_table.specs.Entries.{IsEntryAt, BelongsAt}
+use Rattle.plain_table.specs.Entries.{IsEntryAt, BelongsAt}
 use Rattle.list_table.specs.InMemory.{entry_of}
 use Rattle.list_table.specs.InMemory.{AnsweredInMemory}
 use Rattle.list_table.specs.Listed.{table_from}

@@ -3,7 +3,7 @@ use Rattle.std.proofs.Common.{ap, ◌∙◌}
 use Rattle.std.specs.Cmp.Lexicographic.{slice_cmp}
 use Rattle.std.specs.Ordering.{nat_cmp}
 use Rattle.list_table.specs.Listed.{table_from}
-use Rattle.list_table.proofs.EntryLemmas.{empty_map}
+use Rattle.plain_table.proofs.EntryLemmas.{empty_map}
 use Rattle.list_table.proofs.TableLemmas.{none_listed}
 use Rattle.list_table.proofs.table.ListTable.new.Goals as goal
 

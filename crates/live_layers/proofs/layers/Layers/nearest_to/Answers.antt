@@ -2,10 +2,11 @@
 use Rattle.std.proofs.Common.{◌≡◌, ◌∙◌, ℕ, List, [], ◌∷◌, not, take, refl, sym, ap, inl}
 use Rattle.block_device.specs.Device.{HasRisen}
 use Rattle.std.specs.FinMap.{entries}
+use Rattle.box_math.specs.Nearest.{by_distance}
 use Rattle.layer_pages.proofs.AnswerLemmas.{nearest_are_objects}
 use Rattle.nearest.specs.Nearest.{is_searched, nearest_rows}
 use Rattle.page_cache.specs.Cache.{device_of, looks_of, pages}
-use Rattle.plain_table.specs.Nearest.{by_distance, is_count}
+use Rattle.plain_table.specs.Nearest.{is_count}
 use Rattle.plain_table.specs.Step.{first_refusal, refused_or}
 use Rattle.plain_table.specs.Step.Answer.{Distances, Refused}
 use Rattle.plain_table.specs.Table.{layer_at}
@@ -14,7 +15,7 @@ use Rattle.plain_table.specs.declared.refusal.Refusal.TheVariants as refusal
 use Rattle.std.specs.Prelude.{Option, ◌==◌}
 use Rattle.tree_node.specs.Searches.{admitted, counted}
 use Rattle.live_layers.proofs.AskLemmas.{device_refuses, risen_of, tested_same}
-use Rattle.live_layers.proofs.ReplyLemmas.{good_count, nearest_same, reply_failed}
+use Rattle.live_layers.proofs.ReplyLemmas.{good_count, reply_failed}
 use Rattle.live_layers.proofs.KeepLemmas.{sound_kept}
 use Rattle.live_layers.proofs.LocateLemmas.{stands_with}
 use Rattle.live_layers.proofs.layers.Layers.nearest_to.Goals as goal
@@ -31,7 +32,6 @@ returns-in-Ok-clause-replied g c = λ t name sound located.
     let nearest : c.in-Ok.rows.items ≡ take c.args.k (by_distance layer.dims point objects) =
     c.in-Ok.ensures.rows sound.map.honest located.layer.tree there.fanout at.tree
     ∙ nearest_are_objects g.row.D there.fanout (pages old.cache) there.root there.directory located.layer layer.objects c.args.k point at
-    ∙ ap (take c.args.k) (nearest_same g.row.D point objects)
     ∙ ap (λ (d : ℕ). take c.args.k (by_distance d point objects)) (sym axes ∙ sym located.dims) in
     let right = tested_same g.row.D layer.dims there.dims located.dims axes in
     let good = good_count g.row.D c.args.k layer right (sym c.is_count.ensures ∙ c.if-not-is_count.false) in
@@ -49,7 +49,6 @@ returns-in-Ok-clause-looks g c = λ t name sound located.
     let tree = located.layer.tree in
     let nearest : nearest_rows g.row.D c.args.k point tree ≡ take c.args.k (by_distance layer.dims point objects) =
     nearest_are_objects g.row.D there.fanout (pages old.cache) there.root there.directory located.layer layer.objects c.args.k point at
-    ∙ ap (take c.args.k) (nearest_same g.row.D point objects)
     ∙ ap (λ (d : ℕ). take c.args.k (by_distance d point objects)) (sym axes ∙ sym located.dims) in
     record {
       tree = tree;

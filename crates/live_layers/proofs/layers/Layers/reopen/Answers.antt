@@ -1,4 +1,4 @@
--- A closing that is finished, or refused, and what is read behind it.
+-- A closing that is finished, or refused, and what is read after it.
 use Rattle.std.proofs.Common.{◌∙◌}
 use Rattle.page_cache.specs.Laws.{the_gate_is_kept_in_turn}
 use Rattle.live_layers.specs.Closings.{ClosingLeaves}

@@ -1,4 +1,4 @@
--- A search through a list of entries that is in order.
+-- Where a key stands in a list of entries that is in order, or belongs, and the map that the list is.
 use Rattle.std.proofs.Common.{◌≡◌, ℕ, zero, suc, ◌<◌, ◌≤◌, List, [], ◌∷◌, length, get_or, Some, None, Bool, true, false, cond, refl, sym, ap, ◌∙◌, subst, arith, T, ◌&&◌}
 use Rattle.std.specs.Prelude.{slice_index_or, slice_set, Result, Ok, Err, is_ok, is_some, IsTrue}
 use Rattle.std.specs.Ordering.{is_lt, is_eq}
@@ -9,7 +9,7 @@ use Rattle.std.specs.List.{insert, AllWithin}
 use Rattle.std.specs.FinMap.{find, put, is_sorted, from_sorted, contains_key, get, insert as map_insert, entries_sorted, entries-insert, entries-from_sorted, get-from_sorted, same_entries_map, empty, empty_of_len, len-entries, entries}
 use Rattle.std.specs.FinMap.Entries.{below_all, by_order}
 use Rattle.std.proofs.lemmas.List.{get_or_default}
-use Rattle.list_table.specs.Entries.{IsEntryAt, BelongsAt, IsSearched}
+use Rattle.plain_table.specs.Entries.{IsEntryAt, BelongsAt, IsSearched}
 
 pub less_is : (o : Ordering) → T (is_lt o) → o ≡ Less
 less_is Less h = refl
