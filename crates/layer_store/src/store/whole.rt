@@ -1,6 +1,7 @@
 //! The commands that ask of all layers.
 
-ghost use Rattle.std.specs.Prelude.{◌≡◌, ◌≤◌, ◌+◌, ◌*◌, length, Err, OnOk};
+ghost use Rattle.std.specs.Prelude.{◌≡◌, ◌≤◌, ◌⊎◌, ◌+◌, ◌*◌, length, Err, IfErr, OnOk};
+ghost use Rattle.live_layers.specs.Checked.{IsCheckRefusal};
 ghost use Rattle.live_layers.specs.Faults.{HasRefusalCause};
 ghost use Rattle.live_layers.specs.Image.{MayRemain};
 ghost use Rattle.live_layers.specs.Keeping.{records_in};
@@ -57,6 +58,8 @@ impl<D: BlockDevice, A: Allocator + Copy> Store<D, A> {
     /// Checks all pages. On an honest device it is done only where they hold a table, whatever file was opened; so a
     /// store that was opened and checked begins as one of an image does. It looks at each page given out at most twice
     /// for each layer, and once at the catalog.
+    ///
+    /// Refused by `Memory`, `Device` or `Damaged`, and on an honest device with a sound store not by `Damaged`.
     pub fn check(&mut self) -> Result<(), Refusal>
         ensures step { Takes Represents self.old self.new
             (λ s s'. LawfulStep s (Asks Check) (done_answer result) s') }
@@ -65,6 +68,7 @@ impl<D: BlockDevice, A: Allocator + Copy> Store<D, A> {
             OnOk result (BeginsWithSome self.new (D.moment (device_in self.new))) }
         ensures looks { looks_in self.new ≤ looks_in self.old +
             (1 + 2 * (length (records_in (layers_in self.old)) * next_of (cache_in self.old))) }
+        ensures refused { IsInState self.old Dead ⊎ IfErr result IsCheckRefusal }
         ensures kept { KeepsStore self.old self.new }
         ensures stops { (s : SessionState) → Represents self.old s →
             StopsLeave self.old self.new (MayRemain s.stops.now) }

@@ -1,5 +1,5 @@
 -- A question of the layers is a step of the store.
-use Rattle.std.proofs.Common.{refl}
+use Rattle.std.proofs.Common.{refl, inl, inr}
 use Rattle.live_layers.proofs.Results.{on_ok}
 use Rattle.plain_table.specs.Answers.{done_answer}
 use Rattle.plain_table.specs.Commands.Command.{Check}
@@ -8,7 +8,7 @@ use Rattle.layer_store.specs.Representation.{device_in}
 use Rattle.layer_store.proofs.QuestionLemmas.{keeps_asked, kept_or_same, nothing_asked, step_asked, stops_asked}
 use Rattle.layer_store.specs.declared.store.Store.{Store}
 use Rattle.layer_store.proofs.StartLemmas.{settled_begins}
-use Rattle.layer_store.proofs.StoreLemmas.{alive_so, is_dead, not_both, takes_nothing}
+use Rattle.layer_store.proofs.StoreLemmas.{alive_so, dead_so, is_dead, not_both, takes_nothing}
 use Rattle.layer_store.proofs.store.Store.check.Goals as goal
 
 pub returns-then-self-clause-step : goal.returns-then-self-clause-step
@@ -44,3 +44,9 @@ returns-clause-begins g c = λ honest settled.
     let new : Store _ _ _ = record { layers = c.check.new.self; failed = c.args.self.now.failed } in
     let kept = keeps_asked c.args.self.now c.check.new.self c.check.ensures.gate c.check.ensures.map c.check.ensures.written in
     on_ok c.check.result (λ found. (found.0, settled_begins new found.0 (λ honest b left. g.met.D.BlockDevice.only_now (device_in new) b honest left) (kept.settled settled) c.if-self.false found.1)) (c.check.ensures.sound honest)
+
+pub returns-then-self-clause-refused : goal.returns-then-self-clause-refused
+returns-then-self-clause-refused g c = inl (dead_so c.args.self.now c.if-self.true)
+
+pub returns-clause-refused : goal.returns-clause-refused
+returns-clause-refused g c = inr c.check.ensures.refused
