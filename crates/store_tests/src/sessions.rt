@@ -23,14 +23,16 @@ const NAMES: [&[u8]; 8] = [
 // Fanouts. The first and the last are none.
 const FANOUTS: [u64; 8] = [3, 4, 4, 5, 7, 20, 100, 101];
 
-// Numbers by chance, after George Marsaglia, "Xorshift RNGs", 2003. The state is not 0.
+/// Numbers by chance, after George Marsaglia, "Xorshift RNGs", 2003. The state is not 0.
 #[derive(Drop)]
-struct Dice {
-    state: u64,
+pub struct Dice {
+    /// What the numbers come from.
+    pub state: u64,
 }
 
 impl Dice {
-    fn below(&mut self, sides: u32) -> u32
+    /// A number below that one.
+    pub fn below(&mut self, sides: u32) -> u32
         requires { 0 < sides }
         ensures { result < sides }
     {
