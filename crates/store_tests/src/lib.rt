@@ -11,6 +11,12 @@ mod files;
 #[cfg(test)]
 mod fixture;
 #[cfg(test)]
+mod fuzz;
+#[cfg(test)]
+mod hostile;
+#[cfg(test)]
+mod language;
+#[cfg(test)]
 mod larger;
 #[cfg(test)]
 mod listing;

@@ -34,14 +34,16 @@ fn axes_of(place: usize) -> u64 {
     if place == 0 { 2 } else { 3 }
 }
 
-// Numbers by chance, after George Marsaglia, "Xorshift RNGs", 2003. The state is not 0.
+/// Numbers by chance, after George Marsaglia, "Xorshift RNGs", 2003. The state is not 0.
 #[derive(Drop)]
-struct Dice {
-    state: u64,
+pub struct Dice {
+    /// What the numbers come from.
+    pub state: u64,
 }
 
 impl Dice {
-    fn below(&mut self, sides: u32) -> u32
+    /// A number below that one.
+    pub fn below(&mut self, sides: u32) -> u32
         requires { 0 < sides }
         ensures { result < sides }
     {

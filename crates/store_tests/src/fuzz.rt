@@ -1,0 +1,439 @@
+//! Files that are damaged by chance: each command returns with an answer or a refusal that it may have, and where a
+//! check finds nothing wrong all questions agree, and no change meets damage.
+
+use crate::commands::{Answer, Command, PLANE, SPACE};
+use crate::fixture::{block_of, closed, device_of, new_store, opened, patch, put as put_block};
+use crate::language::{Ask, may_answer, put};
+use crate::sessions::Dice;
+use block_device::{BlockDevice, DeviceError, MemoryDevice};
+use layer_store::{RawBox, RawPoint, Refusal, Store};
+use std::alloc::Global;
+use std::process::Abort;
+use std::test::Fail;
+
+// How many files are damaged.
+const FILES: u32 = 1000;
+
+// More looks than a command makes on so small a file.
+const MOST_LOOKS: u64 = 10_000;
+
+// Layers to be made, with so many objects. One of the last makes a chain of two buckets.
+type Layer = (&'static [u8], u64, u64, u32);
+
+const FEW: [Layer; 3] = [(b"a", 2, 4, 13), (b"b", 3, 5, 7), (b"c", 2, 4, 0)];
+
+const DEEP: [Layer; 2] = [(b"a", 2, 4, 17), (b"b", 2, 5, 6)];
+
+const CHAINED: [Layer; 2] = [(b"a", 2, 100, 103), (b"b", 3, 4, 6)];
+
+const QUESTIONS: [Ask; 20] = [
+    Ask::Now(Command::Window(b"a", PLANE)),
+    Ask::Now(Command::Window(b"b", SPACE)),
+    Ask::Now(Command::Window(b"b", PLANE)),
+    Ask::Now(Command::Window(b"c", PLANE)),
+    Ask::Now(Command::Inside(b"a", RawBox::Two([0, 0], [9, 9]))),
+    Ask::Now(Command::Around(b"a", RawBox::Two([4, 4], [4, 4]))),
+    Ask::Now(Command::Point(b"a", RawPoint::Two([8, 3]))),
+    Ask::Now(Command::Point(b"b", RawPoint::Three([8, 3, 3]))),
+    Ask::Now(Command::Nearest(b"a", 3, RawPoint::Two([6, 6]))),
+    Ask::Now(Command::Nearest(b"b", 100, RawPoint::Three([6, 6, 6]))),
+    Ask::Now(Command::Get(b"a", 0)),
+    Ask::Now(Command::Get(b"a", 1001)),
+    Ask::Now(Command::Get(b"b", 2)),
+    Ask::Now(Command::Get(b"c", 1)),
+    Ask::Now(Command::Count(b"a")),
+    Ask::Join(b"a", b"b"),
+    Ask::Join(b"c", b"a"),
+    Ask::Join(b"b", b"b"),
+    Ask::Layers,
+    Ask::Dump,
+];
+
+const CHANGES: [Ask; 18] = [
+    Ask::Now(Command::Insert(b"a", 5001, RawBox::Two([7, 7], [8, 8]))),
+    Ask::Now(Command::Insert(b"b", 5002, RawBox::Three([7; 3], [8; 3]))),
+    Ask::Now(Command::Insert(b"b", 5002, RawBox::Two([7; 2], [8; 2]))),
+    Ask::Delete(b"a", 0),
+    Ask::Delete(b"a", 1001),
+    Ask::Delete(b"b", 1),
+    Ask::Move(b"a", 2, RawBox::Two([1, 1], [20, 20])),
+    Ask::Move(b"a", 1000, RawBox::Two([1, 1], [1, 1])),
+    Ask::Move(b"b", 1000, RawBox::Three([1; 3], [2; 3])),
+    Ask::Load(
+        b"c",
+        &[(1, PLANE), (2, PLANE), (3, PLANE), (4, PLANE), (5, PLANE)],
+    ),
+    Ask::Now(Command::Insert(b"c", 1, PLANE)),
+    Ask::Drop(b"b"),
+    Ask::Now(Command::Create(b"d", 3, 4)),
+    Ask::Now(Command::Create(b"e", 2, 4)),
+    Ask::Now(Command::Reopen),
+    Ask::Drop(b"a"),
+    Ask::Drop(b"c"),
+    Ask::Now(Command::Get(b"a", 1)),
+];
+
+type Blocks = Vec<[u8; 4096]>;
+
+// A box near the origin, by a number.
+fn bounds_of(dims: u64, i: u32) -> RawBox {
+    let i = i % 1000;
+    let (x, y, size) = ((37 * i % 23) as i32, (17 * i % 19) as i32, (i % 3) as i32);
+    if dims == 2 {
+        RawBox::Two([x, y], [x + size, y + 1])
+    } else {
+        RawBox::Three([x, y, size], [x + size, y + 1, 2])
+    }
+}
+
+// Adds three free pages behind all others of a file that has none.
+fn add_free_pages(device: &mut MemoryDevice) -> Result<(), DeviceError> {
+    let end = device.blocks();
+    for k in 1..=3u32 {
+        let page = device.blocks();
+        put_block(device, page, &[0; 4096])?;
+        patch(device, page, 0, 1, 5)?;
+        let next = if k < 3 { u64::from(page) + 1 } else { 0 };
+        patch(device, page, 4, 4, next)?;
+    }
+    patch(device, 1, 12, 4, u64::from(end) + 3)?;
+    patch(device, 1, 16, 4, u64::from(end))?;
+    patch(device, 1, 20, 4, 3)
+}
+
+// The blocks of a store with these layers, and three free pages.
+fn blocks_with(alloc: Global, layers: &[Layer]) -> Result<Blocks, Fail> {
+    let mut store = new_store(alloc, 64)?;
+    for &(name, dims, fanout, count) in layers {
+        store.create(name, dims, fanout)?;
+        for i in 0..count {
+            // identifiers of one remainder, or of three
+            let id = if count > 100 {
+                1000 * u64::from(i)
+            } else {
+                1000 * u64::from(i / 3) + u64::from(i % 3)
+            };
+            store.insert(name, id, bounds_of(dims, i))?;
+        }
+    }
+    let mut device = device_of(store)?;
+    add_free_pages(&mut device)?;
+    let mut blocks = Vec::new(alloc);
+    for i in 0..device.blocks() {
+        blocks.push(block_of(&mut device, i)?)?;
+    }
+    Ok(blocks)
+}
+
+// A device with these blocks.
+fn device_with(alloc: Global, blocks: &Blocks) -> Result<MemoryDevice, DeviceError> {
+    let mut device = MemoryDevice::new(alloc);
+    for block in blocks.iter() {
+        let end = device.blocks();
+        put_block(&mut device, end, block)?;
+    }
+    Ok(device)
+}
+
+// A number for a page: one of the file, or the one after them all.
+fn any_page(dice: &mut Dice, device: &MemoryDevice) -> u32 {
+    dice.below(device.blocks().saturating_add(1))
+}
+
+// A new number for a node: its level, its count, a reference, a bound, or its kind or dimension.
+fn damage_node(
+    dice: &mut Dice,
+    device: &mut MemoryDevice,
+    page: u32,
+    is_space: bool,
+) -> Result<(), DeviceError> {
+    let axes = if is_space { 3 } else { 2 };
+    let other = u64::from(any_page(dice, device));
+    let place = dice.below(6) as usize;
+    let axis = dice.below(2) as usize;
+    let small = u64::from(dice.below(30));
+    match dice.below(10) {
+        0 => patch(device, page, 4, 1, small % 4),
+        1 => patch(device, page, 2, 2, small % 7),
+        2..=4 => patch(device, page, 16 + 800 * axes + 8 * place, 8, other),
+        5 | 6 => patch(device, page, 16 + 800 * axis + 4 * place, 4, small),
+        7 | 8 => patch(device, page, 416 + 800 * axis + 4 * place, 4, small),
+        _ => patch(device, page, axis, 1, small % 6),
+    }
+}
+
+// A new number for a bucket: the next page, its count, an identifier, a bound, or its kind or dimension.
+fn damage_bucket(
+    dice: &mut Dice,
+    device: &mut MemoryDevice,
+    page: u32,
+    is_space: bool,
+) -> Result<(), DeviceError> {
+    let size = if is_space { 32 } else { 24 };
+    let other = u64::from(any_page(dice, device));
+    let at = 16 + size * dice.below(6) as usize;
+    let small = u64::from(dice.below(30));
+    match dice.below(9) {
+        0 => patch(device, page, 4, 4, other),
+        1 => patch(device, page, 4, 4, u64::from(page)),
+        2 => patch(device, page, 2, 2, small % 7),
+        3 | 4 => patch(device, page, at, 8, 1000 * (small % 5) + small % 3),
+        5..=7 => patch(device, page, at + 8 + 4 * dice.below(4) as usize, 4, small),
+        _ => patch(device, page, dice.below(2) as usize, 1, small % 6),
+    }
+}
+
+// A new number for a record of the catalog, which mostly is still one that opening takes.
+fn damage_catalog(dice: &mut Dice, device: &mut MemoryDevice) -> Result<(), DeviceError> {
+    let other = u64::from(any_page(dice, device));
+    let at = 256 + 64 * dice.below(3) as usize;
+    let small = u64::from(dice.below(30));
+    match dice.below(8) {
+        0 => patch(device, 2, at + 25, 1, 2 + small % 2),
+        1 => patch(device, 2, at + 26, 1, 3 + small % 4),
+        2 => patch(device, 2, at + 27, 1, small % 4),
+        3 | 4 => patch(device, 2, at + 28, 4, other),
+        5 | 6 => patch(device, 2, at + 32, 4, other),
+        _ => patch(device, 2, at + 36, 8, small),
+    }
+}
+
+// A new number for the free pages, in the header or in one of them; or a byte anywhere in a page.
+fn damage_chain(dice: &mut Dice, device: &mut MemoryDevice) -> Result<(), DeviceError> {
+    let other = u64::from(any_page(dice, device));
+    let last = device.blocks().saturating_sub(1);
+    let page = last.saturating_sub(dice.below(3));
+    match dice.below(6) {
+        0 => patch(device, 1, 12, 4, other),
+        1 => patch(device, 1, 16, 4, other),
+        2 => patch(device, 1, 20, 4, u64::from(dice.below(6))),
+        3 | 4 => patch(device, page, 4, 4, other),
+        _ => {
+            let at = dice.below(4096) as usize;
+            let page = any_page(dice, device).max(2);
+            patch(device, page, at, 1, u64::from(dice.below(256)))
+        }
+    }
+}
+
+// A page in the place of another one, or in each other's place.
+fn damage_places(dice: &mut Dice, device: &mut MemoryDevice) -> Result<(), DeviceError> {
+    let (one, other) = (any_page(dice, device), any_page(dice, device));
+    if one < 3 || other < 3 || one >= device.blocks() || other >= device.blocks() {
+        return Ok(());
+    }
+    let (left, right) = (block_of(device, one)?, block_of(device, other)?);
+    put_block(device, one, &right)?;
+    if dice.below(2) == 0 {
+        put_block(device, other, &left)?;
+    }
+    Ok(())
+}
+
+// One thing wrong.
+fn damage(dice: &mut Dice, device: &mut MemoryDevice) -> Result<(), DeviceError> {
+    match dice.below(16) {
+        0 => return damage_catalog(dice, device),
+        1 => return damage_chain(dice, device),
+        2 => return damage_places(dice, device),
+        _ => {}
+    }
+    let page = any_page(dice, device);
+    let block = block_of(device, page)?;
+    let is_space = block[1] == 3;
+    match block[0] {
+        2 => damage_node(dice, device, page, is_space),
+        3 => {
+            let at = 16 + 4 * dice.below(4) as usize;
+            let other = u64::from(any_page(dice, device));
+            patch(device, page, at, 4, other)
+        }
+        4 => damage_bucket(dice, device, page, is_space),
+        _ => Ok(()),
+    }
+}
+
+// What became of a file.
+#[derive(Clone, Copy, Debug, PartialEq, Eq)]
+enum Ending {
+    // opening refused it
+    Refused,
+    // a check found it sound
+    Sound,
+    // a check found damage, and the store went on to its closing
+    Closed,
+    // the same, and a change met damage half way through
+    Failed,
+}
+
+// Puts a command to a live store, in not too many looks.
+fn ask_one(
+    rt: &impl Abort,
+    alloc: Global,
+    store: &mut Store<MemoryDevice>,
+    ask: Ask,
+    file: u32,
+) -> Answer {
+    let before = store.looks();
+    let given = put(alloc, store, ask);
+    let looked = store.looks().wrapping_sub(before);
+    assert!(rt;
+        looked <= MOST_LOOKS,
+        "file {file}, {ask:?}: {looked} looks"
+    );
+    assert!(rt; may_answer(ask, &given), "file {file}, {ask:?}: {given:?}");
+    given
+}
+
+// Puts all changes to a store, beginning at one of them, till one ends it. In a sound store none meets damage.
+fn change_all(
+    rt: &impl Abort,
+    alloc: Global,
+    store: &mut Store<MemoryDevice>,
+    file: u32,
+    is_sound: bool,
+) -> bool {
+    let begin = file as usize % CHANGES.len();
+    for &ask in CHANGES.iter().cycle().skip(begin).take(CHANGES.len()) {
+        let given = ask_one(rt, alloc, store, ask, file);
+        let is_damaged = matches!(given, Err(Refusal::Damaged(_) | Refusal::StoreFailed(_)));
+        assert!(rt; !is_sound || !is_damaged, "file {file}, {ask:?}: {given:?}");
+        if matches!(given, Err(Refusal::StoreFailed(_))) {
+            return false;
+        }
+    }
+    true
+}
+
+// Whether the questions on the layer of that name agree: its objects by the tree, and each by the table, and counts.
+fn agrees(
+    alloc: Global,
+    store: &mut Store<MemoryDevice>,
+    name: &'static [u8],
+    all: &mut Vec<i128>,
+) -> Result<bool, Fail> {
+    let Ok(count) = put(alloc, store, Ask::Now(Command::Count(name))) else {
+        return Ok(true);
+    };
+    let plane = put(alloc, store, Ask::Now(Command::Window(name, PLANE)));
+    let is_plane = plane.is_ok();
+    let rows = match plane {
+        Ok(rows) => rows,
+        Err(_) => put(alloc, store, Ask::Now(Command::Window(name, SPACE)))?,
+    };
+    let width = if is_plane { 5 } else { 7 };
+    let origin = if is_plane {
+        RawPoint::Two([0; 2])
+    } else {
+        RawPoint::Three([0; 3])
+    };
+    let nearest = put(alloc, store, Ask::Now(Command::Nearest(name, 1000, origin)))?;
+    let objects = rows.len() / width;
+    let mut agree = count.as_slice() == [objects as i128].as_slice()
+        && nearest.len() / 2 == objects;
+    let mut last = -1;
+    for row in rows.chunks(width) {
+        if let Some(&first) = row.first() {
+            let id = u64::try_from(first).unwrap_or(0);
+            let found = put(alloc, store, Ask::Now(Command::Get(name, id)))?;
+            agree = agree && last < first && found.as_slice() == row;
+            last = first;
+        }
+        all.extend_from_slice(row)?;
+    }
+    Ok(agree)
+}
+
+// Whether the questions agree, a dump too.
+fn all_agree(alloc: Global, store: &mut Store<MemoryDevice>) -> Result<bool, Fail> {
+    let mut all = Vec::new(alloc);
+    let names: [&'static [u8]; 5] = [b"a", b"b", b"c", b"d", b"e"];
+    for name in names {
+        if !agrees(alloc, store, name, &mut all)? {
+            return Ok(false);
+        }
+    }
+    let dump = put(alloc, store, Ask::Dump)?;
+    Ok(dump.as_slice() == all.as_slice())
+}
+
+// Closes the store of a file. One that failed is not closed, and one that goes on is opened again.
+fn end(rt: &impl Abort, alloc: Global, store: Store<MemoryDevice>, goes_on: bool, file: u32) {
+    let mut store = store;
+    let later = put(alloc, &mut store, Ask::Now(Command::Reopen)).err();
+    let (refusal, device) = closed(store);
+    let again = opened(alloc, device, 8).err();
+    let failed = Some(Refusal::StoreFailed(19));
+    let wanted = if goes_on {
+        (None, None, None)
+    } else {
+        (failed, failed, Some(Refusal::NotClosed))
+    };
+    assert_eq!(rt; (later, refusal, again), wanted, "file {file}");
+}
+
+// Puts the whole language to the store of a file, and closes it.
+fn run(rt: &impl Abort, alloc: Global, device: MemoryDevice, file: u32) -> Result<Ending, Fail> {
+    let mut store = match opened(alloc, device, 8) {
+        Ok(store) => store,
+        Err(refusal) => {
+            let is_head = refusal == Refusal::Damaged(1) || refusal == Refusal::Damaged(2);
+            assert!(rt; is_head, "file {file}: {refusal:?}");
+            return Ok(Ending::Refused);
+        }
+    };
+    let is_sound = ask_one(rt, alloc, &mut store, Ask::Check, file).is_ok();
+    for ask in QUESTIONS {
+        let given = ask_one(rt, alloc, &mut store, ask, file);
+        let is_damaged = matches!(given, Err(Refusal::Damaged(_)));
+        assert!(rt; !is_sound || !is_damaged, "file {file}, {ask:?}: {given:?}");
+    }
+    let agree = !is_sound || all_agree(alloc, &mut store)?;
+    let goes_on = change_all(rt, alloc, &mut store, file, is_sound);
+    if is_sound {
+        let still_agree = all_agree(alloc, &mut store)?;
+        let given = put(alloc, &mut store, Ask::Check);
+        assert!(rt;
+            agree && still_agree && given.is_ok(),
+            "file {file}: {given:?}"
+        );
+    }
+    end(rt, alloc, store, goes_on, file);
+    Ok(match (is_sound, goes_on) {
+        (true, _) => Ending::Sound,
+        (_, true) => Ending::Closed,
+        _ => Ending::Failed,
+    })
+}
+
+#[test]
+fn files_damaged_by_chance_are_survived(rt: HostRuntime) -> Result<(), Fail> {
+    let alloc = rt.alloc();
+    let (few, deep, chained) = (
+        blocks_with(alloc, &FEW)?,
+        blocks_with(alloc, &DEEP)?,
+        blocks_with(alloc, &CHAINED)?,
+    );
+    let mut dice = Dice { state: 13 };
+    let (mut is_refused, mut is_sound, mut goes_on, mut fails) = (false, false, false, false);
+    for file in 0..FILES {
+        let blocks = match file % 40 {
+            0 => &chained,
+            1..=16 => &deep,
+            _ => &few,
+        };
+        let mut device = device_with(alloc, blocks)?;
+        for _ in 0..1 + dice.below(3) {
+            damage(&mut dice, &mut device)?;
+        }
+        match run(&rt, alloc, device, file)? {
+            Ending::Refused => is_refused = true,
+            Ending::Sound => is_sound = true,
+            Ending::Closed => goes_on = true,
+            Ending::Failed => fails = true,
+        }
+    }
+    assert!(rt; is_refused && goes_on && fails);
+    assert!(rt; is_sound || !Ask::Check.is_there());
+    Ok(())
+}
