@@ -63,6 +63,19 @@ module _ {D A : Type 0} {m : _} (old new : Layers D A m) (t : Table) (c : Comman
     quiet = λ same. keeps;
   }
 
+  -- one that the table does not refuse and that leaves it as it is, made without being begun
+  pub made_unbegun : refusal_of t c ≡ None → Done ≡ answer_of t c → after t c ≡ t → IsSound new t → IsChanged old new t c (Ok tt)
+  made_unbegun none done same sound = (done ∙ sym (ap (λ (o : Option Refusal). refused_or o (answer_of t c)) none), subst (IsSound new) (sym same) sound)
+
+  pub unbegun_leaves : after t c ≡ t → IsHonest old.cache → (IsHonest old.cache → (b : Blocks) → m.left_since (device_of old.cache) (m.moment (device_of old.cache)) b → m.may_leave (device_of old.cache) b) → KeepsGate old.cache new.cache
+      → ChangeLeaves old new t c (Ok tt)
+  unbegun_leaves same honest now keeps = record {
+    stops = λ ts rests. kept_run old.cache new.cache ts honest (now honest) rests keeps;
+    rests = λ ts rests. kept_rests old.cache new.cache ts honest keeps rests;
+    opened = λ other begun. absurd (other same);
+    quiet = λ _. keeps;
+  }
+
 -- ---- begun after calls that only asked
 
 -- what ends a change where no page is damaged, as a refusal and as the fault that broke it off

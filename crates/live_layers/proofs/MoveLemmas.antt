@@ -1,8 +1,7 @@
 -- Why a move of an object is refused, and what one that is not does to its layer.
-use Rattle.std.proofs.Common.{◌≡◌, ◌∙◌, ℕ, ◌+◌, ◌≤◌, List, [], ◌∷◌, Bool, true, false, not, ◌&&◌, cond, get_or, Option, Some, None, refl, sym, ap, ap₂, arith}
+use Rattle.std.proofs.Common.{◌≡◌, ◌∙◌, ℕ, ◌+◌, ◌≤◌, List, Bool, true, false, not, ◌&&◌, cond, get_or, Option, Some, None, refl, sym, ap, arith}
 use Rattle.std.specs.Prelude.{◌==◌, is_some, slice_set}
 use Rattle.std.specs.Cmp.{nat_cmp_total}
-use Rattle.std.specs.Cmp.Rules.{signed_items}
 use Rattle.std.specs.FinMap.{contains_key, get, insert as map_insert, len, len-insert}
 use Rattle.box_math.specs.Bounds.{Bounds}
 use Rattle.catalog_page.specs.Layout.{Record, records_of}
@@ -12,7 +11,6 @@ use Rattle.page_cache.specs.Cache.{IsPageMap, next_of, pages}
 use Rattle.page_cache.specs.declared.cache.PageCache.{PageCache}
 use Rattle.plain_table.specs.Boxes.{dims_of, given_bounds, is_ordered, same_bounds}
 use Rattle.plain_table.specs.Commands.Command.{Move}
-use Rattle.plain_table.specs.Laws.{same_bounds_are_equal}
 use Rattle.plain_table.specs.Step.{box_refusals, changes, first_refusal, missing_refusals, refusal_of}
 use Rattle.plain_table.specs.Table.{Layer, Table, layer_at, most_objects, object_box, object_count, with_object}
 use Rattle.plain_table.specs.declared.boxes.RawBox.{RawBox}
@@ -33,12 +31,6 @@ use Rattle.live_layers.proofs.TakeLemmas.{fanout_there, gained, its_box, lost, r
 -- ---- refusals
 
 module _ (layer : Layer) (id : ℕ) (box : RawBox) where
-  pub wrong_dims : (dims_of box == layer.dims) ≡ false → first_refusal (box_refusals layer.dims box (missing_refusals layer id)) ≡ Some refusal.WrongDims
-  wrong_dims e = rw e refl
-
-  pub bad_box : (dims_of box == layer.dims) ≡ true → is_ordered (dims_of box) (given_bounds box) ≡ false → first_refusal (box_refusals layer.dims box (missing_refusals layer id)) ≡ Some refusal.BadBox
-  bad_box e f = rw (e, f) refl
-
   pub good_box : (dims_of box == layer.dims) ≡ true → is_ordered (dims_of box) (given_bounds box) ≡ true → first_refusal (box_refusals layer.dims box (missing_refusals layer id)) ≡ first_refusal (missing_refusals layer id)
   good_box e f = rw (e, f) refl
 
@@ -46,23 +38,13 @@ module _ (t : Table) (name : List ℕ) (id : ℕ) (box : RawBox) (named : IsName
   pub as_move : refusal_of t (Move name id box) ≡ first_refusal (box_refusals (layer_at t name).dims box (missing_refusals (layer_at t name) id))
   as_move = named (box_refusals (layer_at t name).dims box (missing_refusals (layer_at t name) id))
 
-same_boxes : (a b : Bounds) → a ≡ b → same_bounds a b ≡ true
-same_boxes a b e = ap₂ (λ (x y : Bool). x && y) ((signed_items a.low b.low).1 (ap (λ (x : Bounds). x.low) e)) ((signed_items a.high b.high).1 (ap (λ (x : Bounds). x.high) e))
-
--- where it is not refused it changes the table, unless the object has that box
+-- one that is not refused changes the table, unless the object has that box
 module _ (t : Table) (name : List ℕ) (id : ℕ) (box : RawBox) (known : Bounds) (there : get (layer_at t name).objects id ≡ Some known) (none : refusal_of t (Move name id box) ≡ None) where
   tested : changes t (Move name id box) ≡ not (same_bounds (object_box (layer_at t name) id) (given_bounds box))
   tested = ap (λ (o : Option Refusal). not (is_some o) && not (same_bounds (object_box (layer_at t name) id) (given_bounds box))) none
 
-  pub no_move : known ≡ given_bounds box → changes t (Move name id box) ≡ false
-  no_move same = tested ∙ ap not (same_boxes (object_box (layer_at t name) id) (given_bounds box) (sym (its_box (layer_at t name) id known there) ∙ same))
-
-  pub a_move : ¬ (known ≡ given_bounds box) → changes t (Move name id box) ≡ true
-  a_move other = tested ∙ ap not (case (same_bounds (object_box (layer_at t name) id) (given_bounds box)) refl)
-    where
-      case : (b : Bool) → same_bounds (object_box (layer_at t name) id) (given_bounds box) ≡ b → b ≡ false
-      case true e = absurd (other (its_box (layer_at t name) id known there ∙ same_bounds_are_equal (object_box (layer_at t name) id) (given_bounds box) e))
-      case false e = refl
+  pub tested_boxes : (b : Bounds) → b ≡ given_bounds box → changes t (Move name id box) ≡ not (same_bounds known b)
+  tested_boxes b is = tested ∙ (λ i. not (same_bounds (sym (its_box (layer_at t name) id known there) i) (sym is i)))
 
 -- what is refused changes nothing
 pub refused_move : (t : Table) (name : List ℕ) (id : ℕ) (box : RawBox) (r : Refusal) → refusal_of t (Move name id box) ≡ Some r → changes t (Move name id box) ≡ false

@@ -52,14 +52,13 @@ impl<B: BlockDevice, A: Allocator + Copy> Layers<B, A> {
             (B.faults (device_of (cache_of self.new))) result }
     {
         let located = self.locate(place);
-        match self.check_move(&located, id, low, high) {
-            Ok((known, bounds)) => {
-                if known == bounds {
-                    return Ok(());
-                }
-                change_of(self.replace_box(place, id, &known, &bounds))
-            }
-            Err(refusal) => Err(Unmade::Refused(refusal)),
+        let (known, bounds) = match self.check_move(&located, id, low, high) {
+            Ok(boxes) => boxes,
+            Err(refusal) => return Err(Unmade::Refused(refusal)),
+        };
+        if known == bounds {
+            return Ok(());
         }
+        change_of(self.replace_box(place, id, &known, &bounds))
     }
 }
