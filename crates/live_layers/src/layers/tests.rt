@@ -2,6 +2,8 @@
 
 ghost use Rattle.std.specs.Prelude.{◌<◌};
 
+mod checks;
+
 use crate::faults::as_refusal;
 use crate::{Layers, Unmade};
 use block_device::{BlockDevice, FuseDevice, FuseMode, MemoryDevice};

@@ -31,5 +31,5 @@ returns-in-Err-clause-answered g c = λ t sound.
     let spent = IsSpent (next_of new) × MayWrite t Dump in (
       sound_kept c.args.self.now _ t c.dump_layers.ensures.asks.map refl refl (λ w. w) sound,
       inr (subst (λ (x : Refusal). IsFault rose spent x) (sym c.as_refusal.ensures)
-      (device_refuses rose spent c.in-Err.fault (c.in-Err.ensures.stands sound.map.honest hs rows sound.holds.stand) (risen_of _ _ c.in-Err.fault c.in-Err.ensures.asks.faults))),
+          (device_refuses rose spent c.in-Err.fault (c.in-Err.ensures.stands sound.map.honest hs rows sound.holds.stand) (risen_of _ _ c.in-Err.fault c.in-Err.ensures.asks.faults))),
     )

@@ -11,5 +11,5 @@ abbrev pub invariant-loop-record : goal.invariant-loop-record
 invariant-loop-record g l = record {
   asks : AsksUntil l.fn.cache l.cache None;
   lines : IsHonest l.fn.cache → (hs : List Reading) → map row_of hs ≡ map record_of l.records → LayersStand (pages l.fn.cache) hs
-    → lines_of l.rows.items ≡ lines_of_layers (take l.record-index hs);
+      → lines_of l.rows.items ≡ lines_of_layers (take l.record-index hs);
 }
