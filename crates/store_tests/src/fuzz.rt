@@ -20,57 +20,62 @@ const MOST_LOOKS: u64 = 10_000;
 // Layers to be made, with so many objects. One of the last makes a chain of two buckets.
 type Layer = (&'static [u8], u64, u64, u32);
 
-const FEW: [Layer; 3] = [(b"a", 2, 4, 13), (b"b", 3, 5, 7), (b"c", 2, 4, 0)];
+const FEW: [Layer; 3] = [(b"a", 2, 4, 11), (b"b", 3, 5, 6), (b"c", 2, 4, 0)];
 
 const DEEP: [Layer; 2] = [(b"a", 2, 4, 17), (b"b", 2, 5, 6)];
 
 const CHAINED: [Layer; 2] = [(b"a", 2, 100, 103), (b"b", 3, 4, 6)];
 
-const QUESTIONS: [Ask; 20] = [
-    Ask::Now(Command::Window(b"a", PLANE)),
-    Ask::Now(Command::Window(b"b", SPACE)),
-    Ask::Now(Command::Window(b"b", PLANE)),
-    Ask::Now(Command::Window(b"c", PLANE)),
-    Ask::Now(Command::Inside(b"a", RawBox::Two([0, 0], [9, 9]))),
-    Ask::Now(Command::Around(b"a", RawBox::Two([4, 4], [4, 4]))),
-    Ask::Now(Command::Point(b"a", RawPoint::Two([8, 3]))),
-    Ask::Now(Command::Point(b"b", RawPoint::Three([8, 3, 3]))),
-    Ask::Now(Command::Nearest(b"a", 3, RawPoint::Two([6, 6]))),
-    Ask::Now(Command::Nearest(b"b", 100, RawPoint::Three([6, 6, 6]))),
-    Ask::Now(Command::Get(b"a", 0)),
-    Ask::Now(Command::Get(b"a", 1001)),
-    Ask::Now(Command::Get(b"b", 2)),
-    Ask::Now(Command::Get(b"c", 1)),
-    Ask::Now(Command::Count(b"a")),
-    Ask::Join(b"a", b"b"),
-    Ask::Join(b"c", b"a"),
-    Ask::Join(b"b", b"b"),
-    Ask::Layers,
-    Ask::Dump,
+// Each question, and each change with a closing, in two ways.
+const QUESTIONS: [[Ask; 10]; 2] = [
+    [
+        Ask::Now(Command::Window(b"a", PLANE)),
+        Ask::Now(Command::Inside(b"a", RawBox::Two([0, 0], [9, 9]))),
+        Ask::Now(Command::Around(b"a", RawBox::Two([4, 4], [4, 4]))),
+        Ask::Now(Command::Point(b"b", RawPoint::Three([8, 3, 1]))),
+        Ask::Now(Command::Nearest(b"a", 3, RawPoint::Two([6, 6]))),
+        Ask::Now(Command::Get(b"b", 1)),
+        Ask::Now(Command::Count(b"a")),
+        Ask::Join(b"a", b"b"),
+        Ask::Layers,
+        Ask::Dump,
+    ],
+    [
+        Ask::Now(Command::Window(b"b", SPACE)),
+        Ask::Now(Command::Inside(b"b", PLANE)),
+        Ask::Now(Command::Around(b"c", RawBox::Two([4, 4], [4, 4]))),
+        Ask::Now(Command::Point(b"a", RawPoint::Two([8, 3]))),
+        Ask::Now(Command::Nearest(b"b", 100, RawPoint::Three([6, 6, 6]))),
+        Ask::Now(Command::Get(b"a", 1001)),
+        Ask::Now(Command::Count(b"c")),
+        Ask::Join(b"a", b"a"),
+        Ask::Layers,
+        Ask::Dump,
+    ],
 ];
 
-const CHANGES: [Ask; 18] = [
-    Ask::Now(Command::Insert(b"a", 5001, RawBox::Two([7, 7], [8, 8]))),
-    Ask::Now(Command::Insert(b"b", 5002, RawBox::Three([7; 3], [8; 3]))),
-    Ask::Now(Command::Insert(b"b", 5002, RawBox::Two([7; 2], [8; 2]))),
-    Ask::Delete(b"a", 0),
-    Ask::Delete(b"a", 1001),
-    Ask::Delete(b"b", 1),
-    Ask::Move(b"a", 2, RawBox::Two([1, 1], [20, 20])),
-    Ask::Move(b"a", 1000, RawBox::Two([1, 1], [1, 1])),
-    Ask::Move(b"b", 1000, RawBox::Three([1; 3], [2; 3])),
-    Ask::Load(
-        b"c",
-        &[(1, PLANE), (2, PLANE), (3, PLANE), (4, PLANE), (5, PLANE)],
-    ),
-    Ask::Now(Command::Insert(b"c", 1, PLANE)),
-    Ask::Drop(b"b"),
-    Ask::Now(Command::Create(b"d", 3, 4)),
-    Ask::Now(Command::Create(b"e", 2, 4)),
-    Ask::Now(Command::Reopen),
-    Ask::Drop(b"a"),
-    Ask::Drop(b"c"),
-    Ask::Now(Command::Get(b"a", 1)),
+const CHANGES: [[Ask; 7]; 2] = [
+    [
+        Ask::Now(Command::Insert(b"a", 5001, RawBox::Two([7, 7], [8, 8]))),
+        Ask::Delete(b"a", 1001),
+        Ask::Move(b"a", 2, RawBox::Two([1, 1], [20, 20])),
+        Ask::Load(
+            b"c",
+            &[(1, PLANE), (2, PLANE), (3, PLANE), (4, PLANE), (5, PLANE)],
+        ),
+        Ask::Now(Command::Create(b"d", 3, 4)),
+        Ask::Drop(b"b"),
+        Ask::Now(Command::Reopen),
+    ],
+    [
+        Ask::Now(Command::Insert(b"b", 5002, RawBox::Three([7; 3], [8; 3]))),
+        Ask::Move(b"b", 1000, RawBox::Three([1; 3], [2; 3])),
+        Ask::Delete(b"b", 1),
+        Ask::Now(Command::Create(b"e", 2, 4)),
+        Ask::Load(b"e", &[(7, PLANE)]),
+        Ask::Now(Command::Reopen),
+        Ask::Drop(b"a"),
+    ],
 ];
 
 type Blocks = Vec<[u8; 4096]>;
@@ -293,8 +298,9 @@ fn change_all(
     file: u32,
     is_sound: bool,
 ) -> bool {
-    let begin = file as usize % CHANGES.len();
-    for &ask in CHANGES.iter().cycle().skip(begin).take(CHANGES.len()) {
+    let changes = CHANGES[(file % 2) as usize];
+    let begin = (file / 2 % 7) as usize;
+    for &ask in changes.iter().cycle().skip(begin).take(7) {
         let given = ask_one(rt, alloc, store, ask, file);
         let is_damaged = matches!(given, Err(Refusal::Damaged(_) | Refusal::StoreFailed(_)));
         assert!(rt; !is_sound || !is_damaged, "file {file}, {ask:?}: {given:?}");
@@ -383,7 +389,7 @@ fn run(rt: &impl Abort, alloc: Global, device: MemoryDevice, file: u32) -> Resul
         }
     };
     let is_sound = ask_one(rt, alloc, &mut store, Ask::Check, file).is_ok();
-    for ask in QUESTIONS {
+    for ask in QUESTIONS[(file % 2) as usize] {
         let given = ask_one(rt, alloc, &mut store, ask, file);
         let is_damaged = matches!(given, Err(Refusal::Damaged(_)));
         assert!(rt; !is_sound || !is_damaged, "file {file}, {ask:?}: {given:?}");

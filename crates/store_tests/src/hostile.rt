@@ -563,7 +563,10 @@ fn a_check_of_pages_that_are_shared_ends_soon(rt: HostRuntime) -> Result<(), Fai
         (Ask::Drop(b"a"), Refusal::StoreFailed(18)),
     ] {
         let given = put(rt.alloc(), &mut store, ask);
-        assert!(rt; given == Err(refusal) || !ask.is_there(), "{ask:?}: {given:?}");
+        assert!(rt;
+            given == Err(refusal) || !ask.is_there(),
+            "{ask:?}: {given:?}"
+        );
     }
     let looked = store.looks().wrapping_sub(before);
     assert!(rt; looked < 1000, "{looked} looks");
