@@ -9,6 +9,8 @@ mod packed;
 #[cfg(test)]
 mod refused;
 #[cfg(test)]
+mod removed;
+#[cfg(test)]
 mod rows;
 #[cfg(test)]
 mod scene;
