@@ -25,5 +25,4 @@ pub mod CreateLemmas
 pub mod JoinLemmas
 pub mod FillLemmas
 pub mod RepeatLemmas
-pub mod GivenObjectLemmas
 pub mod LoadLemmas
