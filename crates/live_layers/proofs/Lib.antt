@@ -27,7 +27,6 @@ pub mod DeleteLemmas
 pub mod DropLemmas
 pub mod FillLemmas
 pub mod RepeatLemmas
-pub mod GivenObjectLemmas
 pub mod LoadLemmas
 pub mod MoveLemmas
 pub mod OnceLemmas

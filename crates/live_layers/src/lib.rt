@@ -4,11 +4,11 @@
 
 mod catalog;
 mod faults;
-mod given_objects;
 pub mod laws;
 mod layers;
 mod located;
 mod names;
+mod objects;
 mod repeats;
 mod search;
 mod unmade;

@@ -17,16 +17,16 @@ mod load_boxes;
 #[cfg(test)]
 mod tests;
 
-use crate::given_objects::{objects_in_plane, objects_in_space};
 use crate::layers::Layers;
+use crate::objects::{objects_in_plane, objects_in_space};
 use crate::unmade::Unmade;
 use block_device::BlockDevice;
 use plain_table::{RawBox, Refusal, is_layer_name};
 use std::alloc::Allocator;
 
 impl<B: BlockDevice, A: Allocator + Copy> Layers<B, A> {
-    /// Puts objects into a layer that has none, all at once: its tree is packed from them in the order in which they are
-    /// given, and its identifier table has them. A load of no objects changes nothing.
+    /// Puts objects into a layer that has none, all at once: its tree is packed from them in the order given, and its
+    /// identifier table has them. A load of no objects changes nothing.
     ///
     /// Refused, in this order, by BadName, NoLayer, WrongDims, BadBox, NotEmpty, DuplicateInLoad and TooManyObjects.
     pub fn load(&mut self, name: &[u8], objects: &[(u64, RawBox)]) -> Result<(), Unmade>

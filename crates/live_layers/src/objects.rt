@@ -25,7 +25,13 @@ pub(crate) fn objects_in_plane<A: Allocator>(
     }
     let mut boxes = Vec::with_capacity(alloc, objects.len())?;
     for object in objects {
-        boxes.push((object.0, object.1.two_axes()?))?;
+        let RawBox::Two(low, high) = object.1 else {
+            return Err(Refusal::WrongDims);
+        };
+        let Some(bounds) = BBox::try_new(low, high) else {
+            return Err(Refusal::BadBox);
+        };
+        boxes.push((object.0, bounds))?;
     }
     Ok(boxes)
 }
@@ -44,7 +50,13 @@ pub(crate) fn objects_in_space<A: Allocator>(
     }
     let mut boxes = Vec::with_capacity(alloc, objects.len())?;
     for object in objects {
-        boxes.push((object.0, object.1.three_axes()?))?;
+        let RawBox::Three(low, high) = object.1 else {
+            return Err(Refusal::WrongDims);
+        };
+        let Some(bounds) = BBox::try_new(low, high) else {
+            return Err(Refusal::BadBox);
+        };
+        boxes.push((object.0, bounds))?;
     }
     Ok(boxes)
 }
