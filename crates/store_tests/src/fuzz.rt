@@ -1,12 +1,12 @@
 //! Files that are damaged by chance: each command returns with an answer or a refusal that it may have, and where a
 //! check finds nothing wrong all questions agree, and no change meets damage.
 
-use crate::commands::{Answer, Command, PLANE, SPACE};
+use crate::commands::{Answer, Command, PLANE, SPACE, answer, push_row};
 use crate::fixture::{block_of, closed, device_of, new_store, opened, patch, put as put_block};
-use crate::language::{Ask, may_answer, put};
+use crate::language::may_answer;
 use crate::sessions::Dice;
 use block_device::{BlockDevice, DeviceError, MemoryDevice};
-use layer_store::{RawBox, RawPoint, Refusal, Store};
+use layer_store::{DumpRow, RawBox, RawPoint, Refusal, Store};
 use std::alloc::Global;
 use std::process::Abort;
 use std::test::Fail;
@@ -27,54 +27,54 @@ const DEEP: [Layer; 2] = [(b"a", 2, 4, 17), (b"b", 2, 5, 6)];
 const CHAINED: [Layer; 2] = [(b"a", 2, 100, 103), (b"b", 3, 4, 6)];
 
 // Each question, and each change with a closing, in two ways.
-const QUESTIONS: [[Ask; 10]; 2] = [
+const QUESTIONS: [[Command; 10]; 2] = [
     [
-        Ask::Now(Command::Window(b"a", PLANE)),
-        Ask::Now(Command::Inside(b"a", RawBox::Two([0, 0], [9, 9]))),
-        Ask::Now(Command::Around(b"a", RawBox::Two([4, 4], [4, 4]))),
-        Ask::Now(Command::Point(b"b", RawPoint::Three([8, 3, 1]))),
-        Ask::Now(Command::Nearest(b"a", 3, RawPoint::Two([6, 6]))),
-        Ask::Now(Command::Get(b"b", 1)),
-        Ask::Now(Command::Count(b"a")),
-        Ask::Join(b"a", b"b"),
-        Ask::Layers,
-        Ask::Dump,
+        Command::Window(b"a", PLANE),
+        Command::Inside(b"a", RawBox::Two([0, 0], [9, 9])),
+        Command::Around(b"a", RawBox::Two([4, 4], [4, 4])),
+        Command::Point(b"b", RawPoint::Three([8, 3, 1])),
+        Command::Nearest(b"a", 3, RawPoint::Two([6, 6])),
+        Command::Get(b"b", 1),
+        Command::Count(b"a"),
+        Command::Join(b"a", b"b"),
+        Command::Layers,
+        Command::Dump,
     ],
     [
-        Ask::Now(Command::Window(b"b", SPACE)),
-        Ask::Now(Command::Inside(b"b", PLANE)),
-        Ask::Now(Command::Around(b"c", RawBox::Two([4, 4], [4, 4]))),
-        Ask::Now(Command::Point(b"a", RawPoint::Two([8, 3]))),
-        Ask::Now(Command::Nearest(b"b", 100, RawPoint::Three([6, 6, 6]))),
-        Ask::Now(Command::Get(b"a", 1001)),
-        Ask::Now(Command::Count(b"c")),
-        Ask::Join(b"a", b"a"),
-        Ask::Layers,
-        Ask::Dump,
+        Command::Window(b"b", SPACE),
+        Command::Inside(b"b", PLANE),
+        Command::Around(b"c", RawBox::Two([4, 4], [4, 4])),
+        Command::Point(b"a", RawPoint::Two([8, 3])),
+        Command::Nearest(b"b", 100, RawPoint::Three([6, 6, 6])),
+        Command::Get(b"a", 1001),
+        Command::Count(b"c"),
+        Command::Join(b"a", b"a"),
+        Command::Layers,
+        Command::Dump,
     ],
 ];
 
-const CHANGES: [[Ask; 7]; 2] = [
+const CHANGES: [[Command; 7]; 2] = [
     [
-        Ask::Now(Command::Insert(b"a", 5001, RawBox::Two([7, 7], [8, 8]))),
-        Ask::Delete(b"a", 1001),
-        Ask::Move(b"a", 2, RawBox::Two([1, 1], [20, 20])),
-        Ask::Load(
+        Command::Insert(b"a", 5001, RawBox::Two([7, 7], [8, 8])),
+        Command::Delete(b"a", 1001),
+        Command::Move(b"a", 2, RawBox::Two([1, 1], [20, 20])),
+        Command::Load(
             b"c",
             &[(1, PLANE), (2, PLANE), (3, PLANE), (4, PLANE), (5, PLANE)],
         ),
-        Ask::Now(Command::Create(b"d", 3, 4)),
-        Ask::Drop(b"b"),
-        Ask::Now(Command::Reopen),
+        Command::Create(b"d", 3, 4),
+        Command::Drop(b"b"),
+        Command::Reopen,
     ],
     [
-        Ask::Now(Command::Insert(b"b", 5002, RawBox::Three([7; 3], [8; 3]))),
-        Ask::Move(b"b", 1000, RawBox::Three([1; 3], [2; 3])),
-        Ask::Delete(b"b", 1),
-        Ask::Now(Command::Create(b"e", 2, 4)),
-        Ask::Load(b"e", &[(7, PLANE)]),
-        Ask::Now(Command::Reopen),
-        Ask::Drop(b"a"),
+        Command::Insert(b"b", 5002, RawBox::Three([7; 3], [8; 3])),
+        Command::Move(b"b", 1000, RawBox::Three([1; 3], [2; 3])),
+        Command::Delete(b"b", 1),
+        Command::Create(b"e", 2, 4),
+        Command::Load(b"e", &[(7, PLANE)]),
+        Command::Reopen,
+        Command::Drop(b"a"),
     ],
 ];
 
@@ -276,11 +276,11 @@ fn ask_one(
     rt: &impl Abort,
     alloc: Global,
     store: &mut Store<MemoryDevice>,
-    ask: Ask,
+    ask: Command<'_>,
     file: u32,
 ) -> Answer {
     let before = store.looks();
-    let given = put(alloc, store, ask);
+    let given = answer(alloc, store, ask);
     let looked = store.looks().wrapping_sub(before);
     assert!(rt;
         looked <= MOST_LOOKS,
@@ -318,14 +318,14 @@ fn agrees(
     name: &'static [u8],
     all: &mut Vec<i128>,
 ) -> Result<bool, Fail> {
-    let Ok(count) = put(alloc, store, Ask::Now(Command::Count(name))) else {
+    let Ok(count) = answer(alloc, store, Command::Count(name)) else {
         return Ok(true);
     };
-    let plane = put(alloc, store, Ask::Now(Command::Window(name, PLANE)));
+    let plane = answer(alloc, store, Command::Window(name, PLANE));
     let is_plane = plane.is_ok();
     let rows = match plane {
         Ok(rows) => rows,
-        Err(_) => put(alloc, store, Ask::Now(Command::Window(name, SPACE)))?,
+        Err(_) => answer(alloc, store, Command::Window(name, SPACE))?,
     };
     let width = if is_plane { 5 } else { 7 };
     let origin = if is_plane {
@@ -333,7 +333,7 @@ fn agrees(
     } else {
         RawPoint::Three([0; 3])
     };
-    let nearest = put(alloc, store, Ask::Now(Command::Nearest(name, 1000, origin)))?;
+    let nearest = answer(alloc, store, Command::Nearest(name, 1000, origin))?;
     let objects = rows.len() / width;
     let mut agree = count.as_slice() == [objects as i128].as_slice()
         && nearest.len() / 2 == objects;
@@ -341,13 +341,24 @@ fn agrees(
     for row in rows.chunks(width) {
         if let Some(&first) = row.first() {
             let id = u64::try_from(first).unwrap_or(0);
-            let found = put(alloc, store, Ask::Now(Command::Get(name, id)))?;
+            let found = answer(alloc, store, Command::Get(name, id))?;
             agree = agree && last < first && found.as_slice() == row;
             last = first;
         }
         all.extend_from_slice(row)?;
     }
     Ok(agree)
+}
+
+// The objects of a dump.
+fn objects_dumped(alloc: Global, store: &mut Store<MemoryDevice>) -> Answer {
+    let mut numbers = Vec::new(alloc);
+    for row in store.dump()?.iter() {
+        if let DumpRow::Insert(_, id, bounds) = row {
+            push_row(&mut numbers, *id, *bounds)?;
+        }
+    }
+    Ok(numbers)
 }
 
 // Whether the questions agree, a dump too.
@@ -359,14 +370,14 @@ fn all_agree(alloc: Global, store: &mut Store<MemoryDevice>) -> Result<bool, Fai
             return Ok(false);
         }
     }
-    let dump = put(alloc, store, Ask::Dump)?;
+    let dump = objects_dumped(alloc, store)?;
     Ok(dump.as_slice() == all.as_slice())
 }
 
 // Closes the store of a file. One that failed is not closed, and one that goes on is opened again.
 fn end(rt: &impl Abort, alloc: Global, store: Store<MemoryDevice>, goes_on: bool, file: u32) {
     let mut store = store;
-    let later = put(alloc, &mut store, Ask::Now(Command::Reopen)).err();
+    let later = answer(alloc, &mut store, Command::Reopen).err();
     let (refusal, device) = closed(store);
     let again = opened(alloc, device, 8).err();
     let failed = Some(Refusal::StoreFailed(19));
@@ -388,7 +399,7 @@ fn run(rt: &impl Abort, alloc: Global, device: MemoryDevice, file: u32) -> Resul
             return Ok(Ending::Refused);
         }
     };
-    let is_sound = ask_one(rt, alloc, &mut store, Ask::Check, file).is_ok();
+    let is_sound = ask_one(rt, alloc, &mut store, Command::Check, file).is_ok();
     for ask in QUESTIONS[(file % 2) as usize] {
         let given = ask_one(rt, alloc, &mut store, ask, file);
         let is_damaged = matches!(given, Err(Refusal::Damaged(_)));
@@ -398,7 +409,7 @@ fn run(rt: &impl Abort, alloc: Global, device: MemoryDevice, file: u32) -> Resul
     let goes_on = change_all(rt, alloc, &mut store, file, is_sound);
     if is_sound {
         let still_agree = all_agree(alloc, &mut store)?;
-        let given = put(alloc, &mut store, Ask::Check);
+        let given = answer(alloc, &mut store, Command::Check);
         assert!(rt;
             agree && still_agree && given.is_ok(),
             "file {file}: {given:?}"
@@ -440,6 +451,6 @@ fn files_damaged_by_chance_are_survived(rt: HostRuntime) -> Result<(), Fail> {
         }
     }
     assert!(rt; is_refused && goes_on && fails);
-    assert!(rt; is_sound || !Ask::Check.is_there());
+    assert!(rt; is_sound);
     Ok(())
 }

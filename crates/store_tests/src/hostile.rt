@@ -1,9 +1,9 @@
 //! Files written by hand with one thing wrong in their trees, tables or free pages: each command returns, those that
 //! meet the damage name its page, and a check finds it.
 
-use crate::commands::{Answer, Command, PLANE};
+use crate::commands::{Answer, Command, PLANE, answer};
 use crate::fixture::{closed, device_of, opened, patch, put as put_block, set};
-use crate::language::{Ask, may_answer, put};
+use crate::language::may_answer;
 use block_device::{BlockDevice, DeviceError, MemoryDevice};
 use layer_store::{RawBox, RawPoint, Refusal};
 use std::alloc::Global;
@@ -76,54 +76,54 @@ const HEADS: [Number; 17] = [
 ];
 
 // Each command once or twice.
-const WHOLE: [Ask; 34] = [
-    Ask::Now(Command::Create(b"c", 2, 4)),
-    Ask::Now(Command::Create(b"a", 3, 100)),
-    Ask::Now(Command::Insert(b"a", 2001, RawBox::Two([1, 1], [12, 12]))),
-    Ask::Now(Command::Insert(b"a", 7, RawBox::Two([11, 11], [12, 12]))),
-    Ask::Now(Command::Insert(b"b", 6, RawBox::Two([1, 1], [1, 1]))),
-    Ask::Now(Command::Insert(b"a", 1, RawBox::Two([0, 0], [0, 0]))),
-    Ask::Load(b"a", &[(8, PLANE)]),
-    Ask::Load(b"b", &[]),
-    Ask::Move(b"a", 1, RawBox::Two([1, 1], [2, 2])),
-    Ask::Move(b"a", 1001, RawBox::Two([0, 0], [0, 0])),
-    Ask::Move(b"b", 5, RawBox::Two([1, 1], [2, 2])),
-    Ask::Delete(b"a", 1),
-    Ask::Delete(b"a", 3),
-    Ask::Delete(b"b", 5),
-    Ask::Drop(b"a"),
-    Ask::Drop(b"b"),
-    Ask::Now(Command::Get(b"a", 1)),
-    Ask::Now(Command::Get(b"a", 2001)),
-    Ask::Now(Command::Get(b"a", 3)),
-    Ask::Now(Command::Count(b"a")),
-    Ask::Now(Command::Window(b"a", PLANE)),
-    Ask::Now(Command::Window(b"a", RawBox::Two([5, 5], [6, 6]))),
-    Ask::Now(Command::Inside(b"a", RawBox::Two([0, 0], [4, 4]))),
-    Ask::Now(Command::Around(b"a", RawBox::Two([12, 12], [13, 13]))),
-    Ask::Now(Command::Point(b"a", RawPoint::Two([2, 2]))),
-    Ask::Now(Command::Nearest(b"a", 9, RawPoint::Two([6, 6]))),
-    Ask::Now(Command::Nearest(b"b", 1, RawPoint::Two([6, 6]))),
-    Ask::Join(b"a", b"b"),
-    Ask::Join(b"b", b"a"),
-    Ask::Join(b"a", b"a"),
-    Ask::Layers,
-    Ask::Dump,
-    Ask::Check,
-    Ask::Now(Command::Reopen),
+const WHOLE: [Command; 34] = [
+    Command::Create(b"c", 2, 4),
+    Command::Create(b"a", 3, 100),
+    Command::Insert(b"a", 2001, RawBox::Two([1, 1], [12, 12])),
+    Command::Insert(b"a", 7, RawBox::Two([11, 11], [12, 12])),
+    Command::Insert(b"b", 6, RawBox::Two([1, 1], [1, 1])),
+    Command::Insert(b"a", 1, RawBox::Two([0, 0], [0, 0])),
+    Command::Load(b"a", &[(8, PLANE)]),
+    Command::Load(b"b", &[]),
+    Command::Move(b"a", 1, RawBox::Two([1, 1], [2, 2])),
+    Command::Move(b"a", 1001, RawBox::Two([0, 0], [0, 0])),
+    Command::Move(b"b", 5, RawBox::Two([1, 1], [2, 2])),
+    Command::Delete(b"a", 1),
+    Command::Delete(b"a", 3),
+    Command::Delete(b"b", 5),
+    Command::Drop(b"a"),
+    Command::Drop(b"b"),
+    Command::Get(b"a", 1),
+    Command::Get(b"a", 2001),
+    Command::Get(b"a", 3),
+    Command::Count(b"a"),
+    Command::Window(b"a", PLANE),
+    Command::Window(b"a", RawBox::Two([5, 5], [6, 6])),
+    Command::Inside(b"a", RawBox::Two([0, 0], [4, 4])),
+    Command::Around(b"a", RawBox::Two([12, 12], [13, 13])),
+    Command::Point(b"a", RawPoint::Two([2, 2])),
+    Command::Nearest(b"a", 9, RawPoint::Two([6, 6])),
+    Command::Nearest(b"b", 1, RawPoint::Two([6, 6])),
+    Command::Join(b"a", b"b"),
+    Command::Join(b"b", b"a"),
+    Command::Join(b"a", b"a"),
+    Command::Layers,
+    Command::Dump,
+    Command::Check,
+    Command::Reopen,
 ];
 
 // What is wrong, and commands that meet it, with what they answer.
 struct Damage {
     numbers: &'static [Number],
-    met: &'static [(Ask, Refusal)],
+    met: &'static [(Command<'static>, Refusal)],
 }
 
-const ALL: Ask = Ask::Now(Command::Window(b"a", PLANE));
+const ALL: Command = Command::Window(b"a", PLANE);
 
-const FIRST: Ask = Ask::Now(Command::Get(b"a", 1));
+const FIRST: Command = Command::Get(b"a", 1);
 // A change that takes pages. Damage that it meets then is met half way through.
-const NEW: Ask = Ask::Now(Command::Create(b"c", 2, 4));
+const NEW: Command = Command::Create(b"c", 2, 4);
 
 const BROKEN: Refusal = Refusal::StoreFailed(18);
 
@@ -152,7 +152,7 @@ const TREES: [Damage; 15] = [
         ],
         met: &[
             (ALL, Refusal::Damaged(3)),
-            (Ask::Check, Refusal::Damaged(3)),
+            (Command::Check, Refusal::Damaged(3)),
         ],
     },
     // a child points to its parent
@@ -246,7 +246,7 @@ const TABLES: [Damage; 11] = [
     // a chain that goes on with itself
     Damage {
         numbers: &[(7, 4, 4, 7)],
-        met: &[(Ask::Now(Command::Get(b"a", 2001)), Refusal::Damaged(7))],
+        met: &[(Command::Get(b"a", 2001), Refusal::Damaged(7))],
     },
     // a page in two chains
     Damage {
@@ -256,24 +256,24 @@ const TABLES: [Damage; 11] = [
     // identifiers in the chains of other remainders
     Damage {
         numbers: &[(6, 24, 8, 0x0000_0009_0000_0008)],
-        met: &[(Ask::Now(Command::Get(b"a", 3)), Refusal::NoObject)],
+        met: &[(Command::Get(b"a", 3), Refusal::NoObject)],
     },
     // an object of the tree that the table lacks
     Damage {
         numbers: &[(7, 2, 2, 1)],
         met: &[
-            (Ask::Now(Command::Get(b"a", 1001)), Refusal::NoObject),
-            (Ask::Delete(b"a", 1001), Refusal::NoObject),
+            (Command::Get(b"a", 1001), Refusal::NoObject),
+            (Command::Delete(b"a", 1001), Refusal::NoObject),
         ],
     },
     // an object of the table that the tree lacks, and another box in the table than in the tree
     Damage {
         numbers: &[(9, 16, 8, 1003)],
-        met: &[(Ask::Delete(b"a", 1003), Refusal::Damaged(3))],
+        met: &[(Command::Delete(b"a", 1003), Refusal::Damaged(3))],
     },
     Damage {
         numbers: &[(7, 24, 4, 1)],
-        met: &[(Ask::Delete(b"a", 1), Refusal::Damaged(3))],
+        met: &[(Command::Delete(b"a", 1), Refusal::Damaged(3))],
     },
     // an identifier twice
     Damage {
@@ -420,7 +420,7 @@ fn file(alloc: Global, numbers: &[Number]) -> Result<MemoryDevice, DeviceError> 
 
 // How many blocks a command that was refused may have written by the closing: none, but for the gate, the header and
 // the gate again in a change that met damage before it changed a page.
-fn most_writes(ask: Ask, given: &Answer) -> u64 {
+fn most_writes(ask: Command<'_>, given: &Answer) -> u64 {
     match given {
         Ok(_) if ask.is_change() => u64::MAX,
         Err(Refusal::Damaged(_)) if ask.is_change() => 3,
@@ -434,17 +434,17 @@ fn ask_once(
     rt: &impl Abort,
     alloc: Global,
     numbers: &'static [Number],
-    ask: Ask,
+    ask: Command<'_>,
 ) -> Result<Answer, Fail> {
     let device = file(alloc, numbers)?;
     let made = device.writes();
     let mut store = opened(alloc, device, 8)?;
-    let given = put(alloc, &mut store, ask);
+    let given = answer(alloc, &mut store, ask);
     assert!(rt; may_answer(ask, &given), "{numbers:?}, {ask:?}: {given:?}");
     if matches!(given, Err(Refusal::StoreFailed(_))) {
         let failed = Refusal::StoreFailed(19);
         assert!(rt;
-            put(alloc, &mut store, ALL) == Err(failed),
+            answer(alloc, &mut store, ALL) == Err(failed),
             "{numbers:?}, {ask:?}"
         );
         let (refusal, device) = closed(store);
@@ -472,14 +472,14 @@ fn ask_all(rt: &impl Abort, alloc: Global, damages: &[Damage]) -> Result<(), Fai
         for &(ask, refusal) in damage.met {
             let given = ask_once(rt, alloc, damage.numbers, ask)?;
             assert!(rt;
-                given == Err(refusal) || !ask.is_there(),
+                given == Err(refusal),
                 "{:?}, {ask:?}: {given:?}",
                 damage.numbers
             );
         }
-        let given = ask_once(rt, alloc, damage.numbers, Ask::Check)?;
+        let given = ask_once(rt, alloc, damage.numbers, Command::Check)?;
         assert!(rt;
-            matches!(given, Err(Refusal::Damaged(_))) || !Ask::Check.is_there(),
+            matches!(given, Err(Refusal::Damaged(_))),
             "{:?}: {given:?}",
             damage.numbers
         );
@@ -512,8 +512,8 @@ fn the_file_without_damage_is_sound(rt: HostRuntime) -> Result<(), Fail> {
         let is_damaged = matches!(given, Err(Refusal::Damaged(_) | Refusal::StoreFailed(_)));
         assert!(rt; !is_damaged, "{ask:?}: {given:?}");
     }
-    let given = ask_once(&rt, rt.alloc(), &[], Ask::Check)?;
-    assert!(rt; given.is_ok() || !Ask::Check.is_there(), "{given:?}");
+    let given = ask_once(&rt, rt.alloc(), &[], Command::Check)?;
+    assert!(rt; given.is_ok(), "{given:?}");
     Ok(())
 }
 
@@ -553,20 +553,17 @@ fn a_check_of_pages_that_are_shared_ends_soon(rt: HostRuntime) -> Result<(), Fai
     let mut store = opened(rt.alloc(), shared_file(rt.alloc())?, 8)?;
     let before = store.looks();
     for (ask, refusal) in [
-        (Ask::Check, Refusal::Damaged(43)),
-        (Ask::Delete(b"a", 1), Refusal::NoObject),
-        (Ask::Now(Command::Get(b"a", 1)), Refusal::NoObject),
+        (Command::Check, Refusal::Damaged(43)),
+        (Command::Delete(b"a", 1), Refusal::NoObject),
+        (Command::Get(b"a", 1), Refusal::NoObject),
         (
-            Ask::Now(Command::Insert(b"a", 1, RawBox::Two([0; 2], [0; 2]))),
+            Command::Insert(b"a", 1, RawBox::Two([0; 2], [0; 2])),
             Refusal::Damaged(3),
         ),
-        (Ask::Drop(b"a"), Refusal::StoreFailed(18)),
+        (Command::Drop(b"a"), Refusal::StoreFailed(18)),
     ] {
-        let given = put(rt.alloc(), &mut store, ask);
-        assert!(rt;
-            given == Err(refusal) || !ask.is_there(),
-            "{ask:?}: {given:?}"
-        );
+        let given = answer(rt.alloc(), &mut store, ask);
+        assert!(rt; given == Err(refusal), "{ask:?}: {given:?}");
     }
     let looked = store.looks().wrapping_sub(before);
     assert!(rt; looked < 1000, "{looked} looks");

@@ -107,7 +107,9 @@ impl Dice {
     }
 
     // A change of one of the layers: `a` has two axes, and the others mostly have three. Seldom a box does not fit.
-    fn change(&mut self, place: usize) -> Command<'static> {
+    fn change(&mut self, place: usize) -> Command<'static>
+        requires { place < 8 }
+    {
         let name = NAMES[place];
         let misfits = self.below(16) == 0;
         let bounds = self.bounds(if (place == 0) == misfits { 3 } else { 2 });
@@ -127,7 +129,9 @@ impl Dice {
     }
 
     // A question.
-    fn question(&mut self, place: usize) -> Command<'static> {
+    fn question(&mut self, place: usize) -> Command<'static>
+        requires { place < 8 }
+    {
         let name = NAMES[place];
         let misfits = self.below(16) == 0;
         let bounds = self.bounds(if (place == 0) == misfits { 3 } else { 2 });
