@@ -1,5 +1,5 @@
 -- Objects put into a layer that has none.
-use Rattle.std.proofs.Common.{◌≡◌, ◌∙◌, ℕ, ◌+◌, ◌<◌, ◌≤◌, List, [], ◌∷◌, length, get_or, false, sym, ap, subst, arith}
+use Rattle.std.proofs.Common.{◌≡◌, ◌∙◌, ℕ, ◌+◌, ◌≤◌, List, [], ◌∷◌, length, get_or, false, sym, ap, subst, arith}
 use Rattle.std.specs.Prelude.{IsPermutation, None, is_some, slice_set}
 use Rattle.std.specs.Cmp.{nat_cmp_total}
 use Rattle.std.specs.Ordering.{nat_cmp}
@@ -7,7 +7,7 @@ use Rattle.std.specs.FinMap.{contains_key, empty, empty_of_len, entries, find, f
 use Rattle.std.proofs.lemmas.List.Sorted.{IsPermutation-cons, IsPermutation-refl, IsPermutation-trans, length_permutation}
 use Rattle.box_math.specs.Bounds.{Bounds}
 use Rattle.catalog_page.specs.Layout.{Record, records_of}
-use Rattle.layer_pages.specs.Changes.{BecomesLayer, HasPacked, item_of_object}
+use Rattle.layer_pages.specs.Changes.{BecomesLayer, HasPacked}
 use Rattle.layer_pages.specs.Layers.{CanBeRoot, IsLayerAt, Objects, part_of_layer}
 use Rattle.layer_pages.proofs.ObjectLemmas.{one_entry_more}
 use Rattle.page_cache.specs.Cache.{IsPageMap, next_of, pages}

@@ -28,6 +28,5 @@ pub mod DeleteLemmas
 pub mod DropLemmas
 pub mod FillLemmas
 pub mod RepeatLemmas
-pub mod GivenObjectLemmas
 pub mod LoadLemmas
 pub mod MoveLemmas

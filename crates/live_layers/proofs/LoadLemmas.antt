@@ -1,6 +1,6 @@
 -- Why a load is refused, and what one that is not does to the table.
-use Rattle.std.proofs.Common.{◌≡◌, ◌∙◌, ◌⊎◌, inl, inr, ℕ, ◌+◌, ◌-◌, ◌<◌, ◌≤◌, List, [], ◌∷◌, length, get_or, map, true, false, Bool, cond, eqb, not, Option, Some, None, refl, sym, ap, subst, arith}
-use Rattle.std.specs.Prelude.{Result, Ok, Err, IsPermutation, ◌&&◌, is_some, nat_lt, unwrap_or}
+use Rattle.std.proofs.Common.{◌≡◌, ◌∙◌, ◌⊎◌, inl, inr, ℕ, ◌+◌, ◌<◌, ◌≤◌, List, [], ◌∷◌, length, get_or, map, true, false, Bool, cond, eqb, not, Option, Some, None, refl, sym, ap, subst, arith}
+use Rattle.std.specs.Prelude.{Ok, IsPermutation, ◌&&◌, is_some, nat_lt, unwrap_or}
 use Rattle.std.specs.FinMap.{contains_key, entries, find, from_entries, len, len-entries}
 use Rattle.std.specs.Ordering.{nat_cmp}
 use Rattle.std.proofs.lemmas.Bool.Decides.{nat_tests}
@@ -9,7 +9,6 @@ use Rattle.block_device.specs.Device.{Blocks}
 use Rattle.box_math.specs.Bounds.{Bounds}
 use Rattle.catalog_page.specs.Layout.{Record, records_of}
 use Rattle.id_table.proofs.AddLemmas.{same_key}
-use Rattle.layer_pages.specs.Layers.{Objects}
 use Rattle.page_cache.specs.Cache.{IsHonest, device_of}
 use Rattle.page_cache.specs.Laws.{no_call_keeps_the_gate, no_call_keeps_the_map}
 use Rattle.plain_table.specs.Commands.Command.{Load}
@@ -22,7 +21,6 @@ use Rattle.plain_table.specs.declared.refusal.Refusal.{Refusal}
 use Rattle.plain_table.specs.declared.refusal.Refusal.TheVariants as refusal
 use Rattle.store_law.specs.Lawful.{IsFault}
 use Rattle.live_layers.specs.Changes.{ChangeLeaves, IsChanged}
-use Rattle.live_layers.specs.Inserting.{IsAllowedOr}
 use Rattle.live_layers.specs.Keeping.{Finds, IsSound}
 use Rattle.live_layers.specs.Loading.{ReachesObjects, boxes_refusals, times_in}
 use Rattle.live_layers.specs.Staying.{KeepsTrees}

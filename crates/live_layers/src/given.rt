@@ -37,7 +37,7 @@ pub fn in_space(query: RawQuery) -> Result<Query<3>, Refusal>
 }
 
 // The box, if it has two axes.
-pub(crate) fn box_in_plane(bounds: RawBox) -> Result<BBox<2>, Refusal>
+fn box_in_plane(bounds: RawBox) -> Result<BBox<2>, Refusal>
     ensures { MatchResult result
         (λ b. (first_refusal (box_refusals 2 bounds []) ≡ None) × (b ≡ given_bounds bounds))
         (λ e. first_refusal (box_refusals 2 bounds []) ≡ Some e) }
@@ -49,7 +49,7 @@ pub(crate) fn box_in_plane(bounds: RawBox) -> Result<BBox<2>, Refusal>
 }
 
 // The box, if it has three axes.
-pub(crate) fn box_in_space(bounds: RawBox) -> Result<BBox<3>, Refusal>
+fn box_in_space(bounds: RawBox) -> Result<BBox<3>, Refusal>
     ensures { MatchResult result
         (λ b. (first_refusal (box_refusals 3 bounds []) ≡ None) × (b ≡ given_bounds bounds))
         (λ e. first_refusal (box_refusals 3 bounds []) ≡ Some e) }

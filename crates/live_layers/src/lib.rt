@@ -5,10 +5,10 @@
 mod catalog;
 mod faults;
 mod given;
-mod given_objects;
 pub mod laws;
 mod layers;
 mod located;
+mod objects;
 mod repeats;
 mod search;
 mod unmade;

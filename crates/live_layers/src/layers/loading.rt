@@ -17,8 +17,8 @@ mod load_boxes;
 #[cfg(test)]
 mod tests;
 
-use crate::given_objects::{objects_in_plane, objects_in_space};
 use crate::layers::Layers;
+use crate::objects::{objects_in_plane, objects_in_space};
 use crate::unmade::Unmade;
 use block_device::BlockDevice;
 use plain_table::{RawBox, Refusal, is_layer_name};

@@ -1,7 +1,5 @@
 -- Each refusal is the table's, and nothing refuses the objects that pass.
-use Rattle.std.proofs.Common.{◌≡◌, ◌∙◌, ℕ, ◌+◌, ◌<◌, ◌≤◌, Option, None, Some, length, sym, ap, inl, arith}
-use Rattle.std.specs.FinMap.{len}
-use Rattle.plain_table.specs.Table.{layer_at, most_objects, object_count}
+use Rattle.std.proofs.Common.{◌≡◌, ◌∙◌, None, sym, inl, arith}
 use Rattle.live_layers.proofs.LoadLemmas.{counted_there, may_be_given, not_empty, too_many_given, twice_given}
 use Rattle.live_layers.proofs.layers.Layers.check_load.Goals as goal
 

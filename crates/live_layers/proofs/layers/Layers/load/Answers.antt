@@ -1,10 +1,9 @@
 -- The layer is found or not, and it is loaded with the boxes of either dimension.
-use Rattle.std.proofs.Common.{◌≡◌, ◌∙◌, ap, sym, refl, subst, arith}
-use Rattle.std.specs.Prelude.{OnOk, map}
+use Rattle.std.proofs.Common.{◌≡◌, ◌∙◌, sym, subst, arith}
+use Rattle.std.specs.Prelude.{OnOk}
 use Rattle.page_cache.specs.Cache.{device_of}
 use Rattle.page_cache.specs.Laws.{no_call_keeps_the_gate}
 use Rattle.plain_table.specs.Commands.Command.{Load}
-use Rattle.plain_table.specs.Loads.{given_object}
 use Rattle.plain_table.specs.Table.{layer_at}
 use Rattle.plain_table.specs.declared.refusal.Refusal.TheVariants as refusal
 use Rattle.live_layers.specs.Keeping.{ChangesTree}

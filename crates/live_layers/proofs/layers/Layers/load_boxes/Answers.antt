@@ -1,6 +1,6 @@
 -- What is not allowed is refused, no objects change nothing, and others fill the layer.
 use Rattle.std.proofs.Common.{◌≡◌, ◌∙◌, ◌<◌, length, refl, sym, subst, arith}
-use Rattle.std.specs.Prelude.{Err, OnOk, Result}
+use Rattle.std.specs.Prelude.{OnOk, Result}
 use Rattle.std.proofs.lemmas.Bool.Decides.{nat_tests}
 use Rattle.page_cache.specs.Cache.{device_of}
 use Rattle.page_cache.specs.Laws.{no_call_keeps_the_gate}

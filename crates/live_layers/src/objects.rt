@@ -7,7 +7,6 @@ ghost use Rattle.store_law.specs.Lawful.{blames_device};
 ghost use Rattle.live_layers.specs.Inserting.{IsAllowedOr};
 ghost use Rattle.live_layers.specs.Loading.{boxes_refusals};
 
-use crate::given::{box_in_plane, box_in_space};
 use box_math::BBox;
 use plain_table::{RawBox, Refusal};
 use std::alloc::Allocator;
@@ -26,7 +25,13 @@ pub(crate) fn objects_in_plane<A: Allocator>(
     }
     let mut boxes = Vec::with_capacity(alloc, objects.len())?;
     for object in objects {
-        boxes.push((object.0, box_in_plane(object.1)?))?;
+        let RawBox::Two(low, high) = object.1 else {
+            return Err(Refusal::WrongDims);
+        };
+        let Some(bounds) = BBox::try_new(low, high) else {
+            return Err(Refusal::BadBox);
+        };
+        boxes.push((object.0, bounds))?;
     }
     Ok(boxes)
 }
@@ -45,7 +50,13 @@ pub(crate) fn objects_in_space<A: Allocator>(
     }
     let mut boxes = Vec::with_capacity(alloc, objects.len())?;
     for object in objects {
-        boxes.push((object.0, box_in_space(object.1)?))?;
+        let RawBox::Three(low, high) = object.1 else {
+            return Err(Refusal::WrongDims);
+        };
+        let Some(bounds) = BBox::try_new(low, high) else {
+            return Err(Refusal::BadBox);
+        };
+        boxes.push((object.0, bounds))?;
     }
     Ok(boxes)
 }
