@@ -226,19 +226,3 @@ module _ {D A : Type 0} {m : _} (kept : Layers D A m) (t : Table) (name : List �
 
 pub nothing_moved : {D A : Type 0} {m : _} (kept : Layers D A m) → KeepsTrees kept kept
 nothing_moved kept = record { map = no_call_keeps_the_map kept.cache; records = refl; written = λ w. w }
-
--- a load that leaves the table is made, and opens no gate
-module _ {D A : Type 0} {m : _} (kept : Layers D A m) (t : Table) (name : List ℕ) (given : GivenObjects) (unchanged : changes t (Load name given) ≡ false) where
-  pub nothing_changed : refusal_of t (Load name given) ≡ None → IsSound kept t → IsChanged kept kept t (Load name given) (Ok tt)
-  nothing_changed none sound = (
-    sym (ap (λ (o : Option Refusal). refused_or o Done) none),
-    subst (IsSound kept) (sym (no_change_leaves_the_table t (Load name given) unchanged)) sound,
-  )
-
-  pub nothing_left : IsHonest kept.cache → (IsHonest kept.cache → (b : Blocks) → m.left_since (device_of kept.cache) (m.moment (device_of kept.cache)) b → m.may_leave (device_of kept.cache) b) → ChangeLeaves kept kept t (Load name given) (Ok tt)
-  nothing_left honest now = record {
-    stops = λ ts rests. kept_run kept.cache kept.cache ts honest (now honest) rests (no_call_keeps_the_gate kept.cache);
-    rests = λ ts rests. rests;
-    opened = λ other begun. absurd (other (no_change_leaves_the_table t (Load name given) unchanged));
-    quiet = λ same. no_call_keeps_the_gate kept.cache;
-  }

@@ -5,15 +5,15 @@ use Rattle.std.proofs.lemmas.Bool.Decides.{nat_tests}
 use Rattle.page_cache.specs.Cache.{device_of}
 use Rattle.page_cache.specs.Laws.{no_call_keeps_the_gate}
 use Rattle.plain_table.specs.Commands.Command.{Load}
-use Rattle.plain_table.specs.Laws.{a_change_makes_another_table}
+use Rattle.plain_table.specs.Laws.{a_change_makes_another_table, no_change_leaves_the_table}
 use Rattle.plain_table.specs.Loads.{with_objects}
 use Rattle.plain_table.specs.Table.{layer_at}
 use Rattle.live_layers.specs.Changes.{ChangeLeaves, IsChanged}
 use Rattle.live_layers.specs.Keeping.{ChangesTree}
 use Rattle.live_layers.specs.Rules.{HasFilled}
 use Rattle.live_layers.specs.declared.unmade.Unmade.{Unmade}
-use Rattle.live_layers.proofs.ChangeLemmas.{begun_changed, begun_leaves, made_so, refused_leaves}
-use Rattle.live_layers.proofs.LoadLemmas.{as_load, had_none, made_of, none_change, nothing_changed, nothing_left, some_change}
+use Rattle.live_layers.proofs.ChangeLemmas.{begun_changed, begun_leaves, made_so, made_unbegun, refused_leaves, unbegun_leaves}
+use Rattle.live_layers.proofs.LoadLemmas.{as_load, had_none, made_of, none_change, some_change}
 use Rattle.live_layers.proofs.layers.Layers.load_boxes.Goals as goal
 
 pub returns-in-Err-clause-leaves : goal.returns-in-Err-clause-leaves
@@ -25,14 +25,16 @@ pub returns-then-is_empty-clause-changed : goal.returns-then-is_empty-clause-cha
 returns-then-is_empty-clause-changed g c = λ t name given sound reaches.
     let none = c.in_default.ensures.allowed t name given sound reaches in
     let empty : length c.args.objects.now ≡ 0 = grind (arith, nat_tests, c.is_empty.ensures, c.if-is_empty.true) in
-    nothing_changed c.args.self.now t name given (none_change t name c.args.place given g.row.D c.args.objects.now reaches none empty) (as_load t name c.args.place given reaches.good reaches.finds ∙ none) sound
+    let same = no_change_leaves_the_table t (Load name given) (none_change t name c.args.place given g.row.D c.args.objects.now reaches none empty) in
+    made_unbegun c.args.self.now c.args.self.now t (Load name given) (as_load t name c.args.place given reaches.good reaches.finds ∙ none) refl same sound
 
 pub returns-then-is_empty-clause-leaves : goal.returns-then-is_empty-clause-leaves
 returns-then-is_empty-clause-leaves g c = λ t name given sound reaches.
     let old = c.args.self.now in
     let none = c.in_default.ensures.allowed t name given sound reaches in
     let empty : length c.args.objects.now ≡ 0 = grind (arith, nat_tests, c.is_empty.ensures, c.if-is_empty.true) in
-    nothing_left old t name given (none_change t name c.args.place given g.row.D c.args.objects.now reaches none empty) sound.map.honest (λ honest b left. g.met.B.BlockDevice.only_now (device_of old.cache) b honest left)
+    let same = no_change_leaves_the_table t (Load name given) (none_change t name c.args.place given g.row.D c.args.objects.now reaches none empty) in
+    unbegun_leaves old old t (Load name given) same sound.map.honest (λ honest b left. g.met.B.BlockDevice.only_now (device_of old.cache) b honest left) (no_call_keeps_the_gate old.cache)
 
 pub returns-clause-changed : goal.returns-clause-changed
 returns-clause-changed g c = λ t name given sound reaches.
