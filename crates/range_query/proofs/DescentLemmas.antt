@@ -1,7 +1,7 @@
 -- What a descent has found and looked into, child by child.
-use Rattle.std.proofs.Common.{◌≡◌, ◌∙◌, ℕ, zero, suc, ◌+◌, ◌-◌, ◌^◌, ◌<◌, ◌≤◌, Bool, true, false, cond, None, Some, List, [], ◌∷◌, ◌++◌, length, drop, get_or, map, refl, sym, ap, subst, arith}
+use Rattle.std.proofs.Common.{◌≡◌, ◌∙◌, ℕ, zero, suc, ◌+◌, ◌-◌, ◌^◌, ◌<◌, ◌≤◌, Bool, true, false, cond, None, List, [], ◌∷◌, ◌++◌, length, drop, get_or, map, refl, sym, ap, subst, arith}
 use Rattle.std.specs.Prelude.{⊤}
-use Rattle.std.proofs.lemmas.List.{append_assoc, append-nil, drop_more, length-map}
+use Rattle.std.proofs.lemmas.List.{append_assoc, append-nil}
 use Rattle.block_device.specs.Device.{one_more}
 use Rattle.box_math.specs.Bounds.{Bounds}
 use Rattle.page_cache.specs.Cache.{IsHonest, looks_of, pages}
@@ -10,11 +10,8 @@ use Rattle.page_cache.specs.Laws.{looks_are_few}
 use Rattle.page_cache.specs.declared.cache.PageCache.{PageCache}
 use Rattle.tree_node.specs.Nodes.{Item}
 use Rattle.tree_node.specs.Searches.{counted, objects_reached, reached}
-use Rattle.tree_node.specs.Shape.{HasLooseShape, HasShape}
-use Rattle.tree_node.specs.declared.node.Root.{Root}
-use Rattle.tree_node.specs.Trees.{Row, end, more, object, child, Tree, row_items}
-use Rattle.node_page.specs.Rooted.{IsTreeAt}
-use Rattle.node_page.specs.Standing.{PageMap, RowStands, StandsAt, Stands}
+use Rattle.tree_node.specs.Trees.{Row, end, more, object, child, row_items}
+use Rattle.node_page.specs.Standing.{PageMap, RowStands, StandsAt}
 use Rattle.node_page.proofs.StandingLemmas.{node_stays, row_stays}
 use Rattle.range_query.specs.Entries.{object_of, passing_entries, reference_of}
 

@@ -1,5 +1,5 @@
 -- A call that succeeds, and then a growth that is refused.
-use Rattle.std.proofs.Common.{◌≡◌, None, Some, refl, subst, sym}
+use Rattle.std.proofs.Common.{◌≡◌, None, Some, subst, sym}
 use Rattle.std.specs.Prelude.{Result, IsErrAnd}
 use Rattle.page_file.specs.declared.fault.Fault.{Fault}
 use Rattle.page_file.specs.declared.fault.Fault.TheVariants as fault

@@ -1,17 +1,13 @@
 -- Through the boxes of children each object that is sought is reached: in a tree with least boxes none lies below a box that
 -- is not admitted.
-use Rattle.std.proofs.Common.{◌≡◌, ◌∙◌, ℕ, ◌-◌, ◌<◌, Bool, true, false, cond, Option, None, Some, List, [], ◌∷◌, ◌++◌, All, length, refl, sym, ap, subst, arith}
-use Rattle.std.specs.Prelude.{⊤}
-use Rattle.std.proofs.lemmas.List.Elements.{All-head, All-tail, All-from_get_or, filter-append}
+use Rattle.std.proofs.Common.{◌≡◌, ◌∙◌, ℕ, Bool, true, false, cond, List, [], ◌∷◌, ◌++◌, refl, sym, ap}
+use Rattle.std.proofs.lemmas.List.Elements.{filter-append}
 use Rattle.box_math.specs.Bounds.{Bounds, IsOrdered, Within}
 use Rattle.box_math.proofs.BoxLaws.{Within-trans}
-use Rattle.tree_node.specs.Nodes.{Item, NodeContent}
 use Rattle.tree_node.specs.Searches.{objects_reached, passing_objects}
 use Rattle.tree_node.specs.Shape.{RowHasShape, RowWithin}
-use Rattle.tree_node.specs.Trees.{Row, end, more, object, child, Tree, objects_in, row_items}
-use Rattle.node_page.specs.Layout.{item_at}
-use Rattle.node_page.specs.Rooted.{IsTreeAt}
-use Rattle.node_page.specs.Standing.{PageMap, RowStands, StandsAt, node_in}
+use Rattle.tree_node.specs.Trees.{Row, end, more, object, child, objects_in}
+use Rattle.node_page.specs.Standing.{PageMap, StandsAt}
 use Rattle.node_page.proofs.RootedLemmas.{HasOrderedBoxes, boxes_ordered}
 use Rattle.range_query.proofs.QueryLemmas.{Finds}
 

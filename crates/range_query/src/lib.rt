@@ -2,6 +2,7 @@
 //! pages").
 #![tactic(auto)]
 
+mod arranging;
 mod descent;
 mod query;
 mod range;

@@ -1,5 +1,6 @@
 //! Tests of range queries over small trees, over pages that stand for no tree, and with memory and device refused.
 
+use crate::arranging::arrange;
 use crate::{around, inside, point, window};
 use block_device::{BlockDevice, FuseDevice, FuseMode, MemoryDevice};
 use box_math::BBox;
@@ -145,6 +146,36 @@ fn pages_of_no_tree_are_damaged(rt: HostRuntime) -> Result<(), Fail> {
     assert!(rt; answer.err() == Some(Fault::Damaged(5)));
     let rows = window::<2, _, _, _>(rt.alloc(), &mut cache, ROOT, &bounds([2, 2], [3, 3])?)?;
     assert!(rt; rows.is_empty());
+    Ok(())
+}
+
+// So many rows, whose identifiers are those that the function makes of scattered numbers.
+fn rows_of<F: Fn(u64) -> u64>(alloc: Global, id: F) -> Result<Vec<(u64, BBox<2>)>, Fault>
+    requires { F.IsAlwaysCallable id }
+{
+    let mut rows = Vec::new(alloc);
+    let bounds = bounds([0, 0], [1, 1])?;
+    for k in 0..5000u64 {
+        let scattered = (k + 1).wrapping_mul(6364136223846793005);
+        rows.push((id(scattered ^ (scattered >> 31)), bounds))?;
+    }
+    Ok(rows)
+}
+
+#[test]
+fn many_rows_are_arranged_in_order(rt: HostRuntime) -> Result<(), Fail> {
+    let ways: [fn(u64) -> u64; 4] = [
+        |n| n,
+        |n| n % 8192,
+        |n| (n & 1).wrapping_mul(1 << 60) + (n >> 44),
+        |n| n >> (n % 60),
+    ];
+    for way in ways {
+        let mut rows = rows_of(rt.alloc(), way)?;
+        assert!(rt; !rows.is_sorted_by_key(|row| row.0));
+        arrange(rows.as_mut_slice());
+        assert!(rt; rows.is_sorted_by_key(|row| row.0));
+    }
     Ok(())
 }
 

@@ -1,7 +1,7 @@
 -- The goals of `admitted_children` that are proved by hand.
-use Rattle.std.proofs.Common.{◌≡◌, ◌∙◌, ◌+◌, ◌<◌, ◌^◌, List, ap, sym, subst, map, arith, length, []}
+use Rattle.std.proofs.Common.{◌≡◌, ◌∙◌, ◌+◌, ap, sym, subst, map, arith, length, []}
 use Rattle.page_cache.specs.Cache.{pages}
-use Rattle.tree_node.specs.Nodes.{Item, item_of}
+use Rattle.tree_node.specs.Nodes.{item_of}
 use Rattle.node_page.specs.Standing.{PageMap}
 use Rattle.node_page.specs.Views.{content_in}
 use Rattle.node_page.proofs.StandingLemmas.{page_of_node, same_content}

@@ -1,9 +1,8 @@
 -- The goals of `range` that are proved by hand.
-use Rattle.std.proofs.Common.{◌≡◌, ◌∙◌, ℕ, List, ◌+◌, ◌++◌, ap, sym, subst, IsPermutation}
+use Rattle.std.proofs.Common.{◌≡◌, ◌∙◌, ℕ, List, ◌++◌, ap, sym, subst, IsPermutation}
 use Rattle.box_math.specs.Bounds.{Bounds}
 use Rattle.page_cache.specs.Cache.{looks_of, pages}
 use Rattle.tree_node.specs.Searches.{counted, objects_reached, passing_objects}
-use Rattle.tree_node.specs.Shape.{HasLooseShape}
 use Rattle.tree_node.proofs.SearchLemmas.{admitted_are_reached}
 use Rattle.range_query.specs.Queries.{is_admitted, is_sought}
 use Rattle.node_page.proofs.RootedLemmas.{loose, tree_at}

@@ -1,5 +1,5 @@
 -- The goals of `reach` that are proved by hand.
-use Rattle.std.proofs.Common.{◌≡◌, true, Some, IfSome, ap, sym, subst}
+use Rattle.std.proofs.Common.{◌≡◌, true, IfSome, sym, subst}
 use Rattle.box_math.specs.Bounds.{Bounds, meets_test}
 use Rattle.range_query.specs.declared.query.Query.{Query}
 use Rattle.range_query.specs.Queries.{is_admitted}
