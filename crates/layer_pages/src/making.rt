@@ -6,7 +6,6 @@ ghost use Rattle.box_math.specs.Bounds.{IsDims};
 ghost use Rattle.page_file.specs.Pages.{SameBut};
 ghost use Rattle.page_file.specs.declared.gate.Gate.TheVariants.{Open};
 ghost use Rattle.page_cache.specs.Cache.{IsPageMap, gate_of, next_of, pages};
-ghost use Rattle.page_cache.specs.Calls.{Changes};
 ghost use Rattle.node_page.specs.Broken.{Alters};
 ghost use Rattle.node_page.specs.Parts.{no_page};
 ghost use Rattle.node_page.specs.Standing.{node_in};
@@ -18,13 +17,13 @@ use arrayvec::ArrayVec;
 use block_device::BlockDevice;
 use node_page::{Broken, Node, Root, write_node};
 use page_cache::PageCache;
-use page_file::Fault;
 use std::alloc::Allocator;
 
 /// Makes a layer of no objects in pages that were not live, and answers its root and the page of its directory. The
 /// gate has to be open.
 ///
-/// With a sound map a refusal is `Memory` or `Device`, or `NoPages` where all page numbers are given out.
+/// With a sound map a refusal is `Memory` or `Device`, or `NoPages` where all page numbers are given out. It is
+/// untouched where no page was given out, and no free page was lost.
 pub fn make<const D: usize, B: BlockDevice, A: Allocator + Copy>(
     cache: &mut PageCache<B, A>,
 ) -> Result<(Root, u32), Broken>
@@ -39,7 +38,7 @@ pub fn make<const D: usize, B: BlockDevice, A: Allocator + Copy>(
 {
     let page = match make_leaf::<D, B, A>(cache) {
         Ok(page) => page,
-        Err(fault) => return Err(Broken::midway(fault)),
+        Err(broken) => return Err(broken),
     };
     match id_table::make::<D, B, A>(cache) {
         Ok(directory) => Ok((Root { page, level: 0 }, directory)),
@@ -47,26 +46,35 @@ pub fn make<const D: usize, B: BlockDevice, A: Allocator + Copy>(
     }
 }
 
-// Gives out a page and writes an empty leaf into it.
+// Gives out a page and writes an empty leaf into it. Where the page is refused and as many are free, the map stays.
 fn make_leaf<const D: usize, B: BlockDevice, A: Allocator + Copy>(
     cache: &mut PageCache<B, A>,
-) -> Result<u32, Fault>
+) -> Result<u32, Broken>
     requires dims { IsDims D }
     requires open { gate_of cache.old ≡ Open }
-    ensures changes { Changes cache.old cache.new result }
+    ensures alters { Alters cache.old cache.new result }
     ensures number { IfOk result (λ page. (3 ≤ page) × (page < 2 ^ 31)) }
     ensures sound { IsPageMap cache.old → IsPageMap cache.new }
     ensures fresh { IsPageMap cache.old → IfOk result (λ page. pages cache.old page ≡ None) }
     ensures leaf { IsPageMap cache.old → IfOk result (λ page.
         node_in D (pages cache.new page) ≡ Some (record { level = 0; entries = [] })) }
     ensures others { IsPageMap cache.old → IfOk result (λ page. SameBut page (pages cache.old) (pages cache.new)) }
-    ensures faults { IsPageMap cache.old → IfErr result (IsNoDamage cache.new) }
+    ensures faults { IsPageMap cache.old → IfErr result (λ b. IsNoDamage cache.new b.cause) }
 {
     let leaf: Node<D> = Node {
         level: 0,
         entries: ArrayVec::new(),
     };
-    let page = cache.allocate()?;
-    write_node(cache, page, &leaf)?;
-    Ok(page)
+    let free = cache.free_count();
+    let page = match cache.allocate() {
+        Ok(page) => page,
+        Err(cause) => {
+            let touched = cache.free_count() != free;
+            return Err(Broken { cause, touched });
+        }
+    };
+    match write_node(cache, page, &leaf) {
+        Ok(()) => Ok(page),
+        Err(cause) => Err(Broken::midway(cause)),
+    }
 }

@@ -336,6 +336,56 @@ fn a_layer_given_up_leaves_the_pages_that_were_live(rt: HostRuntime) -> Result<(
     Ok(())
 }
 
+// Gives out so many pages.
+fn allocate_pages<B: BlockDevice>(cache: &mut PageCache<B, Global>, count: u32) -> Result<(), Fault>
+    requires { gate_of cache.old ≡ Open }
+    ensures { gate_of cache.new ≡ Open }
+{
+    'pages: for _ in 0..count {
+        cache.allocate()?;
+    }
+    Ok(())
+}
+
+// Makes a layer after so many pages, while the device gets no memory. Where that is refused with no page touched, it
+// answers that the map is as before.
+fn make_without_memory(alloc: Global, count: u32) -> Result<bool, Fail> {
+    let heap = Refusing::new(alloc);
+    let file = create_pages(MemoryDevice::new(&heap)).map_err(|(fault, _)| fault)?;
+    let mut cache = PageCache::over(alloc, file, 8).map_err(|(fault, _)| fault)?;
+    cache.begin_change()?;
+    allocate_pages(&mut cache, count)?;
+    let next = cache.next_number();
+    heap.refuse_from(0);
+    let answer = make::<2, _, _>(&mut cache);
+    heap.relent();
+    match answer {
+        Err(
+            Broken {
+                cause: Fault::Memory,
+                touched: false,
+            },
+        ) => {
+            let same = cache.next_number() == next;
+            let (root, _) = make::<2, _, _>(&mut cache).map_err(|broken| broken.cause)?;
+            Ok(same && root.page == next)
+        }
+        _ => Ok(false),
+    }
+}
+
+#[test]
+fn a_layer_refused_its_first_page_is_untouched(rt: HostRuntime) -> Result<(), Fail> {
+    let mut untouched = 0u32;
+    for count in 0..9 {
+        if make_without_memory(rt.alloc(), count)? {
+            untouched = untouched.saturating_add(1);
+        }
+    }
+    assert!(rt; untouched > 0);
+    Ok(())
+}
+
 // Makes the change with each growth of the cache refused in turn, and answers how often no page was touched.
 fn refuse_growths(rt: &impl Abort, alloc: Global, change: Change) -> Result<u32, Fail> {
     let heap = Refusing::new(alloc);

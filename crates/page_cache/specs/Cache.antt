@@ -28,6 +28,10 @@ gate_of cache = below.gate_of cache.file
 abbrev pub next_of : {D A : Type 0} {m : _} → PageCache D A m → ℕ
 next_of cache = below.next_of cache.file
 
+-- how many pages are free
+abbrev pub free_count_of : {D A : Type 0} {m : _} → PageCache D A m → ℕ
+free_count_of cache = below.free_count_of cache.file
+
 -- the blocks as they are read once each changed page is written
 abbrev pub blocks_behind : {D A : Type 0} {m : _} → PageCache D A m → Blocks
 blocks_behind cache = laid_over (changed_pages cache.frames.entries) (blocks_of cache)

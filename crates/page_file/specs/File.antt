@@ -34,6 +34,10 @@ header_of file = file.header
 abbrev pub next_of : {D : Type 0} {m : _} → PageFile D m → ℕ
 next_of file = file.header.next
 
+-- how many pages are free
+abbrev pub free_count_of : {D : Type 0} {m : _} → PageFile D m → ℕ
+free_count_of file = file.header.count
+
 -- the map from live page number to the page's bytes
 abbrev pub pages : {D : Type 0} {m : _} → PageFile D m → ℕ → Option (List ℕ)
 pages {m = m} file n = page_of (m.shown file.device) file.header n

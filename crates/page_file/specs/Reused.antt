@@ -7,7 +7,7 @@ use Rattle.std.proofs.lemmas.Bool.{false_from_ne_true}
 use Rattle.block_bytes.specs.Numbers.{zeros}
 use Rattle.block_bytes.specs.Kinds.{free_kind}
 use Rattle.block_device.specs.Device.{Blocks, Torn, block_at, written}
-use Rattle.block_device.specs.Written.{block_at-written}
+use Rattle.block_device.specs.Written.{block_at-written, torn_other}
 use Rattle.page_file.specs.Chains.{chain_opened, chain_same, comes_once, eq_other, eq_self}
 use Rattle.page_file.specs.Given.{given_more, given_torn}
 use Rattle.page_file.specs.Layout.{kind_of, link_of}
@@ -86,6 +86,30 @@ module _ (old new : Blocks) (h : Header) (c : ℕ) (is : h.count ≡ suc c) (fre
   is_taken = ap (λ (n : ℕ). record { next = h.next; first = link_of (block_at h.first old); count = n - 1 }) is
       ∙ ap (λ (n : ℕ). record { next = h.next; first = link_of (block_at h.first old); count = n }) (let e : suc c - 1 ≡ c = omega arith in e)
 
+-- where the blocks of the pages given out are the same, and none is free
+module _ (old new : Blocks) (next : ℕ) (same : (k : ℕ) → k < next → block_at k new ≡ block_at k old) where
+  same_block : (k : ℕ) → nat_lt k next ≡ true → block_at k new ≡ block_at k old
+  same_block k below = same k (grind (arith, nat_tests))
+
+  one_page : (low below : Bool) (k : ℕ) → nat_lt k next ≡ below → cond (low && (below && true)) (Some (block_at k new)) None ≡ cond (low && (below && true)) (Some (block_at k old)) None
+  one_page true true k e = ap Some (same_block k e)
+  one_page true false k e = refl
+  one_page false below k e = refl
+
+  one_given_page : (low below : Bool) (k : ℕ) → nat_lt k next ≡ below → cond (low && below) (Some (block_at k new)) None ≡ cond (low && below) (Some (block_at k old)) None
+  one_given_page true true k e = ap Some (same_block k e)
+  one_given_page true false k e = refl
+  one_given_page false below k e = refl
+
+  given_kept : (k : ℕ) → given_pages new next k ≡ given_pages old next k
+  given_kept k = one_given_page (nat_le 2 k) (nat_lt k next) k refl
+
+none_free : (blocks : Blocks) (h : Header) (k : ℕ) → h.count ≡ 0 → page_of blocks h k ≡ cond (nat_le 2 k && (nat_lt k h.next && true)) (Some (block_at k blocks)) None
+none_free blocks h k none = ap (λ (c : ℕ). cond (nat_le 2 k && (nat_lt k h.next && not (is_member eqb (chain blocks c h.first) k))) (Some (block_at k blocks)) None) none
+
+pages_kept : (old new : Blocks) (h : Header) → h.count ≡ 0 → ((k : ℕ) → k < h.next → block_at k new ≡ block_at k old) → (k : ℕ) → page_of new h k ≡ page_of old h k
+pages_kept old new h none same k = none_free new h k none ∙ one_page old new h.next same (nat_le 2 k) (nat_lt k h.next) k refl ∙ sym (none_free old h k none)
+
 -- whichever page is given out
 module _ (old new : Blocks) (h h' : Header) (sound : is_sound h ≡ true) (room : h.next ≤ length old) where
   start : 3 ≤ h.next
@@ -162,6 +186,34 @@ module _ (old new : Blocks) (h h' : Header) (sound : is_sound h ≡ true) (room 
       (λ same. λ k ne. ap (λ (x : Header). given_pages new x.next k) same.0 ∙ given_torn (next_given h) old new h.next may.torn le_given k ne)
       (λ taken. given_case h.count refl taken.0 may.torn)
       may.header
+
+  -- A refusal that leaves as many pages free leaves the map, since the page of a new number is in none.
+  same_header : MayHaveGiven old new h h' → h'.count ≡ h.count → (h' ≡ h) × ((h.count ≡ 0) ⊎ (new ≡ old))
+  same_header may count = ⊎_elim
+      (λ same. same)
+      (λ taken. let less = ap (λ (x : Header). x.count) (taken.0 ∙ first_taken old h taken.1) in let some = taken.1 in absurd (omega (arith, less, some, count)))
+      may.header
+
+  unwritten : h.count ≡ 0 → MayHaveGiven old new h h' → (k : ℕ) → k < h.next → block_at k new ≡ block_at k old
+  unwritten none may k below = torn_other h.next k old new (subst (λ (n : ℕ). Torn n old new) (new_given h none) may.torn) room (λ (e : k ≡ h.next). absurd (omega (arith, below, e)))
+
+  pub pages_unchanged : MayHaveGiven old new h h' → h'.count ≡ h.count → (k : ℕ) → page_of new h' k ≡ page_of old h k
+  pages_unchanged may count k = let same = same_header may count in ap (λ (x : Header). page_of new x k) same.0 ∙ ⊎_elim
+      (λ (none : h.count ≡ 0). pages_kept old new h none (unwritten none may) k)
+      (λ (e : new ≡ old). ap (λ (b : Blocks). page_of b h k) e)
+      same.1
+
+  pub given_unchanged : MayHaveGiven old new h h' → h'.count ≡ h.count → (k : ℕ) → given_pages new h'.next k ≡ given_pages old h.next k
+  given_unchanged may count k = let same = same_header may count in ap (λ (x : Header). given_pages new x.next k) same.0 ∙ ⊎_elim
+      (λ (none : h.count ≡ 0). given_kept old new h.next (unwritten none may) k)
+      (λ (e : new ≡ old). ap (λ (b : Blocks). given_pages b h.next k) e)
+      same.1
+
+  pub chain_unchanged : MayHaveGiven old new h h' → h'.count ≡ h.count → HasFreeChain new h' → HasFreeChain old h
+  chain_unchanged may count free = let same = same_header may count in let here = subst (λ (x : Header). HasFreeChain new x) same.0 free in ⊎_elim
+      (λ (none : h.count ≡ 0). subst (λ (n : ℕ). IsChain old h.next n h.first) (sym none) (subst (λ (n : ℕ). IsChain new h.next n h.first) none here))
+      (λ (e : new ≡ old). subst (λ (b : Blocks). HasFreeChain b h) e here)
+      same.1
 
   -- the free pages, and the next number
   pub takes_first : HasFreeChain old h → HasGiven old new h h' → TakesFirst (next_given h) (free_pages_of old h) h.next (free_pages_of new h') h'.next

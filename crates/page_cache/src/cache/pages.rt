@@ -9,7 +9,8 @@ ghost use Rattle.page_file.specs.declared.fault.Fault.TheVariants as fault;
 ghost use Rattle.page_file.specs.declared.gate.Gate.TheVariants.{Open};
 ghost use Rattle.page_cache.specs.Cache.{IsBroken, IsHeld, IsHonest, IsLive};
 ghost use Rattle.page_cache.specs.Cache.{IsPageMap, IsUnchanged, KeepsGate, KeepsMap};
-ghost use Rattle.page_cache.specs.Cache.{capacity_of, device_of, free_of, gate_of, given, looks_of, next_of, pages};
+ghost use Rattle.page_cache.specs.Cache.{capacity_of, device_of, free_count_of, free_of, gate_of, given, looks_of};
+ghost use Rattle.page_cache.specs.Cache.{next_of, pages};
 ghost use Rattle.page_cache.specs.Calls.{Asks, Changes, IsLookedAt};
 ghost use Rattle.page_cache.specs.Frames.{frame_at};
 ghost use Rattle.page_cache.specs.Keeps.{KeepsBlocks, SameFrames};
@@ -139,7 +140,8 @@ impl<D: BlockDevice, A: Allocator + Copy> PageCache<D, A> {
     ///
     /// After a refusal one page that was not live may hold any bytes, and may be live; all others are as
     /// before. `NoPages` comes only where each number from 2 to 2^31 - 1 is live. `Damaged` comes with the
-    /// number of the first free page, where that is no free page (docs/FORMAT.md, "Pages"); the map stays then.
+    /// number of the first free page, where that is no free page (docs/FORMAT.md, "Pages"). A refusal that leaves as
+    /// many pages free leaves the map.
     #[tactic(auto, using(crate::specs::Calls::counted_by_end))]
     pub fn allocate(&mut self) -> Result<u32, Fault>
         requires { gate_of self.old ≡ Open }
@@ -155,6 +157,7 @@ impl<D: BlockDevice, A: Allocator + Copy> PageCache<D, A> {
             OnErr result ((n : ℕ) × SameBut n (given self.old) (given self.new)) }
         ensures refused { IsPageMap self.old →
             OnErr result ((n : ℕ) × (pages self.old n ≡ None) × SameBut n (pages self.old) (pages self.new)) }
+        ensures kept { OnErr result (free_count_of self.new ≡ free_count_of self.old → KeepsMap self.old self.new) }
         ensures sound { IsPageMap self.old → IsPageMap self.new }
         ensures number { IfOk result (λ n. (3 ≤ n) × (n < next_of self.new)) }
         ensures next { (next_of self.old ≤ next_of self.new) × (next_of self.new ≤ next_of self.old + 1) }

@@ -54,6 +54,7 @@ impl<D: BlockDevice> PageFile<D> {
             (header_of self.new)) }
         ensures number { IfOk result (λ n. (3 ≤ n) × (n < next_of self.new)) }
         ensures next { (next_of self.old ≤ next_of self.new) × (next_of self.new ≤ next_of self.old + 1) }
+        ensures refused_next { OnErr result (next_of self.new ≡ next_of self.old) }
         ensures no_pages { IsErrOf result fault.NoPages → next_of self.old ≡ 2 ^ 31 }
         ensures none_free { IsErrOf result fault.NoPages → (header_of self.old).count ≡ 0 }
         ensures all_live { IsErrOf result fault.NoPages → (n : ℕ) → 2 ≤ n → n < 2 ^ 31 → IsLive self.old n }
@@ -78,6 +79,7 @@ impl<D: BlockDevice> PageFile<D> {
             (header_of self.new)) }
         ensures number { IfOk result (λ n. (3 ≤ n) × (n < next_of self.new)) }
         ensures next { (next_of self.old ≤ next_of self.new) × (next_of self.new ≤ next_of self.old + 1) }
+        ensures refused_next { OnErr result (next_of self.new ≡ next_of self.old) }
         ensures no_pages { IsErrOf result fault.NoPages →
             (next_of self.old ≡ 2 ^ 31) × ((header_of self.old).count ≡ 0) }
         ensures damaged { IsHonest self.old →

@@ -1,6 +1,6 @@
 //! What a file says of its numbers, and its device given back as it is.
 ghost use Rattle.std.specs.Prelude.{◌≡◌};
-ghost use Rattle.page_file.specs.File.{device_of, next_of};
+ghost use Rattle.page_file.specs.File.{device_of, free_count_of, next_of};
 
 use crate::file::PageFile;
 use block_device::BlockDevice;
@@ -11,6 +11,13 @@ impl<D: BlockDevice> PageFile<D> {
         ensures { result ≡ next_of self.now }
     {
         self.header.next
+    }
+
+    /// How many pages are free.
+    pub fn free_count(&self) -> u32
+        ensures { result ≡ free_count_of self.now }
+    {
+        self.header.count
     }
 
     /// The device as it is, without a call of it.

@@ -5,7 +5,7 @@ use Rattle.block_device.specs.Device.{Blocks, block_at}
 use Rattle.page_file.specs.Fault.{IsOfDevice}
 use Rattle.page_file.specs.File as below
 use Rattle.page_file.specs.Pages.{HasFreeChain, HasGiven, MayHaveGiven, SameBut, TakesFirst, free_page_link, free_pages_of, given_pages, next_given, page_of}
-use Rattle.page_file.specs.Reused.{all_live, chain_refused, chain_stays, given_is_zeros, given_refused, given_stays, none_before, others_refused, others_stay, sound_link, takes_first}
+use Rattle.page_file.specs.Reused.{all_live, chain_refused, chain_stays, chain_unchanged, given_is_zeros, given_refused, given_stays, given_unchanged, none_before, others_refused, others_stay, pages_unchanged, sound_link, takes_first}
 use Rattle.page_file.specs.declared.fault.Fault.TheVariants as fault
 use Rattle.page_file.specs.declared.file.PageFile.{PageFile}
 use Rattle.page_file.specs.declared.header.Header.{Header}
@@ -19,7 +19,7 @@ use Rattle.page_cache.specs.declared.frame.Frame.{Frame}
 use Rattle.page_cache.proofs.Behind.{map_from, map_kept}
 use Rattle.page_cache.proofs.Changed.{given_grown}
 use Rattle.page_cache.proofs.Kept.{kept_below}
-use Rattle.page_cache.proofs.Results.{either, if_err_map, if_ok_both, on_err_any, on_err_map}
+use Rattle.page_cache.proofs.Results.{either, if_err_map, if_ok_both, on_err_any, on_err_given, on_err_map}
 use Rattle.page_cache.proofs.Reused.{either_given, first_same, gives_behind, may_behind}
 use Rattle.page_cache.proofs.cache.PageCache.allocate.Goals as goal
 
@@ -130,6 +130,30 @@ returns-clause-refused g c = λ map.
       none_before X Y old.file.header new.header old.file.sound (room old mid new k c.first_free-first.result first gone h) map.free,
       others_refused X Y old.file.header new.header old.file.sound (room old mid new k c.first_free-first.result first gone h) map.free (may old mid new k c.first_free-first.result first gone h given),
     ))
+
+pub returns-clause-kept : goal.returns-clause-kept
+returns-clause-kept g c =
+    let old = c.args.self.now in let mid = c.release.new.self in let new = c.allocate.new.self in let k = c.release.ensures.kept in
+    let first = c.first_free-first.ensures ∙ ap (λ (x : Header). x.first) (sym k.header) in let gone = c.in_ok-release.ensures.gone in
+    let X = blocks_behind old in let Y = after old mid new k c.first_free-first.result first gone in
+    on_err_given c.allocate.result c.allocate.ensures.refused_next c.allocate.ensures.may_give
+    (λ next may_give. λ count.
+    let roomy : IsHonest old → old.file.header.next ≤ length X = room old mid new k c.first_free-first.result first gone in
+    let may_of : IsHonest old → MayHaveGiven X Y old.file.header new.header = λ h. may old mid new k c.first_free-first.result first gone h (may_give (k.gate.honest.0 h)) in record {
+      next = next ∙ ap (λ (x : Header). x.next) k.header;
+      pages_stay = λ h n. pages_unchanged X Y old.file.header new.header old.file.sound (roomy h) (may_of h) count n;
+      given_stay = λ h n. given_unchanged X Y old.file.header new.header old.file.sound (roomy h) (may_of h) count n;
+      sound = (
+        λ p. record {
+          honest = c.allocate.ensures.gate.honest.0 (k.gate.honest.0 p.honest);
+          free = chain_refused X Y old.file.header new.header old.file.sound (roomy p.honest) p.free (may_of p.honest);
+        },
+        λ p. let h = k.gate.honest.1 (c.allocate.ensures.gate.honest.1 p.honest) in record {
+          honest = h;
+          free = chain_unchanged X Y old.file.header new.header old.file.sound (roomy h) (may_of h) count p.free;
+        },
+      );
+    })
 
 pub returns-clause-sound : goal.returns-clause-sound
 returns-clause-sound g c = λ map.
