@@ -1,5 +1,5 @@
 -- All objects of a layer, and the lines of layers in a dump.
-use Rattle.std.proofs.Common.{◌≡◌, ◌∙◌, ℕ, zero, suc, ◌+◌, ◌<◌, ◌≤ℤ◌, pos, negsuc, Bool, true, cond, List, [], ◌∷◌, ◌++◌, All, append-nil, append_assoc, get_or, length, map, replicate, take, refl, sym, ap, subst, arith}
+use Rattle.std.proofs.Common.{◌≡◌, ◌∙◌, ℕ, ◌+◌, ◌<◌, ◌≤ℤ◌, pos, negsuc, Bool, true, cond, List, [], ◌∷◌, ◌++◌, All, append-nil, append_assoc, get_or, length, map, replicate, take, refl, sym, ap, subst, arith}
 use Rattle.std.specs.Int.{w32}
 use Rattle.std.specs.Prelude.{FitsSigned, filter, flat_map}
 use Rattle.std.specs.FinMap.{entries}

@@ -1,5 +1,5 @@
 -- The table that layers hold which were found by a check.
-use Rattle.std.proofs.Common.{◌≡◌, ◌∙◌, ℕ, ◌≤◌, List, [], ◌∷◌, map, Bool, true, T, Some, refl, sym, ap, subst, arith}
+use Rattle.std.proofs.Common.{◌≡◌, ◌∙◌, ℕ, List, [], ◌∷◌, map, true, T, Some, refl, sym, ap, subst, arith}
 use Rattle.std.specs.Cmp.Lexicographic.{slice_cmp}
 use Rattle.std.specs.FinMap.{entries-from_sorted, from_sorted, is_sorted}
 use Rattle.std.specs.Ordering.{nat_cmp}

@@ -1,10 +1,10 @@
 -- What listings show of layers that stand.
-use Rattle.std.proofs.Common.{◌≡◌, ◌∙◌, ℕ, List, [], ◌∷◌, ◌++◌, map, refl, sym, ap}
-use Rattle.std.specs.FinMap.{entries, len, len-entries}
+use Rattle.std.proofs.Common.{◌≡◌, ◌∙◌, ℕ, List, [], ◌∷◌, map, refl, sym, ap}
+use Rattle.std.specs.FinMap.{len, len-entries}
 use Rattle.catalog_page.specs.Layout.{Record}
 use Rattle.node_page.specs.Standing.{PageMap}
-use Rattle.plain_table.specs.Listings.{LayerLine, all_layers, layer_line}
-use Rattle.plain_table.specs.Table.{Layer, Table}
+use Rattle.plain_table.specs.Listings.{all_layers, layer_line}
+use Rattle.plain_table.specs.Table.{Table}
 use Rattle.live_layers.specs.Layers.{Holds, LayerStands, LayersStand, Reading, entry_of, row_of}
 use Rattle.live_layers.specs.Listing.{record_line}
 

@@ -1,5 +1,5 @@
 -- The pages in use and the free ones, listed together.
-use Rattle.std.proofs.Common.{◌≡◌, ◌∙◌, ◌⊎◌, ℕ, ◌+◌, ◌<◌, ◌≤◌, Bool, true, false, ◌||◌, cond, eqb, List, [], ◌∷◌, ◌++◌, length, map, refl, sym, ap, subst, arith, ⊎_elim}
+use Rattle.std.proofs.Common.{◌≡◌, ◌∙◌, ℕ, ◌+◌, ◌<◌, ◌≤◌, Bool, true, false, ◌||◌, cond, eqb, List, [], ◌∷◌, ◌++◌, map, refl, sym, ap, subst, arith, ⊎_elim}
 use Rattle.std.specs.Prelude.{IsSome}
 use Rattle.std.specs.List.{AllByRecursion, IsDistinct}
 use Rattle.std.specs.Set.{is_member}
@@ -7,7 +7,7 @@ use Rattle.std.proofs.lemmas.Bool.{cases_eq}
 use Rattle.std.proofs.lemmas.Bool.Decides.{nat_tests}
 use Rattle.catalog_page.specs.Layout.{Record}
 use Rattle.id_table.specs.Table.{IdTable, occurs_in_ids}
-use Rattle.layer_pages.specs.Layers.{IsLayerAt, LayerPages, Objects, part_of_layer}
+use Rattle.layer_pages.specs.Layers.{IsLayerAt}
 use Rattle.layer_pages.proofs.CheckLemmas.{one_table}
 use Rattle.layer_pages.proofs.LayerLemmas.{pages_of_a_layer}
 use Rattle.node_page.specs.Checked.{named_pages}
@@ -17,13 +17,12 @@ use Rattle.node_page.proofs.PartLemmas.{all_of_same, none_or_some}
 use Rattle.node_page.proofs.StandingLemmas.{one_tree_stands}
 use Rattle.node_page.proofs.VisitLemmas.{times_more}
 use Rattle.page_cache.specs.Cache.{IsLive, IsPageMap, blocks_behind, free_of, next_of, pages}
-use Rattle.page_cache.specs.Laws.{a_live_page_was_given_out, a_page_is_live_or_free, free_pages_are_distinct, numbers_are_few, the_catalog_is_live}
+use Rattle.page_cache.specs.Laws.{a_live_page_was_given_out, a_page_is_live_or_free, free_pages_are_distinct, the_catalog_is_live}
 use Rattle.page_cache.specs.declared.cache.PageCache.{PageCache}
 use Rattle.page_file.specs.Chains.{chain_within}
 use Rattle.page_file.specs.File.{header_of}
 use Rattle.page_file.specs.Live.{lives}
 use Rattle.tree_node.specs.Trees.{Tree, occurs_in}
-use Rattle.tree_node.specs.declared.node.Root.{Root}
 use Rattle.live_layers.specs.Checked.{AddsLayers, FindsLayers, NamesEach}
 use Rattle.live_layers.specs.Layers.{LayerStands, LayersStand, Reading, in_use, of_catalog, of_layer, of_layers, root_of, row_of}
 use Rattle.live_layers.proofs.OnceLemmas.{here_once, not_here}

@@ -22,7 +22,7 @@ pub fn each_once(list: &mut [u32], next: u32) -> Result<(), Fault>
         }
     }
     if list.len() + 2 != next as usize {
-        return Err(Fault::Damaged(next - 1));
+        return Err(Fault::Damaged((list.len() + 2).min(next as usize) as u32));
     }
     Ok(())
 }

@@ -28,6 +28,11 @@ fn two_layers(alloc: Global) -> Result<Layers<MemoryDevice, Global>, Unmade> {
     Ok(layers)
 }
 
+// The box of a town, as a dump has it.
+fn town() -> AnyBox {
+    AnyBox::Two(BBox::try_new([3, 3], [3, 3]).unwrap_or_default())
+}
+
 #[test]
 fn layers_are_listed_and_dumped(rt: HostRuntime) -> Result<(), Fail> {
     let mut layers = two_layers(rt.alloc())?;
@@ -48,9 +53,8 @@ fn layers_are_listed_and_dumped(rt: HostRuntime) -> Result<(), Fail> {
         DumpRow::Insert(name_of(b"parks"), 1, AnyBox::Three(park))
     );
     assert_eq!(rt; rows[2], DumpRow::Create(name_of(b"towns"), 2, 4));
-    let town = AnyBox::Two(BBox::try_new([3, 3], [3, 3]).unwrap_or_default());
-    assert_eq!(rt; rows[3], DumpRow::Insert(name_of(b"towns"), 5, town));
-    assert_eq!(rt; rows[5], DumpRow::Insert(name_of(b"towns"), 7, town));
+    assert_eq!(rt; rows[3], DumpRow::Insert(name_of(b"towns"), 5, town()));
+    assert_eq!(rt; rows[5], DumpRow::Insert(name_of(b"towns"), 7, town()));
     Ok(())
 }
 
@@ -74,7 +78,10 @@ fn catalogs_that_say_something_else_are_found(rt: HostRuntime) -> Result<(), Fai
     let mut again = open(rt.alloc(), layers.cache.abandon())?;
     assert_eq!(rt; again.check(), Err(Refusal::Damaged(2)));
     // the second layer has the pages of the first, and its own root is in no place
-    let lost = again.records[1].root;
+    let Some(towns) = again.records.get(1) else {
+        return Err(Fail::from("no second layer"));
+    };
+    let lost = towns.root;
     let mut other = page;
     for k in 25..44 {
         other[320 + k] = page[256 + k];

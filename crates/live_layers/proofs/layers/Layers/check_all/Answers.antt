@@ -1,6 +1,6 @@
 -- The records, the catalog and the pages are checked in turn.
-use Rattle.std.proofs.Common.{◌≡◌, ◌∙◌, List, true, Some, map, refl, sym, ap, subst}
-use Rattle.catalog_page.specs.Layout.{Record, record_of, records_of}
+use Rattle.std.proofs.Common.{◌≡◌, ◌∙◌, List, true, Some, map, refl, sym, subst}
+use Rattle.catalog_page.specs.Layout.{record_of, records_of}
 use Rattle.catalog_page.specs.declared.layer_record.LayerRecord.{LayerRecord}
 use Rattle.node_page.specs.Parts.{IsAllOf}
 use Rattle.node_page.specs.Standing.{PageMap}
@@ -9,7 +9,7 @@ use Rattle.page_cache.specs.Calls.{asks_in_turn, fault_in}
 use Rattle.page_cache.specs.Laws.{the_map_is_kept_in_turn}
 use Rattle.live_layers.specs.Catalog.{is_good_catalog, objects_named}
 use Rattle.live_layers.specs.Checked.{FindsLayers}
-use Rattle.live_layers.specs.Layers.{catalog_in, in_use}
+use Rattle.live_layers.specs.Layers.{in_use}
 use Rattle.live_layers.proofs.CheckLemmas.{stand_in}
 use Rattle.live_layers.proofs.FoundLemmas.{found_in, records_pass, sound_found}
 use Rattle.live_layers.proofs.KeepLemmas.{sound_kept}

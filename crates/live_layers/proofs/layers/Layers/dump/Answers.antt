@@ -1,7 +1,7 @@
 -- The lines of the records' layers are those of the table.
 use Rattle.std.proofs.Common.{◌≡◌, ◌∙◌, map, flat_map, refl, sym, ap, subst, inl, inr}
 use Rattle.block_device.specs.Device.{HasRisen}
-use Rattle.catalog_page.specs.Layout.{record_of, records_of}
+use Rattle.catalog_page.specs.Layout.{record_of}
 use Rattle.page_cache.specs.Cache.{device_of, next_of}
 use Rattle.plain_table.specs.Commands.Command.{Dump}
 use Rattle.plain_table.specs.Listings.{all_lines, dump_lines}

@@ -1,13 +1,10 @@
 -- The line that makes the layer, and then those of all its objects.
-use Rattle.std.proofs.Common.{◌≡◌, ◌∙◌, ℕ, List, [], ◌∷◌, ◌++◌, ap, arith}
+use Rattle.std.proofs.Common.{◌≡◌, ◌∙◌, ℕ, List, ap, arith}
 use Rattle.std.specs.FinMap.{entries}
-use Rattle.box_math.specs.Bounds.{Bounds}
 use Rattle.catalog_page.specs.Layout.{record_of}
-use Rattle.layer_pages.specs.Layers.{IsLayerAt}
 use Rattle.page_cache.specs.Cache.{pages}
 use Rattle.page_file.specs.Fault.{IsOfDevice}
 use Rattle.plain_table.specs.Listings.DumpLine.{CreateLine}
-use Rattle.live_layers.specs.Layers.{root_of}
 use Rattle.live_layers.proofs.CheckLemmas.{layer_of_row}
 use Rattle.live_layers.proofs.DumpLemmas.{layer_dumped}
 use Rattle.live_layers.proofs.Results.{the_err}

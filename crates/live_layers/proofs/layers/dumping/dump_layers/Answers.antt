@@ -1,5 +1,5 @@
 -- Each layer in turn.
-use Rattle.std.proofs.Common.{◌≡◌, ◌∙◌, ℕ, ◌+◌, ◌<◌, ◌≤◌, List, None, ◌++◌, get_or, length, map, take, sym, ap, arith}
+use Rattle.std.proofs.Common.{◌≡◌, ◌∙◌, ◌<◌, ◌≤◌, List, None, ◌++◌, get_or, length, sym, ap, arith}
 use Rattle.std.proofs.lemmas.List.{length-map, take_all}
 use Rattle.catalog_page.specs.Layout.{record_of}
 use Rattle.page_cache.specs.Cache.{pages}

@@ -1,5 +1,5 @@
 -- The objects that meet the window of all points are all objects.
-use Rattle.std.proofs.Common.{◌≡◌, ◌∙◌, ℕ, List, ap, subst, sym}
+use Rattle.std.proofs.Common.{◌∙◌, ℕ, ap}
 use Rattle.std.specs.FinMap.{entries}
 use Rattle.std.specs.Prelude.{filter}
 use Rattle.box_math.specs.Bounds.{Bounds, meets_test}

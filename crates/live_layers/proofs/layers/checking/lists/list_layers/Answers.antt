@@ -1,10 +1,9 @@
 -- Each layer in turn.
-use Rattle.std.proofs.Common.{◌≡◌, ◌∙◌, ℕ, ◌+◌, ◌*◌, ◌<◌, List, None, get_or, length, map, take, refl, sym, ap, subst, arith}
-use Rattle.std.proofs.Math.Nat.{mul-le-mul_left}
+use Rattle.std.proofs.Common.{◌<◌, List, None, get_or, length, map, take, sym, subst, arith}
 use Rattle.std.proofs.lemmas.List.{take_all}
 use Rattle.catalog_page.specs.Layout.{Record, record_of}
 use Rattle.catalog_page.specs.declared.layer_record.LayerRecord.{LayerRecord}
-use Rattle.page_cache.specs.Cache.{next_of, pages}
+use Rattle.page_cache.specs.Cache.{pages}
 use Rattle.page_cache.specs.Calls.{asks_and_refuses, asks_in_turn}
 use Rattle.page_file.specs.Fault.{IsOfDevice}
 use Rattle.live_layers.specs.Checked.{AddsLayers}
