@@ -5,4 +5,4 @@ use Rattle.page_cache.specs.Cache.{gate_of}
 use Rattle.layer_pages.proofs.tests.allocate_pages.Given as goal
 
 abbrev pub invariant-pages : goal.invariant-pages
-invariant-pages l = gate_of l.cache ≡ Open
+invariant-pages g l = gate_of l.cache ≡ Open
