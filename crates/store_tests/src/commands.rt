@@ -183,8 +183,7 @@ fn push_coordinates(numbers: &mut Vec<i128>, coordinates: &[i32]) -> Result<(), 
     Ok(())
 }
 
-/// Adds the numbers of an object: its identifier and its box.
-pub fn push_row(numbers: &mut Vec<i128>, id: u64, bounds: AnyBox) -> Result<(), AllocError> {
+fn push_row(numbers: &mut Vec<i128>, id: u64, bounds: AnyBox) -> Result<(), AllocError> {
     numbers.push(i128::from(id))?;
     match bounds {
         AnyBox::Two(bounds) => {

@@ -1,12 +1,14 @@
 //! Files that are damaged by chance: each command returns with an answer or a refusal that it may have, and where a
-//! check finds nothing wrong all questions agree, and no change meets damage.
+//! check finds nothing wrong the store answers as the plain list that its dump makes again.
 
-use crate::commands::{Answer, Command, PLANE, SPACE, answer, push_row};
-use crate::fixture::{block_of, closed, device_of, new_store, opened, patch, put as put_block};
+use crate::commands::{Answer, Command, PLANE, SPACE, answer, listed};
+use crate::fixture::{block_of, closed, device_of, new_store, opened, patch, put};
 use crate::language::may_answer;
+use crate::listing::given;
 use crate::sessions::Dice;
 use block_device::{BlockDevice, DeviceError, MemoryDevice};
 use layer_store::{DumpRow, RawBox, RawPoint, Refusal, Store};
+use list_table::ListTable;
 use std::alloc::Global;
 use std::process::Abort;
 use std::test::Fail;
@@ -27,7 +29,7 @@ const DEEP: [Layer; 2] = [(b"a", 2, 4, 17), (b"b", 2, 5, 6)];
 const CHAINED: [Layer; 2] = [(b"a", 2, 100, 103), (b"b", 3, 4, 6)];
 
 // Each question, and each change with a closing, in two ways.
-const QUESTIONS: [[Command; 10]; 2] = [
+const QUESTIONS: [[Command<'static>; 10]; 2] = [
     [
         Command::Window(b"a", PLANE),
         Command::Inside(b"a", RawBox::Two([0, 0], [9, 9])),
@@ -54,7 +56,7 @@ const QUESTIONS: [[Command; 10]; 2] = [
     ],
 ];
 
-const CHANGES: [[Command; 7]; 2] = [
+const CHANGES: [[Command<'static>; 7]; 2] = [
     [
         Command::Insert(b"a", 5001, RawBox::Two([7, 7], [8, 8])),
         Command::Delete(b"a", 1001),
@@ -96,7 +98,7 @@ fn add_free_pages(device: &mut MemoryDevice) -> Result<(), DeviceError> {
     let end = device.blocks();
     for k in 1..=3u32 {
         let page = device.blocks();
-        put_block(device, page, &[0; 4096])?;
+        put(device, page, &[0; 4096])?;
         patch(device, page, 0, 1, 5)?;
         let next = if k < 3 { u64::from(page) + 1 } else { 0 };
         patch(device, page, 4, 4, next)?;
@@ -135,7 +137,7 @@ fn device_with(alloc: Global, blocks: &Blocks) -> Result<MemoryDevice, DeviceErr
     let mut device = MemoryDevice::new(alloc);
     for block in blocks.iter() {
         let end = device.blocks();
-        put_block(&mut device, end, block)?;
+        put(&mut device, end, block)?;
     }
     Ok(device)
 }
@@ -228,9 +230,9 @@ fn damage_places(dice: &mut Dice, device: &mut MemoryDevice) -> Result<(), Devic
         return Ok(());
     }
     let (left, right) = (block_of(device, one)?, block_of(device, other)?);
-    put_block(device, one, &right)?;
+    put(device, one, &right)?;
     if dice.below(2) == 0 {
-        put_block(device, other, &left)?;
+        put(device, other, &left)?;
     }
     Ok(())
 }
@@ -271,39 +273,45 @@ enum Ending {
     Failed,
 }
 
-// Puts a command to a live store, in not too many looks.
-fn ask_one(
+// Puts a command to a live store, in not too many looks. Where there is a plain list, both answer the same.
+fn put_one(
     rt: &impl Abort,
     alloc: Global,
     store: &mut Store<MemoryDevice>,
-    ask: Command<'_>,
+    table: &mut Option<ListTable<Global>>,
+    command: Command<'static>,
     file: u32,
 ) -> Answer {
     let before = store.looks();
-    let given = answer(alloc, store, ask);
+    let given = answer(alloc, store, command);
     let looked = store.looks().wrapping_sub(before);
     assert!(rt;
         looked <= MOST_LOOKS,
-        "file {file}, {ask:?}: {looked} looks"
+        "file {file}, {command:?}: {looked} looks"
     );
-    assert!(rt; may_answer(ask, &given), "file {file}, {ask:?}: {given:?}");
+    assert!(rt;
+        may_answer(command, &given),
+        "file {file}, {command:?}: {given:?}"
+    );
+    if let Some(table) = table {
+        let wanted = listed(alloc, table, command);
+        assert!(rt; given == wanted, "file {file}, {command:?}: {given:?}");
+    }
     given
 }
 
-// Puts all changes to a store, beginning at one of them, till one ends it. In a sound store none meets damage.
+// Puts all changes to a store, beginning at one of them, till one ends it: whether none did.
 fn change_all(
     rt: &impl Abort,
     alloc: Global,
     store: &mut Store<MemoryDevice>,
+    table: &mut Option<ListTable<Global>>,
     file: u32,
-    is_sound: bool,
 ) -> bool {
     let changes = CHANGES[(file % 2) as usize];
     let begin = (file / 2 % 7) as usize;
-    for &ask in changes.iter().cycle().skip(begin).take(7) {
-        let given = ask_one(rt, alloc, store, ask, file);
-        let is_damaged = matches!(given, Err(Refusal::Damaged(_) | Refusal::StoreFailed(_)));
-        assert!(rt; !is_sound || !is_damaged, "file {file}, {ask:?}: {given:?}");
+    for &command in changes.iter().cycle().skip(begin).take(7) {
+        let given = put_one(rt, alloc, store, table, command, file);
         if matches!(given, Err(Refusal::StoreFailed(_))) {
             return false;
         }
@@ -311,67 +319,27 @@ fn change_all(
     true
 }
 
-// Whether the questions on the layer of that name agree: its objects by the tree, and each by the table, and counts.
-fn agrees(
+// The plain list that a dump makes again. The identifier tables have the same objects as the dump.
+fn table_of(
+    rt: &impl Abort,
     alloc: Global,
     store: &mut Store<MemoryDevice>,
-    name: &'static [u8],
-    all: &mut Vec<i128>,
-) -> Result<bool, Fail> {
-    let Ok(count) = answer(alloc, store, Command::Count(name)) else {
-        return Ok(true);
-    };
-    let plane = answer(alloc, store, Command::Window(name, PLANE));
-    let is_plane = plane.is_ok();
-    let rows = match plane {
-        Ok(rows) => rows,
-        Err(_) => answer(alloc, store, Command::Window(name, SPACE))?,
-    };
-    let width = if is_plane { 5 } else { 7 };
-    let origin = if is_plane {
-        RawPoint::Two([0; 2])
-    } else {
-        RawPoint::Three([0; 3])
-    };
-    let nearest = answer(alloc, store, Command::Nearest(name, 1000, origin))?;
-    let objects = rows.len() / width;
-    let mut agree = count.as_slice() == [objects as i128].as_slice()
-        && nearest.len() / 2 == objects;
-    let mut last = -1;
-    for row in rows.chunks(width) {
-        if let Some(&first) = row.first() {
-            let id = u64::try_from(first).unwrap_or(0);
-            let found = answer(alloc, store, Command::Get(name, id))?;
-            agree = agree && last < first && found.as_slice() == row;
-            last = first;
-        }
-        all.extend_from_slice(row)?;
-    }
-    Ok(agree)
-}
-
-// The objects of a dump.
-fn objects_dumped(alloc: Global, store: &mut Store<MemoryDevice>) -> Answer {
-    let mut numbers = Vec::new(alloc);
+    file: u32,
+) -> Result<ListTable<Global>, Refusal> {
+    let mut table = ListTable::new(alloc);
     for row in store.dump()?.iter() {
-        if let DumpRow::Insert(_, id, bounds) = row {
-            push_row(&mut numbers, *id, *bounds)?;
+        match row {
+            DumpRow::Create(name, dims, fanout) => {
+                table.create(name.as_slice(), u64::from(*dims), u64::from(*fanout))?
+            }
+            DumpRow::Insert(name, id, bounds) => {
+                table.insert(name.as_slice(), *id, given(*bounds))?;
+                let found = store.get(name.as_slice(), *id);
+                assert!(rt; found == Ok(*bounds), "file {file}, {id}: {found:?}");
+            }
         }
     }
-    Ok(numbers)
-}
-
-// Whether the questions agree, a dump too.
-fn all_agree(alloc: Global, store: &mut Store<MemoryDevice>) -> Result<bool, Fail> {
-    let mut all = Vec::new(alloc);
-    let names: [&'static [u8]; 5] = [b"a", b"b", b"c", b"d", b"e"];
-    for name in names {
-        if !agrees(alloc, store, name, &mut all)? {
-            return Ok(false);
-        }
-    }
-    let dump = objects_dumped(alloc, store)?;
-    Ok(dump.as_slice() == all.as_slice())
+    Ok(table)
 }
 
 // Closes the store of a file. One that failed is not closed, and one that goes on is opened again.
@@ -399,21 +367,20 @@ fn run(rt: &impl Abort, alloc: Global, device: MemoryDevice, file: u32) -> Resul
             return Ok(Ending::Refused);
         }
     };
-    let is_sound = ask_one(rt, alloc, &mut store, Command::Check, file).is_ok();
-    for ask in QUESTIONS[(file % 2) as usize] {
-        let given = ask_one(rt, alloc, &mut store, ask, file);
-        let is_damaged = matches!(given, Err(Refusal::Damaged(_)));
-        assert!(rt; !is_sound || !is_damaged, "file {file}, {ask:?}: {given:?}");
+    let is_sound = put_one(rt, alloc, &mut store, &mut None, Command::Check, file).is_ok();
+    let mut table = if is_sound {
+        Some(table_of(rt, alloc, &mut store, file)?)
+    } else {
+        None
+    };
+    for command in QUESTIONS[(file % 2) as usize] {
+        let _ = put_one(rt, alloc, &mut store, &mut table, command, file);
     }
-    let agree = !is_sound || all_agree(alloc, &mut store)?;
-    let goes_on = change_all(rt, alloc, &mut store, file, is_sound);
-    if is_sound {
-        let still_agree = all_agree(alloc, &mut store)?;
-        let given = answer(alloc, &mut store, Command::Check);
-        assert!(rt;
-            agree && still_agree && given.is_ok(),
-            "file {file}: {given:?}"
-        );
+    let goes_on = change_all(rt, alloc, &mut store, &mut table, file);
+    for command in [Command::Dump, Command::Check] {
+        if is_sound {
+            let _ = put_one(rt, alloc, &mut store, &mut table, command, file);
+        }
     }
     end(rt, alloc, store, goes_on, file);
     Ok(match (is_sound, goes_on) {
@@ -450,7 +417,6 @@ fn files_damaged_by_chance_are_survived(rt: HostRuntime) -> Result<(), Fail> {
             Ending::Failed => fails = true,
         }
     }
-    assert!(rt; is_refused && goes_on && fails);
-    assert!(rt; is_sound);
+    assert!(rt; is_refused && is_sound && goes_on && fails);
     Ok(())
 }

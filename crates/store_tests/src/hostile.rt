@@ -122,7 +122,7 @@ struct Damage {
 const ALL: Command = Command::Window(b"a", PLANE);
 
 const FIRST: Command = Command::Get(b"a", 1);
-// A change that takes pages. Damage that it meets then is met half way through.
+// A change that takes two pages. Damage that it meets at the second is met half way through.
 const NEW: Command = Command::Create(b"c", 2, 4);
 
 const BROKEN: Refusal = Refusal::StoreFailed(18);
@@ -309,7 +309,7 @@ const CHAINS: [Damage; 8] = [
     // a page in a tree and in the chain
     Damage {
         numbers: &[(1, 16, 8, 0x0000_0004_0000_0001)],
-        met: &[(NEW, BROKEN)],
+        met: &[(NEW, Refusal::Damaged(4))],
     },
     Damage {
         numbers: &[(14, 4, 4, 5), (1, 20, 4, 3)],
@@ -327,11 +327,11 @@ const CHAINS: [Damage; 8] = [
     // a chain that leaves the file, and that ends too soon
     Damage {
         numbers: &[(13, 4, 4, 15)],
-        met: &[(NEW, BROKEN)],
+        met: &[(NEW, Refusal::Damaged(13))],
     },
     Damage {
         numbers: &[(13, 4, 4, 0)],
-        met: &[(NEW, BROKEN)],
+        met: &[(NEW, Refusal::Damaged(13))],
     },
     // a free page that stands nowhere, and one that was given out and stands nowhere
     Damage {

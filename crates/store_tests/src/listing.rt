@@ -17,7 +17,8 @@ fn name_of(name: &[u8]) -> LayerName {
     bytes
 }
 
-fn given(bounds: AnyBox) -> RawBox {
+/// The box as a command gives it.
+pub fn given(bounds: AnyBox) -> RawBox {
     match bounds {
         AnyBox::Two(bounds) => RawBox::Two(bounds.low(), bounds.high()),
         AnyBox::Three(bounds) => RawBox::Three(bounds.low(), bounds.high()),
