@@ -517,7 +517,8 @@ fn the_file_without_damage_is_sound(rt: HostRuntime) -> Result<(), Fail> {
     Ok(())
 }
 
-// A file of one layer whose tree has a root on level 40, and in each node above the leaf a hundred times the same child.
+// A file of one layer whose tree has a root on level 40, and in each node above the leaf the same child a hundred
+// times.
 fn shared_file(alloc: Global) -> Result<MemoryDevice, DeviceError> {
     let mut device = MemoryDevice::new(alloc);
     for block in 0..3 {

@@ -1,6 +1,7 @@
 //! All pages checked: whether the layers are sound.
 
-ghost use Rattle.std.specs.Prelude.{◌≡◌, ◌+◌, ◌*◌, ◌≤◌, ◌⊎◌, List, true, IfErr, IsTrue, IfOk, OnOk, length, map as each};
+ghost use Rattle.std.specs.Prelude.{◌≡◌, ◌+◌, ◌*◌, ◌≤◌, ◌⊎◌, List, true, IfErr, IsTrue, IfOk, OnOk, length};
+ghost use Rattle.std.specs.Prelude.{map as each};
 ghost use Rattle.catalog_page.specs.Layout.{record_of};
 ghost use Rattle.page_cache.specs.Cache.{IsHonest, IsPageMap, KeepsGate, KeepsMap, device_of, looks_of};
 ghost use Rattle.page_cache.specs.Cache.{next_of, pages};

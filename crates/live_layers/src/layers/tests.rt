@@ -58,8 +58,8 @@ fn point(x: i32) -> RawBox {
     RawBox::Two([x, x], [x, x])
 }
 
-// Makes the change: a layer of three axes; in the layer that is there one object more, one less, or one far off; or that
-// layer gone.
+// Makes the change: a layer of three axes; in the layer that is there one object more, one less, or one far off; or
+// that layer gone.
 fn make<B: BlockDevice, A: Allocator + Copy>(
     layers: &mut Layers<B, A>,
     change: Change,

@@ -25,8 +25,8 @@ use plain_table::{RawBox, Refusal};
 use std::alloc::Allocator;
 
 impl<D: BlockDevice, A: Allocator + Copy> Store<D, A> {
-    /// Puts objects into a layer that has none, all at once: its tree is packed from them in the order in which they are
-    /// given. A load of no objects changes nothing.
+    /// Puts objects into a layer that has none, all at once: its tree is packed from them in the order in which they
+    /// are given. A load of no objects changes nothing.
     ///
     /// Refused, in this order, by BadName, NoLayer, WrongDims, BadBox, NotEmpty, DuplicateInLoad and TooManyObjects.
     pub fn load(&mut self, layer: &[u8], objects: &[(u64, RawBox)]) -> Result<(), Refusal>
