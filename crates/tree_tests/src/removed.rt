@@ -59,7 +59,7 @@ impl Scene {
 
     // Removes an object by chance, if there is one.
     fn take(&mut self) -> Result<Option<Entry<2>>, Broken> {
-        let place = self.dice.roll(0x7fff_ffff) as usize;
+        let place = usize::try_from(self.dice.roll(0x7fff_ffff)).unwrap_or(0);
         if self.objects.is_empty() {
             return Ok(None);
         }
