@@ -172,6 +172,19 @@ fn put<D: BlockDevice>(
     Ending::Refused
 }
 
+// Each command of the script says that the store has failed.
+fn say_that_it_failed<D: BlockDevice>(
+    rt: &impl Abort,
+    alloc: Global,
+    store: &mut Store<D, &Heap>,
+    script: &[Command<'_>],
+) {
+    for &later in script {
+        let given = answer(alloc, store, later);
+        assert!(rt; given == Err(Refusal::StoreFailed(19)), "{later:?}");
+    }
+}
+
 // The store failed in this command: each command says so, and its device, which comes back with a closing, is that of a
 // store that was not closed, or, after a reopening, has the table.
 fn check_failed<'a, D: BlockDevice + Drop>(
@@ -184,12 +197,8 @@ fn check_failed<'a, D: BlockDevice + Drop>(
 ) {
     let failed = Refusal::StoreFailed(19);
     let mut store = store;
-    for &later in SCRIPT.iter().chain(REMOVALS.iter()) {
-        assert!(rt;
-            answer(alloc, &mut store, later) == Err(failed),
-            "{later:?}"
-        );
-    }
+    say_that_it_failed(rt, alloc, &mut store, &SCRIPT);
+    say_that_it_failed(rt, alloc, &mut store, &REMOVALS);
     let (refusal, device) = closed(store);
     assert_eq!(rt; refusal, Some(failed));
     match opened(heap, device, 8) {

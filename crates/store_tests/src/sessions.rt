@@ -98,7 +98,8 @@ impl Dice {
         };
         let mut id = 0;
         for _ in 0..self.below(80) {
-            id += u64::from(self.below(4)) + u64::from(fits);
+            let step = u64::from(self.below(4)) + u64::from(fits);
+            id = step.saturating_add(id);
             let span = self.bounds(dims);
             let bounds = if fits { ordered(span) } else { span };
             objects.push((id, bounds))?;
@@ -158,10 +159,21 @@ impl Dice {
 // The box with each low at most its high.
 fn ordered(bounds: RawBox) -> RawBox {
     match bounds {
-        RawBox::Two([a, b], [c, d]) => RawBox::Two([a.min(c), b.min(d)], [a.max(c), b.max(d)]),
-        RawBox::Three([a, b, c], [d, e, f]) => RawBox::Three(
-            [a.min(d), b.min(e), c.min(f)],
-            [a.max(d), b.max(e), c.max(f)],
+        RawBox::Two(low, high) => RawBox::Two(
+            [low[0].min(high[0]), low[1].min(high[1])],
+            [low[0].max(high[0]), low[1].max(high[1])],
+        ),
+        RawBox::Three(low, high) => RawBox::Three(
+            [
+                low[0].min(high[0]),
+                low[1].min(high[1]),
+                low[2].min(high[2]),
+            ],
+            [
+                low[0].max(high[0]),
+                low[1].max(high[1]),
+                low[2].max(high[2]),
+            ],
         ),
     }
 }
