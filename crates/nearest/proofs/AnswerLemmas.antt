@@ -1,8 +1,8 @@
 -- The first k of the objects seen so far, as they are kept while more are seen.
-use Rattle.std.proofs.Common.{◌≡◌, ◌∙◌, ◌⊎◌, ℕ, zero, suc, ◌+◌, ◌<◌, ◌≤◌, Bool, true, false, cond, List, [], ◌∷◌, ◌++◌, length, take, get_or, sum_by, IsPermutation, refl, sym, ap, subst, inl, inr, ⊎_elim, arith}
+use Rattle.std.proofs.Common.{◌≡◌, ◌∙◌, ◌⊎◌, ℕ, zero, suc, ◌+◌, ◌<◌, ◌≤◌, Bool, true, false, cond, List, [], ◌∷◌, ◌++◌, length, take, get_or, map, sum_by, IsPermutation, refl, sym, ap, subst, inl, inr, ⊎_elim, arith}
 use Rattle.std.specs.Prelude.{⊤}
 use Rattle.std.proofs.lemmas.Bool.{cases_lt}
-use Rattle.std.proofs.lemmas.List.{take_all, take_at}
+use Rattle.std.proofs.lemmas.List.{map_more, take_all, take_at}
 use Rattle.std.proofs.lemmas.List.Sums.{sum_by-cons}
 use Rattle.std.proofs.lemmas.List.Sorted.{sum_by-IsPermutation}
 use Rattle.box_math.specs.Nearest.{comes_first, put_nearest_first, nearest_first}
@@ -151,6 +151,23 @@ offered_are_first k best (x ∷ xs) seen is =
 pub offered_more : (k : ℕ) (best xs : List (ℕ × ℕ)) (x : ℕ × ℕ) → offered k best (xs ++ x ∷ []) ≡ take k (put_nearest_first x (offered k best xs))
 offered_more k best [] x = refl
 offered_more k best (y ∷ ys) x = offered_more k (take k (put_nearest_first y best)) ys x
+
+take_few : (k : ℕ) (ys : List (ℕ × ℕ)) → length (take k ys) ≤ k
+take_few zero ys = omega arith
+take_few (suc k) [] = omega arith
+take_few (suc k) (y ∷ ys) = omega (arith, take_few k ys)
+
+-- one entry of a leaf more is offered
+pub entry_offered : {X : Type 0} (f : X → ℕ × ℕ) (k : ℕ) (before best next : List (ℕ × ℕ)) (items : List X) (i : ℕ) (item : X) (x : ℕ × ℕ) → i < length items → item ≡ get_or items i item → x ≡ f item
+    → best ≡ offered k before (map f (take i items)) → next ≡ take k (put_nearest_first x best) → (length next ≤ k) × (next ≡ offered k before (map f (take (i + 1) items)))
+entry_offered {X} f k before best next items i item x within is at so_far now =
+    let here : x ≡ f (get_or items i item) = at ∙ ap f is in
+    let more = map_more f items i item within in
+    (
+      subst (λ (b : List (ℕ × ℕ)). length b ≤ k) (sym now) (take_few k (put_nearest_first x best)),
+      now ∙ ap (λ (b : List (ℕ × ℕ)). take k (put_nearest_first x b)) so_far ∙ sym (offered_more k before (map f (take i items)) x)
+          ∙ ap (λ (y : ℕ × ℕ). offered k before (map f (take i items) ++ y ∷ [])) here ∙ ap (offered k before) (sym more),
+    )
 
 pub past_offered : (d k : ℕ) (xs seen : List (ℕ × ℕ)) → Past d k (nearest_first seen) → Past d k (nearest_first (and_then xs seen))
 past_offered d k [] seen h = h

@@ -3,16 +3,19 @@ use Rattle.std.proofs.Common.{◌≡◌, ◌∙◌, ℕ, zero, suc, ◌+◌, ◌
 use Rattle.std.specs.List.{swap}
 use Rattle.std.proofs.lemmas.Bool.{cases_lt}
 use Rattle.std.proofs.lemmas.Bool.Decides.{nat_tests}
-use Rattle.std.proofs.lemmas.List.{append-nil, map-append, length-append, length-map, map-set}
+use Rattle.std.proofs.lemmas.List.{append-nil, append_assoc, map-append, length-append, length-map, map-set}
 use Rattle.std.proofs.lemmas.List.Elements.{All-nil, All-cons, All-head, All-tail, All-append}
-use Rattle.std.proofs.lemmas.List.Sorted.{All-permutation, IsPermutation-append_left, IsPermutation-cons, IsPermutation-keeps, IsPermutation-refl, IsPermutation-swap, IsPermutation-sym, IsPermutation-trans}
+use Rattle.std.proofs.lemmas.List.Sorted.{All-permutation, IsPermutation-append_left, IsPermutation-append_right, IsPermutation-cons, IsPermutation-middle, IsPermutation-to_front, IsPermutation-keeps, IsPermutation-refl, IsPermutation-swap, IsPermutation-sym, IsPermutation-trans}
 use Rattle.std.proofs.Math.ListN.{get_or-map}
 use Rattle.block_device.specs.Device.{one_more}
 use Rattle.box_math.specs.Bounds.{Bounds}
 use Rattle.box_math.specs.Measures.{point_dist2_of}
 use Rattle.box_math.proofs.Growth.{point_dist2_of-falls}
 use Rattle.page_cache.specs.Cache.{IsHonest, looks_of, pages}
-use Rattle.page_cache.specs.Calls.{AsksUntil, asks_in_turn, no_call_asks}
+use Rattle.page_cache.specs.Calls.{Asks, AsksUntil, asks_and_refuses, asks_in_turn, no_call_asks}
+use Rattle.page_file.specs.declared.fault.Fault.{Fault}
+use Rattle.page_file.specs.declared.fault.Fault.TheVariants as fault
+use Rattle.std.specs.Prelude.{IsErrAnd, OnOk, Result, Ok, Err}
 use Rattle.page_cache.specs.Laws.{looks_are_few}
 use Rattle.page_cache.specs.declared.cache.PageCache.{PageCache}
 use Rattle.tree_node.specs.Searches.{Guards, admitted, counted, reached}
@@ -255,6 +258,45 @@ pub record Settling (k : ℕ) (best : List (ℕ × ℕ)) (before queue fresh : L
   pub perm : IsPermutation before ((queue ++ fresh) ++ gone)
   pub past : All (λ c. Past c.distance k best) gone
 
+last_to_front : (queue rest : List Candidate) (x : Candidate) → IsPermutation (queue ++ (rest ++ x ∷ [])) (x ∷ (queue ++ rest))
+last_to_front queue rest x = subst (λ (cs : List Candidate). IsPermutation cs (x ∷ (queue ++ rest))) (append_assoc queue rest (x ∷ [])) (IsPermutation-to_front (queue ++ rest) x)
+
+pub settle_pushed : (k : ℕ) (best : List (ℕ × ℕ)) (before queue fresh next rest : List Candidate) (x : Candidate) → Settling k best before queue fresh → fresh ≡ rest ++ x ∷ [] → IsPermutation (x ∷ queue) next → Settling k best before next rest
+settle_pushed k best before queue fresh next rest x s is perm = record {
+  gone = s.gone;
+  perm =
+      let was : IsPermutation (queue ++ fresh) (x ∷ (queue ++ rest)) = subst (λ (cs : List Candidate). IsPermutation (queue ++ cs) (x ∷ (queue ++ rest))) (sym is) (last_to_front queue rest x) in
+      let now : IsPermutation (queue ++ fresh) (next ++ rest) = IsPermutation-trans (queue ++ fresh) (x ∷ (queue ++ rest)) (next ++ rest) was (IsPermutation-append_left rest (x ∷ queue) next perm) in
+      IsPermutation-trans before ((queue ++ fresh) ++ s.gone) ((next ++ rest) ++ s.gone) s.perm (IsPermutation-append_left s.gone (queue ++ fresh) (next ++ rest) now);
+  past = s.past;
+}
+
+pub settle_left : (k : ℕ) (best : List (ℕ × ℕ)) (before queue fresh rest : List Candidate) (x : Candidate) → Settling k best before queue fresh → fresh ≡ rest ++ x ∷ [] → Past x.distance k best → Settling k best before queue rest
+settle_left k best before queue fresh rest x s is past = record {
+  gone = x ∷ s.gone;
+  perm =
+      let was : (queue ++ fresh) ++ s.gone ≡ (queue ++ rest) ++ (x ∷ s.gone) =
+      ap (λ (cs : List Candidate). (queue ++ cs) ++ s.gone) is ∙ ap (λ (cs : List Candidate). cs ++ s.gone) (sym (append_assoc queue rest (x ∷ []))) ∙ append_assoc (queue ++ rest) (x ∷ []) s.gone in
+      subst (λ (cs : List Candidate). IsPermutation before cs) was s.perm;
+  past = All-cons (λ c. Past c.distance k best) x s.gone past s.past;
+}
+
+-- the nearest of the new ones leads the others
+pub nearest_leads : (fresh rest queue next : List Candidate) (x : Candidate) (d : ℕ) → All (IsAsFar x.distance) fresh → IsPermutation fresh (x ∷ rest) → IsPermutation (x ∷ queue) next → All (IsAsFar d) next → All (IsAsFar d) rest
+nearest_leads fresh rest queue next x d least out perm far =
+    let here : d ≤ x.distance = All-head (IsAsFar d) x queue (All-permutation (IsAsFar d) next (x ∷ queue) (IsPermutation-sym (x ∷ queue) next perm) far) in
+    let others = All-tail (IsAsFar x.distance) x rest (All-permutation (IsAsFar x.distance) fresh (x ∷ rest) out least) in
+    λ i e lt. omega (arith, here, others i e lt)
+
+pub nearest_moved : (fresh rest queue next : List Candidate) (x : Candidate) → IsPermutation fresh (x ∷ rest) → IsPermutation (x ∷ queue) next → IsPermutation (queue ++ fresh) (next ++ rest)
+nearest_moved fresh rest queue next x out perm =
+    IsPermutation-trans (queue ++ fresh) (queue ++ (x ∷ rest)) (next ++ rest) (IsPermutation-append_right queue fresh (x ∷ rest) out)
+    (IsPermutation-trans (queue ++ (x ∷ rest)) (x ∷ (queue ++ rest)) (next ++ rest) (IsPermutation-middle queue x rest) (IsPermutation-append_left rest (x ∷ queue) next perm))
+
+pub on_ok : {T E : Type 0} (P : Type 0) (r : Result T E) → P → OnOk r P
+on_ok P (Ok x) p = p
+on_ok P (Err e) p = tt
+
 module _ {B A : Type 0} {m : _} where
   -- what a search has done so far
   pub record Searching (dims k : ℕ) (root : Root) (point : List ℤ) (old now : PageCache B A m) (queue fresh : List Candidate) (best : List (ℕ × ℕ)) : Type 0 where
@@ -262,6 +304,13 @@ module _ {B A : Type 0} {m : _} where
     pub few : length best ≤ k
     pub led : (d : ℕ) → All (IsAsFar d) queue → All (IsAsFar d) fresh
     pub tree : IsHonest old → (t : Tree) (most : ℕ) → IsTreeAt dims most (pages old) root t → Frontier dims (pages old) (far_from dims point) t.row k (queue ++ fresh) best (looks_of old) (looks_of now)
+
+  -- memory was refused between two calls
+  pub asks_then_memory : {T : Type 0} (old now : PageCache B A m) (f : Fault) (result : Result T Fault) → IsErrAnd result (λ e. e ≡ f) → f ≡ fault.Memory → AsksUntil old now None → Asks old now result
+  asks_then_memory old now f result is memory a =
+      let n = no_call_asks now in
+      asks_and_refuses old now now f result is a
+      (subst (λ (x : Fault). AsksUntil now now (Some x)) (sym memory) (record { gate = n.gate; map = n.map; capacity = n.capacity; looks = n.looks; faults = refl }))
 
   -- the root waits
   pub begins : (dims k : ℕ) (root : Root) (point : List ℤ) (cache : PageCache B A m) (queue : List Candidate) → 1 ≤ k

@@ -40,7 +40,8 @@ impl<H: Allocator> Best<H> {
 
     /// Takes the object in, if it is among the k nearest.
     pub(crate) fn offer(&mut self, object: Object, k: usize) -> Result<(), Fault>
-        requires { length self.old ≤ k }
+        requires few { length self.old ≤ k }
+        requires some { 1 ≤ k }
         ensures ok { OnOk result (self.new ≡ take k (put_nearest_first (object.identifier, object.distance) self.old)) }
         ensures memory { IfErr result (λ f. f ≡ fault.Memory) }
     {
@@ -49,20 +50,17 @@ impl<H: Allocator> Best<H> {
             return Ok(());
         }
         let comes_first = match self.heap.peek() {
-            Some(last) => object < *last,
+            Some(last) => object.cmp(last).is_lt(),
             None => false,
         };
-        if comes_first {
-            self.replace_last(object);
+        if !comes_first {
+            return Ok(());
         }
+        let Some(mut last) = self.heap.peek_mut() else {
+            return Ok(());
+        };
+        *last = object;
         Ok(())
-    }
-
-    // Puts the object in the place of the last.
-    fn replace_last(&mut self, object: Object) {
-        if let Some(mut last) = self.heap.peek_mut() {
-            *last = object;
-        }
     }
 
     /// Whether k objects are known, and all are nearer.
@@ -87,7 +85,8 @@ impl<H: Allocator> Best<H> {
     {
         let objects = self.heap.into_sorted_vec();
         let mut rows = Vec::with_capacity(alloc, objects.len())?;
-        for object in &objects {
+        for place in 0..objects.len() {
+            let object = objects[place];
             rows.push((object.identifier, object.distance))?;
         }
         Ok(rows)

@@ -101,6 +101,7 @@ fn look_at_objects<const D: usize, B: BlockDevice, A: Allocator + Copy, H: Alloc
     best: &mut Best<H>,
 ) -> Result<(), Fault>
     requires dims { IsDims D }
+    requires some { 1 ≤ k }
     requires few { length best.old ≤ k }
     ensures asks { Asks cache.old cache.new result }
     ensures best { IsHonest cache.old → (c : NodeContent) → node_in D (pages cache.old page) ≡ Some c
@@ -159,7 +160,8 @@ fn push_nearest<H: Allocator>(
         return Ok(());
     }
     let place = nearest_place(fresh.as_slice());
-    queue.push(fresh.swap_remove(place))
+    queue.push(fresh.swap_remove(place))?;
+    Ok(())
 }
 
 // The place of the nearest candidate.
