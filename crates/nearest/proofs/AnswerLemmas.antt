@@ -162,8 +162,7 @@ pub entry_offered : {X : Type 0} (f : X → ℕ × ℕ) (k : ℕ) (before best n
     → best ≡ offered k before (map f (take i items)) → next ≡ take k (put_nearest_first x best) → (length next ≤ k) × (next ≡ offered k before (map f (take (i + 1) items)))
 entry_offered {X} f k before best next items i item x within is at so_far now =
     let here : x ≡ f (get_or items i item) = at ∙ ap f is in
-    let more = map_more f items i item within in
-    (
+    let more = map_more f items i item within in (
       subst (λ (b : List (ℕ × ℕ)). length b ≤ k) (sym now) (take_few k (put_nearest_first x best)),
       now ∙ ap (λ (b : List (ℕ × ℕ)). take k (put_nearest_first x b)) so_far ∙ sym (offered_more k before (map f (take i items)) x)
           ∙ ap (λ (y : ℕ × ℕ). offered k before (map f (take i items) ++ y ∷ [])) here ∙ ap (offered k before) (sym more),

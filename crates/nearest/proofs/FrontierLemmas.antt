@@ -1,7 +1,6 @@
 -- A search for the nearest objects over plain values: what was seen, what waits, and what lies below that.
-use Rattle.std.proofs.Common.{◌≡◌, ◌∙◌, ℕ, zero, suc, ◌+◌, ◌-◌, ◌<◌, ◌≤◌, Bool, true, false, cond, List, [], ◌∷◌, ◌++◌, length, take, get_or, map, sum_by, All, IsPermutation, refl, sym, ap, subst, arith}
+use Rattle.std.proofs.Common.{◌≡◌, ◌∙◌, ℕ, zero, suc, ◌+◌, ◌-◌, ◌<◌, ◌≤◌, Bool, true, false, cond, List, [], ◌∷◌, ◌++◌, take, get_or, map, sum_by, All, IsPermutation, refl, sym, ap, subst, arith}
 use Rattle.std.specs.Prelude.{⊤}
-use Rattle.std.proofs.lemmas.Bool.Decides.{nat_tests}
 use Rattle.std.proofs.lemmas.List.Elements.{All-nil, All-cons, All-head, All-tail, All-append}
 use Rattle.std.proofs.lemmas.List.Sums.{sum_by-cons, sum_by-append}
 use Rattle.std.proofs.lemmas.List.Sorted.{All-permutation, sum_by-IsPermutation}
@@ -11,7 +10,7 @@ use Rattle.tree_node.specs.Searches.{counted, reached}
 use Rattle.tree_node.specs.Trees.{Row, end, more, object, child, row_items}
 use Rattle.node_page.specs.Standing.{PageMap, RowStands, StandsAt}
 use Rattle.nearest.specs.declared.candidate.Candidate.{Candidate}
-use Rattle.nearest.specs.Candidates.{IsAsFar, Past, candidate_at, offered, row_at}
+use Rattle.nearest.specs.Candidates.{Past, candidate_at, row_at}
 use Rattle.box_math.specs.Nearest.{nearest_first}
 use Rattle.nearest.proofs.OrderLemmas.{listed, listed-append}
 use Rattle.nearest.proofs.AnswerLemmas.{AllPast, AllPast-append, NoneNearer, and_then, and_then-listed, first_of_all, nearest_same, offered_past, past_le, past_offered}

@@ -3,7 +3,7 @@ use Rattle.std.proofs.Common.{◌≡◌, ◌∙◌, ℕ, zero, suc, ◌+◌, ◌
 use Rattle.std.specs.List.{swap}
 use Rattle.std.proofs.lemmas.Bool.{cases_lt}
 use Rattle.std.proofs.lemmas.Bool.Decides.{nat_tests}
-use Rattle.std.proofs.lemmas.List.{append-nil, append_assoc, map-append, length-append, length-map, map-set}
+use Rattle.std.proofs.lemmas.List.{append-nil, append_assoc, map-append, length-map, map-set}
 use Rattle.std.proofs.lemmas.List.Elements.{All-nil, All-cons, All-head, All-tail, All-append}
 use Rattle.std.proofs.lemmas.List.Sorted.{All-permutation, IsPermutation-append_left, IsPermutation-append_right, IsPermutation-cons, IsPermutation-middle, IsPermutation-to_front, IsPermutation-keeps, IsPermutation-refl, IsPermutation-swap, IsPermutation-sym, IsPermutation-trans}
 use Rattle.std.proofs.Math.ListN.{get_or-map}
@@ -33,7 +33,7 @@ use Rattle.box_math.specs.Nearest.{nearest_first}
 use Rattle.nearest.specs.Nearest.{is_searched, nearest_rows}
 use Rattle.nearest.proofs.OrderLemmas.{Ascends-nearest_first}
 use Rattle.nearest.proofs.AnswerLemmas.{and_then, last_past, offered_are_first, past_last, past_le, past_length, past_or_not, past_take, take_past}
-use Rattle.nearest.proofs.FrontierLemmas.{Front, IsPast, Pending, admitted_of, all_front, answered, branches, branches_candidates, candidate_for, front_begins, front_left, front_reordered, leaf_opened, near_in, node_opened, none_admitted, rows_of_leaf}
+use Rattle.nearest.proofs.FrontierLemmas.{Front, Pending, admitted_of, all_front, answered, branches, branches_candidates, candidate_for, front_begins, front_left, front_reordered, leaf_opened, near_in, node_opened, none_admitted, rows_of_leaf}
 use Rattle.nearest.proofs.ShapeLemmas.{near_in_is, nested_root}
 
 -- ---- what waits, in the order of the queue
@@ -199,9 +199,9 @@ looked_to_end dims m point whole looks looks_now (suc j) last gone seen some f s
     let rows = take (suc j) (nearest_first seen) in
     let within : ℕ → Bool = λ e. nat_lt (length rows) (suc j) || nat_le e (get_or rows (suc j - 1) (0, 0)).1 in
     let reaches : (e : ℕ) → e ≤ last → within e ≡ true = λ e le. within_near (length rows) (suc j) e (get_or rows (suc j - 1) (0, 0)).1
-        (λ many beyond. f.near (past_le e last (suc j) (nearest_first seen) le (last_past e j (nearest_first seen) (0, 0) (Ascends-nearest_first seen) many (omega (arith, beyond, kth_is j rows))))) in
+    (λ many beyond. f.near (past_le e last (suc j) (nearest_first seen) le (last_past e j (nearest_first seen) (0, 0) (Ascends-nearest_first seen) many (omega (arith, beyond, kth_is j rows))))) in
     let none = none_admitted (far_from dims point) within (suc j) seen gone
-        (λ e past. within_far (length rows) (suc j) e (get_or rows (suc j - 1) (0, 0)).1 (past_length e (suc j) (nearest_first seen) past) (let near = past_last e j (nearest_first seen) (0, 0) past in omega (arith, near, kth_is j rows))) f.left in
+    (λ e past. within_far (length rows) (suc j) e (get_or rows (suc j - 1) (0, 0)).1 (past_length e (suc j) (nearest_first seen) past) (let near = past_last e j (nearest_first seen) (0, 0) past in omega (arith, near, kth_is j rows))) f.left in
     let none_at_all : 0 + sum_by (admitted_of (far_from dims point) within) gone ≡ 0 = omega (arith, none) in
     sym (f.looked within reaches ∙ ap (counted looks_now) none_at_all ∙ omega (arith, small))
 
@@ -246,7 +246,7 @@ led_past k best queue fresh past led = λ i e lt.
     ⊎_elim (λ (yes : Past d k best). yes)
     (λ (no : Past d k best → ⊥).
     let beyond : All (IsAsFar (d + 1)) queue = λ j f in_queue.
-        ⊎_elim (λ (less : d < (get_or queue j f).distance). omega (arith, less)) (λ (near : (get_or queue j f).distance ≤ d). absurd (no (past_le (get_or queue j f).distance d k best near (past j f in_queue)))) (cases_lt d (get_or queue j f).distance) in
+    ⊎_elim (λ (less : d < (get_or queue j f).distance). omega (arith, less)) (λ (near : (get_or queue j f).distance ≤ d). absurd (no (past_le (get_or queue j f).distance d k best near (past j f in_queue)))) (cases_lt d (get_or queue j f).distance) in
     absurd (omega (arith, led (d + 1) beyond i e lt)))
     (past_or_not d k best)
 

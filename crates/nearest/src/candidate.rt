@@ -24,11 +24,7 @@ pub(crate) struct Object {
 }
 
 /// The child that an entry of a node on the level names.
-pub(crate) fn child_of<const D: usize>(
-    entry: &Entry<D>,
-    level: u8,
-    point: &[i32; D],
-) -> Candidate
+pub(crate) fn child_of<const D: usize>(entry: &Entry<D>, level: u8, point: &[i32; D]) -> Candidate
     requires dims { IsDims D }
     requires page { (item_of entry.now).reference < 2 ^ 32 }
     ensures { result ≡ candidate_at (λ b. point_dist2_of D b point.now) level (item_of entry.now) }

@@ -73,11 +73,7 @@ pub fn nearest<const D: usize, B: BlockDevice, A: Allocator + Copy, H: Allocator
 }
 
 // Takes the nearest node out, if it is no farther than the k best.
-fn take_within<H: Allocator>(
-    queue: &mut Queue<H>,
-    best: &Best<H>,
-    k: usize,
-) -> Option<Candidate>
+fn take_within<H: Allocator>(queue: &mut Queue<H>, best: &Best<H>, k: usize) -> Option<Candidate>
     requires some { 1 ≤ k }
     requires few { length best.now ≤ k }
     ensures some { IfSome result (λ first. IsPermutation queue.old (first ∷ queue.new)) }

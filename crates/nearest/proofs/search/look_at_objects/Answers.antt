@@ -1,5 +1,5 @@
 -- The goals of `look_at_objects` that are proved by hand.
-use Rattle.std.proofs.Common.{◌≡◌, ◌∙◌, ℕ, List, map, ap, arith}
+use Rattle.std.proofs.Common.{◌∙◌, ℕ, List, map, ap, arith}
 use Rattle.std.proofs.lemmas.List.{take_all}
 use Rattle.box_math.specs.Bounds.{Bounds}
 use Rattle.box_math.specs.Measures.{point_dist2_of}

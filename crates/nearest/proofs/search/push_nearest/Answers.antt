@@ -1,5 +1,5 @@
 -- The goals of `push_nearest` that are proved by hand.
-use Rattle.std.proofs.Common.{◌≡◌, ◌<◌, ◌∷◌, ℕ, List, All, IsPermutation, get_or, length, sym, subst, arith}
+use Rattle.std.proofs.Common.{◌<◌, ◌∷◌, List, All, IsPermutation, get_or, length, sym, subst}
 use Rattle.std.proofs.lemmas.List.Sorted.{IsPermutation-swap_remove}
 use Rattle.nearest.specs.declared.candidate.Candidate.{Candidate}
 use Rattle.nearest.specs.Candidates.{IsAsFar}

@@ -1,7 +1,5 @@
 -- What holds at each turn of the loop of `settle`, and that it ends.
-use Rattle.std.proofs.Common.{◌≡◌, ◌++◌, List, All, IsPermutation, length}
-use Rattle.nearest.specs.declared.candidate.Candidate.{Candidate}
-use Rattle.nearest.specs.Candidates.{Past}
+use Rattle.std.proofs.Common.{◌++◌, length}
 use Rattle.nearest.proofs.SearchLemmas.{Settling}
 use Rattle.nearest.proofs.search.settle.Given as goal
 

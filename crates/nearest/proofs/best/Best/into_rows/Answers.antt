@@ -1,5 +1,5 @@
 -- The goals of `into_rows` that are proved by hand.
-use Rattle.std.proofs.Common.{◌≡◌, ◌∙◌, ◌∷◌, ◌++◌, ◌<◌, ℕ, List, [], length, map, take, get_or, ap, sym, arith}
+use Rattle.std.proofs.Common.{◌∙◌, ◌∷◌, ◌++◌, ◌<◌, ℕ, List, [], length, map, take, ap, sym, arith}
 use Rattle.std.proofs.lemmas.List.{map_more, take_all}
 use Rattle.nearest.specs.declared.candidate.Object.{Object}
 use Rattle.nearest.proofs.QueueLemmas.{row_of, rows_in_order}
