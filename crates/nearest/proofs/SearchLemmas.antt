@@ -1,32 +1,39 @@
--- A search at a cache: what waits in the queue, what was answered, and how often it looked.
-use Rattle.std.proofs.Common.{◌≡◌, ◌∙◌, ℕ, suc, ◌+◌, ◌-◌, ◌^◌, ◌<◌, ◌≤◌, None, Bool, true, false, ◌||◌, nat_lt, nat_le, ℤ, Some, List, [], ◌∷◌, ◌++◌, length, take, set, get_or, map, sum_by, All, IsPermutation, refl, sym, ap, subst, arith}
+-- A search at a cache: what waits in the queue, what is kept of what was seen, and how often it looked.
+use Rattle.std.proofs.Common.{◌≡◌, ◌∙◌, ℕ, zero, suc, ◌+◌, ◌-◌, ◌^◌, ◌<◌, ◌≤◌, None, Bool, true, false, ◌||◌, nat_lt, nat_le, ℤ, Some, List, [], ◌∷◌, ◌++◌, length, take, set, get_or, map, sum_by, All, IsPermutation, refl, sym, ap, subst, ⊎_elim, arith}
 use Rattle.std.specs.List.{swap}
+use Rattle.std.proofs.lemmas.Bool.{cases_lt}
 use Rattle.std.proofs.lemmas.Bool.Decides.{nat_tests}
-use Rattle.std.proofs.lemmas.List.{map-append, length-append, length-map, map-set}
-use Rattle.std.proofs.lemmas.List.Sorted.{IsPermutation-keeps, IsPermutation-refl, IsPermutation-swap, IsPermutation-trans}
+use Rattle.std.proofs.lemmas.List.{append-nil, append_assoc, map-append, length-map, map-set}
+use Rattle.std.proofs.lemmas.List.Elements.{All-nil, All-cons, All-head, All-tail, All-append}
+use Rattle.std.proofs.lemmas.List.Sorted.{All-permutation, IsPermutation-append_left, IsPermutation-append_right, IsPermutation-cons, IsPermutation-middle, IsPermutation-to_front, IsPermutation-keeps, IsPermutation-refl, IsPermutation-swap, IsPermutation-sym, IsPermutation-trans}
 use Rattle.std.proofs.Math.ListN.{get_or-map}
 use Rattle.block_device.specs.Device.{one_more}
 use Rattle.box_math.specs.Bounds.{Bounds}
 use Rattle.box_math.specs.Measures.{point_dist2_of}
 use Rattle.box_math.proofs.Growth.{point_dist2_of-falls}
 use Rattle.page_cache.specs.Cache.{IsHonest, looks_of, pages}
-use Rattle.page_cache.specs.Calls.{AsksUntil, asks_in_turn, no_call_asks}
+use Rattle.page_cache.specs.Calls.{Asks, AsksUntil, asks_and_refuses, asks_in_turn, no_call_asks}
+use Rattle.page_file.specs.declared.fault.Fault.{Fault}
+use Rattle.page_file.specs.declared.fault.Fault.TheVariants as fault
+use Rattle.std.specs.Prelude.{IsErrAnd, OnOk, Result, Ok, Err}
 use Rattle.page_cache.specs.Laws.{looks_are_few}
 use Rattle.page_cache.specs.declared.cache.PageCache.{PageCache}
 use Rattle.tree_node.specs.Searches.{Guards, admitted, counted, reached}
 use Rattle.node_page.specs.Rooted.{IsTreeAt}
 use Rattle.tree_node.specs.Nodes.{NodeContent}
 use Rattle.tree_node.specs.Trees.{Row, Tree, row_items}
-use Rattle.node_page.specs.Standing.{PageMap, StandsAt, node_in}
+use Rattle.node_page.specs.Standing.{PageMap, RowStands, StandsAt, node_in}
 use Rattle.node_page.proofs.RootedLemmas.{boxes_ordered, loose, tree_at}
 use Rattle.tree_node.specs.declared.node.Root.{Root}
 use Rattle.tree_node.specs.Shape.{HasLooseShape}
 use Rattle.tree_node.proofs.SearchLemmas.{admitted_are_reached}
 use Rattle.nearest.specs.declared.candidate.Candidate.{Candidate}
-use Rattle.nearest.specs.Candidates.{Leads, candidate_at}
+use Rattle.nearest.specs.Candidates.{IsAsFar, Past, candidate_at, offered, row_at}
 use Rattle.box_math.specs.Nearest.{nearest_first}
 use Rattle.nearest.specs.Nearest.{is_searched, nearest_rows}
-use Rattle.nearest.proofs.FrontierLemmas.{Front, Pending, object_waits, node_waits, IsAfter, admitted_of, all_after, all_answered, all_least, answered, branches, branches_candidates, candidate_for, front_begins, front_reordered, near_in, node_opened, none_admitted, object_taken}
+use Rattle.nearest.proofs.OrderLemmas.{Ascends-nearest_first}
+use Rattle.nearest.proofs.AnswerLemmas.{and_then, last_past, offered_are_first, past_last, past_le, past_length, past_or_not, past_take, take_past}
+use Rattle.nearest.proofs.FrontierLemmas.{Front, Pending, admitted_of, all_front, answered, branches, branches_candidates, candidate_for, front_begins, front_left, front_reordered, leaf_opened, near_in, node_opened, none_admitted, rows_of_leaf}
 use Rattle.nearest.proofs.ShapeLemmas.{near_in_is, nested_root}
 
 -- ---- what waits, in the order of the queue
@@ -59,11 +66,14 @@ behind ps queue other same perm =
     })
     other perm
 
-pub record Frontier (dims : ℕ) (m : PageMap) (far : Bounds → ℕ) (whole : Row) (queue : List Candidate) (rows : List (ℕ × ℕ)) (looks looks_now : ℕ) : Type 0 where
+pub record Frontier (dims : ℕ) (m : PageMap) (far : Bounds → ℕ) (whole : Row) (k : ℕ) (waits : List Candidate) (best : List (ℕ × ℕ)) (looks looks_now : ℕ) : Type 0 where
   pub pending : List Pending
+  pub gone : List Pending
   pub last : ℕ
-  pub same : map candidate_for pending ≡ queue
-  pub front : Front dims m far whole pending last rows looks looks_now
+  pub seen : List (ℕ × ℕ)
+  pub same : map candidate_for pending ≡ waits
+  pub front : Front dims m far whole k pending gone last seen looks looks_now
+  pub best_is : best ≡ take k (nearest_first seen)
 
 -- the first that waits
 record First (ps : List Pending) (x : Candidate) (rest : List Candidate) : Type 0 where
@@ -77,108 +87,131 @@ first_of : (ps : List Pending) (x : Candidate) (rest : List Candidate) → map c
 first_of [] x rest same = absurd (cc)
 first_of (p ∷ ps) x rest same = record { head = p; tail = ps; is = refl; head_is = cc; tail_is = cc }
 
-module _ (dims : ℕ) (m : PageMap) (far : Bounds → ℕ) (whole : Row) (rows : List (ℕ × ℕ)) (looks looks_now : ℕ) where
-  frontier_reordered : (queue other : List Candidate) → Frontier dims m far whole queue rows looks looks_now → IsPermutation queue other → Frontier dims m far whole other rows looks looks_now
-  frontier_reordered queue other f perm =
-      let w = behind f.pending queue other f.same perm in
-      record { pending = w.qs; last = f.last; same = w.same; front = front_reordered f.pending w.qs f.front w.perm }
+-- the two parts of what waits
+record Parts (ps : List Pending) (xs ys : List Candidate) : Type 0 where
+  qs : List Pending
+  rs : List Pending
+  is : ps ≡ qs ++ rs
+  xs_is : map candidate_for qs ≡ xs
+  ys_is : map candidate_for rs ≡ ys
 
-  -- an object was taken
-  record ObjectTaken (x : Candidate) (rest : List Candidate) : Type 0 where
-    ps : List Pending
-    same : map candidate_for ps ≡ rest
-    after : All (IsAfter (x.reference, x.distance)) ps
-    front : Front dims m far whole ps x.distance (rows ++ (x.reference, x.distance) ∷ []) looks looks_now
+parts_of : (xs ys : List Candidate) (ps : List Pending) → map candidate_for ps ≡ xs ++ ys → Parts ps xs ys
+parts_of [] ys ps same = record { qs = []; rs = ps; is = refl; xs_is = refl; ys_is = same }
+parts_of (x ∷ xs) ys [] same = absurd (cc)
+parts_of (x ∷ xs) ys (p ∷ ps) same =
+    let later = parts_of xs ys ps (cc) in
+    record { qs = p ∷ later.qs; rs = later.rs; is = ap (λ (os : List Pending). p ∷ os) later.is; xs_is = (let xs_are = later.xs_is in cc); ys_is = later.ys_is }
 
-  take_object : (queue : List Candidate) (x : Candidate) (rest : List Candidate) → Frontier dims m far whole queue rows looks looks_now → IsPermutation queue (x ∷ rest) → All (Leads x) rest → x.is_object ≡ true → ObjectTaken x rest
-  take_object queue x rest f perm leads is =
-      let g = frontier_reordered queue (x ∷ rest) f perm in
-      let p = first_of g.pending x rest g.same in
-      let front : Front dims m far whole (p.head ∷ p.tail) g.last rows looks looks_now = subst (λ (ps : List Pending). Front dims m far whole ps g.last rows looks looks_now) p.is g.front in
-      subst (λ (y : Candidate). ObjectTaken y rest) p.head_is
-      (at p.head p.tail g.last front p.tail_is (subst (λ (y : Candidate). All (Leads y) rest) (sym p.head_is) leads) (subst (λ (y : Candidate). y.is_object ≡ true) (sym p.head_is) is))
-    where
-      at : (p : Pending) (ps : List Pending) (last : ℕ) → Front dims m far whole (p ∷ ps) last rows looks looks_now → map candidate_for ps ≡ rest → All (Leads (candidate_for p)) rest → (candidate_for p).is_object ≡ true → ObjectTaken (candidate_for p) rest
-      at (object_waits d id) ps last front same leads is =
-          let led : All (Leads (candidate_for (object_waits d id))) (map candidate_for ps) = subst (λ (cs : List Candidate). All (Leads (candidate_for (object_waits d id))) cs) (sym same) leads in
-          let after = all_after d id ps led in
-          record { ps = ps; same = same; after = after; front = object_taken d id ps front (all_least far last (candidate_for (object_waits d id)) ps (λ k e lt. front.apart (suc k) e (omega (arith, lt))) led) after }
-      at (node_waits d page level row) ps last front same leads is = absurd (cc)
+all_unmapped : (P : Candidate → Type 0) (ps : List Pending) → All P (map candidate_for ps) → All (λ p. P (candidate_for p)) ps
+all_unmapped P [] h = All-nil (λ p. P (candidate_for p))
+all_unmapped P (p ∷ ps) h = All-cons (λ q. P (candidate_for q)) p ps (All-head P (candidate_for p) (map candidate_for ps) h) (all_unmapped P ps (All-tail P (candidate_for p) (map candidate_for ps) h))
 
-  -- a node was taken
-  record NodeTaken (x : Candidate) (rest : List Candidate) : Type 0 where
-    row : Row
-    there : StandsAt dims m x.reference x.level row
-    opened : Frontier dims m far whole (rest ++ map (candidate_at far x.level) (row_items row)) rows looks (one_more looks_now)
+-- the first that waits stands in the pages, and is looked into
+pub record Opened (dims : ℕ) (m : PageMap) (far : Bounds → ℕ) (whole : Row) (k : ℕ) (best : List (ℕ × ℕ)) (looks looks_now : ℕ) (x : Candidate) (rest : List Candidate) : Type 0 where
+  pub row : Row
+  pub there : StandsAt dims m x.page x.level row
+  pub leaf : x.level ≡ 0 → Frontier dims m far whole k rest (offered k best (map (row_at far) (row_items row))) looks (one_more looks_now)
+  pub node : 0 < x.level → Frontier dims m far whole k (rest ++ map (candidate_at far x.level) (row_items row)) best looks (one_more looks_now)
 
-  take_node : (queue : List Candidate) (x : Candidate) (rest : List Candidate) → Frontier dims m far whole queue rows looks looks_now → IsPermutation queue (x ∷ rest) → All (Leads x) rest → x.is_object ≡ false → NodeTaken x rest
-  take_node queue x rest f perm leads is =
-      let g = frontier_reordered queue (x ∷ rest) f perm in
-      let p = first_of g.pending x rest g.same in
-      let front : Front dims m far whole (p.head ∷ p.tail) g.last rows looks looks_now = subst (λ (ps : List Pending). Front dims m far whole ps g.last rows looks looks_now) p.is g.front in
-      subst (λ (y : Candidate). NodeTaken y rest) p.head_is
-      (at p.head p.tail g.last front p.tail_is (subst (λ (y : Candidate). All (Leads y) rest) (sym p.head_is) leads) (subst (λ (y : Candidate). y.is_object ≡ false) (sym p.head_is) is))
-    where
-      at : (p : Pending) (ps : List Pending) (last : ℕ) → Front dims m far whole (p ∷ ps) last rows looks looks_now → map candidate_for ps ≡ rest → All (Leads (candidate_for p)) rest → (candidate_for p).is_object ≡ false → NodeTaken (candidate_for p) rest
-      at (object_waits d id) ps last front same leads is = absurd (cc)
-      at (node_waits d page level row) ps last front same leads is =
-          let led : All (Leads (candidate_for (node_waits d page level row))) (map candidate_for ps) = subst (λ (cs : List Candidate). All (Leads (candidate_for (node_waits d page level row))) cs) (sym same) leads in
-          let there : StandsAt dims m page level row = front.there 0 (node_waits d page level row) (omega arith) in
-          record {
-            row = row;
-            there = there;
-            opened = record {
-              pending = ps ++ branches far level row;
-              last = d;
-              same = map-append candidate_for ps (branches far level row) ∙ ap (λ (cs : List Candidate). cs ++ map candidate_for (branches far level row)) same ∙ ap (λ (cs : List Candidate). rest ++ cs) (branches_candidates dims m far level row there.below);
-              front = node_opened d page level row ps front (all_least far last (candidate_for (node_waits d page level row)) ps (λ k e lt. front.apart (suc k) e (omega (arith, lt))) led);
-            };
-          }
+module _ {dims : ℕ} {m : PageMap} {far : Bounds → ℕ} {whole : Row} {k : ℕ} {best : List (ℕ × ℕ)} {looks looks_now : ℕ} where
+  reordered : (waits other : List Candidate) → Frontier dims m far whole k waits best looks looks_now → IsPermutation waits other → Frontier dims m far whole k other best looks looks_now
+  reordered waits other f perm =
+      let w = behind f.pending waits other f.same perm in
+      record { pending = w.qs; gone = f.gone; last = f.last; seen = f.seen; same = w.same; front = front_reordered f.pending w.qs f.front w.perm; best_is = f.best_is }
+
+  -- what is farther than the k best is left out
+  left_out : (waits others : List Candidate) → Frontier dims m far whole k (waits ++ others) best looks looks_now → All (λ c. Past c.distance k best) others → Frontier dims m far whole k waits best looks looks_now
+  left_out waits others f past =
+      let p = parts_of waits others f.pending f.same in
+      let far_off : All (λ c. Past c.distance k best) (map candidate_for p.rs) = subst (λ (cs : List Candidate). All (λ c. Past c.distance k best) cs) (sym p.ys_is) past in
+      let each = all_unmapped (λ c. Past c.distance k best) p.rs far_off in
+      record {
+        pending = p.qs;
+        gone = f.gone ++ p.rs;
+        last = f.last;
+        seen = f.seen;
+        same = p.xs_is;
+        front = front_left p.qs p.rs (subst (λ (ps : List Pending). Front dims m far whole k ps f.gone f.last f.seen looks looks_now) p.is f.front)
+            (λ i e lt. take_past (get_or p.rs i e).distance k (nearest_first f.seen) (subst (λ (b : List (ℕ × ℕ)). Past (get_or p.rs i e).distance k b) f.best_is (each i e lt)));
+        best_is = f.best_is;
+      }
+
+  opened_at : (gone : List Pending) (last : ℕ) (seen : List (ℕ × ℕ)) (p : Pending) (ps : List Pending) (rest : List Candidate) → map candidate_for ps ≡ rest → Front dims m far whole k (p ∷ ps) gone last seen looks looks_now → best ≡ take k (nearest_first seen)
+      → All (IsAsFar p.distance) rest → (Past p.distance k best → ⊥) → Opened dims m far whole k best looks looks_now (candidate_for p) rest
+  opened_at gone last seen p ps rest same f is least within =
+      let there : StandsAt dims m p.page p.level p.row = f.there 0 p (omega arith) in
+      let as_far = all_unmapped (IsAsFar p.distance) ps (subst (λ (cs : List Candidate). All (IsAsFar p.distance) cs) (sym same) least) in
+      let near : Past p.distance k (nearest_first seen) → ⊥ = λ past. within (subst (λ (b : List (ℕ × ℕ)). Past p.distance k b) (sym is) (past_take p.distance k (nearest_first seen) past)) in
+      record {
+        row = p.row;
+        there = there;
+        leaf = λ leaf. record {
+          pending = ps;
+          gone = gone;
+          last = p.distance;
+          seen = and_then (near_in far p.row) seen;
+          same = same;
+          front = leaf_opened p ps f as_far near leaf;
+          best_is = ap (offered k best) (rows_of_leaf dims m far p.row (subst (λ (l : ℕ). RowStands dims m l p.row) leaf there.below)) ∙ offered_are_first k best (near_in far p.row) seen is;
+        };
+        node = λ high. record {
+          pending = ps ++ branches far p.level p.row;
+          gone = gone;
+          last = p.distance;
+          seen = seen;
+          same = map-append candidate_for ps (branches far p.level p.row) ∙ ap (λ (cs : List Candidate). cs ++ map candidate_for (branches far p.level p.row)) same ∙ ap (λ (cs : List Candidate). rest ++ cs) (branches_candidates dims m far p.level p.row high there.below);
+          front = node_opened p ps f as_far near high;
+          best_is = is;
+        };
+      }
+
+  opened : (x : Candidate) (rest : List Candidate) → Frontier dims m far whole k (x ∷ rest) best looks looks_now → All (IsAsFar x.distance) rest → (Past x.distance k best → ⊥) → Opened dims m far whole k best looks looks_now x rest
+  opened x rest f least within =
+      let p = first_of f.pending x rest f.same in
+      let front : Front dims m far whole k (p.head ∷ p.tail) f.gone f.last f.seen looks looks_now = subst (λ (ps : List Pending). Front dims m far whole k ps f.gone f.last f.seen looks looks_now) p.is f.front in
+      subst (λ (y : Candidate). Opened dims m far whole k best looks looks_now y rest) p.head_is
+      (opened_at f.gone f.last f.seen p.head p.tail rest p.tail_is front f.best_is (subst (λ (y : Candidate). All (IsAsFar y.distance) rest) (sym p.head_is) least) (subst (λ (y : Candidate). Past y.distance k best → ⊥) (sym p.head_is) within))
 
 -- ---- the end of a search
 
-last_row : (rows : List (ℕ × ℕ)) (x d : ℕ × ℕ) → get_or (rows ++ x ∷ []) (length rows) d ≡ x
-last_row [] x d = refl
-last_row (r ∷ rows) x d = last_row rows x d
+within_near : (n k e f : ℕ) → (k ≤ n → f < e → ⊥) → (nat_lt n k || nat_le e f) ≡ true
+within_near n k e f near = at (nat_lt n k || nat_le e f) refl
+  where
+    at : (b : Bool) → (nat_lt n k || nat_le e f) ≡ b → (nat_lt n k || nat_le e f) ≡ true
+    at true is = is
+    at false is = absurd (near (grind (arith, nat_tests)) (grind (arith, nat_tests)))
 
-within_near : (n k e f d : ℕ) → f ≡ d → e ≤ d → (nat_lt n k || nat_le e f) ≡ true
-within_near n k e f d same near = grind (arith, nat_tests)
+within_far : (n k e f : ℕ) → n ≡ k → f < e → (nat_lt n k || nat_le e f) ≡ false
+within_far n k e f all beyond = grind (arith, nat_tests)
 
-within_far : (n k e f d : ℕ) → n ≡ k → f ≡ d → d < e → (nat_lt n k || nat_le e f) ≡ false
-within_far n k e f d all same beyond = grind (arith, nat_tests)
+abbrev pub far_from : ℕ → List ℤ → Bounds → ℕ
+far_from dims point b = point_dist2_of dims b point
 
-within_any : (n k e f : ℕ) → n < k → (nat_lt n k || nat_le e f) ≡ true
-within_any n k e f few = grind (arith, nat_tests)
+kth_is : (j : ℕ) (rows : List (ℕ × ℕ)) → (get_or rows (suc j - 1) (0, 0)).1 ≡ (get_or rows j (0, 0)).1
+kth_is j rows = let same : suc j - 1 ≡ j = omega arith in ap (λ (n : ℕ). (get_or rows n (0, 0)).1) same
+
+-- each node was looked into that is no farther than the last of k answers, or each where there are fewer
+looked_to_end : (dims : ℕ) (m : PageMap) (point : List ℤ) (whole : Row) (looks looks_now k last : ℕ) (gone : List Pending) (seen : List (ℕ × ℕ)) → 1 ≤ k
+    → Front dims m (far_from dims point) whole k [] gone last seen looks looks_now → looks_now < 2 ^ 64
+    → looks_now ≡ counted looks (1 + reached (is_searched dims k point (take k (nearest_first seen))) whole)
+looked_to_end dims m point whole looks looks_now zero last gone seen some f small = absurd (omega (arith, some))
+looked_to_end dims m point whole looks looks_now (suc j) last gone seen some f small =
+    let rows = take (suc j) (nearest_first seen) in
+    let within : ℕ → Bool = λ e. nat_lt (length rows) (suc j) || nat_le e (get_or rows (suc j - 1) (0, 0)).1 in
+    let reaches : (e : ℕ) → e ≤ last → within e ≡ true = λ e le. within_near (length rows) (suc j) e (get_or rows (suc j - 1) (0, 0)).1
+    (λ many beyond. f.near (past_le e last (suc j) (nearest_first seen) le (last_past e j (nearest_first seen) (0, 0) (Ascends-nearest_first seen) many (omega (arith, beyond, kth_is j rows))))) in
+    let none = none_admitted (far_from dims point) within (suc j) seen gone
+    (λ e past. within_far (length rows) (suc j) e (get_or rows (suc j - 1) (0, 0)).1 (past_length e (suc j) (nearest_first seen) past) (let near = past_last e j (nearest_first seen) (0, 0) past in omega (arith, near, kth_is j rows))) f.left in
+    let none_at_all : 0 + sum_by (admitted_of (far_from dims point) within) gone ≡ 0 = omega (arith, none) in
+    sym (f.looked within reaches ∙ ap (counted looks_now) none_at_all ∙ omega (arith, small))
 
 empty_queue : (ps : List Pending) → map candidate_for ps ≡ [] → ps ≡ []
 empty_queue [] same = refl
 empty_queue (p ∷ ps) same = absurd (cc)
 
-abbrev pub far_from : ℕ → List ℤ → Bounds → ℕ
-far_from dims point b = point_dist2_of dims b point
-
--- where the kth object was taken, each node was looked into that is no farther
-looked_to_kth : (dims : ℕ) (m : PageMap) (point : List ℤ) (whole : Row) (looks looks_now k d id : ℕ) (rows : List (ℕ × ℕ)) (ps : List Pending)
-    → Front dims m (far_from dims point) whole ps d (rows ++ (id, d) ∷ []) looks looks_now → All (IsAfter (id, d)) ps → length (rows ++ (id, d) ∷ []) ≡ k → looks_now < 2 ^ 64
-    → looks_now ≡ counted looks (1 + reached (is_searched dims k point (rows ++ (id, d) ∷ [])) whole)
-looked_to_kth dims m point whole looks looks_now k d id rows ps f after many small =
-    let all = rows ++ (id, d) ∷ [] in
-    let place : k - 1 ≡ length rows = omega (arith, many, length-append rows ((id, d) ∷ [])) in
-    let kth : (get_or all (k - 1) (0, 0)).1 ≡ d = ap (λ (n : ℕ). (get_or all n (0, 0)).1) place ∙ ap (λ (x : ℕ × ℕ). x.1) (last_row rows (id, d) (0, 0)) in
-    let within : ℕ → Bool = λ e. nat_lt (length all) k || nat_le e (get_or all (k - 1) (0, 0)).1 in
-    let none = none_admitted (far_from dims point) within (id, d) ps (λ e beyond. within_far (length all) k e (get_or all (k - 1) (0, 0)).1 d many kth beyond) after in
-    let looked = f.looked within (λ e near. within_near (length all) k e (get_or all (k - 1) (0, 0)).1 d kth near) in
-    sym (looked ∙ ap (counted looks_now) none ∙ omega (arith, small))
-
--- and where nothing waits, all were
-looked_to_end : (dims : ℕ) (m : PageMap) (point : List ℤ) (whole : Row) (looks looks_now k last : ℕ) (rows : List (ℕ × ℕ)) (ps : List Pending)
-    → Front dims m (far_from dims point) whole ps last rows looks looks_now → ps ≡ [] → length rows < k → looks_now < 2 ^ 64
-    → looks_now ≡ counted looks (1 + reached (is_searched dims k point rows) whole)
-looked_to_end dims m point whole looks looks_now k last rows ps f none few small =
-    let within : ℕ → Bool = λ e. nat_lt (length rows) k || nat_le e (get_or rows (k - 1) (0, 0)).1 in
-    let looked = f.looked within (λ e near. within_any (length rows) k e (get_or rows (k - 1) (0, 0)).1 few) in
-    let empty : sum_by (admitted_of (far_from dims point) within) ps ≡ 0 = ap (sum_by (admitted_of (far_from dims point) within)) none in
-    sym (looked ∙ ap (counted looks_now) empty ∙ omega (arith, small))
+take_nil : (k : ℕ) → take k (nearest_first []) ≡ []
+take_nil zero = refl
+take_nil (suc k) = refl
 
 -- a node that encloses one that is searched is searched
 searched_still : (n k d e f : ℕ) → d ≤ e → (nat_lt n k || nat_le e f) ≡ true → (nat_lt n k || nat_le d f) ≡ true
@@ -203,74 +236,171 @@ answer_of dims k most point t rows looks looks_now shape is looked =
       looks_are = subst (λ (rs : List (ℕ × ℕ)). looks_now ≡ counted looks (1 + reached (is_searched dims k point rs) t.row)) same looked ∙ ap (counted looks) (sym nodes);
     }
 
+none_as_far : (d : ℕ) → All (IsAsFar d) []
+none_as_far d = All-nil (IsAsFar d)
+
+-- where the queue is past, so is what it leads
+led_past : (k : ℕ) (best : List (ℕ × ℕ)) (queue fresh : List Candidate) → All (λ c. Past c.distance k best) queue → ((d : ℕ) → All (IsAsFar d) queue → All (IsAsFar d) fresh) → All (λ c. Past c.distance k best) fresh
+led_past k best queue fresh past led = λ i e lt.
+    let d = (get_or fresh i e).distance in
+    ⊎_elim (λ (yes : Past d k best). yes)
+    (λ (no : Past d k best → ⊥).
+    let beyond : All (IsAsFar (d + 1)) queue = λ j f in_queue.
+    ⊎_elim (λ (less : d < (get_or queue j f).distance). omega (arith, less)) (λ (near : (get_or queue j f).distance ≤ d). absurd (no (past_le (get_or queue j f).distance d k best near (past j f in_queue)))) (cases_lt d (get_or queue j f).distance) in
+    absurd (omega (arith, led (d + 1) beyond i e lt)))
+    (past_or_not d k best)
+
+-- ---- what is moved into the queue
+
+-- all that waited is in the queue, is still new, or was left out
+pub record Settling (k : ℕ) (best : List (ℕ × ℕ)) (before queue fresh : List Candidate) : Type 0 where
+  pub gone : List Candidate
+  pub perm : IsPermutation before ((queue ++ fresh) ++ gone)
+  pub past : All (λ c. Past c.distance k best) gone
+
+last_to_front : (queue rest : List Candidate) (x : Candidate) → IsPermutation (queue ++ (rest ++ x ∷ [])) (x ∷ (queue ++ rest))
+last_to_front queue rest x = subst (λ (cs : List Candidate). IsPermutation cs (x ∷ (queue ++ rest))) (append_assoc queue rest (x ∷ [])) (IsPermutation-to_front (queue ++ rest) x)
+
+pub settle_pushed : (k : ℕ) (best : List (ℕ × ℕ)) (before queue fresh next rest : List Candidate) (x : Candidate) → Settling k best before queue fresh → fresh ≡ rest ++ x ∷ [] → IsPermutation (x ∷ queue) next → Settling k best before next rest
+settle_pushed k best before queue fresh next rest x s is perm = record {
+  gone = s.gone;
+  perm =
+      let was : IsPermutation (queue ++ fresh) (x ∷ (queue ++ rest)) = subst (λ (cs : List Candidate). IsPermutation (queue ++ cs) (x ∷ (queue ++ rest))) (sym is) (last_to_front queue rest x) in
+      let now : IsPermutation (queue ++ fresh) (next ++ rest) = IsPermutation-trans (queue ++ fresh) (x ∷ (queue ++ rest)) (next ++ rest) was (IsPermutation-append_left rest (x ∷ queue) next perm) in
+      IsPermutation-trans before ((queue ++ fresh) ++ s.gone) ((next ++ rest) ++ s.gone) s.perm (IsPermutation-append_left s.gone (queue ++ fresh) (next ++ rest) now);
+  past = s.past;
+}
+
+pub settle_left : (k : ℕ) (best : List (ℕ × ℕ)) (before queue fresh rest : List Candidate) (x : Candidate) → Settling k best before queue fresh → fresh ≡ rest ++ x ∷ [] → Past x.distance k best → Settling k best before queue rest
+settle_left k best before queue fresh rest x s is past = record {
+  gone = x ∷ s.gone;
+  perm =
+      let was : (queue ++ fresh) ++ s.gone ≡ (queue ++ rest) ++ (x ∷ s.gone) =
+      ap (λ (cs : List Candidate). (queue ++ cs) ++ s.gone) is ∙ ap (λ (cs : List Candidate). cs ++ s.gone) (sym (append_assoc queue rest (x ∷ []))) ∙ append_assoc (queue ++ rest) (x ∷ []) s.gone in
+      subst (λ (cs : List Candidate). IsPermutation before cs) was s.perm;
+  past = All-cons (λ c. Past c.distance k best) x s.gone past s.past;
+}
+
+-- the nearest of the new ones leads the others
+pub nearest_leads : (fresh rest queue next : List Candidate) (x : Candidate) (d : ℕ) → All (IsAsFar x.distance) fresh → IsPermutation fresh (x ∷ rest) → IsPermutation (x ∷ queue) next → All (IsAsFar d) next → All (IsAsFar d) rest
+nearest_leads fresh rest queue next x d least out perm far =
+    let here : d ≤ x.distance = All-head (IsAsFar d) x queue (All-permutation (IsAsFar d) next (x ∷ queue) (IsPermutation-sym (x ∷ queue) next perm) far) in
+    let others = All-tail (IsAsFar x.distance) x rest (All-permutation (IsAsFar x.distance) fresh (x ∷ rest) out least) in
+    λ i e lt. omega (arith, here, others i e lt)
+
+pub nearest_moved : (fresh rest queue next : List Candidate) (x : Candidate) → IsPermutation fresh (x ∷ rest) → IsPermutation (x ∷ queue) next → IsPermutation (queue ++ fresh) (next ++ rest)
+nearest_moved fresh rest queue next x out perm =
+    IsPermutation-trans (queue ++ fresh) (queue ++ (x ∷ rest)) (next ++ rest) (IsPermutation-append_right queue fresh (x ∷ rest) out)
+    (IsPermutation-trans (queue ++ (x ∷ rest)) (x ∷ (queue ++ rest)) (next ++ rest) (IsPermutation-middle queue x rest) (IsPermutation-append_left rest (x ∷ queue) next perm))
+
+pub on_ok : {T E : Type 0} (P : Type 0) (r : Result T E) → P → OnOk r P
+on_ok P (Ok x) p = p
+on_ok P (Err e) p = tt
+
 module _ {B A : Type 0} {m : _} where
   -- what a search has done so far
-  pub record Searching (dims k : ℕ) (root : Root) (point : List ℤ) (old now : PageCache B A m) (queue : List Candidate) (rows : List (ℕ × ℕ)) : Type 0 where
+  pub record Searching (dims k : ℕ) (root : Root) (point : List ℤ) (old now : PageCache B A m) (queue fresh : List Candidate) (best : List (ℕ × ℕ)) : Type 0 where
     pub asks : AsksUntil old now None
-    pub few : length rows < k
-    pub tree : IsHonest old → (t : Tree) (most : ℕ) → IsTreeAt dims most (pages old) root t → Frontier dims (pages old) (far_from dims point) t.row queue rows (looks_of old) (looks_of now)
+    pub few : length best ≤ k
+    pub led : (d : ℕ) → All (IsAsFar d) queue → All (IsAsFar d) fresh
+    pub tree : IsHonest old → (t : Tree) (most : ℕ) → IsTreeAt dims most (pages old) root t → Frontier dims (pages old) (far_from dims point) t.row k (queue ++ fresh) best (looks_of old) (looks_of now)
+
+  -- memory was refused between two calls
+  pub asks_then_memory : {T : Type 0} (old now : PageCache B A m) (f : Fault) (result : Result T Fault) → IsErrAnd result (λ e. e ≡ f) → f ≡ fault.Memory → AsksUntil old now None → Asks old now result
+  asks_then_memory old now f result is memory a =
+      let n = no_call_asks now in
+      asks_and_refuses old now now f result is a
+      (subst (λ (x : Fault). AsksUntil now now (Some x)) (sym memory) (record { gate = n.gate; map = n.map; capacity = n.capacity; looks = n.looks; faults = refl }))
 
   -- the root waits
   pub begins : (dims k : ℕ) (root : Root) (point : List ℤ) (cache : PageCache B A m) (queue : List Candidate) → 1 ≤ k
-      → IsPermutation (record { distance = 0; is_object = false; reference = root.page; level = root.level } ∷ []) queue → Searching dims k root point cache cache queue []
+      → IsPermutation (record { distance = 0; page = root.page; level = root.level } ∷ []) queue → Searching dims k root point cache cache queue [] []
   begins dims k root point cache queue some perm = record {
     asks = no_call_asks cache;
     few = omega arith;
+    led = λ d h. none_as_far d;
     tree = λ h t most is.
         let at = tree_at dims most (pages cache) root t is in
         let nested = nested_root dims most point t.row is.shape.below (boxes_ordered dims (pages cache) root.page root.level t.row at) in
-        frontier_reordered dims (pages cache) (far_from dims point) t.row [] (looks_of cache) (looks_of cache) (record { distance = 0; is_object = false; reference = root.page; level = root.level } ∷ []) queue
-        (record { pending = node_waits 0 root.page root.level t.row ∷ []; last = 0; same = refl; front = front_begins dims (pages cache) (far_from dims point) t.row root.page root.level (looks_of cache) at nested }) perm;
+        subst (λ (cs : List Candidate). Frontier dims (pages cache) (far_from dims point) t.row k cs [] (looks_of cache) (looks_of cache)) (sym (append-nil queue))
+        (reordered (record { distance = 0; page = root.page; level = root.level } ∷ []) queue
+        (record {
+          pending = record { distance = 0; page = root.page; level = root.level; row = t.row } ∷ [];
+          gone = [];
+          last = 0;
+          seen = [];
+          same = refl;
+          front = front_begins dims (pages cache) (far_from dims point) t.row k root.page root.level (looks_of cache) some at nested;
+          best_is = sym (take_nil k);
+        }) perm);
   }
 
-  module _ {dims k : ℕ} {root : Root} {point : List ℤ} {old now : PageCache B A m} {queue : List Candidate} {rows : List (ℕ × ℕ)} (so_far : Searching dims k root point old now queue rows) where
-    -- an object was taken, and more are sought
-    pub object_on : (x : Candidate) (rest : List Candidate) → IsPermutation queue (x ∷ rest) → All (Leads x) rest → x.is_object ≡ true → length (rows ++ (x.reference, x.distance) ∷ []) < k
-        → Searching dims k root point old now rest (rows ++ (x.reference, x.distance) ∷ [])
-    object_on x rest perm leads is few = record {
-      asks = so_far.asks;
-      few = few;
-      tree = λ h t most tree.
-          let taken = take_object dims (pages old) (far_from dims point) t.row rows (looks_of old) (looks_of now) queue x rest (so_far.tree h t most tree) perm leads is in
-          record { pending = taken.ps; last = x.distance; same = taken.same; front = taken.front };
-    }
+  module _ {dims k : ℕ} {root : Root} {point : List ℤ} {old now : PageCache B A m} {queue fresh : List Candidate} {best : List (ℕ × ℕ)} (so_far : Searching dims k root point old now queue fresh best) where
+    -- nothing is left that is near enough
+    pub finished : 1 ≤ k → All (λ c. Past c.distance k best) queue → IsHonest old → (t : Tree) (most : ℕ) → IsTreeAt dims most (pages old) root t → IsAnswer dims k point t best (looks_of old) (looks_of now)
+    finished some past h t most tree =
+        let all = All-append (λ c. Past c.distance k best) queue fresh past (led_past k best queue fresh past so_far.led) in
+        let f = left_out [] (queue ++ fresh) (so_far.tree h t most tree) all in
+        let none = empty_queue f.pending f.same in
+        let front : Front dims (pages old) (far_from dims point) t.row k [] f.gone f.last f.seen (looks_of old) (looks_of now) = subst (λ (ps : List Pending). Front dims (pages old) (far_from dims point) t.row k ps f.gone f.last f.seen (looks_of old) (looks_of now)) none f.front in
+        answer_of dims k most point t best (looks_of old) (looks_of now) (loose dims most t tree.shape) (f.best_is ∙ answered front)
+        (looked_to_end dims (pages old) point t.row (looks_of old) (looks_of now) k f.last f.gone f.seen some front (looks_are_few now) ∙ ap (λ (rs : List (ℕ × ℕ)). counted (looks_of old) (1 + reached (is_searched dims k point rs) t.row)) (sym f.best_is))
 
-    -- the kth object was taken
-    pub object_ends : (x : Candidate) (rest : List Candidate) → IsPermutation queue (x ∷ rest) → All (Leads x) rest → x.is_object ≡ true → length (rows ++ (x.reference, x.distance) ∷ []) ≡ k
-        → IsHonest old → (t : Tree) (most : ℕ) → IsTreeAt dims most (pages old) root t → IsAnswer dims k point t (rows ++ (x.reference, x.distance) ∷ []) (looks_of old) (looks_of now)
-    object_ends x rest perm leads is many h t most tree =
-        let taken = take_object dims (pages old) (far_from dims point) t.row rows (looks_of old) (looks_of now) queue x rest (so_far.tree h t most tree) perm leads is in
-        answer_of dims k most point t (rows ++ (x.reference, x.distance) ∷ []) (looks_of old) (looks_of now) (loose dims most t tree.shape) (answered taken.front k many)
-        (looked_to_kth dims (pages old) point t.row (looks_of old) (looks_of now) k x.distance x.reference rows taken.ps taken.front taken.after many (looks_are_few now))
+    module _ (x : Candidate) (rest : List Candidate) (perm : IsPermutation queue (x ∷ rest)) (least : All (IsAsFar x.distance) rest) where
+      rest_as_far : All (IsAsFar x.distance) (rest ++ fresh)
+      rest_as_far =
+          let all : All (IsAsFar x.distance) queue = All-permutation (IsAsFar x.distance) (x ∷ rest) queue (IsPermutation-sym queue (x ∷ rest) perm) (All-cons (IsAsFar x.distance) x rest (omega arith) least) in
+          All-append (IsAsFar x.distance) rest fresh least (so_far.led x.distance all)
 
-    -- nothing is left
-    pub nothing_left : queue ≡ [] → IsHonest old → (t : Tree) (most : ℕ) → IsTreeAt dims most (pages old) root t → IsAnswer dims k point t rows (looks_of old) (looks_of now)
-    nothing_left none h t most tree =
-        let f = so_far.tree h t most tree in
-        let empty = empty_queue f.pending (f.same ∙ none) in
-        let few = so_far.few in
-        answer_of dims k most point t rows (looks_of old) (looks_of now) (loose dims most t tree.shape) (all_answered f.front k empty (omega arith))
-        (looked_to_end dims (pages old) point t.row (looks_of old) (looks_of now) k f.last rows f.pending f.front empty few (looks_are_few now))
+      taken : IsHonest old → (t : Tree) (most : ℕ) → IsTreeAt dims most (pages old) root t → Frontier dims (pages old) (far_from dims point) t.row k (x ∷ (rest ++ fresh)) best (looks_of old) (looks_of now)
+      taken h t most tree = reordered (queue ++ fresh) (x ∷ (rest ++ fresh)) (so_far.tree h t most tree) (IsPermutation-append_left fresh queue (x ∷ rest) perm)
 
-    -- the node that was taken stands in the pages
-    pub node_there : (x : Candidate) (rest : List Candidate) → IsPermutation queue (x ∷ rest) → All (Leads x) rest → x.is_object ≡ false
-        → IsHonest old → (t : Tree) (most : ℕ) → IsTreeAt dims most (pages old) root t → (c : NodeContent) × (node_in dims (pages now x.reference) ≡ Some c) × (c.level ≡ x.level)
-    node_there x rest perm leads is h t most tree =
-        let taken = take_node dims (pages old) (far_from dims point) t.row rows (looks_of old) (looks_of now) queue x rest (so_far.tree h t most tree) perm leads is in
-        (record { level = x.level; entries = row_items taken.row }, ap (node_in dims) (so_far.asks.map.pages_stay h x.reference) ∙ taken.there.node, refl)
+      module _ (within : Past x.distance k best → ⊥) where
+        -- the node that was taken stands in the pages
+        pub node_there : IsHonest old → (t : Tree) (most : ℕ) → IsTreeAt dims most (pages old) root t → (c : NodeContent) × (node_in dims (pages now x.page) ≡ Some c) × (c.level ≡ x.level)
+        node_there h t most tree =
+            let o = opened x (rest ++ fresh) (taken h t most tree) rest_as_far within in
+            (record { level = x.level; entries = row_items o.row }, ap (node_in dims) (so_far.asks.map.pages_stay h x.page) ∙ o.there.node, refl)
 
-    -- it was looked into
-    pub node_on : (x : Candidate) (rest : List Candidate) → IsPermutation queue (x ∷ rest) → All (Leads x) rest → x.is_object ≡ false
-        → (next : PageCache B A m) (waiting : List Candidate) → AsksUntil now next None → looks_of next ≡ one_more (looks_of now)
-        → (IsHonest now → (c : NodeContent) → node_in dims (pages now x.reference) ≡ Some c → c.level ≡ x.level → IsPermutation (rest ++ map (candidate_at (far_from dims point) x.level) c.entries) waiting)
-        → Searching dims k root point old next waiting rows
-    node_on x rest perm leads is next waiting asks looked entries = record {
-      asks = asks_in_turn old now next None so_far.asks asks;
-      few = so_far.few;
-      tree = λ h t most tree.
-          let taken = take_node dims (pages old) (far_from dims point) t.row rows (looks_of old) (looks_of now) queue x rest (so_far.tree h t most tree) perm leads is in
-          let content : NodeContent = record { level = x.level; entries = row_items taken.row } in
-          let added = entries (so_far.asks.gate.honest.0 h) content (ap (node_in dims) (so_far.asks.map.pages_stay h x.reference) ∙ taken.there.node) refl in
-          subst (λ (n : ℕ). Frontier dims (pages old) (far_from dims point) t.row waiting rows (looks_of old) n) (sym looked)
-          (frontier_reordered dims (pages old) (far_from dims point) t.row rows (looks_of old) (one_more (looks_of now)) (rest ++ map (candidate_at (far_from dims point) x.level) (row_items taken.row)) waiting taken.opened added);
-    }
+        -- a leaf was looked into, and what was new was moved into the queue
+        pub leaf_on : x.level ≡ 0 → (next : PageCache B A m) (better : List (ℕ × ℕ)) (waiting gone : List Candidate) → AsksUntil now next None → looks_of next ≡ one_more (looks_of now) → length better ≤ k
+            → (IsHonest now → (c : NodeContent) → node_in dims (pages now x.page) ≡ Some c → c.level ≡ 0 → better ≡ offered k best (map (row_at (far_from dims point)) c.entries))
+            → IsPermutation (rest ++ fresh) (waiting ++ gone) → All (λ c. Past c.distance k better) gone
+            → Searching dims k root point old next waiting [] better
+        leaf_on leaf next better waiting gone asks looked few entries moved past = record {
+          asks = asks_in_turn old now next None so_far.asks asks;
+          few = few;
+          led = λ d h. none_as_far d;
+          tree = λ h t most tree.
+              let o = opened x (rest ++ fresh) (taken h t most tree) rest_as_far within in
+              let content : NodeContent = record { level = x.level; entries = row_items o.row } in
+              let is = entries (so_far.asks.gate.honest.0 h) content (ap (node_in dims) (so_far.asks.map.pages_stay h x.page) ∙ o.there.node) leaf in
+              let f : Frontier dims (pages old) (far_from dims point) t.row k (rest ++ fresh) better (looks_of old) (looks_of next) =
+              subst (λ (n : ℕ). Frontier dims (pages old) (far_from dims point) t.row k (rest ++ fresh) better (looks_of old) n) (sym looked)
+              (subst (λ (b : List (ℕ × ℕ)). Frontier dims (pages old) (far_from dims point) t.row k (rest ++ fresh) b (looks_of old) (one_more (looks_of now))) (sym is) (o.leaf leaf)) in
+              subst (λ (cs : List Candidate). Frontier dims (pages old) (far_from dims point) t.row k cs better (looks_of old) (looks_of next)) (sym (append-nil waiting))
+              (left_out waiting gone (reordered (rest ++ fresh) (waiting ++ gone) f moved) past);
+        }
+
+        -- what was new was moved into the queue, and a node above the leaves was looked into
+        pub node_on : 0 < x.level → (next : PageCache B A m) (waiting gone children later newer : List Candidate) → AsksUntil now next None → looks_of next ≡ one_more (looks_of now)
+            → IsPermutation (rest ++ fresh) (waiting ++ gone) → All (λ c. Past c.distance k best) gone
+            → (IsHonest now → (c : NodeContent) → node_in dims (pages now x.page) ≡ Some c → c.level ≡ x.level → children ≡ map (candidate_at (far_from dims point) x.level) c.entries)
+            → IsPermutation (waiting ++ children) (later ++ newer) → ((d : ℕ) → All (IsAsFar d) later → All (IsAsFar d) newer)
+            → Searching dims k root point old next later newer best
+        node_on high next waiting gone children later newer asks looked moved past entries shared led = record {
+          asks = asks_in_turn old now next None so_far.asks asks;
+          few = so_far.few;
+          led = led;
+          tree = λ h t most tree.
+              let kept : Frontier dims (pages old) (far_from dims point) t.row k (x ∷ waiting) best (looks_of old) (looks_of now) =
+              left_out (x ∷ waiting) gone (reordered (x ∷ (rest ++ fresh)) (x ∷ (waiting ++ gone)) (taken h t most tree) (IsPermutation-cons x (rest ++ fresh) (waiting ++ gone) moved)) past in
+              let as_far : All (IsAsFar x.distance) waiting = all_front (IsAsFar x.distance) waiting gone (All-permutation (IsAsFar x.distance) (rest ++ fresh) (waiting ++ gone) moved rest_as_far) in
+              let o = opened x waiting kept as_far within in
+              let content : NodeContent = record { level = x.level; entries = row_items o.row } in
+              let is = entries (so_far.asks.gate.honest.0 h) content (ap (node_in dims) (so_far.asks.map.pages_stay h x.page) ∙ o.there.node) refl in
+              let f : Frontier dims (pages old) (far_from dims point) t.row k (waiting ++ children) best (looks_of old) (looks_of next) =
+              subst (λ (n : ℕ). Frontier dims (pages old) (far_from dims point) t.row k (waiting ++ children) best (looks_of old) n) (sym looked)
+              (subst (λ (cs : List Candidate). Frontier dims (pages old) (far_from dims point) t.row k (waiting ++ cs) best (looks_of old) (one_more (looks_of now))) (sym is) (o.node high)) in
+              reordered (waiting ++ children) (later ++ newer) f shared;
+        }

@@ -1,10 +1,11 @@
 //! The search for the objects nearest to a point: what is nearest is taken first.
 
-ghost use Rattle.std.specs.Prelude.{◌≡◌, ◌⊎◌, ℕ, ◌+◌, ◌^◌, ◌<◌, ◌≤◌, ◌++◌, Some, map, IsPermutation, IfOk, IfErr, OnOk};
+ghost use Rattle.std.specs.Prelude.{◌≡◌, ◌⊎◌, ℕ, ◌+◌, ◌^◌, ◌<◌, ◌≤◌, ◌++◌, Some, [], ◌∷◌, List, All, slice_index_or, map, length, IsPermutation, IfOk, IfErr, IfSome, IfNone, OnOk};
 ghost use Rattle.block_device.specs.Device.{one_more};
-ghost use Rattle.box_math.specs.Bounds.{IsDims};
+ghost use Rattle.box_math.specs.Bounds.{Bounds, IsDims};
 ghost use Rattle.box_math.specs.Measures.{point_dist2_of};
 ghost use Rattle.page_file.specs.Fault.{IsDamage, IsOfDevice};
+ghost use Rattle.page_file.specs.declared.fault.Fault.TheVariants as fault;
 ghost use Rattle.page_cache.specs.Cache.{IsHonest, looks_of, pages};
 ghost use Rattle.page_cache.specs.Calls.{Asks};
 ghost use Rattle.tree_node.specs.Nodes.{NodeContent};
@@ -12,10 +13,12 @@ ghost use Rattle.tree_node.specs.Searches.{admitted, counted};
 ghost use Rattle.tree_node.specs.Trees.{Tree};
 ghost use Rattle.node_page.specs.Rooted.{IsTreeAt};
 ghost use Rattle.node_page.specs.Standing.{node_in};
-ghost use Rattle.nearest.specs.Candidates.{candidate_at, work_in};
+ghost use Rattle.nearest.specs.Candidates.{IsAsFar, Past, candidate_at, offered, row_at, work_in};
 ghost use Rattle.nearest.specs.Nearest.{is_searched, nearest_rows};
+ghost use Rattle.nearest.specs.declared.candidate.Candidate.{Candidate};
 
-use crate::candidate::{Candidate, candidate_of};
+use crate::best::Best;
+use crate::candidate::{Candidate, child_of, object_of};
 use crate::queue::Queue;
 use block_device::BlockDevice;
 use node_page::{Root, view_node};
@@ -48,49 +51,148 @@ pub fn nearest<const D: usize, B: BlockDevice, A: Allocator + Copy, H: Allocator
         IfErr result IsOfDevice }
     ensures other_faults { IfErr result (λ f. IsOfDevice f ⊎ IsDamage f) }
 {
-    let mut rows = Vec::new(alloc);
+    let mut best = Best::new(alloc);
     let mut queue = Queue::new(alloc);
+    let mut fresh = Vec::new(alloc);
     queue.push(Candidate {
         distance: 0,
-        is_object: false,
-        reference: u64::from(root.page),
+        page: root.page,
         level: root.level,
     })?;
-    while let Some(first) = queue.pop() {
-        if first.is_object {
-            rows.push((first.reference, first.distance))?;
-            if rows.len() == k {
-                return Ok(rows);
-            }
+    while let Some(first) = take_within(&mut queue, &best, k) {
+        if first.level == 0 {
+            look_at_objects::<D, B, A, H>(cache, first.page, point, k, &mut best)?;
+            settle(&mut fresh, &best, k, &mut queue)?;
         } else {
-            look_into::<D, B, A, H>(cache, first, point, &mut queue)?;
+            settle(&mut fresh, &best, k, &mut queue)?;
+            look_at_children::<D, B, A, H>(cache, first, point, &mut fresh)?;
+            push_nearest(&mut fresh, &mut queue)?;
         }
     }
-    Ok(rows)
+    best.into_rows(alloc)
 }
 
-// Reads a node, and puts what its entries stand for into the queue.
-fn look_into<const D: usize, B: BlockDevice, A: Allocator + Copy, H: Allocator>(
+// Takes the nearest node out, if it is no farther than the k best.
+fn take_within<H: Allocator>(queue: &mut Queue<H>, best: &Best<H>, k: usize) -> Option<Candidate>
+    requires some { 1 ≤ k }
+    requires few { length best.now ≤ k }
+    ensures some { IfSome result (λ first. IsPermutation queue.old (first ∷ queue.new)) }
+    ensures first { IfSome result (λ first. All (IsAsFar first.distance) queue.new) }
+    ensures within { IfSome result (λ first. Past first.distance k best.now → ⊥) }
+    ensures none { IfNone result (All (λ c. Past c.distance k best.now) queue.old) }
+{
+    let first = queue.pop()?;
+    if best.are_nearer(first.distance, k) {
+        return None;
+    }
+    Some(first)
+}
+
+// Reads a leaf, and offers its objects.
+fn look_at_objects<const D: usize, B: BlockDevice, A: Allocator + Copy, H: Allocator>(
     cache: &mut PageCache<B, A>,
-    first: Candidate,
+    page: u32,
     point: &[i32; D],
-    queue: &mut Queue<H>,
+    k: usize,
+    best: &mut Best<H>,
 ) -> Result<(), Fault>
     requires dims { IsDims D }
-    requires page { first.reference < 2 ^ 32 }
+    requires some { 1 ≤ k }
+    requires few { length best.old ≤ k }
     ensures asks { Asks cache.old cache.new result }
-    ensures entries { IsHonest cache.old → (c : NodeContent) → node_in D (pages cache.old first.reference) ≡ Some c
-        → c.level ≡ first.level → OnOk result (IsPermutation
-        (queue.old ++ map (candidate_at (λ b. point_dist2_of D b point.now) first.level) c.entries) queue.new) }
-    ensures work { OnOk result (work_in queue.new < work_in queue.old + 101 ^ (first.level + 1)) }
+    ensures best { IsHonest cache.old → (c : NodeContent) → node_in D (pages cache.old page) ≡ Some c
+        → c.level ≡ 0 → OnOk result (best.new
+        ≡ offered k best.old (map (row_at (λ b. point_dist2_of D b point.now)) c.entries)) }
+    ensures few { OnOk result (length best.new ≤ k) }
     ensures looks { OnOk result (looks_of cache.new ≡ one_more (looks_of cache.old)) }
-    ensures there { IsHonest cache.old → (c : NodeContent) → node_in D (pages cache.old first.reference) ≡ Some c
-        → c.level ≡ first.level → IfErr result IsOfDevice }
+    ensures there { IsHonest cache.old → (c : NodeContent) → node_in D (pages cache.old page) ≡ Some c
+        → c.level ≡ 0 → IfErr result IsOfDevice }
     ensures other_faults { IfErr result (λ f. IsOfDevice f ⊎ IsDamage f) }
 {
-    let view = view_node::<D, B, A>(cache, first.reference as u32, first.level)?;
+    let view = view_node::<D, B, A>(cache, page, 0)?;
     for place in 0..view.len() {
-        queue.push(candidate_of(&view.entry(place), first.level, point))?;
+        best.offer(object_of(&view.entry(place), point), k)?;
+    }
+    Ok(())
+}
+
+// Reads a node above the leaves, and appends its children.
+fn look_at_children<const D: usize, B: BlockDevice, A: Allocator + Copy, H: Allocator>(
+    cache: &mut PageCache<B, A>,
+    node: Candidate,
+    point: &[i32; D],
+    fresh: &mut Vec<Candidate, H>,
+) -> Result<(), Fault>
+    requires dims { IsDims D }
+    requires above { 0 < node.level }
+    ensures asks { Asks cache.old cache.new result }
+    ensures children { IsHonest cache.old → (c : NodeContent) → node_in D (pages cache.old node.page) ≡ Some c
+        → c.level ≡ node.level → OnOk result (fresh.new.items
+        ≡ fresh.old.items ++ map (candidate_at (λ b. point_dist2_of D b point.now) node.level) c.entries) }
+    ensures work { OnOk result (work_in fresh.new.items < work_in fresh.old.items + 101 ^ node.level) }
+    ensures looks { OnOk result (looks_of cache.new ≡ one_more (looks_of cache.old)) }
+    ensures there { IsHonest cache.old → (c : NodeContent) → node_in D (pages cache.old node.page) ≡ Some c
+        → c.level ≡ node.level → IfErr result IsOfDevice }
+    ensures other_faults { IfErr result (λ f. IsOfDevice f ⊎ IsDamage f) }
+{
+    let view = view_node::<D, B, A>(cache, node.page, node.level)?;
+    for place in 0..view.len() {
+        fresh.push(child_of(&view.entry(place), node.level, point))?;
+    }
+    Ok(())
+}
+
+// Moves the nearest of the new candidates into the queue. What is no farther than those there is no farther than
+// the others then, so they can wait until the next node was read: most are too far by then.
+fn push_nearest<H: Allocator>(
+    fresh: &mut Vec<Candidate, H>,
+    queue: &mut Queue<H>,
+) -> Result<(), Fault>
+    ensures all { OnOk result (IsPermutation (queue.old ++ fresh.old.items) (queue.new ++ fresh.new.items)) }
+    ensures led { OnOk result ((d : ℕ) → All (IsAsFar d) queue.new → All (IsAsFar d) fresh.new.items) }
+    ensures memory { IfErr result (λ f. f ≡ fault.Memory) }
+{
+    if fresh.is_empty() {
+        return Ok(());
+    }
+    let place = nearest_place(fresh.as_slice());
+    queue.push(fresh.swap_remove(place))?;
+    Ok(())
+}
+
+// The place of the nearest candidate.
+fn nearest_place(candidates: &[Candidate]) -> usize
+    requires { 0 < length candidates.now }
+    ensures within { result < length candidates.now }
+    ensures nearest { (d : Candidate) → All (IsAsFar (slice_index_or candidates.now result d).distance) candidates.now }
+{
+    let mut place = 0;
+    for other in 1..candidates.len() {
+        if candidates[other].distance < candidates[place].distance {
+            place = other;
+        }
+    }
+    place
+}
+
+// Moves the new candidates into the queue, but for those that are farther than the k best.
+fn settle<H: Allocator>(
+    fresh: &mut Vec<Candidate, H>,
+    best: &Best<H>,
+    k: usize,
+    queue: &mut Queue<H>,
+) -> Result<(), Fault>
+    requires some { 1 ≤ k }
+    requires few { length best.now ≤ k }
+    ensures none_left { OnOk result (fresh.new.items ≡ []) }
+    ensures all { OnOk result ((gone : List Candidate) × IsPermutation (queue.old ++ fresh.old.items) (queue.new ++ gone)
+        × All (λ c. Past c.distance k best.now) gone) }
+    ensures memory { IfErr result (λ f. f ≡ fault.Memory) }
+{
+    while let Some(candidate) = fresh.pop() {
+        if !best.are_nearer(candidate.distance, k) {
+            queue.push(candidate)?;
+        }
     }
     Ok(())
 }

@@ -1,60 +1,82 @@
 -- The goals of `nearest` that are proved by hand.
-use Rattle.std.proofs.Common.{◌≡◌, ◌∙◌, ◌<◌, [], ◌∷◌, ◌++◌, length, ap, arith}
-use Rattle.std.proofs.lemmas.List.{length-append}
+use Rattle.std.proofs.Common.{◌≡◌, ◌∙◌, ℕ, None, List, IfOk, ap, subst, arith}
 use Rattle.page_file.specs.Fault.{IsOfDevice}
-use Rattle.page_cache.specs.Calls.{asks_and_refuses}
+use Rattle.page_cache.specs.Calls.{asks_and_refuses, asks_in_turn}
 use Rattle.node_page.proofs.NodeLemmas.{at_error}
-use Rattle.nearest.proofs.SearchLemmas.{begins, node_on, node_there, nothing_left, object_ends, object_on}
-use Rattle.nearest.proofs.WorkLemmas.{node_work, object_work}
+use Rattle.nearest.specs.Candidates.{work_in}
+use Rattle.nearest.proofs.SearchLemmas.{asks_then_memory, begins, finished, leaf_on, node_on, node_there, on_ok}
+use Rattle.nearest.proofs.WorkLemmas.{moved_work, node_work, some_work}
 use Rattle.nearest.proofs.search.nearest.Goals as goal
 
 pub loop-first-init : goal.loop-first-init
 loop-first-init g c =
-    rw c.new-rows.ensures.items
-    (begins g.row.D c.args.k c.args.root c.args.point.now c.args.cache.now c.push.new.self c.requires.some (rw (c.new-queue.ensures, c.from.ensures) at c.in_ok-push.ensures.ok))
+    rw (c.new-fresh.ensures.items, c.new-best.ensures)
+    (begins g.row.D c.args.k c.args.root c.args.point.now c.args.cache.now c.push.new.self c.requires.some (rw c.new-queue.ensures at c.in_ok-push.ensures.ok))
 
-pub returns-then-len-k-clause-rows : goal.returns-then-len-k-clause-rows
-returns-then-len-k-clause-rows g c = λ h t most tree.
-    let pushed = c.in_ok-push-2.ensures.items in
-    let many : length (c.loop-first.rows.items ++ (c.in-Some.first.reference, c.in-Some.first.distance) ∷ []) ≡ c.args.k = omega (arith, c.if-len-k.true, c.len.ensures, c.push-then-first.new.self.ok.0, ap length c.in_ok-push-2.ensures.items) in
-    pushed ∙ (object_ends c.loop-first.invariant c.in-Some.first c.pop.new.self c.in-Some.ensures.some c.in-Some.ensures.first c.if-first.true many h t most tree).rows_are
+pub returns-in_err-look_at_objects-clause-stands : goal.returns-in_err-look_at_objects-clause-stands
+returns-in_err-look_at_objects-clause-stands g c = λ h t most tree.
+    let node = node_there c.loop-first.invariant c.in-Some.first c.take_within.new.queue c.in-Some.ensures.some c.in-Some.ensures.first c.in-Some.ensures.within h t most tree in
+    at_error c.from_residual-in_err-look_at_objects.result c.in_err-look_at_objects.field-0.0 IsOfDevice c.from_residual-in_err-look_at_objects.ensures.1
+    (c.in_err-look_at_objects.ensures.there (c.loop-first.invariant.asks.gate.honest.0 h) node.0 node.1 (node.2 ∙ c.if-first-eq0.true))
 
-pub returns-then-len-k-clause-looks : goal.returns-then-len-k-clause-looks
-returns-then-len-k-clause-looks g c = λ h t most tree.
-    let many : length (c.loop-first.rows.items ++ (c.in-Some.first.reference, c.in-Some.first.distance) ∷ []) ≡ c.args.k = omega (arith, c.if-len-k.true, c.len.ensures, c.push-then-first.new.self.ok.0, ap length c.in_ok-push-2.ensures.items) in
-    (object_ends c.loop-first.invariant c.in-Some.first c.pop.new.self c.in-Some.ensures.some c.in-Some.ensures.first c.if-first.true many h t most tree).looks_are
+pub loop-first-smaller-in-Continue-branch-3 : goal.loop-first-smaller-in-Continue-branch-3
+loop-first-smaller-in-Continue-branch-3 g c =
+    let gone = c.in_ok-settle.ensures.all.0 in
+    let before = node_work c.in-Some.first c.loop-first.queue c.take_within.new.queue c.in-Some.ensures.some in
+    let some = some_work c.in-Some.first in
+    let moved = moved_work c.take_within.new.queue c.loop-first.fresh.items c.settle.new.queue gone c.in_ok-settle.ensures.all.1 in
+    let none : work_in c.settle.new.fresh.items ≡ 0 = ap work_in c.in_ok-settle.ensures.none_left in
+    omega (arith, before, some, moved, none)
 
-pub loop-first-smaller-else-len-k : goal.loop-first-smaller-else-len-k
-loop-first-smaller-else-len-k g c = object_work c.in-Some.first c.loop-first.queue c.pop.new.self c.in-Some.ensures.some c.if-first.true
+pub loop-first-preserved-in-Continue-branch-3 : goal.loop-first-preserved-in-Continue-branch-3
+loop-first-preserved-in-Continue-branch-3 g c =
+    rw c.in_ok-settle.ensures.none_left
+    (leaf_on c.loop-first.invariant c.in-Some.first c.take_within.new.queue c.in-Some.ensures.some c.in-Some.ensures.first c.in-Some.ensures.within c.if-first-eq0.true
+    c.look_at_objects.new.cache c.look_at_objects.new.best c.settle.new.queue c.in_ok-settle.ensures.all.0 c.in_ok-look_at_objects.ensures.asks c.in_ok-look_at_objects.ensures.looks c.in_ok-look_at_objects.ensures.few
+    c.in_ok-look_at_objects.ensures.best c.in_ok-settle.ensures.all.1 c.in_ok-settle.ensures.all.2)
 
-pub loop-first-preserved-else-len-k : goal.loop-first-preserved-else-len-k
-loop-first-preserved-else-len-k g c =
-    let few : length (c.loop-first.rows.items ++ (c.in-Some.first.reference, c.in-Some.first.distance) ∷ []) < c.args.k = omega (arith, c.if-len-k.false, c.len.ensures, c.push-then-first.new.self.ok.0, ap length c.in_ok-push-2.ensures.items, length-append c.loop-first.rows.items ((c.in-Some.first.reference, c.in-Some.first.distance) ∷ []), c.loop-first.invariant.few) in
-    rw c.in_ok-push-2.ensures.items
-    (object_on c.loop-first.invariant c.in-Some.first c.pop.new.self c.in-Some.ensures.some c.in-Some.ensures.first c.if-first.true few)
+pub returns-in_err-settle-clause-asks : goal.returns-in_err-settle-clause-asks
+returns-in_err-settle-clause-asks g c =
+    asks_then_memory c.args.cache.now c.look_at_objects.new.cache c.in_err-settle.field-0.0 c.from_residual-in_err-settle.result c.from_residual-in_err-settle.ensures.1 c.in_err-settle.ensures.memory
+    (asks_in_turn c.args.cache.now c.loop-first.cache c.look_at_objects.new.cache None c.loop-first.invariant.asks c.in_ok-look_at_objects.ensures.asks)
+
+pub returns-in_err-look_at_children-clause-asks : goal.returns-in_err-look_at_children-clause-asks
+returns-in_err-look_at_children-clause-asks g c = asks_and_refuses c.args.cache.now c.loop-first.cache c.look_at_children.new.cache c.in_err-look_at_children.field-0.0 c.from_residual-in_err-look_at_children.result c.from_residual-in_err-look_at_children.ensures.1 c.loop-first.invariant.asks c.in_err-look_at_children.ensures.asks
+
+pub returns-in_err-look_at_children-clause-stands : goal.returns-in_err-look_at_children-clause-stands
+returns-in_err-look_at_children-clause-stands g c = λ h t most tree.
+    let node = node_there c.loop-first.invariant c.in-Some.first c.take_within.new.queue c.in-Some.ensures.some c.in-Some.ensures.first c.in-Some.ensures.within h t most tree in
+    at_error c.from_residual-in_err-look_at_children.result c.in_err-look_at_children.field-0.0 IsOfDevice c.from_residual-in_err-look_at_children.ensures.1
+    (c.in_err-look_at_children.ensures.there (c.loop-first.invariant.asks.gate.honest.0 h) node.0 node.1 node.2)
 
 pub loop-first-smaller : goal.loop-first-smaller
 loop-first-smaller g c =
-    let before = node_work c.in-Some.first c.loop-first.queue c.pop.new.self c.in-Some.ensures.some c.if-first.false in
-    let after = c.in_ok-look_into.ensures.work in
-    omega (arith, before, after)
+    let gone = c.in_ok-settle-2.ensures.all.0 in
+    let before = node_work c.in-Some.first c.loop-first.queue c.take_within.new.queue c.in-Some.ensures.some in
+    let moved = moved_work c.take_within.new.queue c.loop-first.fresh.items c.settle-else-first-eq0.new.queue gone c.in_ok-settle-2.ensures.all.1 in
+    let none : work_in c.settle-else-first-eq0.new.fresh.items ≡ 0 = ap work_in c.in_ok-settle-2.ensures.none_left in
+    let below = c.in_ok-look_at_children.ensures.work in
+    let pushed = moved_work c.settle-else-first-eq0.new.queue c.look_at_children.new.fresh.items c.push_nearest.new.queue c.push_nearest.new.fresh.items c.in_ok-push_nearest.ensures.all in
+    omega (arith, before, moved, none, below, pushed)
 
 pub loop-first-preserved : goal.loop-first-preserved
 loop-first-preserved g c =
-    node_on c.loop-first.invariant c.in-Some.first c.pop.new.self c.in-Some.ensures.some c.in-Some.ensures.first c.if-first.false
-    c.look_into.new.cache c.look_into.new.queue c.in_ok-look_into.ensures.asks c.in_ok-look_into.ensures.looks c.in_ok-look_into.ensures.entries
+    node_on c.loop-first.invariant c.in-Some.first c.take_within.new.queue c.in-Some.ensures.some c.in-Some.ensures.first c.in-Some.ensures.within (omega (arith, c.if-first-eq0.false))
+    c.look_at_children.new.cache c.settle-else-first-eq0.new.queue c.in_ok-settle-2.ensures.all.0 c.look_at_children.new.fresh.items c.push_nearest.new.queue c.push_nearest.new.fresh.items
+    c.in_ok-look_at_children.ensures.asks c.in_ok-look_at_children.ensures.looks c.in_ok-settle-2.ensures.all.1 c.in_ok-settle-2.ensures.all.2
+    (rw c.in_ok-settle-2.ensures.none_left at c.in_ok-look_at_children.ensures.children) c.in_ok-push_nearest.ensures.all c.in_ok-push_nearest.ensures.led
 
-pub returns-in_err-look_into-clause-asks : goal.returns-in_err-look_into-clause-asks
-returns-in_err-look_into-clause-asks g c = asks_and_refuses c.args.cache.now c.loop-first.cache c.look_into.new.cache c.in_err-look_into.field-0.0 c.from_residual-in_err-look_into.result c.from_residual-in_err-look_into.ensures.1 c.loop-first.invariant.asks c.in_err-look_into.ensures.asks
-
-pub returns-in_err-look_into-clause-stands : goal.returns-in_err-look_into-clause-stands
-returns-in_err-look_into-clause-stands g c = λ h t most tree.
-    let node = node_there c.loop-first.invariant c.in-Some.first c.pop.new.self c.in-Some.ensures.some c.in-Some.ensures.first c.if-first.false h t most tree in
-    at_error c.from_residual-in_err-look_into.result c.in_err-look_into.field-0.0 IsOfDevice c.from_residual-in_err-look_into.ensures.1
-    (c.in_err-look_into.ensures.there (c.loop-first.invariant.asks.gate.honest.0 h) node.0 node.1 node.2)
+pub returns-in_err-push_nearest-clause-asks : goal.returns-in_err-push_nearest-clause-asks
+returns-in_err-push_nearest-clause-asks g c =
+    asks_then_memory c.args.cache.now c.look_at_children.new.cache c.in_err-push_nearest.field-0.0 c.from_residual-in_err-push_nearest.result c.from_residual-in_err-push_nearest.ensures.1 c.in_err-push_nearest.ensures.memory
+    (asks_in_turn c.args.cache.now c.loop-first.cache c.look_at_children.new.cache None c.loop-first.invariant.asks c.in_ok-look_at_children.ensures.asks)
 
 pub returns-clause-rows : goal.returns-clause-rows
-returns-clause-rows g c = λ h t most tree. (nothing_left c.loop-first.invariant c.in_default.ensures.none h t most tree).rows_are
+returns-clause-rows g c = λ h t most tree.
+    let answer = finished c.loop-first.invariant c.requires.some c.in_default.ensures.none h t most tree in
+    subst (λ (rs : List (ℕ × ℕ)). IfOk c.into_rows.result (λ rows. rows.items ≡ rs)) answer.rows_are c.into_rows.ensures.rows
 
 pub returns-clause-looks : goal.returns-clause-looks
-returns-clause-looks g c = λ h t most tree. (nothing_left c.loop-first.invariant c.in_default.ensures.none h t most tree).looks_are
+returns-clause-looks g c = λ h t most tree.
+    let answer = finished c.loop-first.invariant c.requires.some c.in_default.ensures.none h t most tree in
+    on_ok _ c.into_rows.result answer.looks_are

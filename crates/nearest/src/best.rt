@@ -1,0 +1,94 @@
+//! The nearest of the objects seen so far.
+
+ghost use Rattle.std.specs.Prelude.{◌≡◌, ◌↔◌, ◌≤◌, [], length, take, IfOk, IfErr, IsTrue, OnOk};
+ghost use Rattle.box_math.specs.Nearest.{put_nearest_first};
+ghost use Rattle.nearest.specs.Candidates.{Past};
+ghost use Rattle.page_file.specs.declared.fault.Fault.TheVariants as fault;
+
+use crate::candidate::Object;
+use page_file::Fault;
+use std::alloc::Allocator;
+use std::collections::BinaryHeap;
+use std::marker::Model;
+
+/// The k nearest objects so far. Contracts see their identifiers and distances in the order of an answer.
+#[derive(Drop)]
+pub(crate) struct Best<H: Allocator> {
+    heap: BinaryHeap<Object, H>,
+}
+
+impl<H: Allocator> Model for Best<H> {
+    ghost use Rattle.std.specs.Prelude.{ℕ, List, map};
+    ghost use Rattle.std.specs.BinaryHeap.{IsHeap, heap_items};
+    ghost use Rattle.box_math.specs.Nearest.{nearest_first};
+
+    ghost Value = { List (ℕ × ℕ) };
+
+    ghost view = { λ b. nearest_first (map (λ o. (o.identifier, o.distance)) (heap_items b.heap)) };
+
+    ghost invariant = { λ b. IsHeap ⟦<Object as Ord>⟧.cmp (heap_items b.heap) };
+}
+
+impl<H: Allocator> Best<H> {
+    pub(crate) fn new(alloc: H) -> Best<H>
+        ensures { result ≡ [] }
+    {
+        Best {
+            heap: BinaryHeap::new(alloc),
+        }
+    }
+
+    /// Takes the object in, if it is among the k nearest.
+    pub(crate) fn offer(&mut self, object: Object, k: usize) -> Result<(), Fault>
+        requires few { length self.old ≤ k }
+        requires some { 1 ≤ k }
+        ensures ok { OnOk result (self.new ≡ take k (put_nearest_first (object.identifier, object.distance) self.old)) }
+        ensures memory { IfErr result (λ f. f ≡ fault.Memory) }
+    {
+        if self.heap.len() < k {
+            self.heap.push(object)?;
+            return Ok(());
+        }
+        let comes_first = match self.heap.peek() {
+            Some(last) => object.cmp(last).is_lt(),
+            None => false,
+        };
+        if !comes_first {
+            return Ok(());
+        }
+        let Some(mut last) = self.heap.peek_mut() else {
+            return Ok(());
+        };
+        *last = object;
+        Ok(())
+    }
+
+    /// Whether k objects are known, and all are nearer.
+    pub(crate) fn are_nearer(&self, distance: u128, k: usize) -> bool
+        requires few { length self.now ≤ k }
+        requires some { 1 ≤ k }
+        ensures { IsTrue result ↔ Past distance k self.now }
+    {
+        if self.heap.len() < k {
+            return false;
+        }
+        match self.heap.peek() {
+            Some(last) => last.distance < distance,
+            None => false,
+        }
+    }
+
+    /// The identifiers and the distances, in order.
+    pub(crate) fn into_rows(self, alloc: H) -> Result<Vec<(u64, u128), H>, Fault>
+        ensures rows { IfOk result (λ rows. rows.items ≡ self) }
+        ensures memory { IfErr result (λ f. f ≡ fault.Memory) }
+    {
+        let objects = self.heap.into_sorted_vec();
+        let mut rows = Vec::with_capacity(alloc, objects.len())?;
+        for place in 0..objects.len() {
+            let object = objects[place];
+            rows.push((object.identifier, object.distance))?;
+        }
+        Ok(rows)
+    }
+}
