@@ -1,6 +1,7 @@
 //! The search for the objects nearest to a point: what is nearest is taken first.
 
-ghost use Rattle.std.specs.Prelude.{◌≡◌, ◌⊎◌, ℕ, ◌+◌, ◌^◌, ◌<◌, ◌≤◌, ◌++◌, Some, [], ◌∷◌, List, All, slice_index_or, map, length, IsPermutation, IfOk, IfErr, IfSome, IfNone, OnOk};
+ghost use Rattle.std.specs.Prelude.{◌≡◌, ◌⊎◌, ℕ, ◌+◌, ◌^◌, ◌<◌, ◌≤◌, ◌++◌, Some, [], ◌∷◌};
+ghost use Rattle.std.specs.Prelude.{List, All, slice_index_or, map, length, IsPermutation, IfOk, IfErr, IfSome, IfNone, OnOk};
 ghost use Rattle.block_device.specs.Device.{one_more};
 ghost use Rattle.box_math.specs.Bounds.{Bounds, IsDims};
 ghost use Rattle.box_math.specs.Measures.{point_dist2_of};
@@ -185,7 +186,8 @@ fn settle<H: Allocator>(
     requires some { 1 ≤ k }
     requires few { length best.now ≤ k }
     ensures none_left { OnOk result (fresh.new.items ≡ []) }
-    ensures all { OnOk result ((gone : List Candidate) × IsPermutation (queue.old ++ fresh.old.items) (queue.new ++ gone)
+    ensures all { OnOk result ((gone : List Candidate)
+        × IsPermutation (queue.old ++ fresh.old.items) (queue.new ++ gone)
         × All (λ c. Past c.distance k best.now) gone) }
     ensures memory { IfErr result (λ f. f ≡ fault.Memory) }
 {
