@@ -107,4 +107,3 @@ object_missing rose layer id e =
 -- a point of as many axes as the layer has, and a number that may be asked for
 pub good_count : (dims k : ℕ) (layer : Layer) → (dims == layer.dims) ≡ true → is_count k ≡ true → first_refusal ((not (dims == layer.dims), refusal.WrongDims) ∷ (not (is_count k), refusal.BadCount) ∷ []) ≡ None
 good_count dims k layer e f = rw (e, f) refl
-

@@ -52,7 +52,14 @@ impl Scene {
     // Inserts an object.
     fn add(&mut self, object: Entry<2>) -> Result<(), Broken> {
         let most = usize::from(self.m_max);
-        self.root = insert_with(&mut self.cache, self.root, &object, 0, most, &mut self.waiting)?;
+        self.root = insert_with(
+            &mut self.cache,
+            self.root,
+            &object,
+            0,
+            most,
+            &mut self.waiting,
+        )?;
         self.objects.push(object).map_err(Fault::from)?;
         Ok(())
     }
