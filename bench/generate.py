@@ -71,6 +71,7 @@ def scene(folder, boxes, shape="uniform", axes="2"):
         "window of 1000": (1000, (text("window a", at.window(1000)) for _ in range(1000))),
         "point": (20000, (text("point a", at.point()) for _ in range(20000))),
         "ten nearest": (10000, (text("nearest a 10", at.point()) for _ in range(10000))),
+        "move": (boxes // 10, (text("move a", place, at.box()) for place in shuffled(boxes)[: boxes // 10])),
         "delete": (boxes // 10, (text("delete a", place) for place in shuffled(boxes)[: boxes // 10])),
         "load": (boxes, (text(place, at.box()) for place in shuffled(boxes))),
         "join": (boxes, ["join a b"]),
@@ -82,7 +83,7 @@ def scene(folder, boxes, shape="uniform", axes="2"):
                 if name in before:
                     print(before[name], file=file)
                 file.writelines(line + "\n" for line in lines)
-                if name in ("insert", "delete", "load"):
+                if name in ("insert", "move", "delete", "load"):
                     print("reopen", file=file)
             print(f"{name}\t{count}", file=counts)
 
