@@ -111,6 +111,7 @@ pub fn write_node<const D: usize, B: BlockDevice, A: Allocator + Copy>(
     ensures others { IsHonest cache.old → IsLive cache.old page → SameBut page (pages cache.old) (pages cache.new) }
     ensures sound { IsPageMap cache.old → IsLive cache.old page → IsPageMap cache.new }
     ensures next { next_of cache.new ≡ next_of cache.old }
+    ensures grows { Grows 0 cache.old cache.new }
     ensures looks { looks_of cache.new ≡ looks_of cache.old }
     ensures outside { (page < 2) ⊎ (next_of cache.old ≤ page)
         → (result ≡ Err (fault.Damaged page)) × IsUnchanged cache.old cache.new }

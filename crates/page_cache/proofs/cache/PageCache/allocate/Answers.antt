@@ -141,6 +141,7 @@ returns-clause-kept g c =
     let roomy : IsHonest old → old.file.header.next ≤ length X = room old mid new k c.first_free-first.result first gone in
     let may_of : IsHonest old → MayHaveGiven X Y old.file.header new.header = λ h. may old mid new k c.first_free-first.result first gone h (may_give (k.gate.honest.0 h)) in record {
       next = next ∙ ap (λ (x : Header). x.next) k.header;
+      free_count = count;
       pages_stay = λ h n. pages_unchanged X Y old.file.header new.header old.file.sound (roomy h) (may_of h) count n;
       given_stay = λ h n. given_unchanged X Y old.file.header new.header old.file.sound (roomy h) (may_of h) count n;
       sound = (
