@@ -7,7 +7,7 @@ ghost use Rattle.page_file.specs.Fault.{IsDamage, IsOfDevice};
 ghost use Rattle.page_file.specs.Pages.{SameBut};
 ghost use Rattle.page_file.specs.declared.fault.Fault.TheVariants as fault;
 ghost use Rattle.page_file.specs.declared.gate.Gate.TheVariants.{Open};
-ghost use Rattle.page_cache.specs.Cache.{IsHonest, IsLive, IsPageMap, IsUnchanged, device_of, gate_of, given, looks_of};
+ghost use Rattle.page_cache.specs.Cache.{Grows, IsHonest, IsLive, IsPageMap, IsUnchanged, device_of, gate_of, given, looks_of};
 ghost use Rattle.page_cache.specs.Cache.{next_of, pages};
 ghost use Rattle.page_cache.specs.Calls.{Asks, Changes};
 ghost use Rattle.tree_node.specs.Nodes.{NodeContent, content_of};

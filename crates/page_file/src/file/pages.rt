@@ -56,7 +56,7 @@ impl<D: BlockDevice> PageFile<D> {
         ensures next { (next_of self.old ≤ next_of self.new) × (next_of self.new ≤ next_of self.old + 1) }
         ensures refused_next { OnErr result (next_of self.new ≡ next_of self.old) }
         ensures grows { Grows 1 self.old self.new }
-        ensures full { IsErrOf result fault.NoPages → IsFull self.new }
+        ensures full { IsErrOf result fault.NoPages → IsFull self.old × IsFull self.new }
         ensures all_live { IsErrOf result fault.NoPages → (n : ℕ) → 2 ≤ n → n < 2 ^ 31 → IsLive self.old n }
         ensures faults { IsPageMap self.old → IfErr result (λ f. IsOfDevice f ⊎ (f ≡ fault.NoPages)) }
         ensures damaged { IsHonest self.old →
@@ -81,7 +81,7 @@ impl<D: BlockDevice> PageFile<D> {
         ensures next { (next_of self.old ≤ next_of self.new) × (next_of self.new ≤ next_of self.old + 1) }
         ensures refused_next { OnErr result (next_of self.new ≡ next_of self.old) }
         ensures grows { Grows 1 self.old self.new }
-        ensures full { IsErrOf result fault.NoPages → IsFull self.old × (header_of self.new ≡ header_of self.old) }
+        ensures full { IsErrOf result fault.NoPages → IsFull self.old × IsFull self.new }
         ensures damaged { IsHonest self.old →
             IfErr result (λ f. IsOfDevice f ⊎ ((f ≡ fault.NoPages) ⊎ IsBroken self.old self.new f)) }
         ensures other_faults { IfErr result (λ f. IsOfDevice f ⊎ ((f ≡ fault.NoPages) ⊎ IsDamage f)) }
