@@ -1,5 +1,6 @@
 -- The files of lemmas.
 pub mod Places
+pub mod ReadLemmas
 pub mod Reading
 pub mod HeadWritten
 pub mod Writing
