@@ -8,3 +8,4 @@ pub mod RemovedLemmas
 pub mod FreeLemmas
 pub mod LoadLemmas
 pub mod CheckLemmas
+pub mod CountLemmas

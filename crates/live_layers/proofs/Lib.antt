@@ -35,3 +35,4 @@ pub mod UsedLemmas
 pub mod FoundLemmas
 pub mod ListingLemmas
 pub mod DumpLemmas
+pub mod CountLemmas

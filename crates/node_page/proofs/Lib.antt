@@ -22,3 +22,4 @@ pub mod GivenLemmas
 pub mod VisitLemmas
 pub mod BoxTests
 pub mod CheckLemmas
+pub mod CountLemmas
