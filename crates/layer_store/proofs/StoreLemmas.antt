@@ -23,11 +23,12 @@ use Rattle.plain_table.specs.Table.{Table}
 use Rattle.plain_table.specs.declared.refusal.Refusal.{Refusal}
 use Rattle.plain_table.specs.declared.refusal.Refusal.TheVariants as refusal
 use Rattle.store_law.specs.Lawful.{IsEnd, IsFault, IsSpent, Lawful, LawfulFrom, MayWrite, RefusedBy, blames_device}
-use Rattle.store_law.specs.Sessions.{LawfulStep, Reaches, SessionState, Takes}
+use Rattle.store_law.specs.Sessions.{LawfulStep, Reaches, SessionState}
 use Rattle.store_law.specs.States.{StoreState}
 use Rattle.store_law.specs.States.Request.{Asks}
 use Rattle.store_law.specs.States.StoreState.{Alive, Dead}
 use Rattle.store_law.specs.Stops.{Stops, after_command, after_request, is_end}
+use Rattle.layer_store.specs.Commands.{TakesStep}
 use Rattle.layer_store.specs.Representation.{BeginsWith, HasFailed, IsInState, IsOfStore, IsSettled, Represents, RepresentsTable, cache_in, closed_since, device_in}
 use Rattle.layer_store.specs.declared.store.Store.{Store}
 
@@ -183,7 +184,7 @@ module _ {D A : Type 0} {m : _} where
       }
 
   -- a command of a store that failed
-  pub takes_nothing : (store : Store D A m) (c : Command) → store.failed ≡ true → Takes Represents store store (λ s s'. LawfulStep s (Asks c) (Refused (refusal.StoreFailed 19)) s')
+  pub takes_nothing : (store : Store D A m) (c : Command) → store.failed ≡ true → TakesStep store store c (Refused (refusal.StoreFailed 19))
   takes_nothing store c failed = λ s represents. go s represents s.state refl (what_is_kept store s represents).is.state
     where
       go : (s : SessionState) → Represents store s → (state : StoreState) → s.state ≡ state → IsInState store state → Reaches Represents store (λ s'. LawfulStep s (Asks c) (Refused (refusal.StoreFailed 19)) s')
@@ -212,7 +213,7 @@ module _ {D A : Type 0} {m : _} where
   pub takes_change : (old new : Store D A m) (c : Command) (made : Result (Unit {0}) Unmade) (a : Answer) → old.failed ≡ false → MayGiveUp c → a ≡ done_answer (told made) → new.failed ≡ is_broken made
       → ((t : Table) → IsSound old.layers t → IsChanged old.layers new.layers t c made)
       → ((t : Table) (stops : Stops) → IsSound old.layers t → Leaves (cache_in old) stops → Leaves (cache_in new) (after_command t stops c (done_answer (told made))))
-      → ((t : Table) → IsSound old.layers t → NoFewer old new) → Takes Represents old new (λ s s'. LawfulStep s (Asks c) a s')
+      → ((t : Table) → IsSound old.layers t → NoFewer old new) → TakesStep old new c a
   takes_change old new c made a going may answered failed changed leaves more = λ s represents. go s represents s.state refl (what_is_kept old s represents).is.state
     where
       go : (s : SessionState) → Represents old s → (state : StoreState) → s.state ≡ state → IsInState old state → Reaches Represents new (λ s'. LawfulStep s (Asks c) a s')
@@ -226,7 +227,7 @@ module _ {D A : Type 0} {m : _} where
   -- a command that leaves the table of a live store
   pub takes_asked : (old new : Store D A m) (c : Command) (a : Answer) → old.failed ≡ false → new.failed ≡ false → ((t : Table) (stops : Stops) → after_command t stops c a ≡ stops)
       → ((t : Table) → IsSound old.layers t → IsSound new.layers t × LawfulFrom (Rose old new) (Spent new) t c a (Alive t)) → ((t : Table) (stops : Stops) → IsSound old.layers t → Leaves (cache_in old) stops → Leaves (cache_in new) stops) → NoFewer old new
-      → Takes Represents old new (λ s s'. LawfulStep s (Asks c) a s')
+      → TakesStep old new c a
   takes_asked old new c a going goes quiet lawful leaves more = λ s represents. go s represents s.state refl (what_is_kept old s represents).is.state
     where
       go : (s : SessionState) → Represents old s → (state : StoreState) → s.state ≡ state → IsInState old state → Reaches Represents new (λ s'. LawfulStep s (Asks c) a s')
@@ -240,7 +241,7 @@ module _ {D A : Type 0} {m : _} where
   -- a question of a live store
   pub takes_question : (old new : Store D A m) (c : Command) (a : Answer) → old.failed ≡ false → new.failed ≡ false → MayGiveUp c → ((t : Table) → after t c ≡ t) → ((t : Table) (stops : Stops) → after_command t stops c a ≡ stops)
       → ((t : Table) → IsSound old.layers t → IsAnswered old.layers new.layers t c a) → ((t : Table) (stops : Stops) → IsSound old.layers t → Leaves (cache_in old) stops → Leaves (cache_in new) stops) → NoFewer old new
-      → Takes Represents old new (λ s s'. LawfulStep s (Asks c) a s')
+      → TakesStep old new c a
   takes_question old new c a going goes may stays quiet answered leaves more =
       takes_asked old new c a going goes quiet (λ t sound. let h = answered t sound in (h.0, lawful t h.1)) leaves more
     where
@@ -250,7 +251,7 @@ module _ {D A : Type 0} {m : _} where
 
   -- a command that the store answers as the table does, without a call
   pub takes_reply : (store : Store D A m) (c : Command) (a : Answer) → store.failed ≡ false → ((t : Table) → after t c ≡ t) → ((t : Table) (stops : Stops) → after_command t stops c a ≡ stops)
-      → ((t : Table) → IsSound store.layers t → a ≡ reply_of t c) → Takes Represents store store (λ s s'. LawfulStep s (Asks c) a s')
+      → ((t : Table) → IsSound store.layers t → a ≡ reply_of t c) → TakesStep store store c a
   takes_reply store c a going stays quiet replied =
       takes_asked store store c a going going quiet (λ t sound. (sound, inl (replied t sound, ap Alive (sym (stays t))))) (λ t stops sound was. was) (omega arith, omega arith)
 
