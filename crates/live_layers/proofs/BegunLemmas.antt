@@ -1,5 +1,5 @@
 -- Changes behind the gate: begun, and then made or broken off.
-use Rattle.std.proofs.Common.{◌≡◌, ◌∙◌, true, false, List, None, Some, refl, sym, ap, subst, arith}
+use Rattle.std.proofs.Common.{◌≡◌, ◌∙◌, true, false, None, sym, ap, subst, arith}
 use Rattle.std.specs.Prelude.{◌↔◌, Result, Ok, Err, OnOk, IfErr, IsErrAnd}
 use Rattle.block_device.specs.Device.{Blocks, LeavesOnly}
 use Rattle.node_page.specs.Broken.{Alters, before, cause_in}
@@ -12,10 +12,7 @@ use Rattle.page_file.specs.Stops.{SameButGate}
 use Rattle.page_file.specs.declared.fault.Fault.{Fault}
 use Rattle.page_file.specs.declared.fault.Fault.TheVariants as fault
 use Rattle.page_file.specs.declared.gate.Gate.TheVariants.{Open}
-use Rattle.plain_table.specs.Table.{Table}
 use Rattle.live_layers.specs.Begun.{Begins}
-use Rattle.live_layers.specs.Image.{IsRefusedOrImageOf}
-use Rattle.live_layers.specs.Keeping.{RestLeavesOneOf}
 use Rattle.live_layers.proofs.Results.{if_err}
 use Rattle.live_layers.proofs.StopLemmas.{gate_opened, none_made, pages_written}
 

@@ -1,5 +1,5 @@
 -- What a change of pages behind the gate leaves of a cache and its device (our rule, docs/FORMAT.md, "Stops").
-use Rattle.std.specs.Prelude.{ℕ, ◌≡◌, ◌≤◌, ◌↔◌, true, List, Result, OnOk, IfErr}
+use Rattle.std.specs.Prelude.{◌≡◌, ◌≤◌, ◌↔◌, true, List, Result, OnOk, IfErr}
 use Rattle.block_device.specs.Device.{LeavesOnly}
 use Rattle.node_page.specs.Broken.{cause_in}
 use Rattle.node_page.specs.declared.broken.Broken.{Broken}

@@ -1,12 +1,9 @@
 -- The pages are made, and the record is in its place; or the change was refused, or broke off.
-use Rattle.std.proofs.Common.{◌≡◌, ◌∙◌, ℕ, ◌<◌, ◌^◌, List, map, refl, sym, ap, subst, arith, inl}
-use Rattle.std.specs.Prelude.{Ok}
-use Rattle.std.specs.List.{insert}
-use Rattle.catalog_page.specs.Layout.{record_of, records_of}
+use Rattle.std.proofs.Common.{refl, arith, inl}
+use Rattle.catalog_page.specs.Layout.{records_of}
 use Rattle.catalog_page.specs.declared.layer_record.LayerRecord.{LayerRecord}
 use Rattle.layer_pages.specs.Changes.{IsEmptyLeaf}
 use Rattle.page_cache.specs.Laws.{numbers_are_few}
-use Rattle.live_layers.specs.Catalog.{AreLayers}
 use Rattle.live_layers.proofs.BegunLemmas.{begun_and_broke, begun_and_made, handed_on}
 use Rattle.live_layers.proofs.CreateLemmas.{brings_before, made_record, one_more_may_be, put_in, sound_made, tree_made}
 use Rattle.live_layers.proofs.KeepLemmas.{sound_kept}

@@ -1,6 +1,6 @@
 -- The object has the other box in the tree and in the table, and the record says so; or the change was refused, or broke
 -- off.
-use Rattle.std.proofs.Common.{refl, sym, subst, arith}
+use Rattle.std.proofs.Common.{refl, sym, subst}
 use Rattle.std.specs.Prelude.{Ok}
 use Rattle.page_cache.specs.declared.cache.PageCache.{PageCache}
 use Rattle.plain_table.specs.Table.{layer_at}

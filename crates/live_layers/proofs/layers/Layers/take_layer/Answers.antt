@@ -7,7 +7,7 @@ use Rattle.live_layers.proofs.BegunLemmas.{begun_and_broke, begun_and_made}
 use Rattle.live_layers.proofs.DropLemmas.{keeps_before, one_less_may_be, sound_less, taken_out, trees_left}
 use Rattle.live_layers.proofs.KeepLemmas.{sound_kept}
 use Rattle.live_layers.proofs.ReplaceLemmas.{reading}
-use Rattle.live_layers.proofs.Results.{if_err, the_err}
+use Rattle.live_layers.proofs.Results.{the_err}
 use Rattle.live_layers.proofs.layers.Layers.take_layer.Goals as goal
 
 pub returns-in_err-free_pages-clause-untouched : goal.returns-in_err-free_pages-clause-untouched
