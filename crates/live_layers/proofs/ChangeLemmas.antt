@@ -1,7 +1,6 @@
 -- What the layers promise of a change that was made, refused or broken off.
 use Rattle.std.proofs.Common.{◌≡◌, ◌∙◌, ◌⊎◌, ℕ, ◌^◌, ◌≤◌, Bool, true, false, cond, List, Option, None, Some, refl, sym, ap, subst, arith, inl, inr, ⊎_elim}
 use Rattle.std.specs.Prelude.{Result, Ok, Err, OnErr, OnOk, IfErr}
-use Rattle.block_device.specs.Device.{Blocks}
 use Rattle.block_device.specs.Moments.{leaves_then}
 use Rattle.node_page.specs.Broken.{cause_in}
 use Rattle.node_page.specs.Faults.{IsNoDamage}
@@ -21,7 +20,7 @@ use Rattle.plain_table.specs.declared.refusal.Refusal.{Refusal}
 use Rattle.plain_table.specs.declared.refusal.Refusal.TheVariants as refusal
 use Rattle.store_law.specs.Lawful.{IsFault, IsSpent, MayWrite, blames_device}
 use Rattle.tree_node.specs.Trees.{Tree}
-use Rattle.live_layers.specs.Begun.{Begins}
+use Rattle.live_layers.specs.Begun.{Begins, BeginsChange}
 use Rattle.live_layers.specs.Changes.{ChangeLeaves, IsBegun, IsChange, IsChangeBy, IsChanged, IsFaultOfChange, KeepsInChange, KeepsInQuestion, Rose}
 use Rattle.live_layers.specs.Faults.{HasUnmadeCause, as_refusal, change_of}
 use Rattle.live_layers.specs.Image.{IsRefusedOrImageOf}
@@ -31,14 +30,11 @@ use Rattle.live_layers.specs.declared.layers.Layers.{Layers}
 use Rattle.live_layers.specs.declared.unmade.Unmade.{Unmade}
 use Rattle.live_layers.specs.declared.unmade.Unmade.TheVariants as unmade
 use Rattle.live_layers.proofs.AskLemmas.{risen_of, same_count}
+use Rattle.live_layers.proofs.BegunLemmas.{OnlyNow}
 use Rattle.live_layers.proofs.QuestionLemmas.{refuses_unasked}
 use Rattle.live_layers.proofs.ReplaceLemmas.{changes_before}
 use Rattle.live_layers.proofs.Results.{on_ok}
 use Rattle.live_layers.proofs.StopLemmas.{kept_rests, kept_run}
-
--- since its moment a device leaves nothing but what it may leave now
-abbrev pub OnlyNow : {D A : Type 0} {m : _} → Layers D A m → Type 0
-OnlyNow {D = D} {m = m} kept = (d : D) (b : Blocks) → m.honest d → m.left_since d (m.moment d) b → m.may_leave d b
 
 -- a command that is refused changes nothing
 refused_is_reply : (t : Table) (c : Command) (r : Refusal) → refusal_of t c ≡ Some r → (Refused r ≡ reply_of t c) × (after t c ≡ t)
@@ -123,16 +119,16 @@ unmade_so : (P Q : Type 0) (made : Result (Unit {0}) Broken) → (P → Q) → O
 unmade_so P Q (Ok u) f p = p
 unmade_so P Q (Err b) f p = f p
 
-module _ {D A : Type 0} {m : _} {T : Type 0} (old mid new : Layers D A m) {x : T} (asked : KeepsInQuestion old mid (Ok x)) (made : Result (Unit {0}) Broken) (begins : Begins mid.cache new.cache made)
+module _ {D A : Type 0} {m : _} {T : Type 0} (old mid new : Layers D A m) {x : T} (asked : KeepsInQuestion old mid (Ok x)) (made : Result (Unit {0}) Broken) (begun : BeginsChange mid new made)
     (result : Result (Unit {0}) Unmade) (is : result ≡ change_of made) where
   counted : m.faults (device_of new.cache) ≡ faults_behind (cause_in made) (m.faults (device_of old.cache))
-  counted = begins.faults ∙ ap (faults_behind (cause_in made)) asked.cause.ok
+  counted = begun.begins.faults ∙ ap (faults_behind (cause_in made)) asked.cause.ok
 
-  pub begun_keeps : OnErr made (IsWritten mid → IsWritten new) → KeepsInChange old new result
-  begun_keeps written = subst (KeepsInChange old new) (sym is) (record {
-    written = unmade_so (IsWritten mid → IsWritten new) (IsWritten old → IsWritten new) made (λ kept was. kept (asked.trees.written was)) written;
-    honest = λ honest. begins.honest.0 (asked.gate.honest.0 honest);
-    next = omega (arith, asked.trees.map.next, begins.next);
+  pub begun_keeps : KeepsInChange old new result
+  begun_keeps = subst (KeepsInChange old new) (sym is) (record {
+    written = unmade_so (IsWritten mid → IsWritten new) (IsWritten old → IsWritten new) made (λ kept was. kept (asked.trees.written was)) begun.written;
+    honest = λ honest. begun.begins.honest.0 (asked.gate.honest.0 honest);
+    next = omega (arith, asked.trees.map.next, begun.begins.next);
     cause = begun_cause _ _ made counted;
   })
 
@@ -170,16 +166,16 @@ module _ {D A : Type 0} {m : _} {T : Type 0} (old mid new : Layers D A m) {x : T
         let honest = sound.map.honest in record {
           stops = λ ts rests. leaves_then m.moment m.left_since (device_of old.cache) (device_of mid.cache) (device_of new.cache) (IsRefusedOrImageOf ts)
               (kept_run old.cache mid.cache ts honest (λ b left. now (device_of old.cache) b honest left) rests asked.gate)
-              (begins.stops ts (asked.gate.honest.0 honest) (kept_rests old.cache mid.cache ts honest asked.gate rests));
-          rests = λ ts rests. begins.rests ts (asked.gate.honest.0 honest) (kept_rests old.cache mid.cache ts honest asked.gate rests);
-          opened = λ other. opened_by made begins;
+              (begun.begins.stops ts (asked.gate.honest.0 honest) (kept_rests old.cache mid.cache ts honest asked.gate rests));
+          rests = λ ts rests. begun.begins.rests ts (asked.gate.honest.0 honest) (kept_rests old.cache mid.cache ts honest asked.gate rests);
+          opened = λ other. opened_by made begun.begins;
           quiet = λ same. absurd (grows same);
         }
 
     -- one that the table does not refuse is made, or broken off
-    pub begun_change : OnlyNow old → IsSound old t → refusal_of t c ≡ None → Done ≡ answer_of t c → OnOk made (IsSound new (changed t c)) → IfErr made (λ b. b.touched ≡ false → IsSound new t)
+    pub begun_change : OnlyNow old → IsSound old t → refusal_of t c ≡ None → Done ≡ answer_of t c → OnOk made (IsSound new (changed t c))
         → IfErr made (λ b. IsNoDamage new.cache b.cause) → IsChange old new t c result
-    begun_change now sound none done there quiet cause = subst (IsChange old new t c) (sym is) (record {
-      changed = changed_by made refl none done (begins.honest.0 (asked.gate.honest.0 sound.map.honest)) there quiet cause;
+    begun_change now sound none done there cause = subst (IsChange old new t c) (sym is) (record {
+      changed = changed_by made refl none done (begun.begins.honest.0 (asked.gate.honest.0 sound.map.honest)) there (begun.untouched t (asked.sound t sound)) cause;
       leaves = begun_leaves now sound;
     })

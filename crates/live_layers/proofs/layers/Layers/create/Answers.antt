@@ -16,13 +16,13 @@ returns-in-Ok-clause-change g c =
     let made = c.add_layer.result in
     let result = c.change_of.result in
     let unasked = none_asked old in record {
-      keeps = begun_keeps old old new unasked made added.begins result c.change_of.ensures added.written;
+      keeps = begun_keeps old old new unasked made added.begins result c.change_of.ensures;
       lawful = λ t sound.
           let none = c.in-Ok.ensures.allowed t sound in
           let belongs = c.in-Ok.ensures.belongs t sound in
           begun_change old old new unasked made added.begins result c.change_of.ensures t (Create name c.args.dims c.args.fanout)
           (it_grows t name c.args.dims c.args.fanout none (not_there t name c.in-Ok.place belongs)) g.met.B.BlockDevice.only_now sound none refl
-          (added.added t sound belongs) (added.untouched t sound) (added.faults t sound);
+          (added.added t sound belongs) (added.faults t sound);
     }
 
 pub returns-in-Ok-clause-tree : goal.returns-in-Ok-clause-tree

@@ -14,7 +14,7 @@ use Rattle.live_layers.proofs.layers.Layers.delete_at.Goals as goal
 
 pub returns-in-Ok-clause-keeps : goal.returns-in-Ok-clause-keeps
 returns-in-Ok-clause-keeps g c =
-    begun_keeps c.args.self.now c.box_of.new.self c.take_object.new.self c.in-Ok.ensures.keeps c.take_object.result c.take_object.ensures.begins c.change_of.result c.change_of.ensures c.take_object.ensures.written
+    begun_keeps c.args.self.now c.box_of.new.self c.take_object.new.self c.in-Ok.ensures.keeps c.take_object.result c.take_object.ensures.begins c.change_of.result c.change_of.ensures
 
 pub returns-in-Ok-clause-change : goal.returns-in-Ok-clause-change
 returns-in-Ok-clause-change g c = λ t name sound reaches.
@@ -28,7 +28,7 @@ returns-in-Ok-clause-change g c = λ t name sound reaches.
     let before = c.in-Ok.ensures.keeps.sound t sound in
     begun_change old mid c.take_object.new.self c.in-Ok.ensures.keeps c.take_object.result c.take_object.ensures.begins c.change_of.result c.change_of.ensures t (Delete name id)
     (it_shrinks t name id reaches.named none) g.met.B.BlockDevice.only_now sound none refl
-    (c.take_object.ensures.taken t name before reaches.finds dims there) (c.take_object.ensures.untouched t before) (c.take_object.ensures.faults t name before reaches.finds dims there)
+    (c.take_object.ensures.taken t name before reaches.finds dims there) (c.take_object.ensures.faults t name before reaches.finds dims there)
 
 pub returns-in-Ok-clause-tree : goal.returns-in-Ok-clause-tree
 returns-in-Ok-clause-tree g c = λ t name sound reaches.

@@ -15,12 +15,12 @@ returns-in-Ok-clause-change g c =
     let made = c.take_layer.result in
     let result = c.change_of.result in
     let unasked = none_asked old in record {
-      keeps = begun_keeps old old new unasked made taken.begins result c.change_of.ensures taken.written;
+      keeps = begun_keeps old old new unasked made taken.begins result c.change_of.ensures;
       lawful = λ t sound.
           let none = c.in-Ok.ensures.named t sound [] in
           let finds = c.in-Ok.ensures.found t sound in
           begun_change old old new unasked made taken.begins result c.change_of.ensures t (Drop name) (it_shrinks t name none) g.met.B.BlockDevice.only_now sound none refl
-          (taken.taken t name sound finds) (taken.untouched t sound) (taken.faults t name sound finds);
+          (taken.taken t name sound finds) (taken.faults t name sound finds);
     }
 
 pub returns-in-Ok-clause-others : goal.returns-in-Ok-clause-others

@@ -19,7 +19,7 @@ use Rattle.live_layers.proofs.layers.Layers.insert_box.Goals as goal
 
 pub returns-in-Ok-clause-keeps : goal.returns-in-Ok-clause-keeps
 returns-in-Ok-clause-keeps g c =
-    begun_keeps c.args.self.now c.check_object.new.self c.add_object.new.self c.in-Ok.ensures.keeps c.add_object.result c.add_object.ensures.begins c.change_of.result c.change_of.ensures c.add_object.ensures.written
+    begun_keeps c.args.self.now c.check_object.new.self c.add_object.new.self c.in-Ok.ensures.keeps c.add_object.result c.add_object.ensures.begins c.change_of.result c.change_of.ensures
 
 pub returns-in-Ok-clause-change : goal.returns-in-Ok-clause-change
 returns-in-Ok-clause-change g c = λ t name box sound reaches.
@@ -36,7 +36,7 @@ returns-in-Ok-clause-change g c = λ t name box sound reaches.
     let added = on_ok made (λ there. subst (λ (b : Bounds). IsSound new (map_insert t name (with_object layer id b))) (c.in-Ok.ensures.bounds ∙ sym reaches.given) there) (c.add_object.ensures.added t name before reaches.finds dims absent) in
     let refused = as_object t name c.args.place id box g.row.D _ reaches ∙ none in
     begun_change c.args.self.now c.check_object.new.self new c.in-Ok.ensures.keeps made c.add_object.ensures.begins c.change_of.result c.change_of.ensures t (Insert name id box)
-    (it_grows t name c.args.place id box g.row.D _ reaches refused absent) g.met.B.BlockDevice.only_now sound refused refl added (c.add_object.ensures.untouched t before) (c.add_object.ensures.faults t name before reaches.finds dims)
+    (it_grows t name c.args.place id box g.row.D _ reaches refused absent) g.met.B.BlockDevice.only_now sound refused refl added (c.add_object.ensures.faults t name before reaches.finds dims)
 
 pub returns-in-Ok-clause-tree : goal.returns-in-Ok-clause-tree
 returns-in-Ok-clause-tree g c = λ t name box sound reaches.

@@ -41,7 +41,7 @@ returns-then-is_empty-clause-change g c = λ t name given sound reaches.
 pub returns-clause-keeps : goal.returns-clause-keeps
 returns-clause-keeps g c =
     let old = c.args.self.now in
-    begun_keeps old old c.fill.new.self (none_asked old) c.fill.result c.fill.ensures.begins c.change_of.result c.change_of.ensures c.fill.ensures.written
+    begun_keeps old old c.fill.new.self (none_asked old) c.fill.result c.fill.ensures.begins c.change_of.result c.change_of.ensures
 
 pub returns-clause-change : goal.returns-clause-change
 returns-clause-change g c = λ t name given sound reaches.
@@ -55,7 +55,7 @@ returns-clause-change g c = λ t name given sound reaches.
     let all = (with_objects (layer_at t name) given).objects in
     begun_change old old new (none_asked old) c.fill.result c.fill.ensures.begins c.change_of.result c.change_of.ensures t (Load name given) grows g.met.B.BlockDevice.only_now sound
     (as_load t name c.args.place given reaches.good reaches.finds ∙ none) refl
-    (c.fill.ensures.filled t name all sound reaches.finds reaches.axes empty same) (c.fill.ensures.untouched t sound) (c.fill.ensures.faults t name all sound reaches.finds reaches.axes empty same)
+    (c.fill.ensures.filled t name all sound reaches.finds reaches.axes empty same) (c.fill.ensures.faults t name all sound reaches.finds reaches.axes empty same)
 
 pub returns-clause-tree : goal.returns-clause-tree
 returns-clause-tree g c = λ t name given sound reaches changed.

@@ -57,7 +57,7 @@ returns-then-eq-clause-tree g c = λ t name box sound reaches moves.
 
 pub returns-clause-keeps : goal.returns-clause-keeps
 returns-clause-keeps g c =
-    begun_keeps c.args.self.now c.check_move.new.self c.replace_box.new.self c.in-Ok.ensures.keeps c.replace_box.result c.replace_box.ensures.begins c.change_of.result c.change_of.ensures c.replace_box.ensures.written
+    begun_keeps c.args.self.now c.check_move.new.self c.replace_box.new.self c.in-Ok.ensures.keeps c.replace_box.result c.replace_box.ensures.begins c.change_of.result c.change_of.ensures
 
 pub returns-clause-change : goal.returns-clause-change
 returns-clause-change g c = λ t name box sound reaches.
@@ -77,7 +77,7 @@ returns-clause-change g c = λ t name box sound reaches.
     let made = c.replace_box.result in
     let moved = on_ok made (λ so. subst (λ (b : Bounds). IsSound new (map_insert t name (with_object layer id b))) given so) (c.replace_box.ensures.replaced t name before reaches.finds dims there) in
     begun_change old mid new c.in-Ok.ensures.keeps made c.replace_box.ensures.begins c.change_of.result c.change_of.ensures t (Move name id box)
-    (a_change_makes_another_table t (Move name id box) moves) g.met.B.BlockDevice.only_now sound none refl moved (c.replace_box.ensures.untouched t before) (c.replace_box.ensures.faults t name before reaches.finds dims there)
+    (a_change_makes_another_table t (Move name id box) moves) g.met.B.BlockDevice.only_now sound none refl moved (c.replace_box.ensures.faults t name before reaches.finds dims there)
 
 pub returns-clause-tree : goal.returns-clause-tree
 returns-clause-tree g c = λ t name box sound reaches moves.
