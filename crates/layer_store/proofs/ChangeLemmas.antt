@@ -89,8 +89,8 @@ module _ {D A : Type 0} {m : _} (old new : Store D A m) {made : Result (Unit {0}
   told_changes {c = c} may by_change fits now changed leaves written next cause = record {
     step = step_told may changed
         (λ t stops sound was. subst (Leaves (cache_in new)) (sym (by_change t stops (done_answer (told made))))
-            (change_leaves old.layers new.layers t c stops sound.map.honest was (changes t c) made (leaves t sound) (no_change_leaves_the_table t c) (a_change_makes_another_table t c)
-            (λ r is changing. refused_goes_on old.layers new.layers t c made r (λ as_table. a_change_makes_another_table t c changing) (changed t sound) is)))
+        (change_leaves old.layers new.layers t c stops sound.map.honest was (changes t c) made (leaves t sound) (no_change_leaves_the_table t c) (a_change_makes_another_table t c)
+        (λ r is changing. refused_goes_on old.layers new.layers t c made r (λ as_table. a_change_makes_another_table t c changing) (changed t sound) is)))
         (λ t sound. next) fits cause;
     stops = λ s t represents alive. (leaves t (alive_in old s t represents alive).1).stops (tables_left s.stops.now) (left_rests (cache_in old) s.stops.now (what_is_kept old s represents).leaves.now);
     quiet = λ s t represents alive unchanged.
