@@ -2,7 +2,6 @@
 pub mod ObjectLemmas
 pub mod LayerLemmas
 pub mod AnswerLemmas
-pub mod FaultLemmas
 pub mod MadeLemmas
 pub mod RemovedLemmas
 pub mod FreeLemmas
