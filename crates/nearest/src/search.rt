@@ -4,6 +4,7 @@ ghost use Rattle.std.specs.Prelude.{◌≡◌, ◌⊎◌, ℕ, ◌+◌, ◌^◌,
 ghost use Rattle.std.specs.Prelude.{List, All, slice_index_or, map, length, IsPermutation, IfOk, IfErr, IfSome, IfNone, OnOk};
 ghost use Rattle.block_device.specs.Device.{one_more};
 ghost use Rattle.box_math.specs.Bounds.{Bounds, IsDims};
+ghost use Rattle.box_math.specs.Masks.{has_bit};
 ghost use Rattle.box_math.specs.Measures.{point_dist2_of};
 ghost use Rattle.page_file.specs.Fault.{IsDamage, IsOfDevice};
 ghost use Rattle.page_file.specs.declared.fault.Fault.TheVariants as fault;
@@ -26,6 +27,9 @@ use node_page::{Root, view_node};
 use page_cache::PageCache;
 use page_file::Fault;
 use std::alloc::Allocator;
+
+// So many new candidates are moved into the queue before more are read.
+const MANY: usize = 128;
 
 /// The k objects of a tree that are nearest to the point, or all of fewer: each by its identifier and the square of the
 /// distance from the point to its box, by that distance and then by identifier.
@@ -52,9 +56,9 @@ pub fn nearest<const D: usize, B: BlockDevice, A: Allocator + Copy, H: Allocator
         IfErr result IsOfDevice }
     ensures other_faults { IfErr result (λ f. IsOfDevice f ⊎ IsDamage f) }
 {
-    let mut best = Best::new(alloc);
-    let mut queue = Queue::new(alloc);
-    let mut fresh = Vec::new(alloc);
+    let mut best = Best::new(alloc, k)?;
+    let mut queue = Queue::new(alloc)?;
+    let mut fresh = Vec::with_capacity(alloc, MANY)?;
     queue.push(Candidate {
         distance: 0,
         page: root.page,
@@ -65,7 +69,7 @@ pub fn nearest<const D: usize, B: BlockDevice, A: Allocator + Copy, H: Allocator
             look_at_objects::<D, B, A, H>(cache, first.page, point, k, &mut best)?;
             settle(&mut fresh, &best, k, &mut queue)?;
         } else {
-            settle(&mut fresh, &best, k, &mut queue)?;
+            settle_many(&mut fresh, &best, k, &mut queue)?;
             look_at_children::<D, B, A, H>(cache, first, point, &mut fresh)?;
             push_nearest(&mut fresh, &mut queue)?;
         }
@@ -89,7 +93,7 @@ fn take_within<H: Allocator>(queue: &mut Queue<H>, best: &Best<H>, k: usize) -> 
     Some(first)
 }
 
-// Reads a leaf, and offers its objects.
+// Reads a leaf, and offers its objects, but for those that are too far when it is read.
 fn look_at_objects<const D: usize, B: BlockDevice, A: Allocator + Copy, H: Allocator>(
     cache: &mut PageCache<B, A>,
     page: u32,
@@ -111,10 +115,22 @@ fn look_at_objects<const D: usize, B: BlockDevice, A: Allocator + Copy, H: Alloc
     ensures other_faults { IfErr result (λ f. IsOfDevice f ⊎ IsDamage f) }
 {
     let view = view_node::<D, B, A>(cache, page, 0)?;
+    let mask = view.mask(&best.reach(point, k));
     for place in 0..view.len() {
-        best.offer(object_of(&view.entry(place), point), k)?;
+        if is_set(mask, place) {
+            best.offer(object_of(&view.entry(place), point), k)?;
+        }
     }
     Ok(())
+}
+
+// Whether the bit of a place is set in the mask.
+#[inline]
+fn is_set(mask: u128, place: usize) -> bool
+    requires { place < 128 }
+    ensures { result ≡ has_bit mask place }
+{
+    mask >> place & 1 == 1
 }
 
 // Reads a node above the leaves, and appends its children.
@@ -174,6 +190,27 @@ fn nearest_place(candidates: &[Candidate]) -> usize
         }
     }
     place
+}
+
+// Does as `settle`, where there are so many new candidates that it would take long to find the nearest. Fewer wait until
+// a leaf was read: most are too far by then.
+fn settle_many<H: Allocator>(
+    fresh: &mut Vec<Candidate, H>,
+    best: &Best<H>,
+    k: usize,
+    queue: &mut Queue<H>,
+) -> Result<(), Fault>
+    requires some { 1 ≤ k }
+    requires few { length best.now ≤ k }
+    ensures all { OnOk result ((gone : List Candidate)
+        × IsPermutation (queue.old ++ fresh.old.items) ((queue.new ++ fresh.new.items) ++ gone)
+        × All (λ c. Past c.distance k best.now) gone) }
+    ensures memory { IfErr result (λ f. f ≡ fault.Memory) }
+{
+    if fresh.len() < MANY {
+        return Ok(());
+    }
+    settle(fresh, best, k, queue)
 }
 
 // Moves the new candidates into the queue, but for those that are farther than the k best.
