@@ -1,12 +1,14 @@
 -- What a loop over the entries of a leaf has offered, where those are passed over that are too far.
-use Rattle.std.proofs.Common.{◌≡◌, ◌∙◌, ℕ, ◌+◌, ◌<◌, ◌≤◌, ℤ, false, Some, List, All, length, take, get_or, map, refl, sym, subst}
-use Rattle.std.specs.Prelude.{slice_get}
+use Rattle.std.proofs.Common.{◌≡◌, ◌∙◌, ℕ, suc, ◌+◌, ◌/◌, ◌^◌, ◌<◌, ◌≤◌, false, Some, List, length, take, get_or, map, refl, sym, ap, subst, arith, ◌==◌}
+use Rattle.std.specs.Int.{bit_at}
+use Rattle.std.specs.Prelude.{bit_and, slice_get}
 use Rattle.std.proofs.lemmas.List.{get_or_default, take_all}
-use Rattle.std.proofs.lemmas.List.Elements.{All-get_or}
+use Rattle.std.proofs.lemmas.Bool.Decides.{nat_tests}
+use Rattle.std.proofs.lemmas.Nat.Bits.{shr_and_one}
 use Rattle.std.proofs.lemmas.Option.{slice_get-get_or}
-use Rattle.box_math.specs.Bounds.{Bounds, IsBox, meets_test}
+use Rattle.std.proofs.Math.Nat.{div-div-eq-div-mul, div-one, pow-suc}
+use Rattle.box_math.specs.Bounds.{Bounds}
 use Rattle.box_math.specs.Masks.{has_bit}
-use Rattle.box_math.specs.Measures.{point_dist2_of}
 use Rattle.box_math.specs.Nearest.{put_nearest_first}
 use Rattle.tree_node.specs.Boxes.{no_item}
 use Rattle.tree_node.specs.Nodes.{Item}
@@ -19,17 +21,12 @@ pub record Offering (far : Bounds → ℕ) (k : ℕ) (before best : List (ℕ ×
   pub offers : best ≡ offered k before (map (row_at far) (take i items))
   pub beyond : (place : ℕ) → place < length items → has_bit mask place ≡ false → Past (far (get_or items place no_item).bounds) k best
 
-pub none_offered : (dims : ℕ) (point : List ℤ) (k : ℕ) (best : List (ℕ × ℕ)) (items : List Item) (mask : ℕ) (window : Bounds) → length best ≤ k → All (λ item. IsBox dims item.bounds) items
-    → ((place : ℕ) (item : Item) → slice_get items place ≡ Some item → has_bit mask place ≡ meets_test dims item.bounds window)
-    → ((b : Bounds) → IsBox dims b → meets_test dims b window ≡ false → Past (point_dist2_of dims b point) k best)
-    → Offering (λ b. point_dist2_of dims b point) k best best items mask 0
-none_offered dims point k best items mask window few boxes met missed = record {
+pub none_offered : (far : Bounds → ℕ) (k : ℕ) (best : List (ℕ × ℕ)) (items : List Item) (mask : ℕ) → length best ≤ k
+    → ((place : ℕ) (item : Item) → slice_get items place ≡ Some item → has_bit mask place ≡ false → Past (far item.bounds) k best) → Offering far k best best items mask 0
+none_offered far k best items mask few beyond = record {
   few = few;
   offers = refl;
-  beyond = λ place within unset.
-      let item = get_or items place no_item in
-      let box = All-get_or (λ (x : Item). IsBox dims x.bounds) items place no_item within boxes in
-      missed item.bounds box (sym (met place item (slice_get-get_or items place no_item within)) ∙ unset);
+  beyond = λ place within unset. beyond place (get_or items place no_item) (slice_get-get_or items place no_item within) unset;
 }
 
 module _ {far : Bounds → ℕ} {k : ℕ} {before best : List (ℕ × ℕ)} {items : List Item} {mask i : ℕ} where
@@ -50,3 +47,18 @@ module _ {far : Bounds → ℕ} {k : ℕ} {before best : List (ℕ × ℕ)} {ite
       let item = get_or items i no_item in
       let same : best ≡ take k (put_nearest_first (row_at far item) best) = sym (put_far k (row_at far item) best (so_far.beyond i within unset) ∙ take_all k best so_far.few) in
       one_offered so_far item (row_at far item) best within (get_or_default items i no_item item within) refl same
+
+-- ---- the bits of a mask, one after the other
+
+pub mask_begins : (mask : ℕ) → mask ≡ mask / 2 ^ 0
+mask_begins mask = sym (div-one mask)
+
+pub mask_on : (mask i rest : ℕ) → rest ≡ mask / 2 ^ i → rest / 2 ≡ mask / 2 ^ (i + 1)
+mask_on mask i rest is =
+    ap (λ (n : ℕ). n / 2) is ∙ div-div-eq-div-mul mask (2 ^ i) 2 ∙ ap (λ (n : ℕ). mask / n) (sym (pow-suc 2 i)) ∙ ap (λ (n : ℕ). mask / 2 ^ n) (let e : suc i ≡ i + 1 = omega arith in e)
+
+not_one : (n : ℕ) → (n ≡ 1 → ⊥) → (n == 1) ≡ false
+not_one n other = grind (arith, nat_tests)
+
+pub not_set : (mask i rest : ℕ) → rest ≡ mask / 2 ^ i → (bit_and rest 1 ≡ 1 → ⊥) → has_bit mask i ≡ false
+not_set mask i rest is other = not_one (bit_at mask i) (λ set. other (ap (λ (n : ℕ). bit_and n 1) is ∙ shr_and_one mask i ∙ set))

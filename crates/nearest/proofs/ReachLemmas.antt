@@ -4,7 +4,7 @@ use Rattle.std.specs.Int.{int_min, int_max, saturate_signed}
 use Rattle.std.proofs.lemmas.Bool.{cases_lt, false≢true}
 use Rattle.std.proofs.lemmas.Int.{ints, clamps}
 use Rattle.std.proofs.lemmas.Nat.{mul-le}
-use Rattle.box_math.specs.Bounds.{Bounds, IsBox, IsOrdered, IsSpan, meets_test, on_axis}
+use Rattle.box_math.specs.Bounds.{Bounds, IsBox, IsSpan, meets_test, on_axis}
 use Rattle.box_math.specs.Measures.{nearest_on, point_dist2_of, square_of, sum_over}
 use Rattle.box_math.proofs.TestLaws.{meets_test_true}
 

@@ -85,6 +85,11 @@ impl<H: Allocator> Best<H> {
         }
     }
 
+    /// Whether k objects are known.
+    pub(crate) fn is_full(&self, k: usize) -> bool {
+        self.heap.len() >= k
+    }
+
     /// A box round the point: where k objects are known, all are nearer than what misses it.
     pub(crate) fn reach<const D: usize>(&self, point: &[i32; D], k: usize) -> BBox<D>
         requires few { length self.now ≤ k }

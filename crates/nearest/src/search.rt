@@ -1,20 +1,21 @@
 //! The search for the objects nearest to a point: what is nearest is taken first.
 
 ghost use Rattle.std.specs.Prelude.{◌≡◌, ◌⊎◌, ℕ, ◌+◌, ◌^◌, ◌<◌, ◌≤◌, ◌++◌, Some, [], ◌∷◌};
-ghost use Rattle.std.specs.Prelude.{List, All, slice_index_or, map, length, IsPermutation, IfOk, IfErr, IfSome, IfNone, OnOk};
+ghost use Rattle.std.specs.Prelude.{List, All, false, slice_get, slice_index_or, map, length, IsPermutation, IfOk, IfErr, IfSome, IfNone, OnOk};
 ghost use Rattle.block_device.specs.Device.{one_more};
-ghost use Rattle.box_math.specs.Bounds.{Bounds, IsDims};
+ghost use Rattle.box_math.specs.Bounds.{Bounds, IsBox, IsDims};
 ghost use Rattle.box_math.specs.Masks.{has_bit};
 ghost use Rattle.box_math.specs.Measures.{point_dist2_of};
 ghost use Rattle.page_file.specs.Fault.{IsDamage, IsOfDevice};
 ghost use Rattle.page_file.specs.declared.fault.Fault.TheVariants as fault;
 ghost use Rattle.page_cache.specs.Cache.{IsHonest, looks_of, pages};
 ghost use Rattle.page_cache.specs.Calls.{Asks};
-ghost use Rattle.tree_node.specs.Nodes.{NodeContent};
+ghost use Rattle.tree_node.specs.Nodes.{Item, NodeContent};
 ghost use Rattle.tree_node.specs.Searches.{admitted, counted};
 ghost use Rattle.tree_node.specs.Trees.{Tree};
 ghost use Rattle.node_page.specs.Rooted.{IsTreeAt};
 ghost use Rattle.node_page.specs.Standing.{node_in};
+ghost use Rattle.node_page.specs.Views.{content_in};
 ghost use Rattle.nearest.specs.Candidates.{IsAsFar, Past, candidate_at, offered, row_at, work_in};
 ghost use Rattle.nearest.specs.Nearest.{is_searched, nearest_rows};
 ghost use Rattle.nearest.specs.declared.candidate.Candidate.{Candidate};
@@ -23,7 +24,7 @@ use crate::best::Best;
 use crate::candidate::{Candidate, child_of, object_of};
 use crate::queue::Queue;
 use block_device::BlockDevice;
-use node_page::{Root, view_node};
+use node_page::{NodeView, Root, view_node};
 use page_cache::PageCache;
 use page_file::Fault;
 use std::alloc::Allocator;
@@ -115,22 +116,34 @@ fn look_at_objects<const D: usize, B: BlockDevice, A: Allocator + Copy, H: Alloc
     ensures other_faults { IfErr result (λ f. IsOfDevice f ⊎ IsDamage f) }
 {
     let view = view_node::<D, B, A>(cache, page, 0)?;
-    let mask = view.mask(&best.reach(point, k));
+    let mut mask = near_mask(&view, point, k, best);
     for place in 0..view.len() {
-        if is_set(mask, place) {
+        if mask & 1 == 1 {
             best.offer(object_of(&view.entry(place), point), k)?;
         }
+        mask >>= 1;
     }
     Ok(())
 }
 
-// Whether the bit of a place is set in the mask.
-#[inline]
-fn is_set(mask: u128, place: usize) -> bool
-    requires { place < 128 }
-    ensures { result ≡ has_bit mask place }
+// Which entries of a leaf may be among the k best: bit k of the mask is set for each but those that are farther.
+fn near_mask<const D: usize, H: Allocator>(
+    view: &NodeView<'_, D>,
+    point: &[i32; D],
+    k: usize,
+    best: &Best<H>,
+) -> u128
+    requires some { 1 ≤ k }
+    requires few { length best.now ≤ k }
+    requires boxes { All (λ item. IsBox D item.bounds) (content_in view.now).entries }
+    requires small { length (content_in view.now).entries ≤ 100 }
+    ensures { (place : ℕ) (item : Item) → slice_get (content_in view.now).entries place ≡ Some item
+        → has_bit result place ≡ false → Past (point_dist2_of D item.bounds point.now) k best.now }
 {
-    mask >> place & 1 == 1
+    if !best.is_full(k) {
+        return u128::MAX;
+    }
+    view.mask(&best.reach(point, k))
 }
 
 // Reads a node above the leaves, and appends its children.

@@ -1,7 +1,7 @@
 -- The goals of `box_around` that are proved by hand.
 use Rattle.std.proofs.Common.{◌≡◌, ◌∙◌, ◌<◌, ◌≤ℤ◌, ℤ, IfSome, ap, subst, sym, arith}
 use Rattle.box_math.specs.Bounds.{Bounds, on_axis}
-use Rattle.nearest.proofs.ReachLemmas.{above_by, below_above, below_by, near_meets}
+use Rattle.nearest.proofs.ReachLemmas.{below_above, below_by, near_meets}
 use Rattle.nearest.proofs.reach.box_around.Goals as goal
 
 pub unwrap-requires : goal.unwrap-requires
