@@ -3,11 +3,9 @@ use Rattle.std.proofs.Common.{◌≡◌, ◌∙◌, ◌⊎◌, ℕ, ◌^◌, ◌
 use Rattle.std.specs.Prelude.{Result, Ok, Err, OnErr, OnOk, IfErr}
 use Rattle.block_device.specs.Moments.{leaves_then}
 use Rattle.node_page.specs.Broken.{cause_in}
-use Rattle.node_page.specs.Faults.{IsNoDamage}
 use Rattle.node_page.specs.declared.broken.Broken.{Broken}
-use Rattle.page_cache.specs.Cache.{IsHonest, KeepsGate, device_of, gate_of, next_of}
+use Rattle.page_cache.specs.Cache.{IsHonest, KeepsGate, device_of, gate_of}
 use Rattle.page_cache.specs.Calls.{faults_behind}
-use Rattle.page_cache.specs.Laws.{numbers_are_few}
 use Rattle.page_file.specs.Fault.{IsOfDevice, faults_after}
 use Rattle.page_file.specs.declared.fault.Fault.{Fault}
 use Rattle.page_file.specs.declared.fault.Fault.TheVariants as fault
@@ -18,7 +16,7 @@ use Rattle.plain_table.specs.Step.Answer.{Done, Refused}
 use Rattle.plain_table.specs.Table.{Table}
 use Rattle.plain_table.specs.declared.refusal.Refusal.{Refusal}
 use Rattle.plain_table.specs.declared.refusal.Refusal.TheVariants as refusal
-use Rattle.store_law.specs.Lawful.{IsFault, IsSpent, MayWrite, blames_device}
+use Rattle.store_law.specs.Lawful.{IsFault, blames_device}
 use Rattle.tree_node.specs.Trees.{Tree}
 use Rattle.live_layers.specs.Begun.{Begins, BeginsChange}
 use Rattle.live_layers.specs.Changes.{ChangeLeaves, IsBegun, IsChange, IsChangeBy, IsChanged, IsFaultOfChange, KeepsInChange, KeepsInQuestion, Rose}
@@ -40,13 +38,6 @@ use Rattle.live_layers.proofs.StopLemmas.{kept_rests, kept_run}
 refused_is_reply : (t : Table) (c : Command) (r : Refusal) → refusal_of t c ≡ Some r → (Refused r ≡ reply_of t c) × (after t c ≡ t)
 refused_is_reply t c r h = (sym (ap (λ (o : Option Refusal). refused_or o (answer_of t c)) h), ap (λ (o : Option Refusal). kept_or o t (changed t c)) h)
 
--- a fault that is no want of page numbers
-no_pages_wanted : (rose spent : Type 0) (r : Refusal) → IsFault rose ⊥ r → IsFault rose spent r
-no_pages_wanted rose spent refusal.Memory h = h
-no_pages_wanted rose spent refusal.Device h = h
-no_pages_wanted rose spent refusal.NoPages h = absurd h
-no_pages_wanted rose spent r h = h
-
 -- ---- refused, or made without being begun
 
 -- a call that keeps the gate, where a change that is begun changes the table
@@ -63,19 +54,18 @@ module _ {D A : Type 0} {m : _} {T : Type 0} (old new : Layers D A m) where
   refused_keeps r keeps = record {
     written = keeps.trees.written;
     honest = keeps.gate.honest.0;
-    next = omega (arith, keeps.trees.map.next);
     cause = record { made = tt; unmade = keeps.cause.refused };
   }
 
   pub refused_change : (t : Table) (c : Command) (r : Refusal) → OnlyNow old → KeepsInQuestion {T = T} old new (Err r) → IsSound old t → IsAllowedOr {T = T} (Rose old new) (refusal_of t c) (Err r) → IsChange old new t c (Err (unmade.Refused r))
   refused_change t c r now keeps sound why = record {
-    changed = (keeps.sound t sound, ⊎_elim (λ by_table. inl (refused_is_reply t c r by_table)) (λ failed. inr (no_pages_wanted _ _ r failed)) why);
+    changed = (keeps.sound t sound, ⊎_elim (λ by_table. inl (refused_is_reply t c r by_table)) (λ failed. inr failed) why);
     leaves = gate_kept old new t c (Err (unmade.Refused r)) now sound keeps.gate (λ other begun. begun);
   }
 
   -- one that the table does not refuse and that leaves it as it is
   pub unbegun_keeps : {x : T} → KeepsInQuestion old new (Ok x) → KeepsInChange old new (Ok tt)
-  unbegun_keeps keeps = record { written = tt; honest = keeps.gate.honest.0; next = omega (arith, keeps.trees.map.next); cause = record { made = keeps.cause.ok; unmade = tt } }
+  unbegun_keeps keeps = record { written = tt; honest = keeps.gate.honest.0; cause = record { made = keeps.cause.ok; unmade = tt } }
 
   pub unbegun_change : (t : Table) (c : Command) {x : T} → OnlyNow old → KeepsInQuestion old new (Ok x) → IsSound old t → refusal_of t c ≡ None → Done ≡ answer_of t c → after t c ≡ t → IsChange old new t c (Ok tt)
   unbegun_change t c now keeps sound none done same = record {
@@ -92,14 +82,10 @@ refused_by kept c r now quiet why = record { keeps = refused_keeps kept kept r u
 
 -- ---- begun after calls that only asked
 
--- what ends a change where no page is damaged, as a refusal and as the fault that broke it off
-ends : (rose writes : Type 0) (next : ℕ) (f : Fault) → IsOfDevice f ⊎ ((f ≡ fault.NoPages) × (2 ^ 31 ≤ next)) → next ≤ 2 ^ 31 → (f ≡ fault.Device → rose) → writes
-    → IsFault rose (IsSpent next × writes) (as_refusal f) × IsFaultOfChange rose (IsSpent next) f
-ends rose writes next f (inl (inl e)) few risen w = subst (λ (x : Fault). IsFault rose (IsSpent next × writes) (as_refusal x) × IsFaultOfChange rose (IsSpent next) x) (sym e) (tt, tt)
-ends rose writes next f (inl (inr e)) few risen w = subst (λ (x : Fault). IsFault rose (IsSpent next × writes) (as_refusal x) × IsFaultOfChange rose (IsSpent next) x) (sym e) (risen e, risen e)
-ends rose writes next f (inr e) few risen w =
-    let spent : next ≡ 2 ^ 31 = omega (arith, e.1, few) in
-    subst (λ (x : Fault). IsFault rose (IsSpent next × writes) (as_refusal x) × IsFaultOfChange rose (IsSpent next) x) (sym e.0) ((spent, w), spent)
+-- what ends a change, as a refusal and as the fault that broke it off
+ends : (rose : Type 0) (f : Fault) → IsOfDevice f → (f ≡ fault.Device → rose) → IsFault rose (as_refusal f) × IsFaultOfChange rose f
+ends rose f (inl e) risen = subst (λ (x : Fault). IsFault rose (as_refusal x) × IsFaultOfChange rose x) (sym e) (tt, tt)
+ends rose f (inr e) risen = subst (λ (x : Fault). IsFault rose (as_refusal x) × IsFaultOfChange rose x) (sym e) (risen e, risen e)
 
 broken_cause : (before now : ℕ) (b : Broken) (touched : Bool) → now ≡ faults_after b.cause before → HasUnmadeCause before now (Err (cond touched (unmade.Broken b.cause) (unmade.Refused (as_refusal b.cause))))
 broken_cause before now b true e = record { made = tt; unmade = e }
@@ -128,7 +114,6 @@ module _ {D A : Type 0} {m : _} {T : Type 0} (old mid new : Layers D A m) {x : T
   begun_keeps = subst (KeepsInChange old new) (sym is) (record {
     written = unmade_so (IsWritten mid → IsWritten new) (IsWritten old → IsWritten new) made (λ kept was. kept (asked.trees.written was)) begun.written;
     honest = λ honest. begun.begins.honest.0 (asked.gate.honest.0 honest);
-    next = omega (arith, asked.trees.map.next, begun.begins.next);
     cause = begun_cause _ _ made counted;
   })
 
@@ -140,13 +125,13 @@ module _ {D A : Type 0} {m : _} {T : Type 0} (old mid new : Layers D A m) {x : T
     rose : (b : Broken) → made ≡ Err b → b.cause ≡ fault.Device → Rose old new
     rose b broke cause = risen_of (m.faults (device_of old.cache)) (m.faults (device_of new.cache)) b.cause (counted ∙ ap (λ (r : Result (Unit {0}) Broken). faults_behind (cause_in r) (m.faults (device_of old.cache))) broke) cause
 
-    broke_off : (b : Broken) (touched : Bool) → (touched ≡ false → IsSound new t) → IsHonest new.cache → IsNoDamage new.cache b.cause → (b.cause ≡ fault.Device → Rose old new)
+    broke_off : (b : Broken) (touched : Bool) → (touched ≡ false → IsSound new t) → IsHonest new.cache → IsOfDevice b.cause → (b.cause ≡ fault.Device → Rose old new)
         → IsChanged old new t c (Err (cond touched (unmade.Broken b.cause) (unmade.Refused (as_refusal b.cause))))
-    broke_off b true quiet honest cause risen = (honest, inr grows, (ends (Rose old new) (MayWrite t c) (next_of new.cache) b.cause cause (numbers_are_few new.cache).1 risen (inr grows)).1)
-    broke_off b false quiet honest cause risen = (quiet refl, inr (ends (Rose old new) (MayWrite t c) (next_of new.cache) b.cause cause (numbers_are_few new.cache).1 risen (inr grows)).0)
+    broke_off b true quiet honest cause risen = (honest, inr grows, (ends (Rose old new) b.cause cause risen).1)
+    broke_off b false quiet honest cause risen = (quiet refl, inr (ends (Rose old new) b.cause cause risen).0)
 
     changed_by : (r : Result (Unit {0}) Broken) → made ≡ r → refusal_of t c ≡ None → Done ≡ answer_of t c → IsHonest new.cache → OnOk r (IsSound new (changed t c))
-        → IfErr r (λ b. b.touched ≡ false → IsSound new t) → IfErr r (λ b. IsNoDamage new.cache b.cause) → IsChanged old new t c (change_of r)
+        → IfErr r (λ b. b.touched ≡ false → IsSound new t) → IfErr r (λ b. IsOfDevice b.cause) → IsChanged old new t c (change_of r)
     changed_by (Ok u) so none done honest sound quiet cause = (
       done ∙ sym (ap (λ (o : Option Refusal). refused_or o (answer_of t c)) none),
       subst (IsSound new) (sym (ap (λ (o : Option Refusal). kept_or o t (changed t c)) none)) sound,
@@ -174,7 +159,7 @@ module _ {D A : Type 0} {m : _} {T : Type 0} (old mid new : Layers D A m) {x : T
 
     -- one that the table does not refuse is made, or broken off
     pub begun_change : OnlyNow old → IsSound old t → refusal_of t c ≡ None → Done ≡ answer_of t c → OnOk made (IsSound new (changed t c))
-        → IfErr made (λ b. IsNoDamage new.cache b.cause) → IsChange old new t c result
+        → IfErr made (λ b. IsOfDevice b.cause) → IsChange old new t c result
     begun_change now sound none done there cause = subst (IsChange old new t c) (sym is) (record {
       changed = changed_by made refl none done (begun.begins.honest.0 (asked.gate.honest.0 sound.map.honest)) there (begun.untouched t (asked.sound t sound)) cause;
       leaves = begun_leaves now sound;

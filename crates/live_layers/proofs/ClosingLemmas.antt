@@ -25,9 +25,9 @@ use Rattle.live_layers.proofs.KeepLemmas.{kept_catalog, kept_table}
 use Rattle.live_layers.proofs.StopLemmas.{image_aside, or_this, this_one}
 
 -- a fault of the device breaks a closing off
-pub breaks_off : (rose spent : Type 0) (f : Fault) → IsOfDevice f → (f ≡ fault.Device → rose) → IsFaultOfChange rose spent f
-breaks_off rose spent f (inl e) risen = subst (IsFaultOfChange rose spent) (sym e) tt
-breaks_off rose spent f (inr e) risen = subst (IsFaultOfChange rose spent) (sym e) (risen e)
+pub breaks_off : (rose : Type 0) (f : Fault) → IsOfDevice f → (f ≡ fault.Device → rose) → IsFaultOfChange rose f
+breaks_off rose f (inl e) risen = subst (IsFaultOfChange rose) (sym e) tt
+breaks_off rose f (inr e) risen = subst (IsFaultOfChange rose) (sym e) (risen e)
 
 -- a gate that is open or unsure is not shut
 pub open_is_not_shut : (gate : Gate) → gate ≡ Open → ¬ (gate ≡ Shut)

@@ -27,7 +27,7 @@ box_answered rose None id its b (inl e) = (refl, ap first_box e)
 box_answered rose (Some r) id its b (inl e) = absurd (cc)
 box_answered rose why id its b (inr never) = absurd never
 
-pub none_answered : (rose : Type 0) (why : Option Refusal) (rows : List (ℕ × Bounds)) (r : Refusal) → IsReply rose why (Boxes rows) (Refused r) → (why ≡ Some r) ⊎ IsFault rose ⊥ r
+pub none_answered : (rose : Type 0) (why : Option Refusal) (rows : List (ℕ × Bounds)) (r : Refusal) → IsReply rose why (Boxes rows) (Refused r) → (why ≡ Some r) ⊎ IsFault rose r
 none_answered rose None rows r (inl e) = absurd (cc)
 none_answered rose (Some s) rows r (inl e) = inl (cc)
 none_answered rose why rows r (inr failed) = inr failed

@@ -190,6 +190,6 @@ module _ (t : Table) (first second : List ℕ) (named : is_layer_name first ≡ 
       pub joins : ((layer_at t first).dims == (layer_at t second).dims) ≡ true → refusal_of t (Join first second) ≡ None
       joins e = let there = named_there t first place finds in let there' = named_there t second other finds' in rw (named, named', there, there', e) refl
 
-pub pairs_replied : {A : Type 0} (rose : Type 0) (rows : List (ℕ × ℕ)) (result : Result (Vec (ℕ × ℕ) A) Refusal) → IfOk result (λ pairs. pairs.items ≡ rows) → IfErr result (IsFault rose ⊥) → IsReply rose None (Pairs rows) (pairs_answer result)
+pub pairs_replied : {A : Type 0} (rose : Type 0) (rows : List (ℕ × ℕ)) (result : Result (Vec (ℕ × ℕ) A) Refusal) → IfOk result (λ pairs. pairs.items ≡ rows) → IfErr result (IsFault rose) → IsReply rose None (Pairs rows) (pairs_answer result)
 pairs_replied rose rows (Ok pairs) is failed = inl (ap Pairs is)
 pairs_replied rose rows (Err r) is failed = inr failed

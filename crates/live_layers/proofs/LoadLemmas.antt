@@ -55,7 +55,7 @@ after_boxes layer given count =
 
 -- one that is refused is why the load is
 pub box_refused_there : (t : Table) (name : List ℕ) (place : ℕ) (given : GivenObjects) (dims : ℕ) → is_layer_name name ≡ true → Finds t name place → (layer_at t name).dims ≡ dims → (r : Refusal)
-    → (first_refusal (boxes_refusals dims given) ≡ Some r) ⊎ IsFault ⊥ ⊥ r → (refusal_of t (Load name given) ≡ Some r) ⊎ IsFault ⊥ ⊥ r
+    → (first_refusal (boxes_refusals dims given) ≡ Some r) ⊎ IsFault ⊥ r → (refusal_of t (Load name given) ≡ Some r) ⊎ IsFault ⊥ r
 box_refused_there t name place given dims good finds axes r (inl is) =
     inl (as_load t name place given good finds ∙ first_of (not (have_dims (layer_at t name).dims given)) (not (are_ordered given)) (after_boxes (layer_at t name) given (object_count t)) r (ap (λ (k : ℕ). first_refusal (boxes_refusals k given)) axes ∙ is))
 box_refused_there t name place given dims good finds axes r (inr h) = inr h
@@ -74,15 +74,14 @@ all_reach t name place given dims objects good finds axes none boxes =
 -- ---- faults
 
 -- want of memory, which may refuse anything
-pub only_memory : (rose spent : Type 0) (r : Refusal) → IsFault ⊥ ⊥ r → IsFault rose spent r
-only_memory rose spent refusal.Memory h = h
-only_memory rose spent refusal.Device h = absurd h
-only_memory rose spent refusal.NoPages h = absurd h
-only_memory rose spent r h = h
+pub only_memory : (rose : Type 0) (r : Refusal) → IsFault ⊥ r → IsFault rose r
+only_memory rose refusal.Memory h = h
+only_memory rose refusal.Device h = absurd h
+only_memory rose r h = h
 
-pub allowed_anyhow : (rose : Type 0) (why : Option Refusal) (r : Refusal) → (why ≡ Some r) ⊎ IsFault ⊥ ⊥ r → (why ≡ Some r) ⊎ IsFault rose ⊥ r
+pub allowed_anyhow : (rose : Type 0) (why : Option Refusal) (r : Refusal) → (why ≡ Some r) ⊎ IsFault ⊥ r → (why ≡ Some r) ⊎ IsFault rose r
 allowed_anyhow rose why r (inl h) = inl h
-allowed_anyhow rose why r (inr h) = inr (only_memory rose ⊥ r h)
+allowed_anyhow rose why r (inr h) = inr (only_memory rose r h)
 
 -- ---- objects of different identifiers
 

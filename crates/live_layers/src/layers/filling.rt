@@ -4,7 +4,7 @@ ghost use Rattle.std.specs.Prelude.{◌≡◌, ◌+◌, ◌<◌, ◌≤◌, ℕ,
 ghost use Rattle.std.specs.FinMap as map;
 ghost use Rattle.box_math.specs.Bounds.{IsDims};
 ghost use Rattle.layer_pages.specs.Layers.{Objects};
-ghost use Rattle.node_page.specs.Faults.{IsNoDamage};
+ghost use Rattle.page_file.specs.Fault.{IsOfDevice};
 ghost use Rattle.plain_table.specs.Table.{Table, layer_at, most_objects};
 ghost use Rattle.live_layers.specs.Begun.{BeginsChange};
 ghost use Rattle.live_layers.specs.Keeping.{ChangesTree, Finds, IsSound, cache_of, records_in};
@@ -39,7 +39,7 @@ impl<B: BlockDevice, A: Allocator + Copy> Layers<B, A> {
         ensures faults { (t : Table) (name : List ℕ) (all : Objects) → IsSound self.old t → Finds t name place →
             (layer_at t name).dims ≡ D → map.len (layer_at t name).objects ≡ 0 →
             IsPermutation objects.old (map.entries all) →
-            IfErr result (λ b. IsNoDamage (cache_of self.new) b.cause) }
+            IfErr result (λ b. IsOfDevice b.cause) }
         ensures begins { BeginsChange self.old self.new result }
     {
         self.begin()?;

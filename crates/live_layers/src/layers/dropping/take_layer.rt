@@ -5,7 +5,7 @@ ghost use Rattle.std.specs.FinMap as map;
 ghost use Rattle.box_math.specs.Bounds.{IsDims};
 ghost use Rattle.layer_pages.specs.Layers.{CanBeRoot, IsLayerAt, LayerPages, Objects, part_of_layer};
 ghost use Rattle.node_page.specs.Broken.{Alters};
-ghost use Rattle.node_page.specs.Faults.{IsNoDamage};
+ghost use Rattle.page_file.specs.Fault.{IsOfDevice};
 ghost use Rattle.node_page.specs.Parts.{Moves, no_page};
 ghost use Rattle.page_cache.specs.Cache.{IsPageMap, gate_of, pages};
 ghost use Rattle.page_file.specs.Fault.{IsOfDevice};
@@ -32,7 +32,7 @@ impl<B: BlockDevice, A: Allocator + Copy> Layers<B, A> {
         ensures others { (t : Table) (name : List ℕ) → IsSound self.old t → Finds t name place →
             OnOk result (KeepsOtherTrees self.old self.new name) }
         ensures faults { (t : Table) (name : List ℕ) → IsSound self.old t → Finds t name place →
-            IfErr result (λ b. IsNoDamage (cache_of self.new) b.cause) }
+            IfErr result (λ b. IsOfDevice b.cause) }
         ensures begins { BeginsChange self.old self.new result }
     {
         self.begin()?;

@@ -3,7 +3,7 @@
 ghost use Rattle.std.specs.Prelude.{◌≡◌, ◌<◌, ℕ, List, Some, IfErr, OnOk, length};
 ghost use Rattle.std.specs.FinMap as map;
 ghost use Rattle.box_math.specs.Bounds.{IsDims};
-ghost use Rattle.node_page.specs.Faults.{IsNoDamage};
+ghost use Rattle.page_file.specs.Fault.{IsOfDevice};
 ghost use Rattle.plain_table.specs.Table.{Table, layer_at, with_object};
 ghost use Rattle.live_layers.specs.Begun.{BeginsChange};
 ghost use Rattle.live_layers.specs.Keeping.{ChangesTree, Finds, IsSound, cache_of, records_in};
@@ -38,7 +38,7 @@ impl<B: BlockDevice, A: Allocator + Copy> Layers<B, A> {
             OnOk result (ChangesTree self.old self.new name (HasMoved (layer_at t name) id bounds.now)) }
         ensures faults { (t : Table) (name : List ℕ) → IsSound self.old t → Finds t name place →
             (layer_at t name).dims ≡ D → map.get (layer_at t name).objects id ≡ Some known.now →
-            IfErr result (λ b. IsNoDamage (cache_of self.new) b.cause) }
+            IfErr result (λ b. IsOfDevice b.cause) }
         ensures begins { BeginsChange self.old self.new result }
     {
         let mut waiting = Waiting::make(self.alloc)?;

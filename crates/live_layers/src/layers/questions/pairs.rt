@@ -37,7 +37,7 @@ impl<B: BlockDevice, A: Allocator + Copy> Layers<B, A> {
             OnOk result (LooksAtTrees self.old self.new first second (λ s o. 2 * admitted_pairs D s o)) }
         ensures fault { (t : Table) (first second : List ℕ) → IsSound self.old t →
             IsLocated self.old t first left.now → IsLocated self.old t second right.now →
-            IfErr result (IsFault (Rose self.old self.new) ⊥) }
+            IfErr result (IsFault (Rose self.old self.new)) }
         ensures keeps { KeepsInQuestion self.old self.new result }
     {
         match join::<D, B, A, A>(self.alloc, &mut self.cache, left.root, right.root) {

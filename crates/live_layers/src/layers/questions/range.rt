@@ -87,7 +87,7 @@ impl<B: BlockDevice, A: Allocator + Copy> Layers<B, A> {
         ensures looks { (t : Table) (name : List ℕ) → IsSound self.old t → IsLocated self.old t name located.now →
             OnOk result (LooksAtTree self.old self.new name (admitted (admits query.now))) }
         ensures fault { (t : Table) (name : List ℕ) → IsSound self.old t → IsLocated self.old t name located.now →
-            IfErr result (IsFault (Rose self.old self.new) ⊥) }
+            IfErr result (IsFault (Rose self.old self.new)) }
         ensures keeps { KeepsInQuestion self.old self.new result }
     {
         match self.seek_in_tree(located.root, query) {

@@ -26,7 +26,7 @@ returns-in-Err-clause-replied g c = λ t name sound located.
     let at = stands_with c.args.self.now t name there located g.row.D c.requires.axes in
     let layer = layer_at t name in
     let rose = HasRisen (g.B.BlockDevice.faults (device_of c.args.self.now.cache)) (g.B.BlockDevice.faults (device_of c.get.new.cache)) in
-    reply_failed rose (first_refusal (missing_refusals layer c.args.id)) (Boxes (object_row layer c.args.id ∷ [])) _ _ (device_refuses rose ⊥ c.in-Err.fault (c.in-Err.ensures.stands sound.map.honest located.layer.ids at.directory_is at.ids) (risen_of _ _ c.in-Err.fault c.in-Err.ensures.asks.faults))
+    reply_failed rose (first_refusal (missing_refusals layer c.args.id)) (Boxes (object_row layer c.args.id ∷ [])) _ _ (device_refuses rose c.in-Err.fault (c.in-Err.ensures.stands sound.map.honest located.layer.ids at.directory_is at.ids) (risen_of _ _ c.in-Err.fault c.in-Err.ensures.asks.faults))
     (ap Refused c.as_refusal.ensures)
 
 pub returns-in-Ok-Some-clause-keeps : goal.returns-in-Ok-Some-clause-keeps

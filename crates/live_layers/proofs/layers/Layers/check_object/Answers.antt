@@ -40,8 +40,8 @@ returns-in-Err-clause-allowed g c = λ t name box sound located axes given.
     let its : there.dims ≡ g.row.D = sym c.from.ensures ∙ c.if-from.false in
     let stand : IdsStand g.row.D (pages old.cache) located.layer.ids = subst (λ (k : ℕ). IdsStand k (pages old.cache) located.layer.ids) its located.stands.ids in
     let new = record old { cache = c.get.new.cache } in
-    inr (subst (λ (x : Refusal). IsFault (Rose old new) ⊥ x) (sym c.as_refusal.ensures)
-    (device_refuses (Rose old new) ⊥ c.in-Err.fault (c.in-Err.ensures.stands sound.map.honest located.layer.ids located.stands.directory_is stand) (risen_of _ _ c.in-Err.fault c.in-Err.ensures.asks.faults)))
+    inr (subst (λ (x : Refusal). IsFault (Rose old new) x) (sym c.as_refusal.ensures)
+    (device_refuses (Rose old new) c.in-Err.fault (c.in-Err.ensures.stands sound.map.honest located.layer.ids located.stands.directory_is stand) (risen_of _ _ c.in-Err.fault c.in-Err.ensures.asks.faults)))
 
 pub returns-then-is_some-clause-allowed : goal.returns-then-is_some-clause-allowed
 returns-then-is_some-clause-allowed g c = λ t name box sound located axes given.

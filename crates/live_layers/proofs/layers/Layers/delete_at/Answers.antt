@@ -52,4 +52,4 @@ returns-in-Err-clause-change g c = λ t name sound reaches.
     let r = c.in-Err.refusal in
     let why = none_answered (Rose old new) (first_refusal (missing_refusals layer id)) (object_row layer id ∷ []) r (c.in-Err.ensures.replied t name sound reaches.located) in
     refused_change old new t (Delete name id) r g.met.B.BlockDevice.only_now c.in-Err.ensures.keeps sound
-    (subst (λ (o : Option Refusal). (o ≡ Some r) ⊎ IsFault (Rose old new) ⊥ r) (sym (as_missing t name id reaches.named)) why)
+    (subst (λ (o : Option Refusal). (o ≡ Some r) ⊎ IsFault (Rose old new) r) (sym (as_missing t name id reaches.named)) why)

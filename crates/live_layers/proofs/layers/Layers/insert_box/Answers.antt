@@ -64,4 +64,4 @@ returns-in-Err-clause-change g c = λ t name box sound reaches.
     let r = c.in-Err.refusal in
     let why = c.in-Err.ensures.allowed t name box sound (c.locate-located.ensures.located t name sound reaches.finds) reaches.axes reaches.given in
     refused_change old new t (Insert name id box) r g.met.B.BlockDevice.only_now c.in-Err.ensures.keeps sound
-    (subst (λ (o : Option Refusal). (o ≡ Some r) ⊎ IsFault (Rose old new) ⊥ r) (sym (as_object t name c.args.place id box g.row.D _ reaches)) why)
+    (subst (λ (o : Option Refusal). (o ≡ Some r) ⊎ IsFault (Rose old new) r) (sym (as_object t name c.args.place id box g.row.D _ reaches)) why)

@@ -65,7 +65,7 @@ returns-in-Err-clause-replied g c = λ t name sound located.
     let layer = layer_at t name in
     let rose = HasRisen (g.B.BlockDevice.faults (device_of c.args.self.now.cache)) (g.B.BlockDevice.faults (device_of c.nearest.new.cache)) in
     reply_failed rose (first_refusal ((not (g.row.D == layer.dims), refusal.WrongDims) ∷ (not (is_count c.args.k), refusal.BadCount) ∷ []))
-    (Distances (take c.args.k (by_distance layer.dims c.args.point.now (entries layer.objects)))) _ _ (device_refuses rose ⊥ c.in-Err.fault (c.in-Err.ensures.stands sound.map.honest located.layer.tree there.fanout at.tree) (risen_of _ _ c.in-Err.fault c.in-Err.ensures.asks.faults))
+    (Distances (take c.args.k (by_distance layer.dims c.args.point.now (entries layer.objects)))) _ _ (device_refuses rose c.in-Err.fault (c.in-Err.ensures.stands sound.map.honest located.layer.tree there.fanout at.tree) (risen_of _ _ c.in-Err.fault c.in-Err.ensures.asks.faults))
     (ap Refused c.as_refusal.ensures)
 
 pub returns-in-Ok-clause-keeps : goal.returns-in-Ok-clause-keeps

@@ -45,8 +45,8 @@ returns-in-Err-clause-fault g c = λ t first second sound located other.
     let at = stands_with old t first left located g.row.D c.requires.left in
     let at' = stands_with old t second right other g.row.D c.requires.right in
     let rose = HasRisen (g.B.BlockDevice.faults (device_of old.cache)) (g.B.BlockDevice.faults (device_of c.join.new.cache)) in
-    subst (λ (x : Refusal). IsFault rose ⊥ x) (sym c.as_refusal.ensures)
-    (device_refuses rose ⊥ c.in-Err.fault (c.in-Err.ensures.stands sound.map.honest located.layer.tree other.layer.tree left.fanout right.fanout at.tree at'.tree) (risen_of _ _ c.in-Err.fault c.in-Err.ensures.asks.faults))
+    subst (λ (x : Refusal). IsFault rose x) (sym c.as_refusal.ensures)
+    (device_refuses rose c.in-Err.fault (c.in-Err.ensures.stands sound.map.honest located.layer.tree other.layer.tree left.fanout right.fanout at.tree at'.tree) (risen_of _ _ c.in-Err.fault c.in-Err.ensures.asks.faults))
 
 pub returns-in-Ok-clause-keeps : goal.returns-in-Ok-clause-keeps
 returns-in-Ok-clause-keeps g c = asks_and_answers c.args.self.now _ (refl, refl, refl) c.in-Ok.ensures.asks
