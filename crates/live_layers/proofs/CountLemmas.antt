@@ -12,9 +12,13 @@ use Rattle.node_page.proofs.CountLemmas.{sum_both, sum_listed, sum_none, sum_of_
 use Rattle.page_cache.specs.Cache.{Grows, IsFull, IsLive, blocks_behind, free_count_of, free_of, next_of, pages}
 use Rattle.page_cache.specs.Laws.{a_page_is_live_or_free}
 use Rattle.page_cache.specs.declared.cache.PageCache.{PageCache}
+use Rattle.node_page.specs.Faults.{IsNoDamage}
 use Rattle.page_file.specs.Chains.{chain_count}
+use Rattle.page_file.specs.Fault.{IsOfDevice}
+use Rattle.page_file.specs.declared.fault.Fault.{Fault}
+use Rattle.page_file.specs.declared.fault.Fault.TheVariants as fault
 use Rattle.page_file.specs.File.{header_of}
-use Rattle.plain_table.specs.Table.{Table, object_count}
+use Rattle.plain_table.specs.Table.{Table, most_objects, object_count}
 use Rattle.live_layers.specs.Catalog.{objects_named}
 use Rattle.live_layers.specs.Keeping.{IsSound, cache_of, records_in}
 use Rattle.live_layers.specs.Layers.{LayersStand, Reading, in_use, of_catalog, of_layer, of_layers, root_of, row_of}
@@ -75,3 +79,16 @@ module _ {D A : Type 0} {m : _} (kept : Layers D A m) (t : Table) (sound : IsSou
     -- nor does a load
     pub never_full_of_load : (most count : ℕ) (new : PageCache D A m) → object_count t + count ≤ 2 ^ 30 → most ≤ count + count / 2 + 2000 → Grows most (cache_of kept) new → IsFull new → ⊥
     never_full_of_load most count new objects grows_by grows full = omega (arith, few_pages_are_live, objects, grows_by, grows, full)
+
+    -- so a change that damages no page is broken off by memory or the device alone
+    pub no_page_wanted : (most : ℕ) (new : PageCache D A m) (f : Fault) → most ≤ 2 ^ 28 + 2 ^ 17 → Grows most (cache_of kept) new → IsNoDamage new f → IsOfDevice f
+    no_page_wanted most new f small grows h = ⊎_elim
+        (λ (device : IsOfDevice f). device)
+        (λ (full : (f ≡ fault.NoPages) × IsFull new). absurd (never_full most new (omega (arith, sound.counted, sound.within)) small grows full.1))
+        h
+
+    pub no_page_wanted_by_load : (most count : ℕ) (new : PageCache D A m) (f : Fault) → kept.object_count + count ≤ most_objects → most ≤ count + count / 2 + 2000 → Grows most (cache_of kept) new → IsNoDamage new f → IsOfDevice f
+    no_page_wanted_by_load most count new f room small grows h = ⊎_elim
+        (λ (device : IsOfDevice f). device)
+        (λ (full : (f ≡ fault.NoPages) × IsFull new). absurd (never_full_of_load most count new (omega (arith, room, sound.counted)) small grows full.1))
+        h

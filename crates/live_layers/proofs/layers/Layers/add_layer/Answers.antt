@@ -4,6 +4,7 @@ use Rattle.catalog_page.specs.Layout.{records_of}
 use Rattle.catalog_page.specs.declared.layer_record.LayerRecord.{LayerRecord}
 use Rattle.layer_pages.specs.Changes.{IsEmptyLeaf}
 use Rattle.page_cache.specs.Laws.{numbers_are_few}
+use Rattle.live_layers.proofs.CountLemmas.{no_page_wanted}
 use Rattle.live_layers.proofs.BegunLemmas.{broke_behind, made_behind, not_opened}
 use Rattle.live_layers.proofs.CreateLemmas.{brings_before, made_record, one_more_may_be, put_in, sound_made, tree_made}
 use Rattle.live_layers.proofs.Results.{the_err}
@@ -19,11 +20,14 @@ returns-in_err-root-clause-begins g c =
     c.in_err-root.ensures.alters
 
 pub returns-in_err-begin-clause-faults : goal.returns-in_err-begin-clause-faults
-returns-in_err-begin-clause-faults g c = λ t sound. the_err c.from_residual.result c.in_err-begin.field-0.0 _ c.from_residual.ensures.1 (inl c.in_err-begin.ensures.faults)
+returns-in_err-begin-clause-faults g c = λ t sound. the_err c.from_residual.result c.in_err-begin.field-0.0 _ c.from_residual.ensures.1 c.in_err-begin.ensures.faults
 
 pub returns-in_err-root-clause-faults : goal.returns-in_err-root-clause-faults
-returns-in_err-root-clause-faults g c = λ t sound. the_err c.from_residual-in_err-root.result c.in_err-root.field-0.0 _ c.from_residual-in_err-root.ensures.1
-    (c.in_err-root.ensures.faults (c.begin.ensures.sound t sound).map)
+returns-in_err-root-clause-faults g c = λ t sound.
+    let before = c.begin.ensures.sound t sound in
+    the_err c.from_residual-in_err-root.result c.in_err-root.field-0.0 _ c.from_residual-in_err-root.ensures.1
+    (no_page_wanted c.begin.new.self t before (omega (arith, c.requires.room, ap length c.begin.ensures.records)) 2 c.make_pages.new.cache _ (omega (arith)) c.make_pages.ensures.grows
+    (c.in_err-root.ensures.faults before.map))
 
 pub invariant_of-self-2 : goal.invariant_of-self-2
 invariant_of-self-2 g c =

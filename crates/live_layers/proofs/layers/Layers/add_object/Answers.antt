@@ -1,6 +1,8 @@
 -- The object is in the tree and in the table, and the record says so; or the change was refused, or broke off.
 use Rattle.std.proofs.Common.{refl, inl, arith}
 use Rattle.plain_table.specs.Table.{layer_at}
+use Rattle.layer_pages.specs.Changes.{most_inserted_pages}
+use Rattle.live_layers.proofs.CountLemmas.{no_page_wanted}
 use Rattle.live_layers.specs.Rules.{HasGained}
 use Rattle.live_layers.proofs.AddLemmas.{sound_added, stands_at, tree_added}
 use Rattle.live_layers.proofs.BegunLemmas.{broke_behind, made_behind, no_memory, not_opened}
@@ -22,10 +24,10 @@ returns-in_err-root-clause-begins g c =
     c.in_err-root.ensures.alters
 
 pub returns-in_err-waiting-clause-faults : goal.returns-in_err-waiting-clause-faults
-returns-in_err-waiting-clause-faults g c = λ t name sound finds dims. the_err c.from_residual.result _ _ c.from_residual.ensures.1 (inl (inl c.in_err-waiting.ensures))
+returns-in_err-waiting-clause-faults g c = λ t name sound finds dims. the_err c.from_residual.result _ _ c.from_residual.ensures.1 (inl c.in_err-waiting.ensures)
 
 pub returns-in_err-begin-clause-faults : goal.returns-in_err-begin-clause-faults
-returns-in_err-begin-clause-faults g c = λ t name sound finds dims. the_err c.from_residual-in_err-begin.result _ _ c.from_residual-in_err-begin.ensures.1 (inl c.in_err-begin.ensures.faults)
+returns-in_err-begin-clause-faults g c = λ t name sound finds dims. the_err c.from_residual-in_err-begin.result _ _ c.from_residual-in_err-begin.ensures.1 c.in_err-begin.ensures.faults
 
 pub returns-in_err-root-clause-faults : goal.returns-in_err-root-clause-faults
 returns-in_err-root-clause-faults g c = λ t name sound finds dims.
@@ -37,7 +39,8 @@ returns-in_err-root-clause-faults g c = λ t name sound finds dims.
     let bounds = c.args.bounds.now in
     let at = stands_at kept t name c.args.place before finds located by g.row.D dims in
     the_err c.from_residual-in_err-root.result c.in_err-root.field-0.0 _ c.from_residual-in_err-root.ensures.1
-    (c.in_err-root.ensures.faults before.map (reading kept t name c.args.place before finds).pages (layer_at t name).objects at)
+    (no_page_wanted kept t before c.locate-located.ensures.few most_inserted_pages c.insert.new.cache _ (omega (arith)) c.insert.ensures.grows
+    (c.in_err-root.ensures.faults before.map (reading kept t name c.args.place before finds).pages (layer_at t name).objects at))
 
 pub returns-clause-added : goal.returns-clause-added
 returns-clause-added g c = λ t name sound finds dims absent.

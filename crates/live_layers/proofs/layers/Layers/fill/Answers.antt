@@ -1,6 +1,8 @@
 -- The tree is packed and the table filled, and the record says so; or the change was refused, or broke off.
 use Rattle.std.proofs.Common.{refl, inl, arith}
 use Rattle.plain_table.specs.Table.{layer_at}
+use Rattle.layer_pages.specs.Changes.{most_loaded_pages}
+use Rattle.live_layers.proofs.CountLemmas.{no_page_wanted_by_load}
 use Rattle.live_layers.specs.Rules.{HasFilled}
 use Rattle.live_layers.proofs.BegunLemmas.{broke_behind, made_behind, not_opened}
 use Rattle.live_layers.proofs.FillLemmas.{sound_filled, stands_empty, tree_filled}
@@ -18,16 +20,18 @@ returns-in_err-root-clause-begins g c =
     c.in_err-root.ensures.alters
 
 pub returns-in_err-begin-clause-faults : goal.returns-in_err-begin-clause-faults
-returns-in_err-begin-clause-faults g c = λ t name all sound finds dims none same. the_err c.from_residual.result _ _ c.from_residual.ensures.1 (inl c.in_err-begin.ensures.faults)
+returns-in_err-begin-clause-faults g c = λ t name all sound finds dims none same. the_err c.from_residual.result _ _ c.from_residual.ensures.1 c.in_err-begin.ensures.faults
 
 pub returns-in_err-root-clause-faults : goal.returns-in_err-root-clause-faults
 returns-in_err-root-clause-faults g c = λ t name all sound finds dims none same.
     let kept = c.begin.new.self in
+    let count = length c.args.objects.now in
     let before = c.begin.ensures.sound t sound in
     let located = c.locate-located.result in
     let empty_there = stands_empty kept t name c.args.place before finds located c.locate-located.ensures.by_record g.row.D dims none in
     the_err c.from_residual-in_err-root.result c.in_err-root.field-0.0 _ c.from_residual-in_err-root.ensures.1
-    (c.in_err-root.ensures.faults before.map (reading kept t name c.args.place before finds).pages located.fanout all empty_there same)
+    (no_page_wanted_by_load kept t before c.locate-located.ensures.few (most_loaded_pages count) count c.load.new.cache _ (omega (arith, c.requires.room, c.begin.ensures.count)) (omega (arith)) c.load.ensures.grows
+    (c.in_err-root.ensures.faults before.map (reading kept t name c.args.place before finds).pages located.fanout all empty_there same))
 
 pub returns-clause-filled : goal.returns-clause-filled
 returns-clause-filled g c = λ t name all sound finds dims none same.

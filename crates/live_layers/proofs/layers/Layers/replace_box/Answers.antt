@@ -2,6 +2,8 @@
 -- off.
 use Rattle.std.proofs.Common.{refl}
 use Rattle.plain_table.specs.Table.{layer_at}
+use Rattle.layer_pages.specs.Changes.{most_replaced_pages}
+use Rattle.live_layers.proofs.CountLemmas.{no_page_wanted}
 use Rattle.live_layers.specs.Rules.{HasMoved}
 use Rattle.live_layers.proofs.AddLemmas.{stands_at}
 use Rattle.live_layers.proofs.BegunLemmas.{broke_behind, made_behind, no_memory, not_opened}
@@ -33,7 +35,8 @@ returns-in_err-root-clause-faults g c = λ t name sound finds dims there.
     let before = c.begin.ensures.sound t sound in
     let at = stands_at kept t name c.args.place before finds c.locate-located.result c.locate-located.ensures.by_record g.row.D dims in
     the_err c.from_residual-in_err-root.result c.in_err-root.field-0.0 _ c.from_residual-in_err-root.ensures.1
-    (c.in_err-root.ensures.faults before.map (reading kept t name c.args.place before finds).pages (layer_at t name).objects at there)
+    (no_page_wanted kept t before c.locate-located.ensures.few most_replaced_pages c.replace.new.cache _ (omega (arith)) c.replace.ensures.grows
+    (c.in_err-root.ensures.faults before.map (reading kept t name c.args.place before finds).pages (layer_at t name).objects at there))
 
 pub returns-clause-replaced : goal.returns-clause-replaced
 returns-clause-replaced g c = λ t name sound finds dims there.

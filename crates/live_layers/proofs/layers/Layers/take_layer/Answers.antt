@@ -26,7 +26,7 @@ returns-in_err-free_pages-clause-faults g c = λ t name sound finds.
     let dims = (c.locate-located.ensures.located t name before finds).dims in
     let at = stands_at kept t name c.args.place before finds located c.locate-located.ensures.by_record located.dims dims in
     the_err c.from_residual-in_err-free_pages.result c.in_err-free_pages.field-0.0 _ c.from_residual-in_err-free_pages.ensures.1
-    (inl (c.in_err-free_pages.ensures.faults before.map (reading kept t name c.args.place before finds).pages located.fanout (layer_at t name).objects at))
+    (c.in_err-free_pages.ensures.faults before.map (reading kept t name c.args.place before finds).pages located.fanout (layer_at t name).objects at)
 
 pub invariant_of-self-2 : goal.invariant_of-self-2
 invariant_of-self-2 g c =

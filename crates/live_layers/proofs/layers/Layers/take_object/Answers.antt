@@ -1,6 +1,8 @@
 -- The object is in neither the tree nor the table, and the record says so; or the change was refused, or broke off.
 use Rattle.std.proofs.Common.{refl, arith}
 use Rattle.plain_table.specs.Table.{layer_at}
+use Rattle.condense.specs.Removed.{most_removal_pages}
+use Rattle.live_layers.proofs.CountLemmas.{no_page_wanted}
 use Rattle.live_layers.specs.Rules.{HasLost}
 use Rattle.live_layers.proofs.AddLemmas.{stands_at}
 use Rattle.live_layers.proofs.BegunLemmas.{broke_behind, made_behind, no_memory, not_opened}
@@ -32,7 +34,8 @@ returns-in_err-root-clause-faults g c = λ t name sound finds dims there.
     let before = c.begin.ensures.sound t sound in
     let at = stands_at kept t name c.args.place before finds c.locate-located.result c.locate-located.ensures.by_record g.row.D dims in
     the_err c.from_residual-in_err-root.result c.in_err-root.field-0.0 _ c.from_residual-in_err-root.ensures.1
-    (c.in_err-root.ensures.faults before.map (reading kept t name c.args.place before finds).pages (layer_at t name).objects at there)
+    (no_page_wanted kept t before c.locate-located.ensures.few most_removal_pages c.remove.new.cache _ (omega (arith)) c.remove.ensures.grows
+    (c.in_err-root.ensures.faults before.map (reading kept t name c.args.place before finds).pages (layer_at t name).objects at there))
 
 pub returns-clause-taken : goal.returns-clause-taken
 returns-clause-taken g c = λ t name sound finds dims there.
