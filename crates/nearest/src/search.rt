@@ -1,7 +1,8 @@
 //! The search for the objects nearest to a point: what is nearest is taken first.
 
 ghost use Rattle.std.specs.Prelude.{◌≡◌, ◌⊎◌, ℕ, ◌+◌, ◌^◌, ◌<◌, ◌≤◌, ◌++◌, Some, [], ◌∷◌};
-ghost use Rattle.std.specs.Prelude.{List, All, false, slice_get, slice_index_or, map, length, IsPermutation, IfOk, IfErr, IfSome, IfNone, OnOk};
+ghost use Rattle.std.specs.Prelude.{List, All, false, slice_get, slice_index_or, map, length, IsPermutation};
+ghost use Rattle.std.specs.Prelude.{IfOk, IfErr, IfSome, IfNone, OnOk};
 ghost use Rattle.block_device.specs.Device.{one_more};
 ghost use Rattle.box_math.specs.Bounds.{Bounds, IsBox, IsDims};
 ghost use Rattle.box_math.specs.Masks.{has_bit};
@@ -205,8 +206,8 @@ fn nearest_place(candidates: &[Candidate]) -> usize
     place
 }
 
-// Does as `settle`, where there are so many new candidates that it would take long to find the nearest. Fewer wait until
-// a leaf was read: most are too far by then.
+// Does as `settle`, where there are so many new candidates that it would take long to find the nearest. Fewer wait
+// until a leaf was read: most are too far by then.
 fn settle_many<H: Allocator>(
     fresh: &mut Vec<Candidate, H>,
     best: &Best<H>,
