@@ -12,8 +12,8 @@ use Rattle.page_file.specs.Stops.{SameButGate}
 use Rattle.page_file.specs.declared.fault.Fault.{Fault}
 use Rattle.page_file.specs.declared.fault.Fault.TheVariants as fault
 use Rattle.page_file.specs.declared.gate.Gate.TheVariants.{Open}
-use Rattle.live_layers.specs.Begun.{Begins, BeginsChange}
 use Rattle.plain_table.specs.Table.{Table}
+use Rattle.live_layers.specs.Begun.{Begins, BeginsChange}
 use Rattle.live_layers.specs.Keeping.{IsSound, IsWritten}
 use Rattle.live_layers.specs.declared.layers.Layers.{Layers}
 use Rattle.live_layers.proofs.KeepLemmas.{sound_kept}
