@@ -1,16 +1,17 @@
 -- The table is filled, and then the old tree is freed.
-use Rattle.std.proofs.Common.{List, None, inl, sym, subst}
+use Rattle.std.proofs.Common.{ℕ, List, None, length, inl, sym, subst, arith, rules}
 use Rattle.std.specs.FinMap as map
 use Rattle.std.specs.FinMap.{entries}
 use Rattle.std.specs.Prelude.{IsPermutation}
-use Rattle.std.proofs.lemmas.List.Sorted.{IsPermutation-sym, IsPermutation-trans}
-use Rattle.page_cache.specs.Cache.{pages}
+use Rattle.std.proofs.lemmas.List.Sorted.{IsNonDecreasingBy-from_sort_by_key, IsPermutation-sym, IsPermutation-trans, length_permutation}
+use Rattle.page_cache.specs.Cache.{Grows, pages}
 use Rattle.page_cache.specs.Calls.{changes_in_turn}
 use Rattle.node_page.specs.Broken.{alters_and_breaks, made_alters}
 use Rattle.node_page.specs.declared.broken.Broken.{Broken}
-use Rattle.id_table.specs.Table.{Object}
+use Rattle.id_table.specs.Table.{Object, class_of}
 use Rattle.node_page.specs.Faults.{IsNoDamage}
 use Rattle.reinsert.proofs.BrokenLemmas.{at_broken}
+use Rattle.layer_pages.specs.Changes.{most_filled_pages}
 use Rattle.layer_pages.specs.Layers.{Objects}
 use Rattle.layer_pages.proofs.LayerLemmas.{root_of}
 use Rattle.layer_pages.proofs.LoadLemmas.{all_new, table_left, tree_still}
@@ -66,3 +67,24 @@ returns-in-Err-clause-faults g c = λ sound l most all is same.
     (inl
     (c.in-Err.ensures.faults (c.fill.ensures.sound sound l.ids is.directory_is is.ids fresh) l.tree (root_of g.row.D most m c.args.root c.args.directory l map.empty is)
     (tree_still g.row.D most m c.args.root c.args.directory l is sorted all still (pages c.fill.new.cache) filled) c.requires.root.page.0))
+
+pub returns-in_err-fill-clause-grows : goal.returns-in_err-fill-clause-grows
+returns-in_err-fill-clause-grows g c =
+    let class : Object → ℕ = λ o. class_of o.0 in
+    let filled : Grows (most_filled_pages (length c.sort_unstable_by_key.new.self)) c.args.cache.now c.fill.new.cache =
+    c.fill.ensures.grows_in_order (IsNonDecreasingBy-from_sort_by_key class _ c.sort_unstable_by_key.ensures.sorted (λ a r q k. search rules)) in
+    omega (arith, filled, length_permutation _ _ c.sort_unstable_by_key.ensures.permutation)
+
+pub returns-in-Ok-clause-grows : goal.returns-in-Ok-clause-grows
+returns-in-Ok-clause-grows g c =
+    let class : Object → ℕ = λ o. class_of o.0 in
+    let filled : Grows (most_filled_pages (length c.sort_unstable_by_key.new.self)) c.args.cache.now c.fill.new.cache =
+    c.fill.ensures.grows_in_order (IsNonDecreasingBy-from_sort_by_key class _ c.sort_unstable_by_key.ensures.sorted (λ a r q k. search rules)) in
+    omega (arith, filled, length_permutation _ _ c.sort_unstable_by_key.ensures.permutation, c.free_tree.ensures.grows)
+
+pub returns-in-Err-clause-grows : goal.returns-in-Err-clause-grows
+returns-in-Err-clause-grows g c =
+    let class : Object → ℕ = λ o. class_of o.0 in
+    let filled : Grows (most_filled_pages (length c.sort_unstable_by_key.new.self)) c.args.cache.now c.fill.new.cache =
+    c.fill.ensures.grows_in_order (IsNonDecreasingBy-from_sort_by_key class _ c.sort_unstable_by_key.ensures.sorted (λ a r q k. search rules)) in
+    omega (arith, filled, length_permutation _ _ c.sort_unstable_by_key.ensures.permutation, c.free_tree.ensures.grows)
