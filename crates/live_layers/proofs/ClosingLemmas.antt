@@ -8,7 +8,7 @@ use Rattle.page_cache.specs.Cache.{IsHonest, IsUnchanged, KeepsGate, KeepsMap, b
 use Rattle.page_cache.specs.declared.cache.PageCache.{PageCache}
 use Rattle.page_file.specs.Fault.{IsOfDevice}
 use Rattle.page_file.specs.Laws.{stops_of_a_run_go_on}
-use Rattle.page_file.specs.Stops.{SameButGate, StopSince}
+use Rattle.page_file.specs.Stops.{StopSince}
 use Rattle.page_file.specs.declared.fault.Fault.{Fault}
 use Rattle.page_file.specs.declared.fault.Fault.TheVariants as fault
 use Rattle.page_file.specs.declared.gate.Gate.{Gate}

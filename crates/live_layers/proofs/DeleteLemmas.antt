@@ -1,5 +1,5 @@
 -- Why the deletion of an object is refused, and what one that is not does to the table.
-use Rattle.std.proofs.Common.{◌≡◌, ◌∙◌, ℕ, List, [], ◌∷◌, Bool, true, false, not, Option, Some, None, refl, sym, ap, inl, inr}
+use Rattle.std.proofs.Common.{◌≡◌, ◌∙◌, ℕ, List, [], ◌∷◌, false, not, Option, Some, None, refl, sym, ap, inl, inr}
 use Rattle.std.specs.Prelude.{◌⊎◌, is_some}
 use Rattle.std.specs.FinMap.{contains_key, get}
 use Rattle.box_math.specs.Bounds.{Bounds}

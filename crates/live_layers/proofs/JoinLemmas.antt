@@ -1,8 +1,8 @@
 -- The pairs of a join of two trees are those of the objects of their layers. Turned, pairs in the order of a join are in the
 -- order of the nearest, of which there is one list.
-use Rattle.std.proofs.Common.{◌≡◌, ◌∙◌, ℕ, suc, ◌+◌, ◌<◌, ◌≤◌, Bool, true, false, cond, ◌&&◌, ◌||◌, ◌==◌, nat_lt, nat_le, List, [], ◌∷◌, ◌++◌, length, get_or, map, refl, sym, ap, subst, inl, inr, ⊎_elim, arith, T}
+use Rattle.std.proofs.Common.{◌≡◌, ◌∙◌, ℕ, suc, ◌+◌, ◌<◌, ◌≤◌, Bool, true, false, cond, ◌==◌, nat_lt, List, [], ◌∷◌, get_or, map, refl, sym, ap, subst, inl, inr, ⊎_elim, arith, T}
 use Rattle.std.specs.Prelude.{IfErr, IfOk, IsPermutation, None, Some, Ok, Err, Result, Vec, filter}
-use Rattle.std.specs.FinMap.{contains_key, entries, entries_sorted, is_sorted}
+use Rattle.std.specs.FinMap.{entries, entries_sorted, is_sorted}
 use Rattle.std.specs.FinMap.Entries.{below_all}
 use Rattle.std.specs.List.Sorted.{IsSorted}
 use Rattle.std.specs.Ordering.{nat_cmp, is_lt, ordering_then}

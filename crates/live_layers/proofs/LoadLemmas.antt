@@ -1,26 +1,22 @@
 -- Why a load is refused, and what one that is not does to the table.
 use Rattle.std.proofs.Common.{◌≡◌, ◌∙◌, ◌⊎◌, inl, inr, ℕ, ◌+◌, ◌<◌, ◌≤◌, List, [], ◌∷◌, length, get_or, map, true, false, Bool, cond, eqb, not, Option, Some, None, refl, sym, ap, subst, arith}
-use Rattle.std.specs.Prelude.{Ok, IsPermutation, ◌&&◌, is_some, nat_lt, unwrap_or}
+use Rattle.std.specs.Prelude.{IsPermutation, ◌&&◌, is_some, nat_lt, unwrap_or}
 use Rattle.std.specs.FinMap.{contains_key, entries, find, from_entries, len, len-entries}
 use Rattle.std.specs.Ordering.{nat_cmp}
 use Rattle.std.proofs.lemmas.Bool.Decides.{nat_tests}
 use Rattle.std.proofs.lemmas.List.{length-map}
-use Rattle.block_device.specs.Device.{Blocks}
 use Rattle.box_math.specs.Bounds.{Bounds}
 use Rattle.catalog_page.specs.Layout.{Record, records_of}
 use Rattle.id_table.proofs.AddLemmas.{same_key}
-use Rattle.page_cache.specs.Cache.{IsHonest, device_of}
-use Rattle.page_cache.specs.Laws.{no_call_keeps_the_gate, no_call_keeps_the_map}
+use Rattle.page_cache.specs.Laws.{no_call_keeps_the_map}
 use Rattle.plain_table.specs.Commands.Command.{Load}
-use Rattle.plain_table.specs.Laws.{no_change_leaves_the_table, none_holds}
+use Rattle.plain_table.specs.Laws.{none_holds}
 use Rattle.plain_table.specs.Loads.{GivenObjects, are_ordered, given_object, have_dims, ids_of, least_repeated, with_objects}
-use Rattle.plain_table.specs.Step.{changes, first_refusal, is_admitted, load_refusals, refusal_of, refused_or}
-use Rattle.plain_table.specs.Step.Answer.{Done}
+use Rattle.plain_table.specs.Step.{changes, first_refusal, is_admitted, load_refusals, refusal_of}
 use Rattle.plain_table.specs.Table.{Layer, Table, is_layer_name, layer_at, most_objects, object_count}
 use Rattle.plain_table.specs.declared.refusal.Refusal.{Refusal}
 use Rattle.plain_table.specs.declared.refusal.Refusal.TheVariants as refusal
 use Rattle.store_law.specs.Lawful.{IsFault}
-use Rattle.live_layers.specs.Changes.{ChangeLeaves, IsChanged}
 use Rattle.live_layers.specs.Keeping.{Finds, IsSound}
 use Rattle.live_layers.specs.Loading.{ReachesObjects, boxes_refusals, times_in}
 use Rattle.live_layers.specs.Staying.{KeepsTrees}
@@ -29,7 +25,6 @@ use Rattle.live_layers.proofs.AskLemmas.{named_there}
 use Rattle.live_layers.proofs.FillLemmas.{AreApart, entries_made}
 use Rattle.live_layers.proofs.RepeatLemmas.{each_once, times_more}
 use Rattle.live_layers.proofs.ReplaceLemmas.{count_there, reading, row_there}
-use Rattle.live_layers.proofs.StopLemmas.{kept_run}
 
 -- ---- names
 

@@ -12,6 +12,7 @@ use Rattle.live_layers.specs.Layers.{row_of}
 use Rattle.live_layers.specs.Listing.{lines_of}
 use Rattle.live_layers.proofs.AskLemmas.{device_refuses, risen_of}
 use Rattle.live_layers.proofs.KeepLemmas.{sound_kept}
+use Rattle.live_layers.proofs.QuestionLemmas.{asks_and_answers, asks_and_fails}
 use Rattle.live_layers.proofs.layers.Layers.dump.Goals as goal
 
 pub returns-in-Ok-clause-answered : goal.returns-in-Ok-clause-answered
@@ -33,3 +34,9 @@ returns-in-Err-clause-answered g c = λ t sound.
       inr (subst (λ (x : Refusal). IsFault rose spent x) (sym c.as_refusal.ensures)
           (device_refuses rose spent c.in-Err.fault (c.in-Err.ensures.stands sound.map.honest hs rows sound.holds.stand) (risen_of _ _ c.in-Err.fault c.in-Err.ensures.asks.faults))),
     )
+
+pub returns-in-Ok-clause-keeps : goal.returns-in-Ok-clause-keeps
+returns-in-Ok-clause-keeps g c = asks_and_answers c.args.self.now _ (refl, refl, refl) c.in-Ok.ensures.asks
+
+pub returns-in-Err-clause-keeps : goal.returns-in-Err-clause-keeps
+returns-in-Err-clause-keeps g c = asks_and_fails c.args.self.now _ c.in-Err.fault c.as_refusal.ensures (refl, refl, refl) c.in-Err.ensures.asks
