@@ -1,7 +1,7 @@
 -- A change of layers is a change of their store.
 use Rattle.std.proofs.Common.{◌≡◌, ◌∙◌, ◌≤◌, ◌^◌, ◌<◌, ℕ, Bool, true, false, not, cond, refl, sym, ap, subst}
 use Rattle.std.specs.Prelude.{Option, Some, None, is_some, Result, Ok, Err, OnErr, OnOk}
-use Rattle.live_layers.specs.Changes.{ChangeLeaves, IsChanged}
+use Rattle.live_layers.specs.Changes.{IsChangeBy, IsChanged}
 use Rattle.live_layers.specs.Faults.{HasRefusalCause, HasUnmadeCause}
 use Rattle.live_layers.specs.Keeping.{IsSound, IsWritten, Leaves}
 use Rattle.live_layers.specs.Unmade.{told}
@@ -47,11 +47,11 @@ unless_made P (Ok u) refused p = absurd (refused u (λ i. Ok u))
 unless_made P (Err why) refused p = p
 
 -- and then what was written is so still
-pub refused_written : {D A : Type 0} {m : _} (old mid : Layers D A m) (c : Command) (made : Result (Unit {0}) Unmade) → ((t : Table) → IsSound old t → IsChanged old mid t c made) → OnErr made (IsWritten old → IsWritten mid)
+pub refused_written : {D A : Type 0} {m : _} {old mid : Layers D A m} {c : Command} {made : Result (Unit {0}) Unmade} → IsChangeBy old mid c made
     → ((t : Table) → (changes t c ≡ not (is_some (refusal_of t c))) × (reply_of t c ≡ refused_or (refusal_of t c) Done)) → (t : Table) → IsSound old t → changes t c ≡ false → IsWritten old → IsWritten mid
-refused_written old mid c made changed written done t sound unchanged =
-    let no_change = λ (u : Unit {0}) (is : made ≡ Ok u). not_made (refusal_of t c) (sym (done t).0 ∙ unchanged) ((subst (λ (r : Result (Unit {0}) Unmade). IsChanged old mid t c r) is (changed t sound)).0 ∙ (done t).1) in
-    unless_made (IsWritten old → IsWritten mid) made no_change written
+refused_written {old = old} {mid = mid} {c = c} {made = made} change done t sound unchanged =
+    let no_change = λ (u : Unit {0}) (is : made ≡ Ok u). not_made (refusal_of t c) (sym (done t).0 ∙ unchanged) ((subst (λ (r : Result (Unit {0}) Unmade). IsChanged old mid t c r) is (change.lawful t sound).changed).0 ∙ (done t).1) in
+    unless_made (IsWritten old → IsWritten mid) made no_change change.keeps.written
 
 -- a refusal where the table is not asked does not end the store
 pub refused_goes_on : {D A : Type 0} {m : _} (old mid : Layers D A m) (t : Table) (c : Command) (made : Result (Unit {0}) Unmade) (r : Refusal) → (Refused r ≡ reply_of t c → after t c ≡ t → ⊥) → IsChanged old mid t c made → made ≡ Err (unmade.Refused r) → is_end r ≡ false
@@ -83,25 +83,23 @@ module _ {D A : Type 0} {m : _} (old new : Store D A m) {made : Result (Unit {0}
   -- what the layers keep of a change is what their store does
   pub told_changes : {c : Command} → MayGiveUp c → ((t : Table) (stops : Stops) (a : Answer) → after_command t stops c a ≡ cond (changes t c) (record { now = after_change stops.now a; since = stops.since; so_far = stops.so_far }) stops)
       → m.faults (device_in old) < 2 ^ 64 → (IsHonest (cache_in old) → OnlyNow (cache_in old))
-      → ((t : Table) → IsSound old.layers t → IsChanged old.layers new.layers t c made) → ((t : Table) → IsSound old.layers t → ChangeLeaves old.layers new.layers t c made)
-      → ((t : Table) → IsSound old.layers t → changes t c ≡ false → IsWritten old.layers → IsWritten new.layers)
-      → next_of (cache_in old) ≤ next_of (cache_in new) → HasUnmadeCause (m.faults (device_in old)) (m.faults (device_in new)) made → Changes old new c result
-  told_changes {c = c} may by_change fits now changed leaves written next cause = record {
-    step = step_told may changed
+      → IsChangeBy old.layers new.layers c made → ((t : Table) → IsSound old.layers t → changes t c ≡ false → IsWritten old.layers → IsWritten new.layers) → Changes old new c result
+  told_changes {c = c} may by_change fits now change written = record {
+    step = step_told may (λ t sound. (change.lawful t sound).changed)
         (λ t stops sound was. subst (Leaves (cache_in new)) (sym (by_change t stops (done_answer (told made))))
-        (change_leaves old.layers new.layers t c stops sound.map.honest was (changes t c) made (leaves t sound) (no_change_leaves_the_table t c) (a_change_makes_another_table t c)
-        (λ r is changing. refused_goes_on old.layers new.layers t c made r (λ as_table. a_change_makes_another_table t c changing) (changed t sound) is)))
-        (λ t sound. next) fits cause;
-    stops = λ s t represents alive. (leaves t (alive_in old s t represents alive).1).stops (tables_left s.stops.now) (left_rests (cache_in old) s.stops.now (what_is_kept old s represents).leaves.now);
+        (change_leaves old.layers new.layers t c stops sound.map.honest was (changes t c) made (change.lawful t sound).leaves (no_change_leaves_the_table t c) (a_change_makes_another_table t c)
+        (λ r is changing. refused_goes_on old.layers new.layers t c made r (λ as_table. a_change_makes_another_table t c changing) (change.lawful t sound).changed is)))
+        (λ t sound. change.keeps.next) fits change.keeps.cause;
+    stops = λ s t represents alive. (change.lawful t (alive_in old s t represents alive).1).leaves.stops (tables_left s.stops.now) (left_rests (cache_in old) s.stops.now (what_is_kept old s represents).leaves.now);
     quiet = λ s t represents alive unchanged.
         let kept = what_is_kept old s represents in
-        kept_leaves (cache_in old) (cache_in new) s.stops.now kept.honest (now kept.honest) kept.leaves.now ((leaves t (alive_in old s t represents alive).1).quiet (no_change_leaves_the_table t c unchanged));
+        kept_leaves (cache_in old) (cache_in new) s.stops.now kept.honest (now kept.honest) kept.leaves.now ((change.lawful t (alive_in old s t represents alive).1).leaves.quiet (no_change_leaves_the_table t c unchanged));
     settled = λ t represents unchanged was.
         let sound = (alive_with old t represents).1 in
         let settled = is_settled old was in
-        settled_so new (((leaves t sound).quiet (no_change_leaves_the_table t c unchanged)).gate ∙ settled.0, written t sound unchanged settled.1);
+        settled_so new (((change.lawful t sound).leaves.quiet (no_change_leaves_the_table t c unchanged)).gate ∙ settled.0, written t sound unchanged settled.1);
     dead = λ dead. absurd (not_both old.failed (is_dead old dead) going);
-    cause = cause_told tells cause;
+    cause = cause_told tells change.keeps.cause;
   }
 
 -- what a change did that was made is done where it is told so

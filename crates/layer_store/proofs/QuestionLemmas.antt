@@ -1,13 +1,12 @@
 -- A question of layers is a question of their store.
 use Rattle.std.proofs.Common.{◌≡◌, ◌∙◌, ◌<◌, ◌^◌, true, false, refl, sym, subst, arith}
 use Rattle.std.specs.Prelude.{Result, Err, IfErr}
-use Rattle.live_layers.specs.Changes.{IsAnswered}
-use Rattle.live_layers.specs.Faults.{HasRefusalCause}
+use Rattle.live_layers.specs.Changes.{IsAnswered, KeepsInQuestion}
 use Rattle.live_layers.specs.Image.{MayRemain}
-use Rattle.live_layers.specs.Keeping.{IsSound, IsWritten}
+use Rattle.live_layers.specs.Keeping.{IsSound}
 use Rattle.live_layers.specs.declared.layers.Layers.{Layers}
 use Rattle.live_layers.proofs.StopLemmas.{leaves_kept}
-use Rattle.page_cache.specs.Cache.{IsHonest, KeepsGate, KeepsMap, device_of}
+use Rattle.page_cache.specs.Cache.{IsHonest, device_of}
 use Rattle.page_cache.specs.Laws.{no_call_keeps_the_gate, no_call_keeps_the_map}
 use Rattle.plain_table.specs.Commands.{Command, MayGiveUp}
 use Rattle.plain_table.specs.Laws.{no_change_leaves_the_table}
@@ -27,11 +26,11 @@ use Rattle.layer_store.proofs.StoreLemmas.{blames_none, is_dead, is_settled, no_
 
 module _ {D A : Type 0} {m : _} where
   -- what a question keeps of its store
-  pub keeps_asked : (old : Store D A m) (mid : Layers D A m) → KeepsGate old.layers.cache mid.cache → KeepsMap old.layers.cache mid.cache → (IsWritten old.layers → IsWritten mid) → KeepsStore old (record { layers = mid; failed = old.failed })
-  keeps_asked old mid gate map written = record {
-    gate = gate;
-    map = map;
-    settled = λ was. let settled = is_settled old was in settled_so (record { layers = mid; failed = old.failed }) (gate.gate ∙ settled.0, written settled.1);
+  pub keeps_asked : {T : Type 0} {result : Result T Refusal} (old : Store D A m) (mid : Layers D A m) → KeepsInQuestion old.layers mid result → KeepsStore old (record { layers = mid; failed = old.failed })
+  keeps_asked old mid keeps = record {
+    gate = keeps.gate;
+    map = keeps.trees.map;
+    settled = λ was. let settled = is_settled old was in settled_so (record { layers = mid; failed = old.failed }) (keeps.gate.gate ∙ settled.0, keeps.trees.written settled.1);
   }
 
   -- nothing was asked
@@ -68,17 +67,16 @@ module _ {D A : Type 0} {m : _} where
 
     -- one of the layers of a live store
     pub asked_answers : {old : Store D A m} {mid : Layers D A m} {result : Result T Refusal} → old.failed ≡ false → (IsHonest (cache_in old) → OnlyNow (cache_in old)) → ((t : Table) → changes t c ≡ false) → ((t : Table) (stops : Stops) → after_command t stops c (answer result) ≡ stops)
-        → MayGiveUp c → m.faults (device_in old) < 2 ^ 64 → ((t : Table) → IsSound old.layers t → IsAnswered old.layers mid t c (answer result)) → KeepsGate old.layers.cache mid.cache → KeepsMap old.layers.cache mid.cache
-        → (IsWritten old.layers → IsWritten mid) → HasRefusalCause (m.faults (device_in old)) (m.faults (device_of mid.cache)) result → Answers old (record { layers = mid; failed = old.failed }) c answer result
-    asked_answers {old = old} {mid = mid} {result = result} going now unchanged quiet may fits answered gate map written cause =
-        let kept = keeps_asked old mid gate map written in
+        → MayGiveUp c → m.faults (device_in old) < 2 ^ 64 → ((t : Table) → IsSound old.layers t → IsAnswered old.layers mid t c (answer result)) → KeepsInQuestion old.layers mid result → Answers old (record { layers = mid; failed = old.failed }) c answer result
+    asked_answers {old = old} {mid = mid} {result = result} going now unchanged quiet may fits answered keeps =
+        let kept = keeps_asked old mid keeps in
         let new : Store D A m = record { layers = mid; failed = old.failed } in
         record {
           step = takes_question old new c (answer result) going going may (λ t. no_change_leaves_the_table t c (unchanged t)) quiet answered
-              (λ t stops sound was. leaves_kept old.layers.cache mid.cache stops sound.map.honest gate was)
-              (no_fewer_faults (m.faults (device_in old)) (m.faults (device_of mid.cache)) result fits cause, omega (arith, map.next));
+              (λ t stops sound was. leaves_kept old.layers.cache mid.cache stops sound.map.honest keeps.gate was)
+              (no_fewer_faults (m.faults (device_in old)) (m.faults (device_of mid.cache)) result fits keeps.cause, omega (arith, keeps.trees.map.next));
           kept = kept;
           stops = stops_asked old new now kept;
           dead = λ dead. absurd (not_both old.failed (is_dead old dead) going);
-          cause = cause;
+          cause = keeps.cause;
         }

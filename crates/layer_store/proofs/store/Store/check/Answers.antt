@@ -16,7 +16,7 @@ returns-clause-answers g c =
     let d = g.met.D.BlockDevice in
     let asked = c.check.ensures in
     asked_answers c.if-self.false (λ honest b left. d.only_now (device_in c.args.self.now) b honest left) (λ t. refl) (λ t stops. refl) tt (d.faults_fit (device_in c.args.self.now))
-    asked.answered asked.gate asked.map asked.written asked.cause
+    asked.answered asked.keeps
 
 pub returns-clause-sound : goal.returns-clause-sound
 returns-clause-sound g c = λ honest.
@@ -25,7 +25,7 @@ returns-clause-sound g c = λ honest.
 pub returns-clause-begins : goal.returns-clause-begins
 returns-clause-begins g c = λ honest settled.
     let new : Store _ _ _ = record { layers = c.check.new.self; failed = c.args.self.now.failed } in
-    let kept = keeps_asked c.args.self.now c.check.new.self c.check.ensures.gate c.check.ensures.map c.check.ensures.written in
+    let kept = keeps_asked c.args.self.now c.check.new.self c.check.ensures.keeps in
     on_ok c.check.result (λ found. (found.0, settled_begins new found.0 (λ honest b left. g.met.D.BlockDevice.only_now (device_in new) b honest left) (kept.settled settled) c.if-self.false found.1)) (c.check.ensures.sound honest)
 
 pub returns-then-self-clause-refused : goal.returns-then-self-clause-refused

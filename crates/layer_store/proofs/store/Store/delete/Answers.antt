@@ -1,6 +1,5 @@
 -- A change of the layers is a change of the store.
 use Rattle.std.proofs.Common.{refl}
-use Rattle.plain_table.specs.Commands.Command.{Delete}
 use Rattle.layer_store.specs.Representation.{device_in}
 use Rattle.layer_store.proofs.ChangeLemmas.{failed_changes, on_told, refused_written, told_changes}
 use Rattle.layer_store.proofs.StoreLemmas.{alive_with}
@@ -12,9 +11,9 @@ returns-then-self-clause-changes g c = failed_changes c.if-self.true
 pub returns-clause-changes : goal.returns-clause-changes
 returns-clause-changes g c =
     let d = g.met.D.BlockDevice in
-    let made = c.delete-made in
+    let made = c.delete-made.ensures in
     told_changes _ _ c.if-self.false c.tell.ensures tt (λ t stops a. refl) (d.faults_fit (device_in c.args.self.now)) (λ honest b left. d.only_now (device_in c.args.self.now) b honest left)
-    made.ensures.changed made.ensures.leaves (refused_written c.args.self.now.layers made.new.self (Delete c.args.layer.now c.args.id) made.result made.ensures.changed made.ensures.written (λ t. (refl, refl))) made.ensures.next made.ensures.cause
+    made.change (refused_written made.change (λ t. (refl, refl)))
 
 pub returns-clause-tree : goal.returns-clause-tree
 returns-clause-tree g c = λ t represents. on_told _ c.tell.ensures (c.delete-made.ensures.tree t (alive_with c.args.self.now t represents).1)

@@ -13,5 +13,5 @@ returns g c =
     let asked = c.dump.ensures in
     record {
       answers = asked_answers c.if-self.false (λ honest b left. d.only_now (device_in c.args.self.now) b honest left) (λ t. refl) (λ t stops. refl) tt (d.faults_fit (device_in c.args.self.now))
-          asked.answered asked.gate asked.map asked.written asked.cause;
+          asked.answered asked.keeps;
     }

@@ -11,9 +11,9 @@ returns-then-self-clause-changes g c = failed_changes c.if-self.true
 pub returns-clause-changes : goal.returns-clause-changes
 returns-clause-changes g c =
     let d = g.met.D.BlockDevice in
-    let made = c.move_object-made in
+    let made = c.move_object-made.ensures in
     told_changes _ _ c.if-self.false c.tell.ensures tt (λ t stops a. refl) (d.faults_fit (device_in c.args.self.now)) (λ honest b left. d.only_now (device_in c.args.self.now) b honest left)
-    made.ensures.changed made.ensures.leaves (λ t sound unchanged. (made.ensures.same t sound unchanged).written) made.ensures.next made.ensures.cause
+    made.change (λ t sound unchanged. (made.same t sound unchanged).written)
 
 pub returns-clause-tree : goal.returns-clause-tree
 returns-clause-tree g c = λ t represents changed. on_told _ c.tell.ensures (c.move_object-made.ensures.tree t (alive_with c.args.self.now t represents).1 changed)

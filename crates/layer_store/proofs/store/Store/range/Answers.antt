@@ -13,7 +13,7 @@ returns-clause-answers g c =
     let d = g.met.D.BlockDevice in
     let asked = c.range.ensures in
     asked_answers c.if-self.false (λ honest b left. d.only_now (device_in c.args.self.now) b honest left) (λ t. refl) (λ t stops. refl) tt (d.faults_fit (device_in c.args.self.now))
-    asked.answered asked.gate asked.map asked.written asked.cause
+    asked.answered asked.keeps
 
 pub returns-clause-looks : goal.returns-clause-looks
 returns-clause-looks g c = λ t represents. c.range.ensures.looks t (alive_with c.args.self.now t represents).1
