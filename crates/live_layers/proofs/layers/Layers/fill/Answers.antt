@@ -1,5 +1,5 @@
 -- The tree is packed and the table filled, and the record says so; or the change was refused, or broke off.
-use Rattle.std.proofs.Common.{refl, inl, arith}
+use Rattle.std.proofs.Common.{length, refl, arith}
 use Rattle.plain_table.specs.Table.{layer_at}
 use Rattle.layer_pages.specs.Changes.{most_loaded_pages}
 use Rattle.live_layers.proofs.CountLemmas.{no_page_wanted_by_load}

@@ -1,6 +1,6 @@
 -- The object has the other box in the tree and in the table, and the record says so; or the change was refused, or broke
 -- off.
-use Rattle.std.proofs.Common.{refl}
+use Rattle.std.proofs.Common.{refl, arith}
 use Rattle.plain_table.specs.Table.{layer_at}
 use Rattle.layer_pages.specs.Changes.{most_replaced_pages}
 use Rattle.live_layers.proofs.CountLemmas.{no_page_wanted}
