@@ -8,7 +8,7 @@ use Rattle.live_layers.specs.Unmade.{told}
 use Rattle.live_layers.specs.declared.layers.Layers.{Layers}
 use Rattle.live_layers.specs.declared.unmade.Unmade.{Unmade}
 use Rattle.live_layers.specs.declared.unmade.Unmade.TheVariants as unmade
-use Rattle.page_cache.specs.Cache.{IsHonest, next_of}
+use Rattle.page_cache.specs.Cache.{IsHonest}
 use Rattle.plain_table.specs.Answers.{done_answer}
 use Rattle.plain_table.specs.Commands.{Command, MayGiveUp}
 use Rattle.plain_table.specs.Laws.{a_change_makes_another_table, no_change_leaves_the_table}
@@ -57,7 +57,7 @@ refused_written {old = old} {mid = mid} {c = c} {made = made} change done t soun
 pub refused_goes_on : {D A : Type 0} {m : _} (old mid : Layers D A m) (t : Table) (c : Command) (made : Result (Unit {0}) Unmade) (r : Refusal) → (Refused r ≡ reply_of t c → after t c ≡ t → ⊥) → IsChanged old mid t c made → made ≡ Err (unmade.Refused r) → is_end r ≡ false
 refused_goes_on old mid t c made r never e is =
     let h = subst (λ (x : Result (Unit {0}) Unmade). IsChanged old mid t c x) is e in
-    change_goes_on _ _ t c r never h.1
+    change_goes_on _ t c r never h.1
 
 -- what the table answers so is not refused
 pub not_refused : (r : Refusal) → Refused r ≡ Done → ⊥
@@ -74,11 +74,11 @@ module _ {D A : Type 0} {m : _} (old new : Store D A m) {made : Result (Unit {0}
   -- it is a lawful step
   pub step_told : {c : Command} → MayGiveUp c → ((t : Table) → IsSound old.layers t → IsChanged old.layers new.layers t c made)
       → ((t : Table) (stops : Stops) → IsSound old.layers t → Leaves (cache_in old) stops → Leaves (cache_in new) (after_command t stops c (done_answer (told made))))
-      → ((t : Table) → IsSound old.layers t → next_of (cache_in old) ≤ next_of (cache_in new)) → m.faults (device_in old) < 2 ^ 64 → HasUnmadeCause (m.faults (device_in old)) (m.faults (device_in new)) made
+      → m.faults (device_in old) < 2 ^ 64 → HasUnmadeCause (m.faults (device_in old)) (m.faults (device_in new)) made
       → TakesStep old new c (done_answer result)
-  step_told {c = c} may changed leaves next fits cause =
+  step_told {c = c} may changed leaves fits cause =
       takes_change old new c made (done_answer result) going may (ap done_answer tells.answer) (tells.failed going) changed leaves
-      (λ t sound. (no_fewer_faults (m.faults (device_in old)) (m.faults (device_in new)) result fits (cause_told tells cause), next t sound))
+      (λ t sound. no_fewer_faults (m.faults (device_in old)) (m.faults (device_in new)) result fits (cause_told tells cause))
 
   -- what the layers keep of a change is what their store does
   pub told_changes : {c : Command} → MayGiveUp c → ((t : Table) (stops : Stops) (a : Answer) → after_command t stops c a ≡ cond (changes t c) (record { now = after_change stops.now a; since = stops.since; so_far = stops.so_far }) stops)
@@ -89,7 +89,7 @@ module _ {D A : Type 0} {m : _} (old new : Store D A m) {made : Result (Unit {0}
         (λ t stops sound was. subst (Leaves (cache_in new)) (sym (by_change t stops (done_answer (told made))))
         (change_leaves old.layers new.layers t c stops sound.map.honest was (changes t c) made (change.lawful t sound).leaves (no_change_leaves_the_table t c) (a_change_makes_another_table t c)
         (λ r is changing. refused_goes_on old.layers new.layers t c made r (λ as_table. a_change_makes_another_table t c changing) (change.lawful t sound).changed is)))
-        (λ t sound. change.keeps.next) fits change.keeps.cause;
+        fits change.keeps.cause;
     stops = λ s t represents alive. (change.lawful t (alive_in old s t represents alive).1).leaves.stops (tables_left s.stops.now) (left_rests (cache_in old) s.stops.now (what_is_kept old s represents).leaves.now);
     quiet = λ s t represents alive unchanged.
         let kept = what_is_kept old s represents in

@@ -51,4 +51,4 @@ module _ {D A : Type 0} {m : _} (cache : PageCache D A m) (t : Table) (stops : S
 pub takes_want : {D A : Type 0} {m : _} (store : Store D A m) (c : Command) → store.failed ≡ false → MayGiveUp c → TakesStep store store c (Refused refusal.Memory)
 takes_want store c going may =
     takes_change store store c (Err (unmade.Refused refusal.Memory)) (Refused refusal.Memory) going may refl going (λ t sound. (sound, inr tt))
-    (λ t stops sound was. wanting_leaves store.layers.cache t stops was c) (λ t sound. (omega arith, omega arith))
+    (λ t stops sound was. wanting_leaves store.layers.cache t stops was c) (λ t sound. omega arith)

@@ -74,7 +74,7 @@ module _ {D A : Type 0} {m : _} where
         record {
           step = takes_question old new c (answer result) going going may (λ t. no_change_leaves_the_table t c (unchanged t)) quiet answered
               (λ t stops sound was. leaves_kept old.layers.cache mid.cache stops sound.map.honest keeps.gate was)
-              (no_fewer_faults (m.faults (device_in old)) (m.faults (device_of mid.cache)) result fits keeps.cause, omega (arith, keeps.trees.map.next));
+              (no_fewer_faults (m.faults (device_in old)) (m.faults (device_of mid.cache)) result fits keeps.cause);
           kept = kept;
           stops = stops_asked old new now kept;
           dead = λ dead. absurd (not_both old.failed (is_dead old dead) going);

@@ -18,7 +18,7 @@ returns-clause-step g c =
     step_told _ _ c.if-self.false c.tell.ensures tt made.ensures.changed
     (λ t stops sound was. reopening_leaves old.layers made.new.self t stops made.result (made.ensures.leaves t sound)
     (λ r is. refused_goes_on old.layers made.new.self t Reopen made.result r (λ as_table same. not_refused r as_table) (made.ensures.changed t sound) is) was)
-    (λ t sound. let same = made.ensures.next sound.map.honest in omega (arith, same)) (g.met.D.BlockDevice.faults_fit (device_in old)) made.ensures.cause
+    (g.met.D.BlockDevice.faults_fit (device_in old)) made.ensures.cause
 
 pub returns-then-self-clause-closed : goal.returns-then-self-clause-closed
 returns-then-self-clause-closed g c = λ t represents end. absurd (not_both _ c.if-self.true (alive_with c.args.self.now t represents).0)
