@@ -18,8 +18,8 @@ use std::alloc::Allocator;
 
 /// Frees all pages of a layer. The gate has to be open.
 ///
-/// With a sound map, where the pages stand for a layer at that root and directory, a refusal is `Memory` or `Device`. No
-/// page more is live, also after a refusal.
+/// With a sound map, where the pages stand for a layer at that root and directory, a refusal is `Memory` or `Device`.
+/// No page more is live, also after a refusal.
 pub fn free<const D: usize, B: BlockDevice, A: Allocator + Copy>(
     cache: &mut PageCache<B, A>,
     root: Root,

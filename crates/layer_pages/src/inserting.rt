@@ -22,8 +22,8 @@ use std::alloc::Allocator;
 ///
 /// With a sound map, where the pages stand for a layer at that root and directory, a refusal is `Memory` or `Device`,
 /// or `NoPages` where each page number is live. One that is not `touched` leaves the map as it was; each one of the
-/// table is touched, since the tree was changed before it. Also after a refusal at most `most_inserted_pages` more pages
-/// are live.
+/// table is touched, since the tree was changed before it. Also after a refusal at most `most_inserted_pages` more
+/// pages are live.
 pub fn insert<const D: usize, B: BlockDevice, A: Allocator + Copy>(
     cache: &mut PageCache<B, A>,
     root: Root,

@@ -1,6 +1,7 @@
 //! All objects of a layer at once.
 
-ghost use Rattle.std.specs.Prelude.{◌≡◌, ◌≤◌, ◌%◌, ℕ, true, false, map as each, All, IfErr, IfOk, IsPermutation, OnOk, length};
+ghost use Rattle.std.specs.Prelude.{◌≡◌, ◌≤◌, ◌%◌, ℕ, true, false, map as each, All};
+ghost use Rattle.std.specs.Prelude.{IfErr, IfOk, IsPermutation, OnOk, length};
 ghost use Rattle.std.specs.FinMap as map;
 ghost use Rattle.box_math.specs.Bounds.{IsBox, IsDims};
 ghost use Rattle.page_file.specs.declared.fault.Fault.TheVariants as fault;

@@ -1,5 +1,5 @@
-//! Changes of a store that was opened, in which each growth, or each call of the device, is refused in turn. One that is
-//! refused before it wrote a page leaves a store that goes on.
+//! Changes of a store that was opened, in which each growth, or each call of the device, is refused in turn. One that
+//! is refused before it wrote a page leaves a store that goes on.
 
 use crate::change_rows::{FIVE, TWO};
 use crate::commands::{Command, answer, listed};

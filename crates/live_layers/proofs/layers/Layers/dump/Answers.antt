@@ -28,8 +28,7 @@ returns-in-Err-clause-answered g c = λ t sound.
     let new = c.dump_layers.new.cache in
     let hs = sound.holds.layers in
     let rows : map row_of hs ≡ map record_of c.deref.result.now = sound.holds.rows ∙ sym (ap (map record_of) c.deref.ensures.0) in
-    let rose = HasRisen (g.B.BlockDevice.faults (device_of old)) (g.B.BlockDevice.faults (device_of new)) in
-    (
+    let rose = HasRisen (g.B.BlockDevice.faults (device_of old)) (g.B.BlockDevice.faults (device_of new)) in (
       sound_kept c.args.self.now _ t c.dump_layers.ensures.asks.map refl refl (λ w. w) sound,
       inr (subst (λ (x : Refusal). IsFault rose x) (sym c.as_refusal.ensures)
           (device_refuses rose c.in-Err.fault (c.in-Err.ensures.stands sound.map.honest hs rows sound.holds.stand) (risen_of _ _ c.in-Err.fault c.in-Err.ensures.asks.faults))),
