@@ -1,13 +1,9 @@
--- What a call leaves that found no memory of its own, or no page number.
-use Rattle.std.proofs.Common.{◌≡◌, ◌⊎◌, ℕ, ◌≤◌, Some, ⊎_elim, inl, inr, refl, subst, arith}
+-- What a call leaves that found no memory of its own.
+use Rattle.std.proofs.Common.{Some, refl, arith}
 use Rattle.page_file.specs.declared.fault.Fault.TheVariants as fault
 use Rattle.page_cache.specs.Calls.{AsksUntil, ChangesUntil, asks_changes}
 use Rattle.page_cache.specs.Laws.{no_call_keeps_the_gate, no_call_keeps_the_map}
 use Rattle.page_cache.specs.declared.cache.PageCache.{PageCache}
-
--- where a number is as great as it can be, a greater one is too
-pub spent : (X Y : Type 0) (limit was now : ℕ) → X ⊎ Y → (Y → was ≡ limit) → was ≤ now → X ⊎ (Y × (limit ≤ now))
-spent X Y limit was now h full rises = ⊎_elim (λ (x : X). inl x) (λ (y : Y). inr (y, subst (λ k. k ≤ now) (full y) rises)) h
 
 module _ {D A : Type 0} {m : _} where
   pub no_memory_asks : (cache : PageCache D A m) → AsksUntil cache cache (Some fault.Memory)

@@ -4,7 +4,7 @@ ghost use Rattle.std.specs.Prelude.{◌≡◌, ◌^◌, ◌<◌, ◌≤◌, All,
 ghost use Rattle.box_math.specs.Bounds.{IsDims};
 ghost use Rattle.page_file.specs.Pages.{SameBut};
 ghost use Rattle.page_file.specs.declared.gate.Gate.TheVariants.{Open};
-ghost use Rattle.page_cache.specs.Cache.{IsPageMap, gate_of, pages};
+ghost use Rattle.page_cache.specs.Cache.{Grows, IsPageMap, gate_of, pages};
 ghost use Rattle.page_cache.specs.Calls.{Changes};
 ghost use Rattle.tree_node.specs.Boxes.{least_box};
 ghost use Rattle.tree_node.specs.Nodes.{items_of};
@@ -53,6 +53,7 @@ pub(crate) fn write_new<const D: usize, B: BlockDevice, A: Allocator + Copy>(
     ensures node { IsPageMap cache.old → IfOk result (λ n. node_in D (pages cache.new n)
         ≡ Some (record { level = level; entries = items_of entries.now })) }
     ensures others { IsPageMap cache.old → IfOk result (λ n. SameBut n (pages cache.old) (pages cache.new)) }
+    ensures grows { Grows 1 cache.old cache.new }
     ensures faults { IsPageMap cache.old → IfErr result (IsNoDamage cache.new) }
 {
     let node = node_of(entries, level);
@@ -81,6 +82,7 @@ pub(crate) fn write_parent<const D: usize, B: BlockDevice, A: Allocator + Copy>(
         ≡ Some (record { level = level; entries = items_of entries.now })) }
     ensures others { IsPageMap cache.old
         → IfOk result (λ parent. SameBut parent.reference (pages cache.old) (pages cache.new)) }
+    ensures grows { Grows 1 cache.old cache.new }
     ensures faults { IsPageMap cache.old → IfErr result (IsNoDamage cache.new) }
 {
     let page = write_new(cache, entries, level)?;

@@ -1,11 +1,11 @@
 //! Packed trees, written level by level into pages that were not live.
 
-ghost use Rattle.std.specs.Prelude.{◌≡◌, ◌+◌, ◌*◌, ◌^◌, ◌<◌, ◌≤◌, ℕ, All, IfErr, IfOk, IsPermutation, List, []};
+ghost use Rattle.std.specs.Prelude.{◌≡◌, ◌+◌, ◌*◌, ◌/◌, ◌^◌, ◌<◌, ◌≤◌, ℕ, All, IfErr, IfOk, IsPermutation, List, []};
 ghost use Rattle.std.specs.Prelude.{length, map};
 ghost use Rattle.box_math.specs.Bounds.{IsDims};
 ghost use Rattle.page_file.specs.declared.fault.Fault.TheVariants as fault;
 ghost use Rattle.page_file.specs.declared.gate.Gate.TheVariants.{Open};
-ghost use Rattle.page_cache.specs.Cache.{IsPageMap, gate_of, pages};
+ghost use Rattle.page_cache.specs.Cache.{Grows, IsPageMap, gate_of, pages};
 ghost use Rattle.page_cache.specs.Calls.{Changes};
 ghost use Rattle.tree_node.specs.Nodes.{items_of};
 ghost use Rattle.tree_node.specs.Positions.{total};
@@ -29,8 +29,10 @@ use tree_node::see_boxes;
 /// Makes a tree packed from these objects, in pages that were not live: its nodes have at most `m_max` entries, and no
 /// objects make an empty leaf. The gate has to be open. The objects are left in some order.
 ///
+/// It lets at most one page more become live than there are objects, also where it is refused.
+///
 /// A refusal says whether a page may have been touched; on a sound map it is `Memory`, `Device` or `NoPages`, the last
-/// only where all page numbers are given out. The memory for the order of the objects and for the list of the leaves is
+/// only where each page number is live. The memory for the order of the objects and for the list of the leaves is
 /// taken before the first page; the lists of the levels above grow while pages are written.
 pub fn load<const D: usize, B: BlockDevice, A: Allocator + Copy, H: Allocator + Copy>(
     alloc: H,
@@ -46,6 +48,7 @@ pub fn load<const D: usize, B: BlockDevice, A: Allocator + Copy, H: Allocator + 
     ensures loaded { IsPageMap cache.old
         → IfOk result (λ root. Loads D m_max (pages cache.old) (pages cache.new) (items_of objects.old) root) }
     ensures all { IsPermutation objects.old objects.new }
+    ensures grows { Grows (length objects.old + 1) cache.old cache.new }
     ensures faults { IsPageMap cache.old → IfErr result (λ b. IsNoDamage cache.new b.cause) }
 {
     see_boxes(objects);
@@ -72,6 +75,7 @@ fn pack<const D: usize, B: BlockDevice, A: Allocator + Copy, H: Allocator + Copy
         → WaitFor D level (pages cache.old) (items_of entries.old) bs
         → IfOk result (λ root. PackedAt D m_max level (pages cache.old) (pages cache.new) bs root) }
     ensures all { IsPermutation entries.old entries.new }
+    ensures grows { Grows (length entries.old + 1) cache.old cache.new }
     ensures faults { IsPageMap cache.old → IfErr result (λ b. IsNoDamage cache.new b.cause) }
 {
     if entries.len() <= usize::from(m_max) {
@@ -111,6 +115,7 @@ fn pack_level<const D: usize, B: BlockDevice, A: Allocator + Copy, H: Allocator 
         → IfOk result (λ parents. LevelPacked D m_max level (pages cache.old) (pages cache.new) bs
         (items_of parents.items)) }
     ensures all { IsPermutation entries.old entries.new }
+    ensures grows { Grows (length entries.old / 2) cache.old cache.new }
     ensures faults { IsPageMap cache.old → IfErr result (λ b. IsNoDamage cache.new b.cause) }
 {
     let sizes = tile(alloc, entries, m_max)?;
@@ -153,6 +158,7 @@ fn write_level<const D: usize, B: BlockDevice, A: Allocator + Copy, H: Allocator
         → WaitFor D level (pages cache.old) (items_of entries.now) (joined runs)
         → IfOk result (λ parents. LevelWritten D level (pages cache.old) (pages cache.new) runs
         (items_of parents.items)) }
+    ensures grows { Grows (length sizes.now) cache.old cache.new }
     ensures faults { IsPageMap cache.old → IfErr result (IsNoDamage cache.new) }
 {
     let mut from = 0;

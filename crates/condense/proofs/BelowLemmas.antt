@@ -1,5 +1,5 @@
 -- The child that an object is looked for in, while the ones before it lacked it.
-use Rattle.std.proofs.Common.{Result, Ok, Err, IfOk, IfErr, IfSome, IsNone, Option, None, ◌≡◌, ◌∙◌, ℕ, zero, suc, ◌+◌, ◌-◌, ◌<◌, ◌≤◌, IsSome, Some, List, [], length, map, get_or, refl, sym, ap, subst, arith}
+use Rattle.std.proofs.Common.{Result, Ok, Err, IfOk, IfErr, IfSome, IsNone, Option, None, ◌≡◌, ◌∙◌, ℕ, suc, ◌+◌, ◌-◌, ◌<◌, ◌≤◌, IsSome, Some, List, [], length, map, get_or, refl, sym, ap, subst, arith}
 use Rattle.std.specs.List.{Contains}
 use Rattle.std.proofs.lemmas.List.{get_or-map, length-map}
 use Rattle.box_math.specs.Bounds.{Bounds, Within}
@@ -9,10 +9,9 @@ use Rattle.tree_node.specs.declared.node.Root.{Root}
 use Rattle.tree_node.specs.Nodes.{Item, item_of}
 use Rattle.tree_node.specs.Trees.{Row, objects_in, row_items}
 use Rattle.tree_node.proofs.RowLemmas.{all_dropped, row_drop}
-use Rattle.node_page.specs.Standing.{PageMap, HasNode, RowStands, Stands, node_in}
+use Rattle.node_page.specs.Standing.{PageMap, RowStands, Stands, node_in}
 use Rattle.node_page.proofs.PartLemmas.{moves_from}
 use Rattle.node_page.proofs.StandingLemmas.{node_stays, page_of_node, row_stays}
-use Rattle.reinsert.specs.Children.{Child, child_at, occurs_at}
 use Rattle.reinsert.specs.Placed.{Held}
 use Rattle.reinsert.proofs.ChildLemmas.{HasChild, has_child}
 use Rattle.reinsert.proofs.PlaceLemmas.{items_read}

@@ -1,18 +1,18 @@
 -- What is kept is inserted, one entry after the other.
-use Rattle.std.proofs.Common.{◌≡◌, ◌∙◌, ℕ, zero, suc, ◌+◌, ◌-◌, ◌<◌, ◌≤◌, IsSome, List, [], ◌∷◌, ◌++◌, map, reverse, refl, sym, ap, subst, arith}
+use Rattle.std.proofs.Common.{◌≡◌, ◌∙◌, ℕ, ◌+◌, ◌<◌, ◌≤◌, IsSome, List, [], ◌∷◌, ◌++◌, map, reverse, refl, sym, ap, subst, arith}
 use Rattle.std.proofs.lemmas.List.{reverse-append}
 use Rattle.tree_node.specs.declared.node.Root.{Root}
 use Rattle.tree_node.specs.Boxes.{RowHasBoxes}
 use Rattle.tree_node.specs.Nodes.{Item}
 use Rattle.tree_node.specs.Rows.{Waiter, item_in, occurs_on, occurs_waiting}
 use Rattle.tree_node.specs.Shape.{HasLooseShape}
-use Rattle.tree_node.specs.Trees.{Branch, Tree, end, more, occurs_in}
+use Rattle.tree_node.specs.Trees.{Tree, end, more, occurs_in}
 use Rattle.node_page.specs.Changes.{AllWait}
 use Rattle.node_page.specs.Parts.{Moves}
-use Rattle.node_page.specs.Standing.{PageMap, RowStands, Stands}
+use Rattle.node_page.specs.Standing.{PageMap, RowStands}
 use Rattle.node_page.proofs.PartLemmas.{moves_in_turn, moves_same, staying_moves}
 use Rattle.node_page.proofs.StandingLemmas.{pages_are_there}
-use Rattle.reinsert.specs.Inserted.{CanInsert, InsertsTo, IsRootOf}
+use Rattle.reinsert.specs.Inserted.{CanInsert, InsertsTo}
 use Rattle.reinsert.specs.Insertion.{IsInsertion}
 use Rattle.reinsert.specs.Kept.{AllHaveShape, EntryHasShape}
 use Rattle.reinsert.specs.Placed.{Held, held_in}

@@ -1,14 +1,14 @@
 -- Where an object is: the boxes that lead to it, and the leaf that it is taken from.
-use Rattle.std.proofs.Common.{◌≡◌, ◌∙◌, ◌⊎◌, ℕ, zero, suc, ◌+◌, ◌-◌, ◌<◌, ◌≤◌, Some, List, [], ◌∷◌, ◌++◌, length, map, take, drop, get_or, reverse, refl, sym, ap, subst, ⊎_elim, inl, inr, arith}
+use Rattle.std.proofs.Common.{◌≡◌, ◌∙◌, ◌⊎◌, ℕ, zero, suc, ◌<◌, Some, List, [], ◌∷◌, length, map, take, drop, get_or, refl, sym, ap, subst, ⊎_elim, inl, inr, arith}
 use Rattle.std.specs.List.{Contains}
 use Rattle.std.proofs.lemmas.List.{append-nil}
 use Rattle.std.proofs.lemmas.List.Elements.{Contains-append_cases, Contains-append_left, Contains-append_right}
 use Rattle.box_math.specs.Bounds.{Bounds, Within}
 use Rattle.box_math.proofs.BoxLaws.{Within-trans}
 use Rattle.tree_node.specs.Nodes.{Item}
-use Rattle.tree_node.specs.Rows.{branches_of, item_in, occurs_on, row_of}
+use Rattle.tree_node.specs.Rows.{branches_of, item_in, row_of}
 use Rattle.tree_node.specs.Shape.{RowHasShape, RowWithin}
-use Rattle.tree_node.specs.Trees.{Row, end, more, Branch, object, child, objects_in, occurs, row_items}
+use Rattle.tree_node.specs.Trees.{Row, end, more, object, child, objects_in, row_items}
 use Rattle.tree_node.proofs.RowLemmas.{items-branches_of, items-row_of, row_drop, row_of-branches_of}
 use Rattle.node_page.specs.Standing.{PageMap, RowStands}
 use Rattle.node_page.proofs.PartLemmas.{moves_same, staying_moves}

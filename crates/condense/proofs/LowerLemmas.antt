@@ -1,5 +1,5 @@
 -- The root gives way to its only child, and so on.
-use Rattle.std.proofs.Common.{Result, Ok, Err, IfErr, IsErrAnd, ◌≡◌, ◌∙◌, ℕ, zero, suc, ◌+◌, ◌-◌, ◌<◌, ◌≤◌, IsSome, Some, None, List, [], length, map, get_or, refl, sym, ap, subst, arith}
+use Rattle.std.proofs.Common.{Result, Ok, Err, IfErr, IsErrAnd, ◌≡◌, ◌∙◌, ℕ, suc, ◌+◌, ◌-◌, ◌<◌, IsSome, Some, None, List, [], length, map, get_or, refl, sym, ap, subst, arith}
 use Rattle.std.proofs.lemmas.List.{length-map}
 use Rattle.page_file.specs.Pages.{SameBut}
 use Rattle.page_file.specs.declared.fault.Fault.{Fault}
@@ -9,9 +9,9 @@ use Rattle.tree_node.specs.Nodes.{Item, item_of}
 use Rattle.tree_node.specs.Trees.{Row, end, more, object, child, Tree, occurs, occurs_in, row_items, row_length}
 use Rattle.tree_node.proofs.RowLemmas.{occurs_here}
 use Rattle.node_page.specs.Parts.{Moves, no_page, one_page}
-use Rattle.node_page.specs.Standing.{PageMap, HasNode, RowStands, Stands, node_in}
+use Rattle.node_page.specs.Standing.{PageMap, HasNode, Stands, node_in}
 use Rattle.node_page.proofs.PartLemmas.{moves_in_turn, moves_same, one_page_moves, staying_moves}
-use Rattle.node_page.proofs.StandingLemmas.{equal_pages_stand, node_stays, page_of_node, pages_are_there, row_stays}
+use Rattle.node_page.proofs.StandingLemmas.{equal_pages_stand, page_of_node, pages_are_there}
 use Rattle.reinsert.specs.Children.{Child, child_at, occurs_at}
 use Rattle.reinsert.specs.Inserted.{IsRootOf}
 use Rattle.reinsert.proofs.ChildLemmas.{HasChild, has_child}

@@ -1,21 +1,21 @@
 -- The root written, what is kept inserted, and the root lowered: a removal.
-use Rattle.std.proofs.Common.{◌≡◌, ◌∙◌, ℕ, zero, suc, ◌+◌, ◌-◌, ◌<◌, ◌≤◌, IsSome, Some, None, List, [], ◌++◌, map, reverse, refl, sym, ap, subst, arith}
+use Rattle.std.proofs.Common.{◌≡◌, ◌∙◌, ℕ, ◌+◌, ◌<◌, ◌≤◌, IsSome, Some, List, refl, sym, ap, subst, arith}
 use Rattle.box_math.specs.Bounds.{Bounds}
 use Rattle.page_file.specs.Pages.{SameBut}
 use Rattle.tree_node.specs.declared.node.Root.{Root}
 use Rattle.tree_node.specs.Nodes.{Item, NodeContent}
 use Rattle.tree_node.specs.Rows.{occurs_waiting}
-use Rattle.tree_node.specs.Trees.{Tree, occurs, occurs_in, row_items}
+use Rattle.tree_node.specs.Trees.{Tree, occurs, occurs_in}
 use Rattle.tree_node.proofs.RowLemmas.{occurs_here}
 use Rattle.node_page.specs.Parts.{Moves, one_page}
-use Rattle.node_page.specs.Standing.{PageMap, HasNode, Stands, node_in}
+use Rattle.node_page.specs.Standing.{PageMap, HasNode, node_in}
 use Rattle.node_page.proofs.PartLemmas.{moves_in_turn, moves_same}
 use Rattle.node_page.proofs.StandingLemmas.{page_of_node, row_stays}
-use Rattle.reinsert.specs.Placed.{Held, held_in}
+use Rattle.reinsert.specs.Placed.{Held}
 use Rattle.reinsert.proofs.SettledLemmas.{AllWait_frame, hit_live, of_sum}
 use Rattle.reinsert.proofs.StandLemmas.{moves_with, rest_once, rest_same}
 use Rattle.condense.specs.Filled.{CanFill, FillsTo, GivesWayTo}
-use Rattle.condense.specs.Removed.{CanRemove, RemovesTo, TookOut}
+use Rattle.condense.specs.Removed.{RemovesTo, TookOut}
 
 -- the root as it is written
 abbrev pub cut_root : {dims most : ℕ} {m m1 : PageMap} {root : Root} {t : Tree} {elsewhere : ℕ → ℕ} {id : ℕ} {bounds : Bounds} {held : List Held} {items : List Item} → TookOut dims most m m1 root t elsewhere id bounds held items → Tree

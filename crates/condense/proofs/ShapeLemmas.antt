@@ -1,12 +1,12 @@
 -- A removal keeps the shape of a tree.
-use Rattle.std.proofs.Common.{◌≡◌, ◌∙◌, ℕ, zero, suc, ◌+◌, ◌-◌, ◌<◌, ◌≤◌, Bool, true, false, Some, List, [], ◌∷◌, ◌++◌, length, map, take, drop, refl, sym, ap, subst, arith}
+use Rattle.std.proofs.Common.{◌≡◌, ◌∙◌, ℕ, zero, suc, ◌+◌, ◌-◌, ◌<◌, ◌≤◌, Some, List, [], ◌∷◌, ◌++◌, length, take, drop, refl, sym, ap, subst, arith}
 use Rattle.std.specs.Prelude.{nat_lt}
 use Rattle.std.proofs.lemmas.Bool.Decides.{nat_tests}
 use Rattle.box_math.specs.Bounds.{Bounds}
 use Rattle.tree_node.specs.Boxes.{RowHasBoxes, least_box}
 use Rattle.tree_node.specs.Rows.{Waiter, branches_of, occurs_waiting, row_of}
-use Rattle.tree_node.specs.Shape.{HasLooseShape, HasShape, IsLeastBox, RowHasShape, least_entries}
-use Rattle.tree_node.specs.Trees.{Row, end, more, Branch, object, child, Tree, RowOnLevel, row_items, row_length}
+use Rattle.tree_node.specs.Shape.{HasLooseShape, HasShape, least_entries}
+use Rattle.tree_node.specs.Trees.{Row, end, more, Branch, object, child, Tree, row_items, row_length}
 use Rattle.tree_node.proofs.BoxLemmas.{join_is_least_box}
 use Rattle.tree_node.proofs.RowLemmas.{row_of-branches_of}
 use Rattle.reinsert.specs.Children.{Child, child_at, with_child}
@@ -14,7 +14,7 @@ use Rattle.reinsert.specs.Kept.{AllHaveShape}
 use Rattle.reinsert.specs.Placing.{waiting_on}
 use Rattle.reinsert.proofs.ShapeLemmas.{Sound, insertion_keeps_loose_shape, length-branches_of, length-row_of}
 use Rattle.condense.specs.Filled.{CanFillShaped}
-use Rattle.condense.specs.Removal.{AreInserted, Condensed, GivesWay, IsRemoval, TakesOut, condensed, without}
+use Rattle.condense.specs.Removal.{AreInserted, Condensed, GivesWay, TakesOut, condensed, without}
 use Rattle.condense.specs.Removed.{RemovalKeepsShape}
 use Rattle.condense.proofs.CutLemmas.{cut, cut-is, length-cut}
 use Rattle.condense.proofs.ObjectLemmas.{by_bool}

@@ -1,5 +1,5 @@
 -- What a removal needs of the pages, and what it leaves (our rule, docs/FORMAT.md, "Trees of pages").
-use Rattle.std.specs.Prelude.{◌≡◌, ◌⊎◌, ℕ, ◌+◌, ◌^◌, ◌<◌, ◌≤◌, List, [], ◌∷◌, IsSome, false, Result, IsErrAnd}
+use Rattle.std.specs.Prelude.{◌≡◌, ◌⊎◌, ℕ, ◌+◌, ◌*◌, ◌^◌, ◌<◌, ◌≤◌, List, [], ◌∷◌, IsSome, false, Result, IsErrAnd}
 use Rattle.std.specs.List.Sorted.{IsPermutation}
 use Rattle.box_math.specs.Bounds.{Bounds}
 use Rattle.page_file.specs.Fault.{IsOfDevice}
@@ -12,7 +12,7 @@ use Rattle.tree_node.specs.Trees.{Tree, objects_in, occurs_in}
 use Rattle.node_page.specs.Parts.{Moves}
 use Rattle.node_page.specs.Standing.{PageMap, Stands}
 use Rattle.node_page.specs.declared.broken.Broken.{Broken}
-use Rattle.reinsert.specs.Inserted.{IsRootOf}
+use Rattle.reinsert.specs.Inserted.{IsRootOf, most_new_pages}
 use Rattle.reinsert.specs.Placed.{Held}
 use Rattle.condense.specs.Removal.{IsRemoval}
 use Rattle.condense.specs.Taken.{HasTaken}
@@ -38,6 +38,11 @@ pub record RemovesTo (dims most : ℕ) (m m' : PageMap) (elsewhere : ℕ → ℕ
   pub stands : Stands dims m' new
   pub removal : IsRemoval dims most elsewhere id bounds t new
   pub moves : Moves m m' (λ n. occurs_in n t) (λ n. occurs_in n new)
+
+-- By how many pages the live ones grow at most: a removal keeps up to 39 entries of each of 40 levels, and inserts each
+-- once.
+abbrev pub most_removal_pages : ℕ
+most_removal_pages = 1560 * most_new_pages
 
 -- the tree stood at the root, and the object was taken out below it; what the root has become is in hand
 pub record TookOut (dims most : ℕ) (m m' : PageMap) (root : Root) (t : Tree) (elsewhere : ℕ → ℕ) (id : ℕ)

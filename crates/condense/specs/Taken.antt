@@ -1,10 +1,10 @@
 -- What the code has done where an object is taken out below a node: the words of its inner contracts (docs/RULES.md,
 -- "Removal").
-use Rattle.std.specs.Prelude.{◌≡◌, ◌⊎◌, ℕ, ◌+◌, ◌-◌, ◌<◌, ◌≤◌, All, Some, List, [], ◌∷◌, ◌++◌, length, map, reverse, take, drop, slice_index_or}
+use Rattle.std.specs.Prelude.{◌≡◌, ◌⊎◌, ℕ, ◌+◌, ◌-◌, ◌<◌, ◌≤◌, All, Some, List, ◌++◌, length, map, reverse, take, drop, slice_index_or}
 use Rattle.box_math.specs.Bounds.{Bounds, Within}
 use Rattle.tree_node.specs.declared.node.Root.{Root}
 use Rattle.tree_node.specs.Nodes.{Item, NodeContent, item_of}
-use Rattle.tree_node.specs.Rows.{Waiter, occurs_waiting}
+use Rattle.tree_node.specs.Rows.{occurs_waiting}
 use Rattle.tree_node.specs.Trees.{Row, end, more, object, child, Tree, occurs, row_items}
 use Rattle.node_page.specs.Changes.{AllWait}
 use Rattle.node_page.specs.Layout.{IsReference}

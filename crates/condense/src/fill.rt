@@ -1,13 +1,15 @@
 //! What a removal has kept, inserted again.
 
-ghost use Rattle.std.specs.Prelude.{◌≡◌, ◌^◌, ◌<◌, ◌≤◌, ℕ, List, IfOk, IfErr};
+ghost use Rattle.std.specs.Prelude.{◌≡◌, ◌^◌, ◌*◌, ◌<◌, ◌≤◌, ℕ, List, IfOk, IfErr};
+ghost use Rattle.arrayvec.specs.ArrayVec.{array_vec_len};
 ghost use Rattle.box_math.specs.Bounds.{IsDims};
 ghost use Rattle.page_file.specs.declared.gate.Gate.TheVariants.{Open};
-ghost use Rattle.page_cache.specs.Cache.{IsPageMap, gate_of, pages};
+ghost use Rattle.page_cache.specs.Cache.{Grows, IsPageMap, gate_of, pages};
 ghost use Rattle.page_cache.specs.Calls.{Changes};
 ghost use Rattle.tree_node.specs.Rows.{Waiter};
 ghost use Rattle.tree_node.specs.Trees.{Tree};
 ghost use Rattle.node_page.specs.Faults.{IsChangeFault, IsNoDamage};
+ghost use Rattle.reinsert.specs.Inserted.{most_new_pages};
 ghost use Rattle.condense.specs.Filled.{CanFill, CanFillShaped, FillsTo};
 ghost use Rattle.condense.specs.Removed.{IsRoot};
 ghost use Rattle.condense.specs.Taken.{held_now};
@@ -33,6 +35,7 @@ pub(crate) fn insert_kept<const D: usize, B: BlockDevice, A: Allocator + Copy>(
     requires most { (4 ≤ m_max) × (m_max ≤ 100) }
     requires root { IsRoot root }
     ensures changes { Changes cache.old cache.new result }
+    ensures grows { Grows (most_new_pages * array_vec_len kept.old.orphans) cache.old cache.new }
     ensures root { IfOk result IsRoot }
     ensures filled { IsPageMap cache.old → (t : Tree) (ws : List Waiter) (elsewhere : ℕ → ℕ)
         → CanFill D (pages cache.old) root t ws elsewhere (held_now kept.old)

@@ -4,7 +4,7 @@ ghost use Rattle.std.specs.Prelude.{◌≡◌, ◌⊎◌, ◌≤◌, Some, false
 ghost use Rattle.box_math.specs.Bounds.{IsDims};
 ghost use Rattle.page_file.specs.Fault.{IsDamage, IsOfDevice};
 ghost use Rattle.page_file.specs.declared.gate.Gate.TheVariants.{Open};
-ghost use Rattle.page_cache.specs.Cache.{IsPageMap, gate_of, pages};
+ghost use Rattle.page_cache.specs.Cache.{Grows, IsPageMap, gate_of, pages};
 ghost use Rattle.page_cache.specs.Calls.{AsksUntil};
 ghost use Rattle.tree_node.specs.Trees.{Tree, occurs_in};
 ghost use Rattle.node_page.specs.Broken.{Alters};
@@ -24,6 +24,7 @@ use tree_node::Root;
 /// Where the pages are a sound map, and stand for a tree there, none of the tree's pages is live after `Ok`, and all
 /// others are as before. A refusal is of memory or of the device then, and the map stays sound. One that is not
 /// `touched` came before the first page was freed: pages were only asked for. In other pages one may also be damaged.
+/// Also after a refusal no more pages are live than before.
 pub fn free_tree<const D: usize, B: BlockDevice, A: Allocator + Copy>(
     cache: &mut PageCache<B, A>,
     root: Root,
@@ -31,6 +32,7 @@ pub fn free_tree<const D: usize, B: BlockDevice, A: Allocator + Copy>(
     requires dims { IsDims D }
     requires open { gate_of cache.old ≡ Open }
     ensures alters { Alters cache.old cache.new result }
+    ensures grows { Grows 0 cache.old cache.new }
     ensures asked { IfErr result (λ b. b.touched ≡ false → AsksUntil cache.old cache.new (Some b.cause)) }
     ensures freed { IsPageMap cache.old → (t : Tree) → IsRootOf root t → Stands D (pages cache.old) t
         → OnOk result (Moves (pages cache.old) (pages cache.new) (λ n. occurs_in n t) no_page) }

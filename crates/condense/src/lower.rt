@@ -4,7 +4,7 @@ ghost use Rattle.std.specs.Prelude.{◌≡◌, ◌⊎◌, ◌^◌, ◌<◌, ◌�
 ghost use Rattle.box_math.specs.Bounds.{IsDims};
 ghost use Rattle.page_file.specs.Fault.{IsDamage, IsOfDevice};
 ghost use Rattle.page_file.specs.declared.gate.Gate.TheVariants.{Open};
-ghost use Rattle.page_cache.specs.Cache.{IsPageMap, gate_of, pages};
+ghost use Rattle.page_cache.specs.Cache.{Grows, IsPageMap, gate_of, pages};
 ghost use Rattle.page_cache.specs.Calls.{Changes};
 ghost use Rattle.tree_node.specs.Trees.{Tree};
 ghost use Rattle.node_page.specs.Standing.{Stands};
@@ -29,6 +29,7 @@ pub(crate) fn give_way<const D: usize, B: BlockDevice, A: Allocator + Copy>(
     requires open { gate_of cache.old ≡ Open }
     requires root { IsRoot root }
     ensures changes { Changes cache.old cache.new result }
+    ensures grows { Grows 0 cache.old cache.new }
     ensures root { IfOk result IsRoot }
     ensures lowered { IsPageMap cache.old → (t : Tree) → IsRootOf root t → Stands D (pages cache.old) t
         → IfOk result (λ after. IsPageMap cache.new × GivesWayTo D (pages cache.old) (pages cache.new) t after) }

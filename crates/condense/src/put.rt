@@ -7,7 +7,7 @@ ghost use Rattle.box_math.specs.Bounds.{Bounds, IsDims};
 ghost use Rattle.page_file.specs.Fault.{IsDamage, IsOfDevice};
 ghost use Rattle.page_file.specs.Pages.{SameBut};
 ghost use Rattle.page_file.specs.declared.gate.Gate.TheVariants.{Open};
-ghost use Rattle.page_cache.specs.Cache.{IsLive, IsPageMap, gate_of, pages};
+ghost use Rattle.page_cache.specs.Cache.{Grows, IsLive, IsPageMap, gate_of, pages};
 ghost use Rattle.page_cache.specs.Calls.{Changes};
 ghost use Rattle.tree_node.specs.Boxes.{least_box};
 ghost use Rattle.tree_node.specs.Nodes.{Item, content_of, item_of};
@@ -55,6 +55,7 @@ pub(crate) fn put_back<const D: usize, B: BlockDevice, A: Allocator + Copy>(
     requires cut { IsCut (node.level - 1) (content_of lower) }
     requires room { array_vec_len kept.old.orphans + 39 ≤ 1560 }
     ensures alters { Alters cache.old cache.new result }
+    ensures grows { Grows 0 cache.old cache.new }
     ensures some { IfOk result (λ o. ¬ (o ≡ None)) }
     ensures cut { IfOk result (λ o. IfSome o (λ after. IsCut node.entry.level (content_of after))) }
     ensures room { array_vec_len kept.new.orphans ≤ array_vec_len kept.old.orphans + 39 }
@@ -94,6 +95,7 @@ fn put_child<const D: usize, B: BlockDevice, A: Allocator + Copy>(
     requires cut { IsCut (node.level - 1) (content_of lower) }
     requires room { array_vec_len kept.old.orphans + 39 ≤ 1560 }
     ensures changes { Changes cache.old cache.new result }
+    ensures grows { Grows 0 cache.old cache.new }
     ensures cut { IfOk result (λ after. IsCut node.entry.level (content_of after)) }
     ensures room { array_vec_len kept.new.orphans ≤ array_vec_len kept.old.orphans + 39 }
     ensures taken { IsPageMap cache.old → (m : PageMap) (page id : ℕ) (bounds : Bounds) (row : Row) (held : List Held)
@@ -131,6 +133,7 @@ fn leave_out<const D: usize, B: BlockDevice, A: Allocator + Copy>(
     requires cut { IsCut (node.level - 1) (content_of lower) }
     requires room { array_vec_len kept.old.orphans + 39 ≤ 1560 }
     ensures changes { Changes cache.old cache.new result }
+    ensures grows { Grows 0 cache.old cache.new }
     ensures cut { IfOk result (λ after. IsCut node.entry.level (content_of after)) }
     ensures room { array_vec_len kept.new.orphans ≤ array_vec_len kept.old.orphans + 39 }
     ensures sound { IsPageMap cache.old → IsLive cache.old page → IsPageMap cache.new }
@@ -164,6 +167,7 @@ fn write_back<const D: usize, B: BlockDevice, A: Allocator + Copy>(
     requires some { 0 < array_vec_len lower.entries }
     requires cut { IsCut (node.level - 1) (content_of lower) }
     ensures changes { Changes cache.old cache.new result }
+    ensures grows { Grows 0 cache.old cache.new }
     ensures cut { IfOk result (λ after. IsCut node.entry.level (content_of after)) }
     ensures sound { IsPageMap cache.old → IsLive cache.old page → IsPageMap cache.new }
     ensures there { IsPageMap cache.old → IsLive cache.old page

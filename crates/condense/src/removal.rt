@@ -1,12 +1,12 @@
 //! A lawful removal: the object leaves, what is kept comes back, and the root gives way.
 
-ghost use Rattle.std.specs.Prelude.{◌≡◌, ◌^◌, ◌<◌, ◌≤◌, ◌∷◌, ℕ, IfOk, IfErr, true, false, map};
+ghost use Rattle.std.specs.Prelude.{◌≡◌, ◌^◌, ◌*◌, ◌<◌, ◌≤◌, ◌∷◌, ℕ, IfOk, IfErr, true, false, map};
 ghost use Rattle.std.specs.List.{Contains};
 ghost use Rattle.std.specs.List.Sorted.{IsPermutation};
 ghost use Rattle.arrayvec.specs.ArrayVec.{array_vec_len};
 ghost use Rattle.box_math.specs.Bounds.{Bounds, IsDims};
 ghost use Rattle.page_file.specs.declared.gate.Gate.TheVariants.{Open};
-ghost use Rattle.page_cache.specs.Cache.{IsPageMap, gate_of, pages};
+ghost use Rattle.page_cache.specs.Cache.{Grows, IsPageMap, gate_of, pages};
 ghost use Rattle.page_cache.specs.Calls.{Changes};
 ghost use Rattle.tree_node.specs.Boxes.{RowHasBoxes};
 ghost use Rattle.tree_node.specs.Nodes.{content_of, item_of};
@@ -15,8 +15,8 @@ ghost use Rattle.tree_node.specs.Trees.{Tree, objects_in};
 ghost use Rattle.node_page.specs.Broken.{Alters};
 ghost use Rattle.node_page.specs.Standing.{PageMap, Stands};
 ghost use Rattle.node_page.specs.Faults.{IsChangeFault, IsNoDamage};
-ghost use Rattle.reinsert.specs.Inserted.{IsRootOf};
-ghost use Rattle.condense.specs.Removed.{CanRemove, IsRefused, IsRoot, RemovesTo, TookOut};
+ghost use Rattle.reinsert.specs.Inserted.{IsRootOf, most_new_pages};
+ghost use Rattle.condense.specs.Removed.{CanRemove, IsRefused, IsRoot, RemovesTo, TookOut, most_removal_pages};
 ghost use Rattle.condense.specs.Taken.{IsCut, held_now};
 
 use crate::fill::insert_kept;
@@ -39,9 +39,9 @@ use tree_node::{Node, Root};
 /// longer live. A tree that has its shape keeps it, and has its objects but for the one.
 ///
 /// A refusal that is not `touched` leaves the map as it was; the room of what is kept and of what waits is taken before
-/// the first write. Where the tree has its shape and the object, a refusal is of memory or of the device, or all page
-/// numbers are given out (`NoPages`). Where no leaf has the object, that is `Damaged` with the root's page, untouched,
-/// unless memory or the device refused before.
+/// the first write. Where the tree has its shape and the object, a refusal is of memory or of the device, or each page
+/// number is live (`NoPages`). Where no leaf has the object, that is `Damaged` with the root's page, untouched, unless
+/// memory or the device refused before. Also after a refusal, at most `most_removal_pages` more pages are live.
 pub fn remove<const D: usize, B: BlockDevice, A: Allocator + Copy, H: Allocator + Copy>(
     alloc: H,
     cache: &mut PageCache<B, A>,
@@ -55,6 +55,7 @@ pub fn remove<const D: usize, B: BlockDevice, A: Allocator + Copy, H: Allocator 
     requires most { (4 ≤ m_max) × (m_max ≤ 100) }
     requires root { IsRoot root }
     ensures alters { Alters cache.old cache.new result }
+    ensures grows { Grows most_removal_pages cache.old cache.new }
     ensures root { IfOk result IsRoot }
     ensures removed { IsPageMap cache.old → (t : Tree) (elsewhere : ℕ → ℕ)
         → CanRemove D (pages cache.old) root t elsewhere → IfOk result (λ after. IsPageMap cache.new
@@ -92,6 +93,7 @@ pub fn remove_with<const D: usize, B: BlockDevice, A: Allocator + Copy>(
     requires most { (4 ≤ m_max) × (m_max ≤ 100) }
     requires root { IsRoot root }
     ensures alters { Alters cache.old cache.new result }
+    ensures grows { Grows most_removal_pages cache.old cache.new }
     ensures root { IfOk result IsRoot }
     ensures removed { IsPageMap cache.old → (t : Tree) (elsewhere : ℕ → ℕ)
         → CanRemove D (pages cache.old) root t elsewhere → IfOk result (λ after. IsPageMap cache.new
@@ -133,6 +135,7 @@ fn put_root<const D: usize, B: BlockDevice, A: Allocator + Copy>(
     requires root { IsRoot root }
     requires cut { IsCut root.level (content_of node) }
     ensures changes { Changes cache.old cache.new result }
+    ensures grows { Grows (most_new_pages * array_vec_len kept.old.orphans) cache.old cache.new }
     ensures root { IfOk result IsRoot }
     ensures removed { IsPageMap cache.old → (m : PageMap) (t : Tree) (elsewhere : ℕ → ℕ) (id : ℕ) (bounds : Bounds)
         → TookOut D m_max m (pages cache.old) root t elsewhere id bounds (held_now kept.old)

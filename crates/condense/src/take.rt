@@ -6,7 +6,7 @@ ghost use Rattle.arrayvec.specs.ArrayVec.{array_vec_len};
 ghost use Rattle.box_math.specs.Bounds.{IsDims};
 ghost use Rattle.page_file.specs.Fault.{IsDamage, IsOfDevice};
 ghost use Rattle.page_file.specs.declared.gate.Gate.TheVariants.{Open};
-ghost use Rattle.page_cache.specs.Cache.{IsPageMap, gate_of, pages};
+ghost use Rattle.page_cache.specs.Cache.{Grows, IsPageMap, gate_of, pages};
 ghost use Rattle.page_cache.specs.Calls.{AsksUntil};
 ghost use Rattle.tree_node.specs.Nodes.{content_of, item_of};
 ghost use Rattle.tree_node.specs.Trees.{Row, objects_in};
@@ -41,6 +41,7 @@ pub(crate) fn take_out<const D: usize, B: BlockDevice, A: Allocator + Copy>(
     requires most { (4 ≤ m_max) × (m_max ≤ 100) }
     requires room { array_vec_len kept.old.orphans + 39 * at.level ≤ 1560 }
     ensures alters { Alters cache.old cache.new result }
+    ensures grows { Grows 0 cache.old cache.new }
     ensures cut { IfOk result (λ o. IfSome o (λ node. IsCut at.level (content_of node))) }
     ensures room { array_vec_len kept.new.orphans ≤ array_vec_len kept.old.orphans + 39 * at.level }
     ensures none { IfOk result (λ o. o ≡ None → AsksUntil cache.old cache.new None

@@ -1,21 +1,22 @@
 -- Objects added run after run.
-use Rattle.std.proofs.Common.{◌≡◌, ◌∙◌, ◌^◌, ℕ, zero, suc, ◌+◌, ◌≤◌, None, List, [], ◌∷◌, ◌++◌, length, take, drop, refl, sym, ap, subst, inl, inr, arith}
-use Rattle.std.proofs.Math.Seq.{take-add}
-use Rattle.std.proofs.lemmas.List.{drop-drop}
+use Rattle.std.proofs.Common.{◌≡◌, ◌∙◌, ◌⊎◌, ℕ, zero, suc, ◌+◌, ◌/◌, ◌<◌, ◌≤◌, None, List, [], ◌∷◌, ◌++◌, length, take, drop, get_or, refl, sym, ap, subst, ⊎_elim, arith, length-drop}
+use Rattle.std.proofs.Math.Seq.{drop-cons, take-add}
+use Rattle.std.proofs.lemmas.Bool.{cases_lt}
+use Rattle.std.proofs.lemmas.List.{drop-drop, drop_all}
+use Rattle.std.specs.List.Sorted.{IsNonDecreasingBy}
 use Rattle.std.specs.FinMap as map
 use Rattle.std.specs.FinMap.{FinMap}
 use Rattle.std.specs.Ordering.{nat_cmp}
 use Rattle.box_math.specs.Bounds.{Bounds}
-use Rattle.page_cache.specs.Cache.{IsPageMap, next_of, pages}
+use Rattle.page_cache.specs.Cache.{Grows, IsPageMap, pages}
 use Rattle.page_cache.specs.Calls.{ChangesUntil, changes_in_turn}
-use Rattle.page_cache.specs.Laws.{numbers_are_few}
 use Rattle.page_cache.specs.declared.cache.PageCache.{PageCache}
-use Rattle.page_file.specs.declared.fault.Fault.{Fault}
 use Rattle.node_page.specs.Parts.{Moves}
 use Rattle.node_page.proofs.PartLemmas.{moves_in_turn, staying_moves}
 use Rattle.id_table.specs.Changes.{AreNew, Fills, with_all}
-use Rattle.id_table.specs.Faults.{IsOfPages}
-use Rattle.id_table.specs.Table.{IdTable, IdsStand, Object, objects_of, part_of}
+use Rattle.id_table.specs.Pages.{IsWholeRun, first_class, next_class}
+use Rattle.id_table.specs.Table.{IdTable, IdsStand, Object, class_of, objects_of, part_of}
+use Rattle.id_table.proofs.BucketLemmas.{some_object}
 use Rattle.id_table.proofs.TableLemmas.{table_there}
 
 with_all-append : (m : FinMap nat_cmp Bounds) (xs ys : List Object) → with_all m (xs ++ ys) ≡ with_all (with_all m xs) ys
@@ -33,7 +34,48 @@ others_new zero es m new = new
 others_new (suc n) [] m new = tt
 others_new (suc n) (e ∷ es) m new = others_new n es (map.insert m e.0 e.1) new.1
 
+-- ---- pages that a run takes, in the order of the remainders
+
+abbrev pub AreInOrder : List Object → Type 0
+AreInOrder es = IsNonDecreasingBy (λ (object : Object). class_of object.0) es
+
+pub next_is_low : (es : List Object) → next_class es ≤ 1000
+next_is_low [] = omega arith
+next_is_low (e ∷ es) = omega arith
+
+pub next_of_some : (es : List Object) → 0 < length es → (next_class es ≡ first_class es) × (next_class es < 1000)
+next_of_some [] some = absurd (omega (arith, some))
+next_of_some (e ∷ es) some = (refl, omega arith)
+
+next_at : (es : List Object) (i : ℕ) → i < length es → next_class (drop i es) ≡ class_of (get_or es i some_object).0
+next_at es i within = ap (λ (rest : List Object). next_class rest) (drop-cons es i some_object within)
+
+next_rises : (es : List Object) (i j : ℕ) → AreInOrder es → i ≤ j → i < length es → next_class (drop i es) ≤ next_class (drop j es)
+next_rises es i j sorted later within = ⊎_elim
+    (λ (there : j < length es). omega (arith, next_at es i within, next_at es j there, sorted i j some_object later there))
+    (λ (past : length es ≤ j). omega (arith, next_is_low (drop i es), ap (λ (rest : List Object). next_class rest) (drop_all j es past)))
+    (cases_lt j (length es))
+
 module _ {B A : Type 0} {m : _} where
+  -- a run takes a page more only where it fills one, or is the last of its chain
+  pub run_takes : (old now new : PageCache B A m) (objects : List Object) (count more : ℕ) → AreInOrder objects → count < length objects
+      → Grows (count / 100 + next_class (drop count objects)) old now → Grows 1 now new
+      → Grows 0 now new ⊎ IsWholeRun (drop count objects) more → Grows ((count + more) / 100 + next_class (drop (count + more) objects)) old new
+  run_takes old now new objects count more sorted within so_far one takes =
+      let rises = next_rises objects count (count + more) sorted (omega arith) within in
+      let first = next_of_some (drop count objects) (omega (arith, within, length-drop count objects)) in
+      let after : next_class (drop more (drop count objects)) ≡ next_class (drop (count + more) objects) = ap (λ (rest : List Object). next_class rest) (drop-drop more count objects) in
+      ⊎_elim
+      (λ (none : Grows 0 now new). omega (arith, so_far, none, rises))
+      (λ (whole : IsWholeRun (drop count objects) more). ⊎_elim
+      (λ (full : 100 ≤ more). omega (arith, so_far, one, rises, full))
+      (λ (ends : ¬ (next_class (drop more (drop count objects)) ≡ first_class (drop count objects))). omega (arith, so_far, one, rises, differ _ _ _ _ ends after first.0))
+      whole)
+      takes
+    where
+      differ : (a b next first : ℕ) → ¬ (a ≡ first) → a ≡ b → next ≡ first → ¬ (b ≡ next)
+      differ a b next first ends same is both = ends (same ∙ both ∙ is)
+
   -- the table with the objects so far
   pub record Filled (dims : ℕ) (old now : PageCache B A m) (t : IdTable) (objects : List Object) (count : ℕ) : Type 0 where
     pub table : IdTable
@@ -97,11 +139,3 @@ module _ {B A : Type 0} {m : _} where
       take_whole [] (suc n) le = refl
       take_whole (x ∷ xs) zero le = absurd (omega (arith, le))
       take_whole (x ∷ xs) (suc n) le = ap (λ l. x ∷ l) (take_whole xs n (omega (arith, le)))
-
-  -- want of page numbers is still so afterwards
-  pub wants_pages : (now new : PageCache B A m) (f : Fault) → next_of now ≤ next_of new → IsOfPages (next_of now) f → IsOfPages (next_of new) f
-  wants_pages now new f grown (inl device) = inl device
-  wants_pages now new f grown (inr none) = let few = numbers_are_few new in inr (none.0, most (next_of now) (next_of new) (2 ^ 31) none.1 grown few.1)
-    where
-      most : (a b limit : ℕ) → a ≡ limit → a ≤ b → b ≤ limit → b ≡ limit
-      most a b limit e le few = omega (arith, e, le, few)

@@ -4,7 +4,7 @@ use Rattle.std.proofs.lemmas.Bool.{cases_eq}
 use Rattle.std.proofs.lemmas.List.{append_assoc, take-append-drop}
 use Rattle.std.proofs.lemmas.List.Sums.{sum_by-append, sum_by_more}
 use Rattle.bucket_page.specs.Layout.{BucketContent}
-use Rattle.page_cache.specs.Cache.{IsLive, IsPageMap, next_of, pages}
+use Rattle.page_cache.specs.Cache.{Grows, IsLive, IsPageMap, next_of, pages}
 use Rattle.page_cache.specs.Calls.{ChangesUntil, changes_in_turn}
 use Rattle.page_cache.specs.declared.cache.PageCache.{PageCache}
 use Rattle.page_file.specs.Pages.{SameBut}
@@ -73,12 +73,14 @@ module _ {B A : Type 0} {m : _} where
   pub record Freeing (dims first : ℕ) (old now : PageCache B A m) (freed number : ℕ) : Type 0 where
     pub changes : ChangesUntil old now None
     pub next : next_of now ≡ next_of old
+    pub grows : Grows 0 old now
     pub left : IsPageMap old → (chain : List Bucket) → ChainStands dims (pages old) first chain → ((n : ℕ) → occurs_in_chain n chain ≤ 1) → Freed dims old now chain freed number
 
   pub freeing_begins : (dims first : ℕ) (cache : PageCache B A m) → ChangesUntil cache cache None → Freeing dims first cache cache 0 first
   freeing_begins dims first cache changes = record {
     changes = changes;
     next = refl;
+    grows = omega arith;
     left = λ map chain stands once. record { before = []; rest = chain; is = refl; stands = stands; map = map; frees = frees_none (pages cache) (chain_part []) (λ n. refl); long = omega arith };
   }
 
@@ -111,14 +113,15 @@ module _ {B A : Type 0} {m : _} where
         → length chain < next_of old → ⊥
     never_so_long many map chain stands once short = let f = so_far.left map chain stands once in omega (arith, f.long, many, short)
 
-    pub frees_on : (next_number : ℕ) (new : PageCache B A m) → ¬ (number ≡ 0) → ChangesUntil now new None → next_of new ≡ next_of now
+    pub frees_on : (next_number : ℕ) (new : PageCache B A m) → ¬ (number ≡ 0) → ChangesUntil now new None → next_of new ≡ next_of now → Grows 0 now new
         → (IsPageMap now → (c : BucketContent) → bucket_in dims (pages now number) ≡ Some c → next_number ≡ c.next)
         → (IsPageMap now → IsLive now number → pages new number ≡ None)
         → (IsPageMap now → IsLive now number → SameBut number (pages now) (pages new))
         → (IsPageMap now → IsLive now number → IsPageMap new) → Freeing dims first old new (freed + 1) next_number
-    frees_on next_number new some changes next reads gone others sound = record {
+    frees_on next_number new some changes next grows reads gone others sound = record {
       changes = changes_in_turn old now new None so_far.changes changes;
       next = next ∙ so_far.next;
+      grows = omega (arith, grows, so_far.grows);
       left = λ map chain stands once.
           let f = so_far.left map chain stands once in
           let b = bucket_left some map chain stands once in
@@ -172,14 +175,16 @@ module _ {B A : Type 0} {m : _} where
   pub record FreeingAll (dims directory : ℕ) (old now : PageCache B A m) (bytes : List ℕ) (class : ℕ) : Type 0 where
     pub changes : ChangesUntil old now None
     pub next : next_of now ≡ next_of old
+    pub grows : Grows 0 old now
     pub left : IsPageMap old → (t : IdTable) → t.page ≡ directory → IdsStand dims (pages old) t → pages old directory ≡ Some bytes → FreedAll old now t class
 
-  pub all_begins : (dims directory : ℕ) (old now : PageCache B A m) (bytes : List ℕ) → ChangesUntil old now None → next_of now ≡ next_of old
+  pub all_begins : (dims directory : ℕ) (old now : PageCache B A m) (bytes : List ℕ) → ChangesUntil old now None → next_of now ≡ next_of old → Grows 0 old now
       → (IsPageMap old → IsLive old directory → pages now directory ≡ None) → (IsPageMap old → IsLive old directory → SameBut directory (pages old) (pages now)) → (IsPageMap old → IsLive old directory → IsPageMap now)
       → FreeingAll dims directory old now bytes 0
-  all_begins dims directory old now bytes changes next gone others sound = record {
+  all_begins dims directory old now bytes changes next grows gone others sound = record {
     changes = changes;
     next = next;
+    grows = grows;
     left = λ map t at stands there.
         let live = is_there (pages old directory) bytes there in
         record {
@@ -206,13 +211,14 @@ module _ {B A : Type 0} {m : _} where
     pub chain_short_now : (t : IdTable) → IdsStand dims (pages old) t → length (chain_at t class) < next_of now
     chain_short_now t stands = omega (arith, chain_is_short dims old t class small stands, so_far.next)
 
-    pub frees_all_on : (first : ℕ) (new : PageCache B A m) → first ≡ link_at class bytes → ChangesUntil now new None → next_of new ≡ next_of now
+    pub frees_all_on : (first : ℕ) (new : PageCache B A m) → first ≡ link_at class bytes → ChangesUntil now new None → next_of new ≡ next_of now → Grows 0 now new
         → (IsPageMap now → (chain : List Bucket) → ChainStands dims (pages now) first chain → ((n : ℕ) → occurs_in_chain n chain ≤ 1) → IsPageMap new)
         → (IsPageMap now → (chain : List Bucket) → ChainStands dims (pages now) first chain → ((n : ℕ) → occurs_in_chain n chain ≤ 1) → Frees (pages now) (pages new) (chain_part chain))
         → FreeingAll dims directory old new bytes (class + 1)
-    frees_all_on first new is changes next sound freed = record {
+    frees_all_on first new is changes next grows sound freed = record {
       changes = changes_in_turn old now new None so_far.changes changes;
       next = next ∙ so_far.next;
+      grows = omega (arith, grows, so_far.grows);
       left = λ map t at stands there.
           let f = so_far.left map t at stands there in
           let chain = subst (λ n. ChainStands dims (pages now) n (chain_at t class)) (sym is) (chain_left map t at stands there) in

@@ -18,3 +18,4 @@ pub mod PlaceLemmas
 pub mod ReachLemmas
 pub mod FreeLemmas
 pub mod FillLemmas
+pub mod CountLemmas

@@ -1,5 +1,5 @@
 -- What writes into the pages of a table leave (our rule, docs/FORMAT.md, "Identifier tables").
-use Rattle.std.specs.Prelude.{◌≡◌, ◌⊎◌, ℕ, ◌<◌, ◌≤◌, All, List, [], ◌∷◌, ◌++◌, Option, Some, None, length, slice_index_or, take, IsSome, ⊤}
+use Rattle.std.specs.Prelude.{◌≡◌, ◌⊎◌, ℕ, ◌<◌, ◌≤◌, All, List, [], ◌∷◌, ◌++◌, Option, Some, None, length, slice_index_or, take, drop, IsSome, ⊤}
 use Rattle.block_bytes.specs.Numbers.{number_at}
 use Rattle.bucket_page.specs.Layout.{BucketContent, popped}
 use Rattle.page_file.specs.Pages.{SameBut}
@@ -94,6 +94,15 @@ pub record IsRun (class : ℕ) (objects : List Object) (count : ℕ) : Type 0 wh
   pub some : 0 < count
   pub few : count ≤ length objects
   pub placed : All (λ object. class_of object.0 ≡ class) (take count objects)
+
+-- The remainder of the next object, and a greater one where there is none.
+abbrev pub next_class : List Object → ℕ
+next_class [] = 1000
+next_class (object ∷ objects) = class_of object.0
+
+-- a run that ends where a page is full, or at an object of another remainder
+abbrev pub IsWholeRun : List Object → ℕ → Type 0
+IsWholeRun objects count = (100 ≤ count) ⊎ (¬ (next_class (drop count objects) ≡ first_class objects))
 
 -- a bucket with these objects after its own
 abbrev pub with_more : BucketContent → List Object → BucketContent

@@ -8,12 +8,12 @@ ghost use Rattle.bucket_page.specs.Layout.{BucketContent, bucket_at};
 ghost use Rattle.page_file.specs.Fault.{IsDamage, IsOfDevice};
 ghost use Rattle.page_file.specs.Pages.{SameBut};
 ghost use Rattle.page_file.specs.declared.gate.Gate.TheVariants.{Open};
-ghost use Rattle.page_cache.specs.Cache.{IsHonest, IsLive, IsPageMap, gate_of, next_of, pages};
+ghost use Rattle.page_cache.specs.Cache.{Grows, IsHonest, IsLive, IsPageMap, gate_of, next_of, pages};
 ghost use Rattle.page_cache.specs.Calls.{Changes};
 ghost use Rattle.node_page.specs.Broken.{Alters};
+ghost use Rattle.node_page.specs.Faults.{IsNoDamage};
 ghost use Rattle.id_table.specs.Changes.{Adds, AreNew, Fills};
-ghost use Rattle.id_table.specs.Faults.{IsOfPages};
-ghost use Rattle.id_table.specs.Pages.{IsRun, PutsBefore, first_class, with_more};
+ghost use Rattle.id_table.specs.Pages.{IsRun, IsWholeRun, PutsBefore, first_class, with_more};
 ghost use Rattle.id_table.specs.Table.{IdTable, IdsStand, bucket_in, objects_of};
 
 use crate::broken::midway;
@@ -33,7 +33,7 @@ use std::alloc::Allocator;
 /// page before that one where it is full. The gate has to be open.
 ///
 /// With a sound map, where the pages stand for a table at that directory, a refusal is `Memory` or `Device`, or
-/// `NoPages` where all page numbers were given out.
+/// `NoPages` where each page number is live.
 pub fn add<const D: usize, B: BlockDevice, A: Allocator + Copy>(
     cache: &mut PageCache<B, A>,
     directory: u32,
@@ -48,9 +48,10 @@ pub fn add<const D: usize, B: BlockDevice, A: Allocator + Copy>(
     ensures added { IsPageMap cache.old → (t : IdTable) → t.page ≡ directory → IdsStand D (pages cache.old) t
         → map.contains_key (objects_of t) id ≡ false
         → OnOk result (Adds D (pages cache.old) (pages cache.new) t id bounds.now) }
+    ensures grows { Grows 1 cache.old cache.new }
     ensures faults { IsPageMap cache.old → (t : IdTable) → t.page ≡ directory → IdsStand D (pages cache.old) t
-        → IfErr result (λ b. IsOfPages (next_of cache.old) b.cause) }
-    ensures other_faults { IfErr result (λ b. IsOfPages (next_of cache.old) b.cause ⊎ IsDamage b.cause) }
+        → IfErr result (λ b. IsNoDamage cache.new b.cause) }
+    ensures other_faults { IfErr result (λ b. IsNoDamage cache.new b.cause ⊎ IsDamage b.cause) }
 {
     match add_run(cache, directory, &[(id, *bounds)]) {
         Ok(_) => Ok(()),
@@ -75,9 +76,11 @@ pub(crate) fn add_run<const D: usize, B: BlockDevice, A: Allocator + Copy>(
     ensures added { IsPageMap cache.old → (t : IdTable) → t.page ≡ directory → IdsStand D (pages cache.old) t
         → AreNew (objects_of t) objects.now
         → IfOk result (λ count. Fills D (pages cache.old) (pages cache.new) t (take count objects.now)) }
+    ensures grows { Grows 1 cache.old cache.new }
+    ensures whole { IfOk result (λ count. Grows 0 cache.old cache.new ⊎ IsWholeRun objects.now count) }
     ensures faults { IsPageMap cache.old → (t : IdTable) → t.page ≡ directory → IdsStand D (pages cache.old) t
-        → IfErr result (λ b. IsOfPages (next_of cache.old) b.cause) }
-    ensures other_faults { IfErr result (λ b. IsOfPages (next_of cache.old) b.cause ⊎ IsDamage b.cause) }
+        → IfErr result (λ b. IsNoDamage cache.new b.cause) }
+    ensures other_faults { IfErr result (λ b. IsNoDamage cache.new b.cause ⊎ IsDamage b.cause) }
 {
     let class = class_of(objects[0].0);
     let first = read_link::<D, B, A>(cache, directory, class)?;
@@ -110,6 +113,7 @@ fn put_in<const D: usize, B: BlockDevice, A: Allocator + Copy>(
     ensures others { IsHonest cache.old → IsLive cache.old number
         → SameBut number (pages cache.old) (pages cache.new) }
     ensures sound { IsPageMap cache.old → IsLive cache.old number → IsPageMap cache.new }
+    ensures grows { Grows 0 cache.old cache.new }
     ensures faults { IsHonest cache.old → IsLive cache.old number → IfErr result IsOfDevice }
     ensures other_faults { IfErr result (λ f. IsOfDevice f ⊎ IsDamage f) }
 {
@@ -163,9 +167,11 @@ fn put_alone<const D: usize, B: BlockDevice, A: Allocator + Copy>(
     ensures put { IsPageMap cache.old → (page : List ℕ) → pages cache.old directory ≡ Some page
         → IfOk result (λ count. PutsBefore D (pages cache.old) (pages cache.new) directory class first
         (take count objects.now) page) }
+    ensures grows { Grows 1 cache.old cache.new }
+    ensures whole { IfOk result (IsWholeRun objects.now) }
     ensures faults { IsPageMap cache.old → IsLive cache.old directory
-        → IfErr result (λ f. IsOfPages (next_of cache.old) f) }
-    ensures other_faults { IfErr result (λ f. IsOfPages (next_of cache.old) f ⊎ IsDamage f) }
+        → IfErr result (IsNoDamage cache.new) }
+    ensures other_faults { IfErr result (λ f. IsNoDamage cache.new f ⊎ IsDamage f) }
 {
     let bucket = Bucket {
         next: first,
@@ -181,6 +187,7 @@ fn run_of<const D: usize>(class: usize, objects: &[(u64, BBox<D>)]) -> ArrayVec<
     requires first { class ≡ first_class objects.now }
     ensures taken { result.items ≡ take (length result.items) objects.now }
     ensures run { IsRun class objects.now (length result.items) }
+    ensures whole { IsWholeRun objects.now (length result.items) }
 {
     let mut entries = ArrayVec::new();
     for object in objects {
@@ -208,9 +215,10 @@ pub(crate) fn put_before<const D: usize, B: BlockDevice, A: Allocator + Copy>(
     ensures put { IsPageMap cache.old → (page : List ℕ) → pages cache.old directory ≡ Some page
         → OnOk result (PutsBefore D (pages cache.old) (pages cache.new) directory class bucket.now.next
         bucket.now.entries.items page) }
+    ensures grows { Grows 1 cache.old cache.new }
     ensures faults { IsPageMap cache.old → IsLive cache.old directory
-        → IfErr result (λ f. IsOfPages (next_of cache.old) f) }
-    ensures other_faults { IfErr result (λ f. IsOfPages (next_of cache.old) f ⊎ IsDamage f) }
+        → IfErr result (IsNoDamage cache.new) }
+    ensures other_faults { IfErr result (λ f. IsNoDamage cache.new f ⊎ IsDamage f) }
 {
     let number = cache.allocate()?;
     write_bucket(cache, number, bucket)?;

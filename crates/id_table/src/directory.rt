@@ -5,7 +5,7 @@ ghost use Rattle.box_math.specs.Bounds.{IsDims};
 ghost use Rattle.page_file.specs.Fault.{IsDamage, IsOfDevice};
 ghost use Rattle.page_file.specs.Pages.{SameBut};
 ghost use Rattle.page_file.specs.declared.gate.Gate.TheVariants.{Open};
-ghost use Rattle.page_cache.specs.Cache.{IsHonest, IsLive, IsPageMap, gate_of, given, looks_of, next_of, pages};
+ghost use Rattle.page_cache.specs.Cache.{Grows, IsHonest, IsLive, IsPageMap, gate_of, given, looks_of, next_of, pages};
 ghost use Rattle.page_cache.specs.Calls.{Asks, Changes};
 ghost use Rattle.id_table.specs.Table.{IsDirectory, class_of, link_at};
 ghost use Rattle.id_table.specs.Pages.{NewDirectory, SetsLink};
@@ -114,6 +114,7 @@ pub(crate) fn write_link<B: BlockDevice, A: Allocator + Copy>(
     ensures others { IsHonest cache.old → IsLive cache.old directory
         → SameBut directory (pages cache.old) (pages cache.new) }
     ensures sound { IsPageMap cache.old → IsLive cache.old directory → IsPageMap cache.new }
+    ensures grows { Grows 0 cache.old cache.new }
     ensures faults { IsHonest cache.old → IsLive cache.old directory → IfErr result IsOfDevice }
     ensures other_faults { IfErr result (λ f. IsOfDevice f ⊎ IsDamage f) }
 {

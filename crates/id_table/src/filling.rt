@@ -1,14 +1,15 @@
 //! Many objects added.
 
-ghost use Rattle.std.specs.Prelude.{◌≡◌, ◌⊎◌, false, IfErr, OnOk};
+ghost use Rattle.std.specs.Prelude.{◌≡◌, ◌⊎◌, ◌+◌, ◌/◌, false, length, IfErr, OnOk};
+ghost use Rattle.std.specs.List.Sorted.{IsNonDecreasingBy};
 ghost use Rattle.box_math.specs.Bounds.{IsDims};
 ghost use Rattle.page_file.specs.Fault.{IsDamage};
 ghost use Rattle.page_file.specs.declared.gate.Gate.TheVariants.{Open};
-ghost use Rattle.page_cache.specs.Cache.{IsPageMap, gate_of, next_of, pages};
+ghost use Rattle.page_cache.specs.Cache.{Grows, IsPageMap, gate_of, pages};
 ghost use Rattle.node_page.specs.Broken.{Alters};
+ghost use Rattle.node_page.specs.Faults.{IsNoDamage};
 ghost use Rattle.id_table.specs.Changes.{AreNew, Fills};
-ghost use Rattle.id_table.specs.Faults.{IsOfPages};
-ghost use Rattle.id_table.specs.Table.{IdTable, IdsStand, objects_of};
+ghost use Rattle.id_table.specs.Table.{IdTable, IdsStand, class_of, objects_of};
 
 use crate::adding::add_run;
 use block_device::BlockDevice;
@@ -22,8 +23,11 @@ use std::alloc::Allocator;
 /// then into a new page before it. So in the order of the remainders by 1000 each page of objects is written once. The
 /// gate has to be open.
 ///
+/// It makes at most one page more live for each object, and in that order one for each 100 objects and each remainder,
+/// also where it is refused.
+///
 /// With a sound map, where the pages stand for a table at that directory, a refusal is `Memory` or `Device`, or
-/// `NoPages` where all page numbers were given out. It is untouched where the first object was refused so.
+/// `NoPages` where each page number is live. It is untouched where the first object was refused so.
 pub fn fill<const D: usize, B: BlockDevice, A: Allocator + Copy>(
     cache: &mut PageCache<B, A>,
     directory: u32,
@@ -37,9 +41,12 @@ pub fn fill<const D: usize, B: BlockDevice, A: Allocator + Copy>(
     ensures filled { IsPageMap cache.old → (t : IdTable) → t.page ≡ directory → IdsStand D (pages cache.old) t
         → AreNew (objects_of t) objects.now
         → OnOk result (Fills D (pages cache.old) (pages cache.new) t objects.now) }
+    ensures grows { Grows (length objects.now) cache.old cache.new }
+    ensures grows_in_order { IsNonDecreasingBy (λ object. class_of object.0) objects.now
+        → Grows (length objects.now / 100 + 1000) cache.old cache.new }
     ensures faults { IsPageMap cache.old → (t : IdTable) → t.page ≡ directory → IdsStand D (pages cache.old) t
-        → AreNew (objects_of t) objects.now → IfErr result (λ b. IsOfPages (next_of cache.new) b.cause) }
-    ensures other_faults { IfErr result (λ b. IsOfPages (next_of cache.new) b.cause ⊎ IsDamage b.cause) }
+        → AreNew (objects_of t) objects.now → IfErr result (λ b. IsNoDamage cache.new b.cause) }
+    ensures other_faults { IfErr result (λ b. IsNoDamage cache.new b.cause ⊎ IsDamage b.cause) }
 {
     let mut filled = 0;
     while filled < objects.len() {

@@ -6,7 +6,7 @@ ghost use Rattle.bucket_page.specs.Layout.{BucketContent};
 ghost use Rattle.page_file.specs.Fault.{IsDamage, IsOfDevice};
 ghost use Rattle.page_file.specs.Pages.{SameBut};
 ghost use Rattle.page_file.specs.declared.gate.Gate.TheVariants.{Open};
-ghost use Rattle.page_cache.specs.Cache.{IsHonest, IsLive, IsPageMap, gate_of, next_of, pages};
+ghost use Rattle.page_cache.specs.Cache.{Grows, IsHonest, IsLive, IsPageMap, gate_of, next_of, pages};
 ghost use Rattle.page_cache.specs.Calls.{Asks, Changes};
 ghost use Rattle.node_page.specs.Broken.{Alters};
 ghost use Rattle.node_page.specs.Parts.{Moves, no_page};
@@ -37,6 +37,7 @@ pub fn free_all<const D: usize, B: BlockDevice, A: Allocator + Copy>(
     ensures freed { IsPageMap cache.old → (t : IdTable) → t.page ≡ directory → IdsStand D (pages cache.old) t
         → OnOk result (Moves (pages cache.old) (pages cache.new) (part_of t) no_page) }
     ensures next { next_of cache.new ≡ next_of cache.old }
+    ensures grows { Grows 0 cache.old cache.new }
     ensures faults { IsPageMap cache.old → (t : IdTable) → t.page ≡ directory → IdsStand D (pages cache.old) t
         → IfErr result (λ b. IsOfDevice b.cause) }
     ensures other_faults { IfErr result (λ b. IsOfDevice b.cause ⊎ IsDamage b.cause) }
@@ -63,6 +64,7 @@ fn free_pages<const D: usize, B: BlockDevice, A: Allocator + Copy>(
         → pages cache.old directory ≡ Some bytes.now
         → OnOk result (Frees (pages cache.old) (pages cache.new) (part_of t)) }
     ensures next { next_of cache.new ≡ next_of cache.old }
+    ensures grows { Grows 0 cache.old cache.new }
     ensures faults { IsPageMap cache.old → (t : IdTable) → t.page ≡ directory → IdsStand D (pages cache.old) t
         → pages cache.old directory ≡ Some bytes.now → IfErr result IsOfDevice }
     ensures other_faults { IfErr result (λ f. IsOfDevice f ⊎ IsDamage f) }
@@ -88,6 +90,7 @@ fn free_chain<const D: usize, B: BlockDevice, A: Allocator + Copy>(
         → ((n : ℕ) → occurs_in_chain n chain ≤ 1)
         → OnOk result (Frees (pages cache.old) (pages cache.new) (λ n. occurs_in_chain n chain)) }
     ensures next { next_of cache.new ≡ next_of cache.old }
+    ensures grows { Grows 0 cache.old cache.new }
     ensures faults { IsPageMap cache.old → (chain : List Bucket) → ChainStands D (pages cache.old) first chain
         → ((n : ℕ) → occurs_in_chain n chain ≤ 1) → length chain < next_of cache.old → IfErr result IsOfDevice }
     ensures other_faults { IfErr result (λ f. IsOfDevice f ⊎ IsDamage f) }
@@ -117,6 +120,7 @@ fn free_bucket<const D: usize, B: BlockDevice, A: Allocator + Copy>(
         → SameBut number (pages cache.old) (pages cache.new) }
     ensures sound { IsPageMap cache.old → IsLive cache.old number → IsPageMap cache.new }
     ensures next { next_of cache.new ≡ next_of cache.old }
+    ensures grows { Grows 0 cache.old cache.new }
     ensures faults { IsPageMap cache.old → (c : BucketContent) → bucket_in D (pages cache.old number) ≡ Some c
         → 2 < number → IfErr result IsOfDevice }
     ensures other_faults { IfErr result (λ f. IsOfDevice f ⊎ IsDamage f) }

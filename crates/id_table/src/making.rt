@@ -4,11 +4,11 @@ ghost use Rattle.std.specs.Prelude.{◌≡◌, ◌≤◌, ◌<◌, ◌⊎◌, If
 ghost use Rattle.box_math.specs.Bounds.{IsDims};
 ghost use Rattle.page_file.specs.Fault.{IsDamage};
 ghost use Rattle.page_file.specs.declared.gate.Gate.TheVariants.{Open};
-ghost use Rattle.page_cache.specs.Cache.{IsPageMap, gate_of, next_of, pages};
+ghost use Rattle.page_cache.specs.Cache.{Grows, IsPageMap, gate_of, next_of, pages};
 ghost use Rattle.page_cache.specs.Calls.{Changes};
 ghost use Rattle.node_page.specs.Broken.{Alters};
+ghost use Rattle.node_page.specs.Faults.{IsNoDamage};
 ghost use Rattle.id_table.specs.Changes.{Makes};
-ghost use Rattle.id_table.specs.Faults.{IsOfPages};
 
 use crate::broken::midway;
 use crate::directory::write_directory;
@@ -21,7 +21,7 @@ use std::alloc::Allocator;
 
 /// Makes a table of no objects, and answers the page of its directory. The gate has to be open.
 ///
-/// With a sound map a refusal is `Memory` or `Device`, or `NoPages` where all page numbers were given out.
+/// With a sound map a refusal is `Memory` or `Device`, or `NoPages` where each page number is live.
 pub fn make<const D: usize, B: BlockDevice, A: Allocator + Copy>(
     cache: &mut PageCache<B, A>,
 ) -> Result<u32, Broken>
@@ -32,8 +32,9 @@ pub fn make<const D: usize, B: BlockDevice, A: Allocator + Copy>(
     ensures made { IsPageMap cache.old
         → IfOk result (λ directory. Makes D (pages cache.old) (pages cache.new) directory) }
     ensures number { IfOk result (λ directory. (3 ≤ directory) × (directory < next_of cache.new)) }
-    ensures faults { IsPageMap cache.old → IfErr result (λ b. IsOfPages (next_of cache.old) b.cause) }
-    ensures other_faults { IfErr result (λ b. IsOfPages (next_of cache.old) b.cause ⊎ IsDamage b.cause) }
+    ensures grows { Grows 1 cache.old cache.new }
+    ensures faults { IsPageMap cache.old → IfErr result (λ b. IsNoDamage cache.new b.cause) }
+    ensures other_faults { IfErr result (λ b. IsNoDamage cache.new b.cause ⊎ IsDamage b.cause) }
 {
     midway(make_page::<D, B, A>(cache))
 }
@@ -49,8 +50,9 @@ fn make_page<const D: usize, B: BlockDevice, A: Allocator + Copy>(
     ensures made { IsPageMap cache.old
         → IfOk result (λ directory. Makes D (pages cache.old) (pages cache.new) directory) }
     ensures number { IfOk result (λ directory. (3 ≤ directory) × (directory < next_of cache.new)) }
-    ensures faults { IsPageMap cache.old → IfErr result (λ f. IsOfPages (next_of cache.old) f) }
-    ensures other_faults { IfErr result (λ f. IsOfPages (next_of cache.old) f ⊎ IsDamage f) }
+    ensures grows { Grows 1 cache.old cache.new }
+    ensures faults { IsPageMap cache.old → IfErr result (IsNoDamage cache.new) }
+    ensures other_faults { IfErr result (λ f. IsNoDamage cache.new f ⊎ IsDamage f) }
 {
     let directory = cache.allocate()?;
     let mut bytes = zero_block();

@@ -9,7 +9,7 @@ ghost use Rattle.bucket_page.specs.Layout.{BucketContent, bucket_at, replaced};
 ghost use Rattle.page_file.specs.Fault.{IsDamage, IsOfDevice};
 ghost use Rattle.page_file.specs.Pages.{SameBut};
 ghost use Rattle.page_file.specs.declared.gate.Gate.TheVariants.{Open};
-ghost use Rattle.page_cache.specs.Cache.{IsHonest, IsLive, IsPageMap, gate_of, next_of, pages};
+ghost use Rattle.page_cache.specs.Cache.{Grows, IsHonest, IsLive, IsPageMap, gate_of, next_of, pages};
 ghost use Rattle.page_cache.specs.Calls.{Asks, Changes};
 ghost use Rattle.node_page.specs.Broken.{Alters};
 ghost use Rattle.id_table.specs.Changes.{Removes};
@@ -44,6 +44,7 @@ pub fn remove<const D: usize, B: BlockDevice, A: Allocator + Copy>(
     ensures removed { IsPageMap cache.old → (t : IdTable) → t.page ≡ directory → IdsStand D (pages cache.old) t
         → map.contains_key (objects_of t) id ≡ true
         → OnOk result (Removes D (pages cache.old) (pages cache.new) t id) }
+    ensures grows { Grows 0 cache.old cache.new }
     ensures faults { IsPageMap cache.old → (t : IdTable) → t.page ≡ directory → IdsStand D (pages cache.old) t
         → map.contains_key (objects_of t) id ≡ true → IfErr result (λ b. IsOfDevice b.cause) }
     ensures other_faults { IfErr result (λ b. IsOfDevice b.cause ⊎ IsDamage b.cause) }
@@ -122,6 +123,7 @@ fn put_at<const D: usize, B: BlockDevice, A: Allocator + Copy>(
     ensures others { IsHonest cache.old → IsLive cache.old number
         → SameBut number (pages cache.old) (pages cache.new) }
     ensures sound { IsPageMap cache.old → IsLive cache.old number → IsPageMap cache.new }
+    ensures grows { Grows 0 cache.old cache.new }
     ensures faults { IsHonest cache.old → IsLive cache.old number → IfErr result (λ b. IsOfDevice b.cause) }
     ensures other_faults { IfErr result (λ b. IsOfDevice b.cause ⊎ IsDamage b.cause) }
 {
@@ -147,6 +149,7 @@ fn put_less<const D: usize, B: BlockDevice, A: Allocator + Copy>(
         → OnOk result (Shrinks D (pages cache.old) (pages cache.new) directory class first c links) }
     ensures sound { IsPageMap cache.old → IsLive cache.old first → IsLive cache.old directory
         → ¬ (directory ≡ first) → IsPageMap cache.new }
+    ensures grows { Grows 0 cache.old cache.new }
     ensures faults { IsPageMap cache.old → IsLive cache.old first → IsLive cache.old directory
         → ¬ (directory ≡ first) → ¬ (first ≡ 2) → IfErr result IsOfDevice }
     ensures other_faults { IfErr result (λ f. IsOfDevice f ⊎ IsDamage f) }

@@ -88,7 +88,7 @@ entries_once (e ∷ es) once =
     IsPermutation-trans (e ∷ es) (e ∷ entries (from_entries {R = nat_cmp} es)) (entries (from_entries {R = nat_cmp} (e ∷ es)))
     (IsPermutation-cons e es (entries (from_entries {R = nat_cmp} es)) rest) (one_entry_more (from_entries {R = nat_cmp} es) e.0 e.1 absent)
 
-table_entries : (dims : ℕ) (pages : PageMap) (t : IdTable) → IdsStand dims pages t → IsPermutation (entries_of t) (entries (objects_of t))
+pub table_entries : (dims : ℕ) (pages : PageMap) (t : IdTable) → IdsStand dims pages t → IsPermutation (entries_of t) (entries (objects_of t))
 table_entries dims pages t stands = entries_once (entries_of t) (λ q. once_in_table dims pages t q stands)
 
 -- ---- one tree and one table stand

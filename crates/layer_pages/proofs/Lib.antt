@@ -2,9 +2,9 @@
 pub mod ObjectLemmas
 pub mod LayerLemmas
 pub mod AnswerLemmas
-pub mod FaultLemmas
 pub mod MadeLemmas
 pub mod RemovedLemmas
 pub mod FreeLemmas
 pub mod LoadLemmas
 pub mod CheckLemmas
+pub mod CountLemmas

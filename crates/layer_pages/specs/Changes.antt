@@ -1,6 +1,6 @@
 -- What the calls on the pages of a layer make of them (our rule, docs/FORMAT.md, "Trees of pages" and "Identifier
 -- tables").
-use Rattle.std.specs.Prelude.{◌≡◌, ℕ, List, map}
+use Rattle.std.specs.Prelude.{◌≡◌, ℕ, ◌+◌, ◌/◌, List, map}
 use Rattle.box_math.specs.Bounds.{Bounds}
 use Rattle.tree_node.specs.Nodes.{Item}
 use Rattle.tree_node.specs.Trees.{Tree, end, object}
@@ -8,8 +8,10 @@ use Rattle.tree_node.specs.declared.node.Root.{Root}
 use Rattle.node_page.specs.Parts.{Moves, Part}
 use Rattle.node_page.specs.Standing.{PageMap}
 use Rattle.id_table.specs.Table.{IdTable, IdsStand, objects_of, part_of}
+use Rattle.reinsert.specs.Inserted.{most_new_pages}
 use Rattle.reinsert.specs.Insertion.{IsInsertion}
 use Rattle.condense.specs.Removal.{IsRemoval}
+use Rattle.condense.specs.Removed.{most_removal_pages}
 use Rattle.bulk_load.specs.Packed.{IsPacked}
 use Rattle.layer_pages.specs.Layers.{IsLayerAt, LayerPages, Objects, part_of_layer}
 
@@ -56,3 +58,21 @@ pub record BecomesTable (dims : ℕ) (old new : PageMap) (was : Part) (directory
   pub stands : IdsStand dims new table
   pub objects_are : objects_of table ≡ objects
   pub moves : Moves old new was (part_of table)
+
+-- ---- by how many pages the live ones grow at most
+
+-- an object inserted: its tree grows, and its table by one bucket
+abbrev pub most_inserted_pages : ℕ
+most_inserted_pages = most_new_pages + 1
+
+-- an object replaced: it is removed, where only its tree grows, and inserted
+abbrev pub most_replaced_pages : ℕ
+most_replaced_pages = most_removal_pages + most_inserted_pages
+
+-- so many objects loaded into a table of 1,000 chains
+abbrev pub most_filled_pages : ℕ → ℕ
+most_filled_pages count = count / 100 + 1000
+
+-- and into a packed tree beside it
+abbrev pub most_loaded_pages : ℕ → ℕ
+most_loaded_pages count = count + 1 + most_filled_pages count

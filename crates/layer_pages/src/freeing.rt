@@ -4,7 +4,7 @@ ghost use Rattle.std.specs.Prelude.{◌≡◌, ℕ, IfErr, OnOk};
 ghost use Rattle.box_math.specs.Bounds.{IsDims};
 ghost use Rattle.page_file.specs.Fault.{IsOfDevice};
 ghost use Rattle.page_file.specs.declared.gate.Gate.TheVariants.{Open};
-ghost use Rattle.page_cache.specs.Cache.{IsPageMap, gate_of, pages};
+ghost use Rattle.page_cache.specs.Cache.{Grows, IsPageMap, gate_of, pages};
 ghost use Rattle.node_page.specs.Broken.{Alters};
 ghost use Rattle.node_page.specs.Parts.{Moves, no_page};
 ghost use Rattle.layer_pages.specs.Layers.{CanBeRoot, IsLayerAt, LayerPages, Objects, part_of_layer};
@@ -19,6 +19,7 @@ use std::alloc::Allocator;
 /// Frees all pages of a layer. The gate has to be open.
 ///
 /// With a sound map, where the pages stand for a layer at that root and directory, a refusal is `Memory` or `Device`.
+/// No page more is live, also after a refusal.
 pub fn free<const D: usize, B: BlockDevice, A: Allocator + Copy>(
     cache: &mut PageCache<B, A>,
     root: Root,
@@ -33,6 +34,7 @@ pub fn free<const D: usize, B: BlockDevice, A: Allocator + Copy>(
     ensures freed { IsPageMap cache.old → (l : LayerPages) (most : ℕ) (objects : Objects)
         → IsLayerAt D most (pages cache.old) root directory l objects
         → OnOk result (Moves (pages cache.old) (pages cache.new) (part_of_layer l) no_page) }
+    ensures grows { Grows 0 cache.old cache.new }
     ensures faults { IsPageMap cache.old → (l : LayerPages) (most : ℕ) (objects : Objects)
         → IsLayerAt D most (pages cache.old) root directory l objects → IfErr result (λ b. IsOfDevice b.cause) }
 {

@@ -4,10 +4,10 @@ ghost use Rattle.std.specs.Prelude.{◌≡◌, ◌≤◌, ℕ, false, IfErr, IfO
 ghost use Rattle.std.specs.FinMap as map;
 ghost use Rattle.box_math.specs.Bounds.{IsDims};
 ghost use Rattle.page_file.specs.declared.gate.Gate.TheVariants.{Open};
-ghost use Rattle.page_cache.specs.Cache.{IsPageMap, gate_of, pages};
+ghost use Rattle.page_cache.specs.Cache.{Grows, IsPageMap, gate_of, pages};
 ghost use Rattle.node_page.specs.Broken.{Alters};
 ghost use Rattle.node_page.specs.Faults.{IsNoDamage};
-ghost use Rattle.layer_pages.specs.Changes.{BecomesLayer, HasInserted};
+ghost use Rattle.layer_pages.specs.Changes.{BecomesLayer, HasInserted, most_inserted_pages};
 ghost use Rattle.layer_pages.specs.Layers.{CanBeRoot, IsLayerAt, LayerPages, Objects, part_of_layer};
 
 use block_device::BlockDevice;
@@ -21,8 +21,9 @@ use std::alloc::Allocator;
 /// open.
 ///
 /// With a sound map, where the pages stand for a layer at that root and directory, a refusal is `Memory` or `Device`,
-/// or `NoPages` where all page numbers are given out. One that is not `touched` leaves the map as it was; each one of
-/// the table is touched, since the tree was changed before it.
+/// or `NoPages` where each page number is live. One that is not `touched` leaves the map as it was; each one of the
+/// table is touched, since the tree was changed before it. Also after a refusal at most `most_inserted_pages` more
+/// pages are live.
 pub fn insert<const D: usize, B: BlockDevice, A: Allocator + Copy>(
     cache: &mut PageCache<B, A>,
     root: Root,
@@ -45,6 +46,7 @@ pub fn insert<const D: usize, B: BlockDevice, A: Allocator + Copy>(
         BecomesLayer D m_max (pages cache.old) (pages cache.new) (part_of_layer l) after directory
         (map.insert objects object.now.reference object.now.bounds)
         (HasInserted D m_max l object.now.reference object.now.bounds)) }
+    ensures grows { Grows most_inserted_pages cache.old cache.new }
     ensures faults { IsPageMap cache.old → (l : LayerPages) (objects : Objects)
         → IsLayerAt D m_max (pages cache.old) root directory l objects
         → IfErr result (λ b. IsNoDamage cache.new b.cause) }

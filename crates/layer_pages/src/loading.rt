@@ -1,15 +1,17 @@
 //! All objects of a layer at once.
 
-ghost use Rattle.std.specs.Prelude.{◌≡◌, ◌≤◌, ◌%◌, ℕ, true, false, map as each, All, IfErr, IfOk, IsPermutation, OnOk};
+ghost use Rattle.std.specs.Prelude.{◌≡◌, ◌≤◌, ◌%◌, ℕ, true, false, map as each, All};
+ghost use Rattle.std.specs.Prelude.{IfErr, IfOk, IsPermutation, OnOk, length};
 ghost use Rattle.std.specs.FinMap as map;
 ghost use Rattle.box_math.specs.Bounds.{IsBox, IsDims};
 ghost use Rattle.page_file.specs.declared.fault.Fault.TheVariants as fault;
 ghost use Rattle.page_file.specs.declared.gate.Gate.TheVariants.{Open};
-ghost use Rattle.page_cache.specs.Cache.{IsPageMap, gate_of, pages};
+ghost use Rattle.page_cache.specs.Cache.{Grows, IsPageMap, gate_of, pages};
 ghost use Rattle.tree_node.specs.Nodes.{items_of};
 ghost use Rattle.node_page.specs.Broken.{Alters};
 ghost use Rattle.node_page.specs.Faults.{IsNoDamage};
 ghost use Rattle.layer_pages.specs.Changes.{BecomesLayer, BecomesTable, HasPacked, item_of_object};
+ghost use Rattle.layer_pages.specs.Changes.{most_filled_pages, most_loaded_pages};
 ghost use Rattle.layer_pages.specs.Layers.{CanBeRoot, IsLayerAt, LayerPages, Objects, part_of_layer};
 
 use block_device::BlockDevice;
@@ -26,7 +28,8 @@ use std::alloc::Allocator;
 /// another order.
 ///
 /// With a sound map, where the pages stand for a layer without objects at that root and directory, a refusal is
-/// `Memory` or `Device`, or `NoPages` where all page numbers are given out.
+/// `Memory` or `Device`, or `NoPages` where each page number is live. Also after a refusal at most `most_loaded_pages`
+/// more pages are live.
 pub fn load<const D: usize, B: BlockDevice, A: Allocator + Copy, H: Allocator + Copy>(
     alloc: H,
     cache: &mut PageCache<B, A>,
@@ -49,6 +52,7 @@ pub fn load<const D: usize, B: BlockDevice, A: Allocator + Copy, H: Allocator + 
         → IfOk result (λ after. BecomesLayer D m_max (pages cache.old) (pages cache.new) (part_of_layer l) after
         directory all (HasPacked D m_max objects.old)) }
     ensures same { IsPermutation objects.old objects.new }
+    ensures grows { Grows (most_loaded_pages (length objects.old)) cache.old cache.new }
     ensures faults { IsPageMap cache.old → (l : LayerPages) (most : ℕ) (all : Objects)
         → IsLayerAt D most (pages cache.old) root directory l map.empty → IsPermutation objects.old (map.entries all)
         → IfErr result (λ b. IsNoDamage cache.new b.cause) }
@@ -111,6 +115,7 @@ fn put_ids<const D: usize, B: BlockDevice, A: Allocator + Copy>(
         → IsLayerAt D most (pages cache.old) root directory l map.empty → IsPermutation objects.old (map.entries all)
         → OnOk result (BecomesTable D (pages cache.old) (pages cache.new) (part_of_layer l) directory all) }
     ensures same { IsPermutation objects.old objects.new }
+    ensures grows { Grows (most_filled_pages (length objects.old)) cache.old cache.new }
     ensures faults { IsPageMap cache.old → (l : LayerPages) (most : ℕ) (all : Objects)
         → IsLayerAt D most (pages cache.old) root directory l map.empty → IsPermutation objects.old (map.entries all)
         → IfErr result (λ b. IsNoDamage cache.new b.cause) }

@@ -5,7 +5,7 @@ ghost use Rattle.std.specs.FinMap as map;
 ghost use Rattle.box_math.specs.Bounds.{IsDims};
 ghost use Rattle.page_file.specs.Pages.{SameBut};
 ghost use Rattle.page_file.specs.declared.gate.Gate.TheVariants.{Open};
-ghost use Rattle.page_cache.specs.Cache.{IsPageMap, gate_of, next_of, pages};
+ghost use Rattle.page_cache.specs.Cache.{Grows, IsPageMap, gate_of, next_of, pages};
 ghost use Rattle.node_page.specs.Broken.{Alters};
 ghost use Rattle.node_page.specs.Parts.{no_page};
 ghost use Rattle.node_page.specs.Standing.{node_in};
@@ -22,8 +22,8 @@ use std::alloc::Allocator;
 /// Makes a layer of no objects in pages that were not live, and answers its root and the page of its directory. The
 /// gate has to be open.
 ///
-/// With a sound map a refusal is `Memory` or `Device`, or `NoPages` where all page numbers are given out. It is
-/// untouched where no page was given out, and no free page was lost.
+/// With a sound map a refusal is `Memory` or `Device`, or `NoPages` where each page number is live. It is untouched
+/// where no page was given out, and no free page was lost. Also after a refusal at most two more pages are live.
 pub fn make<const D: usize, B: BlockDevice, A: Allocator + Copy>(
     cache: &mut PageCache<B, A>,
 ) -> Result<(Root, u32), Broken>
@@ -34,6 +34,7 @@ pub fn make<const D: usize, B: BlockDevice, A: Allocator + Copy>(
     ensures sound { IsPageMap cache.old → IsPageMap cache.new }
     ensures made { IsPageMap cache.old → (most : ℕ) → IfOk result (λ made.
         BecomesLayer D most (pages cache.old) (pages cache.new) no_page made.0 made.1 map.empty IsEmptyLeaf) }
+    ensures grows { Grows 2 cache.old cache.new }
     ensures faults { IsPageMap cache.old → IfErr result (λ b. IsNoDamage cache.new b.cause) }
 {
     let page = match make_leaf::<D, B, A>(cache) {
@@ -59,6 +60,7 @@ fn make_leaf<const D: usize, B: BlockDevice, A: Allocator + Copy>(
     ensures leaf { IsPageMap cache.old → IfOk result (λ page.
         node_in D (pages cache.new page) ≡ Some (record { level = 0; entries = [] })) }
     ensures others { IsPageMap cache.old → IfOk result (λ page. SameBut page (pages cache.old) (pages cache.new)) }
+    ensures grows { Grows 1 cache.old cache.new }
     ensures faults { IsPageMap cache.old → IfErr result (λ b. IsNoDamage cache.new b.cause) }
 {
     let leaf: Node<D> = Node {

@@ -4,10 +4,10 @@ ghost use Rattle.std.specs.Prelude.{◌≡◌, ◌≤◌, ℕ, Some, IfErr, IfOk
 ghost use Rattle.std.specs.FinMap as map;
 ghost use Rattle.box_math.specs.Bounds.{IsDims};
 ghost use Rattle.page_file.specs.declared.gate.Gate.TheVariants.{Open};
-ghost use Rattle.page_cache.specs.Cache.{IsPageMap, gate_of, pages};
+ghost use Rattle.page_cache.specs.Cache.{Grows, IsPageMap, gate_of, pages};
 ghost use Rattle.node_page.specs.Broken.{Alters};
 ghost use Rattle.node_page.specs.Faults.{IsNoDamage};
-ghost use Rattle.condense.specs.Removed.{IsRefused};
+ghost use Rattle.condense.specs.Removed.{IsRefused, most_removal_pages};
 ghost use Rattle.layer_pages.specs.Changes.{BecomesLayer, HasRemoved};
 ghost use Rattle.layer_pages.specs.Layers.{CanBeRoot, IsLayerAt, LayerPages, Objects, part_of_layer};
 
@@ -24,9 +24,10 @@ use std::alloc::Allocator;
 /// has to be open.
 ///
 /// With a sound map, where the pages stand for a layer at that root and directory, a refusal is `Memory` or `Device`,
-/// or `NoPages` where all page numbers are given out. One that is not `touched` leaves the map as it was; each one of
-/// the table is touched, since the tree was changed before it. Where the layer does not have the object with that box,
-/// that is `Damaged` with the root's page, untouched, unless memory or the device refused before.
+/// or `NoPages` where each page number is live. One that is not `touched` leaves the map as it was; each one of the
+/// table is touched, since the tree was changed before it. Where the layer does not have the object with that box, that
+/// is `Damaged` with the root's page, untouched, unless memory or the device refused before. Also after a refusal at
+/// most `most_removal_pages` more pages are live.
 pub fn remove<const D: usize, B: BlockDevice, A: Allocator + Copy>(
     cache: &mut PageCache<B, A>,
     root: Root,
@@ -52,6 +53,7 @@ pub fn remove<const D: usize, B: BlockDevice, A: Allocator + Copy>(
     ensures absent { IsPageMap cache.old → (l : LayerPages) (objects : Objects)
         → IsLayerAt D m_max (pages cache.old) root directory l objects → ¬ (map.get objects id ≡ Some bounds.now)
         → IsRefused root.page result }
+    ensures grows { Grows most_removal_pages cache.old cache.new }
     ensures faults { IsPageMap cache.old → (l : LayerPages) (objects : Objects)
         → IsLayerAt D m_max (pages cache.old) root directory l objects → map.get objects id ≡ Some bounds.now
         → IfErr result (λ b. IsNoDamage cache.new b.cause) }

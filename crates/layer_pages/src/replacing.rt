@@ -4,11 +4,11 @@ ghost use Rattle.std.specs.Prelude.{◌≡◌, ◌≤◌, ℕ, Some, IfErr, IfOk
 ghost use Rattle.std.specs.FinMap as map;
 ghost use Rattle.box_math.specs.Bounds.{IsDims};
 ghost use Rattle.page_file.specs.declared.gate.Gate.TheVariants.{Open};
-ghost use Rattle.page_cache.specs.Cache.{IsPageMap, gate_of, pages};
+ghost use Rattle.page_cache.specs.Cache.{Grows, IsPageMap, gate_of, pages};
 ghost use Rattle.node_page.specs.Broken.{Alters};
 ghost use Rattle.node_page.specs.Faults.{IsNoDamage};
 ghost use Rattle.condense.specs.Removed.{IsRefused};
-ghost use Rattle.layer_pages.specs.Changes.{BecomesLayer, HasReplaced};
+ghost use Rattle.layer_pages.specs.Changes.{BecomesLayer, HasReplaced, most_replaced_pages};
 ghost use Rattle.layer_pages.specs.Layers.{CanBeRoot, IsLayerAt, LayerPages, Objects, part_of_layer};
 
 use crate::inserting::insert;
@@ -25,9 +25,10 @@ use std::alloc::Allocator;
 /// of its tree: by a lawful removal and then a lawful insertion. The gate has to be open.
 ///
 /// With a sound map, where the pages stand for a layer at that root and directory, a refusal is `Memory` or `Device`,
-/// or `NoPages` where all page numbers are given out. One that is not `touched` leaves the map as it was; each one of
-/// the insertion is touched, since the object was removed before it. Where the layer does not have the object with the
-/// box `old`, that is `Damaged` with the root's page, untouched, unless memory or the device refused before.
+/// or `NoPages` where each page number is live. One that is not `touched` leaves the map as it was; each one of the
+/// insertion is touched, since the object was removed before it. Where the layer does not have the object with the box
+/// `old`, that is `Damaged` with the root's page, untouched, unless memory or the device refused before. Also after a
+/// refusal at most `most_replaced_pages` more pages are live.
 pub fn replace<const D: usize, B: BlockDevice, A: Allocator + Copy>(
     cache: &mut PageCache<B, A>,
     root: Root,
@@ -55,6 +56,7 @@ pub fn replace<const D: usize, B: BlockDevice, A: Allocator + Copy>(
     ensures absent { IsPageMap cache.old → (l : LayerPages) (objects : Objects)
         → IsLayerAt D m_max (pages cache.old) root directory l objects → ¬ (map.get objects id ≡ Some old.now)
         → IsRefused root.page result }
+    ensures grows { Grows most_replaced_pages cache.old cache.new }
     ensures faults { IsPageMap cache.old → (l : LayerPages) (objects : Objects)
         → IsLayerAt D m_max (pages cache.old) root directory l objects → map.get objects id ≡ Some old.now
         → IfErr result (λ b. IsNoDamage cache.new b.cause) }

@@ -1,68 +1,43 @@
--- A change of layers is a step of their store.
-use Rattle.std.proofs.Common.{◌≡◌, ◌∙◌, ◌≤◌, ◌^◌, ◌<◌, false, not, sym, ap, subst}
+-- A change of layers is a change of their store.
+use Rattle.std.proofs.Common.{◌≡◌, ◌∙◌, ◌≤◌, ◌^◌, ◌<◌, ℕ, Bool, true, false, not, cond, refl, sym, ap, subst}
 use Rattle.std.specs.Prelude.{Option, Some, None, is_some, Result, Ok, Err, OnErr, OnOk}
-use Rattle.block_device.specs.Device.{LeavesOnly}
-use Rattle.live_layers.specs.Changes.{ChangeLeaves, IsChanged}
+use Rattle.live_layers.specs.Changes.{IsChangeBy, IsChanged}
 use Rattle.live_layers.specs.Faults.{HasRefusalCause, HasUnmadeCause}
-use Rattle.live_layers.specs.Image.{IsRefusedOrImageOf, MayRemain}
-use Rattle.live_layers.specs.Keeping as keeping
 use Rattle.live_layers.specs.Keeping.{IsSound, IsWritten, Leaves}
-use Rattle.live_layers.specs.Unmade.{is_broken, told}
+use Rattle.live_layers.specs.Unmade.{told}
 use Rattle.live_layers.specs.declared.layers.Layers.{Layers}
 use Rattle.live_layers.specs.declared.unmade.Unmade.{Unmade}
 use Rattle.live_layers.specs.declared.unmade.Unmade.TheVariants as unmade
-use Rattle.page_cache.specs.Cache.{device_of, next_of}
+use Rattle.page_cache.specs.Cache.{IsHonest}
 use Rattle.plain_table.specs.Answers.{done_answer}
 use Rattle.plain_table.specs.Commands.{Command, MayGiveUp}
-use Rattle.plain_table.specs.Step.{after, refusal_of, refused_or, reply_of}
+use Rattle.plain_table.specs.Laws.{a_change_makes_another_table, no_change_leaves_the_table}
+use Rattle.plain_table.specs.Step.{Answer, after, changes, refusal_of, refused_or, reply_of}
 use Rattle.plain_table.specs.Step.Answer.{Done, Refused}
 use Rattle.plain_table.specs.Table.{Table}
 use Rattle.plain_table.specs.declared.refusal.Refusal.{Refusal}
-use Rattle.store_law.specs.Sessions.{LawfulStep, SessionState, Takes}
-use Rattle.store_law.specs.States.Request.{Asks}
-use Rattle.store_law.specs.States.StoreState.{Alive}
-use Rattle.store_law.specs.Stops.{Stops, after_command, is_end, tables_left}
-use Rattle.layer_store.specs.Representation.{IsSettled, Represents, StopsLeave, cache_in, device_in}
+use Rattle.plain_table.specs.declared.refusal.Refusal.TheVariants as refusal
+use Rattle.store_law.specs.Stops.{Stops, after_change, after_command, is_end, tables_left}
+use Rattle.layer_store.specs.Commands.{Changes, TakesStep, Tells}
+use Rattle.layer_store.specs.Representation.{cache_in, device_in}
 use Rattle.layer_store.specs.declared.store.Store.{Store}
-use Rattle.layer_store.proofs.StopLemmas.{OnlyNow, kept_leaves, left_rests}
-use Rattle.layer_store.proofs.StoreLemmas.{alive_in, change_goes_on, is_settled, no_fewer_faults, settled_so, takes_change, told_cause, what_is_kept}
+use Rattle.layer_store.proofs.StopLemmas.{OnlyNow, change_leaves, kept_leaves, left_rests}
+use Rattle.layer_store.proofs.StoreLemmas.{alive_in, alive_with, blames_none, change_goes_on, is_dead, is_settled, no_fewer_faults, not_both, settled_so, takes_change, takes_nothing, told_cause, what_is_kept}
 
-module _ {D A : Type 0} {m : _} (old new : Store D A m) (mid : Layers D A m) (c : Command) (made : Result (Unit {0}) Unmade) (result : Result (Unit {0}) Refusal)
-    (going : old.failed ≡ false) (answered : result ≡ told made) (failed : new.failed ≡ is_broken made) (same : new.layers ≡ mid) where
-  pub cause_told : HasUnmadeCause (m.faults (device_in old)) (m.faults (device_of mid.cache)) made → HasRefusalCause (m.faults (device_in old)) (m.faults (device_in new)) result
-  cause_told cause = subst (λ (l : Layers D A m). HasRefusalCause (m.faults (device_in old)) (m.faults (device_of l.cache)) result) (sym same)
-      (subst (λ (r : Result (Unit {0}) Refusal). HasRefusalCause (m.faults (device_in old)) (m.faults (device_of mid.cache)) r) (sym answered)
-      (told_cause (m.faults (device_in old)) (m.faults (device_of mid.cache)) made cause))
+-- ---- one of a store that failed
 
-  -- it is a lawful step
-  pub step_told : MayGiveUp c → ((t : Table) → IsSound old.layers t → IsChanged old.layers mid t c made)
-      → ((t : Table) (stops : Stops) → IsSound old.layers t → Leaves (cache_in old) stops → Leaves mid.cache (after_command t stops c (done_answer (told made))))
-      → ((t : Table) → IsSound old.layers t → next_of (cache_in old) ≤ next_of mid.cache) → m.faults (device_in old) < 2 ^ 64 → HasUnmadeCause (m.faults (device_in old)) (m.faults (device_of mid.cache)) made
-      → Takes Represents old new (λ s s'. LawfulStep s (Asks c) (done_answer result) s')
-  step_told may changes leaves next fits cause =
-      takes_change old new c made (done_answer result) going may (ap done_answer answered) failed
-      (λ t sound. subst (λ (l : Layers D A m). IsChanged old.layers l t c made) (sym same) (changes t sound))
-      (λ t stops sound was. subst (λ (l : Layers D A m). Leaves l.cache (after_command t stops c (done_answer (told made)))) (sym same) (leaves t stops sound was))
-      (λ t sound. (
-        no_fewer_faults (m.faults (device_in old)) (m.faults (device_in new)) result fits (cause_told cause),
-        subst (λ (l : Layers D A m). next_of (cache_in old) ≤ next_of l.cache) (sym same) (next t sound),
-      ))
+pub failed_changes : {D A : Type 0} {m : _} {store : Store D A m} {c : Command} → store.failed ≡ true → Changes store store c (Err (refusal.StoreFailed 19))
+failed_changes {m = m} {store = store} {c = c} failed = record {
+  step = takes_nothing store c failed;
+  stops = λ s t represents alive. absurd (not_both store.failed failed (alive_in store s t represents alive).0);
+  quiet = λ s t represents alive unchanged. absurd (not_both store.failed failed (alive_in store s t represents alive).0);
+  settled = λ t represents unchanged was. was;
+  dead = λ dead. (refl, refl);
+  cause = blames_none (m.faults (device_in store)) (Err (refusal.StoreFailed 19)) refl;
+}
 
-  -- what stops leave of one that may change the table
-  pub stops_told : ((t : Table) → IsSound old.layers t → ChangeLeaves old.layers mid t c made) → (s : SessionState) (t : Table) → Represents old s → s.state ≡ Alive t → StopsLeave old new (IsRefusedOrImageOf (tables_left s.stops.now))
-  stops_told leaves s t represents alive =
-      let rests = left_rests (cache_in old) s.stops.now (what_is_kept old s represents).leaves.now in
-      subst (λ (l : Layers D A m). LeavesOnly m.moment m.left_since (device_in old) (device_of l.cache) (IsRefusedOrImageOf (tables_left s.stops.now))) (sym same)
-      ((leaves t (alive_in old s t represents alive).1).stops (tables_left s.stops.now) rests)
+-- ---- what leaves the table is refused
 
-  -- and of one that does not
-  pub quiet_told : OnlyNow (cache_in old) → ((t : Table) → IsSound old.layers t → ChangeLeaves old.layers mid t c made) → (s : SessionState) (t : Table) → Represents old s → s.state ≡ Alive t → after t c ≡ t → StopsLeave old new (MayRemain s.stops.now)
-  quiet_told now leaves s t represents alive unchanged =
-      let kept = what_is_kept old s represents in
-      subst (λ (l : Layers D A m). LeavesOnly m.moment m.left_since (device_in old) (device_of l.cache) (MayRemain s.stops.now)) (sym same)
-      (kept_leaves (cache_in old) mid.cache s.stops.now kept.honest now kept.leaves.now ((leaves t (alive_in old s t represents alive).1).quiet unchanged))
-
--- what leaves the table is refused
 not_made : (why : Option Refusal) → not (is_some why) ≡ false → Done ≡ refused_or why Done → ⊥
 not_made None e f = cc
 not_made (Some r) e f = cc
@@ -72,32 +47,65 @@ unless_made P (Ok u) refused p = absurd (refused u (λ i. Ok u))
 unless_made P (Err why) refused p = p
 
 -- and then what was written is so still
-pub refused_written : {D A : Type 0} {m : _} (old mid : Layers D A m) (t : Table) (c : Command) (made : Result (Unit {0}) Unmade) → IsChanged old mid t c made → OnErr made (IsWritten old → IsWritten mid)
-    → reply_of t c ≡ refused_or (refusal_of t c) Done → not (is_some (refusal_of t c)) ≡ false → IsWritten old → IsWritten mid
-refused_written old mid t c made changed written reply refused =
-    let no_change = λ (u : Unit {0}) (is : made ≡ Ok u). not_made (refusal_of t c) refused ((subst (λ (r : Result (Unit {0}) Unmade). IsChanged old mid t c r) is changed).0 ∙ reply) in
-    unless_made (IsWritten old → IsWritten mid) made no_change written
-
--- and what was settled is so
-pub settled_told : {D A : Type 0} {m : _} (old new : Store D A m) (mid : Layers D A m) (t : Table) (c : Command) (made : Result (Unit {0}) Unmade) → new.layers ≡ mid → ChangeLeaves old.layers mid t c made
-    → (IsWritten old.layers → IsWritten mid) → after t c ≡ t → IsSettled old → IsSettled new
-settled_told old new mid t c made same leaves written unchanged was =
-    let settled = is_settled old was in
-    settled_so new (subst keeping.IsSettled (sym same) ((leaves.quiet unchanged).gate ∙ settled.0, written settled.1))
+pub refused_written : {D A : Type 0} {m : _} {old mid : Layers D A m} {c : Command} {made : Result (Unit {0}) Unmade} → IsChangeBy old mid c made
+    → ((t : Table) → (changes t c ≡ not (is_some (refusal_of t c))) × (reply_of t c ≡ refused_or (refusal_of t c) Done)) → (t : Table) → IsSound old t → changes t c ≡ false → IsWritten old → IsWritten mid
+refused_written {old = old} {mid = mid} {c = c} {made = made} change done t sound unchanged =
+    let no_change = λ (u : Unit {0}) (is : made ≡ Ok u). not_made (refusal_of t c) (sym (done t).0 ∙ unchanged) ((subst (λ (r : Result (Unit {0}) Unmade). IsChanged old mid t c r) is (change.lawful t sound).changed).0 ∙ (done t).1) in
+    unless_made (IsWritten old → IsWritten mid) made no_change change.keeps.written
 
 -- a refusal where the table is not asked does not end the store
 pub refused_goes_on : {D A : Type 0} {m : _} (old mid : Layers D A m) (t : Table) (c : Command) (made : Result (Unit {0}) Unmade) (r : Refusal) → (Refused r ≡ reply_of t c → after t c ≡ t → ⊥) → IsChanged old mid t c made → made ≡ Err (unmade.Refused r) → is_end r ≡ false
 refused_goes_on old mid t c made r never e is =
     let h = subst (λ (x : Result (Unit {0}) Unmade). IsChanged old mid t c x) is e in
-    change_goes_on _ _ t c r never h.1
+    change_goes_on _ t c r never h.1
 
 -- what the table answers so is not refused
 pub not_refused : (r : Refusal) → Refused r ≡ Done → ⊥
 not_refused r e = cc
 
--- what a change that is made does to the layers it does to those of the store
-pub on_told : {L : Type 0} {mid new : L} (made : Result (Unit {0}) Unmade) (result : Result (Unit {0}) Refusal) (P : L → Type 0) → result ≡ told made → new ≡ mid → OnOk made (P mid) → OnOk result (P new)
-on_told (Ok u) (Ok v) P answered same h = subst P (sym same) h
-on_told (Ok u) (Err r) P answered same h = tt
-on_told (Err why) (Ok v) P answered same h = absurd (cc)
-on_told (Err why) (Err r) P answered same h = tt
+-- ---- one of a live store
+
+-- the count of faults is told
+pub cause_told : {before after : ℕ} {was now : Bool} {made : Result (Unit {0}) Unmade} {result : Result (Unit {0}) Refusal} → Tells was now made result → HasUnmadeCause before after made → HasRefusalCause before after result
+cause_told {before = before} {after = after} {made = made} tells cause = subst (λ (r : Result (Unit {0}) Refusal). HasRefusalCause before after r) (sym tells.answer) (told_cause before after made cause)
+
+module _ {D A : Type 0} {m : _} (old new : Store D A m) {made : Result (Unit {0}) Unmade} {result : Result (Unit {0}) Refusal}
+    (going : old.failed ≡ false) (tells : Tells old.failed new.failed made result) where
+  -- it is a lawful step
+  pub step_told : {c : Command} → MayGiveUp c → ((t : Table) → IsSound old.layers t → IsChanged old.layers new.layers t c made)
+      → ((t : Table) (stops : Stops) → IsSound old.layers t → Leaves (cache_in old) stops → Leaves (cache_in new) (after_command t stops c (done_answer (told made))))
+      → m.faults (device_in old) < 2 ^ 64 → HasUnmadeCause (m.faults (device_in old)) (m.faults (device_in new)) made
+      → TakesStep old new c (done_answer result)
+  step_told {c = c} may changed leaves fits cause =
+      takes_change old new c made (done_answer result) going may (ap done_answer tells.answer) (tells.failed going) changed leaves
+      (λ t sound. no_fewer_faults (m.faults (device_in old)) (m.faults (device_in new)) result fits (cause_told tells cause))
+
+  -- what the layers keep of a change is what their store does
+  pub told_changes : {c : Command} → MayGiveUp c → ((t : Table) (stops : Stops) (a : Answer) → after_command t stops c a ≡ cond (changes t c) (record { now = after_change stops.now a; since = stops.since; so_far = stops.so_far }) stops)
+      → m.faults (device_in old) < 2 ^ 64 → (IsHonest (cache_in old) → OnlyNow (cache_in old))
+      → IsChangeBy old.layers new.layers c made → ((t : Table) → IsSound old.layers t → changes t c ≡ false → IsWritten old.layers → IsWritten new.layers) → Changes old new c result
+  told_changes {c = c} may by_change fits now change written = record {
+    step = step_told may (λ t sound. (change.lawful t sound).changed)
+        (λ t stops sound was. subst (Leaves (cache_in new)) (sym (by_change t stops (done_answer (told made))))
+        (change_leaves old.layers new.layers t c stops sound.map.honest was (changes t c) made (change.lawful t sound).leaves (no_change_leaves_the_table t c) (a_change_makes_another_table t c)
+        (λ r is changing. refused_goes_on old.layers new.layers t c made r (λ as_table. a_change_makes_another_table t c changing) (change.lawful t sound).changed is)))
+        fits change.keeps.cause;
+    stops = λ s t represents alive. (change.lawful t (alive_in old s t represents alive).1).leaves.stops (tables_left s.stops.now) (left_rests (cache_in old) s.stops.now (what_is_kept old s represents).leaves.now);
+    quiet = λ s t represents alive unchanged.
+        let kept = what_is_kept old s represents in
+        kept_leaves (cache_in old) (cache_in new) s.stops.now kept.honest (now kept.honest) kept.leaves.now ((change.lawful t (alive_in old s t represents alive).1).leaves.quiet (no_change_leaves_the_table t c unchanged));
+    settled = λ t represents unchanged was.
+        let sound = (alive_with old t represents).1 in
+        let settled = is_settled old was in
+        settled_so new (((change.lawful t sound).leaves.quiet (no_change_leaves_the_table t c unchanged)).gate ∙ settled.0, written t sound unchanged settled.1);
+    dead = λ dead. absurd (not_both old.failed (is_dead old dead) going);
+    cause = cause_told tells change.keeps.cause;
+  }
+
+-- what a change did that was made is done where it is told so
+ok_told : (P : Type 0) (made : Result (Unit {0}) Unmade) → OnOk made P → OnOk (told made) P
+ok_told P (Ok u) h = h
+ok_told P (Err why) h = tt
+
+pub on_told : (P : Type 0) {was now : Bool} {made : Result (Unit {0}) Unmade} {result : Result (Unit {0}) Refusal} → Tells was now made result → OnOk made P → OnOk result P
+on_told P {made = made} tells h = subst (λ (r : Result (Unit {0}) Refusal). OnOk r P) (sym tells.answer) (ok_told P made h)

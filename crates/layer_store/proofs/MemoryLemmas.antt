@@ -11,11 +11,9 @@ use Rattle.plain_table.specs.Step.{changes}
 use Rattle.plain_table.specs.Step.Answer.{Refused}
 use Rattle.plain_table.specs.Table.{Table}
 use Rattle.plain_table.specs.declared.refusal.Refusal.TheVariants as refusal
-use Rattle.store_law.specs.Sessions.{LawfulStep, Takes}
-use Rattle.store_law.specs.States.Request.{Asks}
 use Rattle.store_law.specs.Stops.{Stops, after_command, tables_left}
 use Rattle.store_law.specs.Stops.AfterStop.{Perhaps}
-use Rattle.layer_store.specs.Representation.{Represents}
+use Rattle.layer_store.specs.Commands.{TakesStep}
 use Rattle.layer_store.specs.declared.store.Store.{Store}
 use Rattle.layer_store.proofs.StopLemmas.{either_among, left_rests}
 use Rattle.layer_store.proofs.StoreLemmas.{takes_change}
@@ -50,7 +48,7 @@ module _ {D A : Type 0} {m : _} (cache : PageCache D A m) (t : Table) (stops : S
   wanting_leaves Check = was
 
 -- it is a lawful step
-pub takes_want : {D A : Type 0} {m : _} (store : Store D A m) (c : Command) → store.failed ≡ false → MayGiveUp c → Takes Represents store store (λ s s'. LawfulStep s (Asks c) (Refused refusal.Memory) s')
+pub takes_want : {D A : Type 0} {m : _} (store : Store D A m) (c : Command) → store.failed ≡ false → MayGiveUp c → TakesStep store store c (Refused refusal.Memory)
 takes_want store c going may =
     takes_change store store c (Err (unmade.Refused refusal.Memory)) (Refused refusal.Memory) going may refl going (λ t sound. (sound, inr tt))
-    (λ t stops sound was. wanting_leaves store.layers.cache t stops was c) (λ t sound. (omega arith, omega arith))
+    (λ t stops sound was. wanting_leaves store.layers.cache t stops was c) (λ t sound. omega arith)

@@ -211,7 +211,7 @@ module _ {D A : Type 0} {m : _} where
   pub represents_from_now : (store : Store D A m) (s : SessionState) → (IsHonest (cache_in store) → OnlyNow (cache_in store)) → Represents store s → Represents store (from_now s (m.moment (device_in store)))
   unfolding Represents
   represents_from_now store s here represents = (
-    record { state = represents.0.state; faults = represents.0.faults; next = represents.0.next },
+    record { state = represents.0.state; faults = represents.0.faults },
     represents.1,
     leaves_from_now (cache_in store) s.stops represents.1 (here represents.1) represents.2,
   )
@@ -220,7 +220,7 @@ module _ {D A : Type 0} {m : _} where
   pub represents_on_image : (store : Store D A m) (s : SessionState) (t : Table) → (IsHonest (cache_in store) → OnlyNow (cache_in store)) → Represents store s → IsImage (blocks_in store) t → Represents store (resting_on s (m.moment (device_in store)) t)
   unfolding Represents
   represents_on_image store s t here represents image = (
-    record { state = represents.0.state; faults = represents.0.faults; next = represents.0.next },
+    record { state = represents.0.state; faults = represents.0.faults },
     represents.1,
     leaves_from_now (cache_in store) (record { now = Perhaps (t ∷ []); since = s.stops.since; so_far = t ∷ s.stops.so_far }) represents.1 (here represents.1) (record {
       now = rests_on_image (cache_in store) t image;

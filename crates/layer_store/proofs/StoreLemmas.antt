@@ -22,12 +22,13 @@ use Rattle.plain_table.specs.Step.Answer.{Refused}
 use Rattle.plain_table.specs.Table.{Table}
 use Rattle.plain_table.specs.declared.refusal.Refusal.{Refusal}
 use Rattle.plain_table.specs.declared.refusal.Refusal.TheVariants as refusal
-use Rattle.store_law.specs.Lawful.{IsEnd, IsFault, IsSpent, Lawful, LawfulFrom, MayWrite, RefusedBy, blames_device}
-use Rattle.store_law.specs.Sessions.{LawfulStep, Reaches, SessionState, Takes}
+use Rattle.store_law.specs.Lawful.{IsEnd, IsFault, Lawful, LawfulFrom, RefusedBy, blames_device}
+use Rattle.store_law.specs.Sessions.{LawfulStep, Reaches, SessionState}
 use Rattle.store_law.specs.States.{StoreState}
 use Rattle.store_law.specs.States.Request.{Asks}
 use Rattle.store_law.specs.States.StoreState.{Alive, Dead}
 use Rattle.store_law.specs.Stops.{Stops, after_command, after_request, is_end}
+use Rattle.layer_store.specs.Commands.{TakesStep}
 use Rattle.layer_store.specs.Representation.{BeginsWith, HasFailed, IsInState, IsOfStore, IsSettled, Represents, RepresentsTable, cache_in, closed_since, device_in}
 use Rattle.layer_store.specs.declared.store.Store.{Store}
 
@@ -37,19 +38,19 @@ not_both b e f = cc
 -- ---- faults and refusals
 
 -- a fault that broke a change off ends the store
-end_of_change : (rose spent : Type 0) (f : Fault) → IsFaultOfChange rose spent f → IsEnd rose spent (refusal.StoreFailed (number_of f))
-end_of_change rose spent fault.Memory h = inl refl
-end_of_change rose spent fault.Device h = inr (inl (refl, h))
-end_of_change rose spent fault.NoPages h = inr (inr (refl, h))
-end_of_change rose spent (fault.Damaged page) h = absurd h
-end_of_change rose spent fault.NotClosed h = absurd h
-end_of_change rose spent fault.NotAStore h = absurd h
-end_of_change rose spent fault.WrongVersion h = absurd h
+end_of_change : (rose : Type 0) (f : Fault) → IsFaultOfChange rose f → IsEnd rose (refusal.StoreFailed (number_of f))
+end_of_change rose fault.Memory h = inl refl
+end_of_change rose fault.Device h = inr (refl, h)
+end_of_change rose fault.NoPages h = absurd h
+end_of_change rose (fault.Damaged page) h = absurd h
+end_of_change rose fault.NotClosed h = absurd h
+end_of_change rose fault.NotAStore h = absurd h
+end_of_change rose fault.WrongVersion h = absurd h
 
 -- a fault that is answered by itself does not
-pub no_end : (rose spent : Type 0) (r : Refusal) → IsFault rose spent r → is_end r ≡ false
-no_end rose spent (refusal.StoreFailed n) h = absurd h
-no_end rose spent r h = refl
+pub no_end : (rose : Type 0) (r : Refusal) → IsFault rose r → is_end r ≡ false
+no_end rose (refusal.StoreFailed n) h = absurd h
+no_end rose r h = refl
 
 -- ---- the count of faults
 
@@ -145,74 +146,70 @@ module _ {D A : Type 0} {m : _} where
   -- a store that was made or opened
   pub begins : (store : Store D A m) (moment : ℕ) (t : Table) → IsInState store (Alive t) → IsHonest (cache_in store) → Leaves (cache_in store) (closed_since moment t) → BeginsWith store moment t
   begins store moment t alive honest leaves =
-      let s : SessionState = record { state = Alive t; stops = closed_since moment t; faults = m.faults (device_in store); next = next_of (cache_in store) } in
+      let s : SessionState = record { state = Alive t; stops = closed_since moment t; faults = m.faults (device_in store) } in
       record {
         next = s;
-        represents = represents_so store s (record { state = alive; faults = refl; next = refl }) honest leaves;
+        represents = represents_so store s (record { state = alive; faults = refl }) honest leaves;
         so = (refl, refl);
       }
 
   -- ---- steps
 
-  -- neither the count of faults nor that of page numbers fell
+  -- the count of faults did not fall
   abbrev pub NoFewer : Store D A m → Store D A m → Type 0
-  NoFewer old new = (m.faults (device_in old) ≤ m.faults (device_in new)) × (next_of (cache_in old) ≤ next_of (cache_in new))
+  NoFewer old new = m.faults (device_in old) ≤ m.faults (device_in new)
 
   abbrev Rose : Store D A m → Store D A m → Type 0
   Rose old new = HasRisen (m.faults (device_in old)) (m.faults (device_in new))
 
-  abbrev Spent : Store D A m → Type 0
-  Spent store = IsSpent (next_of (cache_in store))
-
   -- a lawful step from a state to another
   step : (old new : Store D A m) (c : Command) (a : Answer) (s : SessionState) (was now : StoreState) → s.state ≡ was → Represents old s → IsInState new now → IsHonest (cache_in new) → Leaves (cache_in new) (after_request was s.stops (Asks c) a)
-      → Lawful (Rose old new) (Spent new) was (Asks c) a now → NoFewer old new → Reaches Represents new (λ s'. LawfulStep s (Asks c) a s')
+      → Lawful (Rose old new) was (Asks c) a now → NoFewer old new → Reaches Represents new (λ s'. LawfulStep s (Asks c) a s')
   step old new c a s was now e represents is honest leaves lawful more =
       let of_old = (what_is_kept old s represents).is in
-      let s' : SessionState = record { state = now; stops = after_request was s.stops (Asks c) a; faults = m.faults (device_in new); next = next_of (cache_in new) } in
+      let s' : SessionState = record { state = now; stops = after_request was s.stops (Asks c) a; faults = m.faults (device_in new) } in
       record {
         next = s';
-        represents = represents_so new s' (record { state = is; faults = refl; next = refl }) honest leaves;
+        represents = represents_so new s' (record { state = is; faults = refl }) honest leaves;
         so = record {
-          answer = subst (λ (x : StoreState). Lawful (HasRisen s.faults s'.faults) (Spent new) x (Asks c) a now) (sym e)
-              (subst (λ (n : ℕ). Lawful (HasRisen n s'.faults) (Spent new) was (Asks c) a now) (sym of_old.faults) lawful);
+          answer = subst (λ (x : StoreState). Lawful (HasRisen s.faults s'.faults) x (Asks c) a now) (sym e)
+              (subst (λ (n : ℕ). Lawful (HasRisen n s'.faults) was (Asks c) a now) (sym of_old.faults) lawful);
           stops = ap (λ (x : StoreState). after_request x s.stops (Asks c) a) (sym e);
-          faults = omega (arith, of_old.faults, more.0);
-          next = omega (arith, of_old.next, more.1);
+          faults = omega (arith, of_old.faults, more);
         };
       }
 
   -- a command of a store that failed
-  pub takes_nothing : (store : Store D A m) (c : Command) → store.failed ≡ true → Takes Represents store store (λ s s'. LawfulStep s (Asks c) (Refused (refusal.StoreFailed 19)) s')
+  pub takes_nothing : (store : Store D A m) (c : Command) → store.failed ≡ true → TakesStep store store c (Refused (refusal.StoreFailed 19))
   takes_nothing store c failed = λ s represents. go s represents s.state refl (what_is_kept store s represents).is.state
     where
       go : (s : SessionState) → Represents store s → (state : StoreState) → s.state ≡ state → IsInState store state → Reaches Represents store (λ s'. LawfulStep s (Asks c) (Refused (refusal.StoreFailed 19)) s')
       go s represents (Alive t) e alive = absurd (not_both store.failed failed (is_alive store t alive).0)
       go s represents Dead e dead =
           let kept = what_is_kept store s represents in
-          step store store c (Refused (refusal.StoreFailed 19)) s Dead Dead e represents dead kept.honest kept.leaves (refl, refl) (omega arith, omega arith)
+          step store store c (Refused (refusal.StoreFailed 19)) s Dead Dead e represents dead kept.honest kept.leaves (refl, refl) (omega arith)
 
   -- the state that a change leaves, and that it is lawful
   record Leads (old new : Store D A m) (t : Table) (c : Command) (a : Answer) : Type 0 where
     state : StoreState
     is : IsInState new state
     honest : IsHonest (cache_in new)
-    lawful : LawfulFrom (Rose old new) (Spent new) t c a state
+    lawful : LawfulFrom (Rose old new) t c a state
 
   leads : (old new : Store D A m) (t : Table) (c : Command) (made : Result (Unit {0}) Unmade) → MayGiveUp c → new.failed ≡ is_broken made → IsChanged old.layers new.layers t c made → Leads old new t c (done_answer (told made))
   leads old new t c (Ok u) may failed h = record { state = Alive (after t c); is = alive_so new (after t c) failed h.1; honest = h.1.map.honest; lawful = inl (h.0, refl) }
   leads old new t c (Err (unmade.Refused r)) may failed h = record { state = Alive t; is = alive_so new t failed h.0; honest = h.0.map.honest; lawful = case h.1 }
     where
-      case : ((Refused r ≡ reply_of t c) × (after t c ≡ t)) ⊎ IsFault (Rose old new) (Spent new × MayWrite t c) r → LawfulFrom (Rose old new) (Spent new) t c (Refused r) (Alive t)
+      case : ((Refused r ≡ reply_of t c) × (after t c ≡ t)) ⊎ IsFault (Rose old new) r → LawfulFrom (Rose old new) t c (Refused r) (Alive t)
       case (inl as_table) = inl (as_table.0, ap Alive (sym as_table.1))
       case (inr faulty) = inr (inl (faulty, may, refl))
-  leads old new t c (Err (unmade.Broken f)) may failed h = record { state = Dead; is = dead_so new failed; honest = h.0; lawful = inr (inr (end_of_change (Rose old new) (Spent new) f h.2, h.1, refl)) }
+  leads old new t c (Err (unmade.Broken f)) may failed h = record { state = Dead; is = dead_so new failed; honest = h.0; lawful = inr (inr (end_of_change (Rose old new) f h.2, h.1, refl)) }
 
   -- a change of a live store
   pub takes_change : (old new : Store D A m) (c : Command) (made : Result (Unit {0}) Unmade) (a : Answer) → old.failed ≡ false → MayGiveUp c → a ≡ done_answer (told made) → new.failed ≡ is_broken made
       → ((t : Table) → IsSound old.layers t → IsChanged old.layers new.layers t c made)
       → ((t : Table) (stops : Stops) → IsSound old.layers t → Leaves (cache_in old) stops → Leaves (cache_in new) (after_command t stops c (done_answer (told made))))
-      → ((t : Table) → IsSound old.layers t → NoFewer old new) → Takes Represents old new (λ s s'. LawfulStep s (Asks c) a s')
+      → ((t : Table) → IsSound old.layers t → NoFewer old new) → TakesStep old new c a
   takes_change old new c made a going may answered failed changed leaves more = λ s represents. go s represents s.state refl (what_is_kept old s represents).is.state
     where
       go : (s : SessionState) → Represents old s → (state : StoreState) → s.state ≡ state → IsInState old state → Reaches Represents new (λ s'. LawfulStep s (Asks c) a s')
@@ -225,8 +222,8 @@ module _ {D A : Type 0} {m : _} where
 
   -- a command that leaves the table of a live store
   pub takes_asked : (old new : Store D A m) (c : Command) (a : Answer) → old.failed ≡ false → new.failed ≡ false → ((t : Table) (stops : Stops) → after_command t stops c a ≡ stops)
-      → ((t : Table) → IsSound old.layers t → IsSound new.layers t × LawfulFrom (Rose old new) (Spent new) t c a (Alive t)) → ((t : Table) (stops : Stops) → IsSound old.layers t → Leaves (cache_in old) stops → Leaves (cache_in new) stops) → NoFewer old new
-      → Takes Represents old new (λ s s'. LawfulStep s (Asks c) a s')
+      → ((t : Table) → IsSound old.layers t → IsSound new.layers t × LawfulFrom (Rose old new) t c a (Alive t)) → ((t : Table) (stops : Stops) → IsSound old.layers t → Leaves (cache_in old) stops → Leaves (cache_in new) stops) → NoFewer old new
+      → TakesStep old new c a
   takes_asked old new c a going goes quiet lawful leaves more = λ s represents. go s represents s.state refl (what_is_kept old s represents).is.state
     where
       go : (s : SessionState) → Represents old s → (state : StoreState) → s.state ≡ state → IsInState old state → Reaches Represents new (λ s'. LawfulStep s (Asks c) a s')
@@ -240,21 +237,21 @@ module _ {D A : Type 0} {m : _} where
   -- a question of a live store
   pub takes_question : (old new : Store D A m) (c : Command) (a : Answer) → old.failed ≡ false → new.failed ≡ false → MayGiveUp c → ((t : Table) → after t c ≡ t) → ((t : Table) (stops : Stops) → after_command t stops c a ≡ stops)
       → ((t : Table) → IsSound old.layers t → IsAnswered old.layers new.layers t c a) → ((t : Table) (stops : Stops) → IsSound old.layers t → Leaves (cache_in old) stops → Leaves (cache_in new) stops) → NoFewer old new
-      → Takes Represents old new (λ s s'. LawfulStep s (Asks c) a s')
+      → TakesStep old new c a
   takes_question old new c a going goes may stays quiet answered leaves more =
       takes_asked old new c a going goes quiet (λ t sound. let h = answered t sound in (h.0, lawful t h.1)) leaves more
     where
-      lawful : (t : Table) → (a ≡ reply_of t c) ⊎ RefusedBy (IsFault (Rose old new) (Spent new × MayWrite t c)) a → LawfulFrom (Rose old new) (Spent new) t c a (Alive t)
+      lawful : (t : Table) → (a ≡ reply_of t c) ⊎ RefusedBy (IsFault (Rose old new)) a → LawfulFrom (Rose old new) t c a (Alive t)
       lawful t (inl as_table) = inl (as_table, ap Alive (sym (stays t)))
       lawful t (inr faulty) = inr (inl (faulty, may, refl))
 
   -- a command that the store answers as the table does, without a call
   pub takes_reply : (store : Store D A m) (c : Command) (a : Answer) → store.failed ≡ false → ((t : Table) → after t c ≡ t) → ((t : Table) (stops : Stops) → after_command t stops c a ≡ stops)
-      → ((t : Table) → IsSound store.layers t → a ≡ reply_of t c) → Takes Represents store store (λ s s'. LawfulStep s (Asks c) a s')
+      → ((t : Table) → IsSound store.layers t → a ≡ reply_of t c) → TakesStep store store c a
   takes_reply store c a going stays quiet replied =
-      takes_asked store store c a going going quiet (λ t sound. (sound, inl (replied t sound, ap Alive (sym (stays t))))) (λ t stops sound was. was) (omega arith, omega arith)
+      takes_asked store store c a going going quiet (λ t sound. (sound, inl (replied t sound, ap Alive (sym (stays t))))) (λ t stops sound was. was) (omega arith)
 
 -- a refusal that is not the table's is no end of the store
-pub change_goes_on : (rose spent : Type 0) (t : Table) (c : Command) (r : Refusal) → (Refused r ≡ reply_of t c → after t c ≡ t → ⊥) → ((Refused r ≡ reply_of t c) × (after t c ≡ t)) ⊎ IsFault rose spent r → is_end r ≡ false
-change_goes_on rose spent t c r never (inl as_table) = absurd (never as_table.0 as_table.1)
-change_goes_on rose spent t c r never (inr faulty) = no_end rose spent r faulty
+pub change_goes_on : (rose : Type 0) (t : Table) (c : Command) (r : Refusal) → (Refused r ≡ reply_of t c → after t c ≡ t → ⊥) → ((Refused r ≡ reply_of t c) × (after t c ≡ t)) ⊎ IsFault rose r → is_end r ≡ false
+change_goes_on rose t c r never (inl as_table) = absurd (never as_table.0 as_table.1)
+change_goes_on rose t c r never (inr faulty) = no_end rose r faulty

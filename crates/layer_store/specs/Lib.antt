@@ -2,3 +2,4 @@
 pub mod Faults
 pub mod Starting
 pub mod Representation
+pub mod Commands

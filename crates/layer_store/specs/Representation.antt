@@ -4,7 +4,7 @@ use Rattle.block_device.specs.Device.{Blocks, LeavesOnly}
 use Rattle.live_layers.specs.Keeping as keeping
 use Rattle.live_layers.specs.Keeping.{IsSound, Leaves, cache_of}
 use Rattle.live_layers.specs.declared.layers.Layers.{Layers}
-use Rattle.page_cache.specs.Cache.{IsHonest, KeepsGate, KeepsMap, blocks_of, device_of, looks_of, next_of}
+use Rattle.page_cache.specs.Cache.{IsHonest, KeepsGate, KeepsMap, blocks_of, device_of, looks_of}
 use Rattle.page_cache.specs.declared.cache.PageCache.{PageCache}
 use Rattle.plain_table.specs.Table.{Table}
 use Rattle.store_law.specs.Sessions.{Reaches, SessionState}
@@ -41,11 +41,10 @@ unfoldable pub IsInState : {D A : Type 0} {m : _} → Store D A m → StoreState
 IsInState store (Alive t) = (store.failed ≡ false) × IsSound store.layers t
 IsInState store Dead = store.failed ≡ true
 
--- the state of a session is the store's: its state, the faults of its device, and the page numbers given out
+-- the state of a session is the store's: its state, and the faults of its device
 pub record IsOfStore {D A : Type 0} {m : _} (store : Store D A m) (s : SessionState) : Type 0 where
   pub state : IsInState store s.state
   pub faults : s.faults ≡ m.faults (device_in store)
-  pub next : s.next ≡ next_of (cache_in store)
 
 -- The session's state is the store's, its device is honest, and stops leave what the session's state says.
 unfoldable pub Represents : {D A : Type 0} {m : _} → Store D A m → SessionState → Type 0
@@ -73,11 +72,11 @@ BeginsWithSome store moment = (t : Table) × BeginsWith store moment t
 
 -- the same state of a session, seen from this moment on
 abbrev pub from_now : SessionState → ℕ → SessionState
-from_now s moment = record { state = s.state; stops = record { now = s.stops.now; since = moment; so_far = tables_left s.stops.now }; faults = s.faults; next = s.next }
+from_now s moment = record { state = s.state; stops = record { now = s.stops.now; since = moment; so_far = tables_left s.stops.now }; faults = s.faults }
 
 -- the same, where a stop leaves an image of this table, or blocks that opening refuses
 abbrev pub resting_on : SessionState → ℕ → Table → SessionState
-resting_on s moment t = record { state = s.state; stops = record { now = Perhaps (t ∷ []); since = moment; so_far = t ∷ [] }; faults = s.faults; next = s.next }
+resting_on s moment t = record { state = s.state; stops = record { now = Perhaps (t ∷ []); since = moment; so_far = t ∷ [] }; faults = s.faults }
 
 -- the store is sound, and has failed
 abbrev pub HasFailed : {D A : Type 0} {m : _} → Store D A m → Type 0

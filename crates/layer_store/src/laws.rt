@@ -51,8 +51,7 @@ pub fn a_closing_adds_its_table<D: BlockDevice, A: Allocator>()
         (c : Blocks) → D.left_since device s.stops.since c → IsRefusedOrImageOf (t ∷ s.stops.so_far) c }
 {}
 
-/// The state of a session is that of its store, with the faults of its device and the page numbers given out of its
-/// file.
+/// The state of a session is that of its store, with the faults of its device.
 pub fn a_session_state_is_of_its_store<D: BlockDevice, A: Allocator>()
     ensures { (store : Store D A ⟦<D as BlockDevice>⟧) (s : SessionState) → Represents store s → IsOfStore store s }
 {}

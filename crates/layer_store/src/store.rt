@@ -17,9 +17,9 @@ use std::alloc::{Allocator, Global};
 const FAILED: Refusal = Refusal::StoreFailed(19);
 
 /// A spatial store on a device. Each of its commands is one lawful step of the plain table: it answers as the table
-/// does and leaves the table that it leaves; or it answers `Memory`, `Device` or `NoPages` and leaves the table as it
-/// was; or, half way through a change or a reopening, it answers `StoreFailed` with the number of the fault, and the
-/// store answers `StoreFailed(19)` from then on.
+/// does and leaves the table that it leaves; or it answers `Memory` or `Device` and leaves the table as it was; or,
+/// half way through a change or a reopening, it answers `StoreFailed` with the number of the fault, and the store
+/// answers `StoreFailed(19)` from then on.
 ///
 /// Each layer is an R*-tree of pages and a table from identifier to box. Questions only read pages. A change writes
 /// them behind an open gate, and [`Store::reopen`] and [`Store::close`] shut it over an image of the table.

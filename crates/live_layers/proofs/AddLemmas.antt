@@ -13,7 +13,7 @@ use Rattle.page_cache.specs.declared.cache.PageCache.{PageCache}
 use Rattle.plain_table.specs.Table.{Layer, Table, layer_at, most_objects, object_count, with_object}
 use Rattle.plain_table.proofs.StepLemmas.{len-with_object}
 use Rattle.reinsert.specs.Insertion.{IsInsertion}
-use Rattle.tree_node.specs.Trees.{Tree, object}
+use Rattle.tree_node.specs.Trees.{object}
 use Rattle.tree_node.specs.declared.node.Root.{Root}
 use Rattle.live_layers.specs.Catalog.{with_tree}
 use Rattle.live_layers.specs.Keeping.{ChangesTree, Finds, IsSound}

@@ -37,9 +37,9 @@ one_more_risen old new e = ⊎_elim
 pub risen_of : (before now : ℕ) (f : Fault) → now ≡ faults_after f before → f ≡ fault.Device → HasRisen before now
 risen_of before now f e is = one_more_risen before now (e ∙ ap (λ (x : Fault). faults_after x before) is)
 
-pub device_refuses : (rose spent : Type 0) (f : Fault) → IsOfDevice f → (f ≡ fault.Device → rose) → IsFault rose spent (as_refusal f)
-device_refuses rose spent f (inl e) risen = subst (λ (x : Fault). IsFault rose spent (as_refusal x)) (sym e) tt
-device_refuses rose spent f (inr e) risen = subst (λ (x : Fault). IsFault rose spent (as_refusal x)) (sym e) (risen e)
+pub device_refuses : (rose : Type 0) (f : Fault) → IsOfDevice f → (f ≡ fault.Device → rose) → IsFault rose (as_refusal f)
+device_refuses rose f (inl e) risen = subst (λ (x : Fault). IsFault rose (as_refusal x)) (sym e) tt
+device_refuses rose f (inr e) risen = subst (λ (x : Fault). IsFault rose (as_refusal x)) (sym e) (risen e)
 
 -- a fault and its refusal count the same
 pub same_count : (f : Fault) (before : ℕ) → faults_after_refusal (as_refusal f) before ≡ faults_after f before

@@ -1,5 +1,5 @@
 -- Changes behind the gate: begun, and then made or broken off.
-use Rattle.std.proofs.Common.{◌≡◌, ◌∙◌, true, false, List, None, Some, refl, sym, ap, subst, arith}
+use Rattle.std.proofs.Common.{◌≡◌, ◌∙◌, true, false, None, sym, ap, subst, arith}
 use Rattle.std.specs.Prelude.{◌↔◌, Result, Ok, Err, OnOk, IfErr, IsErrAnd}
 use Rattle.block_device.specs.Device.{Blocks, LeavesOnly}
 use Rattle.node_page.specs.Broken.{Alters, before, cause_in}
@@ -13,11 +13,17 @@ use Rattle.page_file.specs.declared.fault.Fault.{Fault}
 use Rattle.page_file.specs.declared.fault.Fault.TheVariants as fault
 use Rattle.page_file.specs.declared.gate.Gate.TheVariants.{Open}
 use Rattle.plain_table.specs.Table.{Table}
-use Rattle.live_layers.specs.Begun.{Begins}
-use Rattle.live_layers.specs.Image.{IsRefusedOrImageOf}
-use Rattle.live_layers.specs.Keeping.{RestLeavesOneOf}
-use Rattle.live_layers.proofs.Results.{if_err}
+use Rattle.live_layers.specs.Begun.{Begins, BeginsChange}
+use Rattle.live_layers.specs.Keeping.{IsSound, IsWritten}
+use Rattle.live_layers.specs.declared.layers.Layers.{Layers}
+use Rattle.live_layers.proofs.KeepLemmas.{sound_kept}
+use Rattle.live_layers.proofs.QuestionLemmas.{IsSameBut}
+use Rattle.live_layers.proofs.Results.{any_err, if_err, on_any_err, the_err}
 use Rattle.live_layers.proofs.StopLemmas.{gate_opened, none_made, pages_written}
+
+-- since its moment a device leaves nothing but what it may leave now
+abbrev pub OnlyNow : {D A : Type 0} {m : _} → Layers D A m → Type 0
+OnlyNow {D = D} {m = m} kept = (d : D) (b : Blocks) → m.honest d → m.left_since d (m.moment d) b → m.may_leave d b
 
 module _ {D A : Type 0} {m : _} {T : Type 0} where
   -- an answer that hands on why a change broke off
@@ -26,7 +32,7 @@ module _ {D A : Type 0} {m : _} {T : Type 0} where
   handed_on old new b (Err e) is begins = subst (λ (f : Broken). Begins {T = T} old new (Err f)) (sym is) begins
 
   -- the gate was not opened: there was no memory
-  pub none_begun : (cache : PageCache D A m) (f : Fault) (result : Result T Broken) → IsErrAnd result (λ e. e ≡ before f) → f ≡ fault.Memory
+  none_begun : (cache : PageCache D A m) (f : Fault) (result : Result T Broken) → IsErrAnd result (λ e. e ≡ before f) → f ≡ fault.Memory
       → (IsHonest cache → (c : Blocks) → m.left_since (device_of cache) (m.moment (device_of cache)) c → m.may_leave (device_of cache) c) → Begins cache cache result
   none_begun cache f result is memory now = handed_on cache cache (before f) result is (record {
     stops = λ ts honest rests. none_made cache ts honest (now honest) rests;
@@ -53,7 +59,7 @@ module _ {D A : Type 0} {m : _} {T : Type 0} where
   }
 
   -- and pages were changed behind it
-  pub begun_and_made : {S : Type 0} (old mid new : PageCache D A m) (x : S) (y : T) → Begins old mid (Ok x) → ChangesUntil mid new None → Begins old new (Ok y)
+  begun_and_made : {S : Type 0} (old mid new : PageCache D A m) (x : S) (y : T) → Begins old mid (Ok x) → ChangesUntil mid new None → Begins old new (Ok y)
   begun_and_made old mid new x y begun changes = record {
     stops = λ ts honest rests. pages_written old mid new ts (begun.honest.0 honest) begun.opened (begun.stops ts honest rests) changes.gate;
     rests = λ ts honest rests closed. absurd (closed (changes.gate.gate ∙ begun.opened));
@@ -65,7 +71,7 @@ module _ {D A : Type 0} {m : _} {T : Type 0} where
   }
 
   -- or half changed
-  pub begun_and_broke : {R S : Type 0} (old mid new : PageCache D A m) (x : R) (b : Broken) (result : Result T Broken) → IsErrAnd result (λ e. e ≡ b) → Begins old mid (Ok x) → Alters {T = S} mid new (Err b) → Begins old new result
+  begun_and_broke : {R S : Type 0} (old mid new : PageCache D A m) (x : R) (b : Broken) (result : Result T Broken) → IsErrAnd result (λ e. e ≡ b) → Begins old mid (Ok x) → Alters {T = S} mid new (Err b) → Begins old new result
   begun_and_broke old mid new x b result is begun alters = handed_on old new b result is (record {
     stops = λ ts honest rests. pages_written old mid new ts (begun.honest.0 honest) begun.opened (begun.stops ts honest rests) alters.changes.gate;
     rests = λ ts honest rests closed. absurd (closed (alters.changes.gate.gate ∙ begun.opened));
@@ -75,3 +81,38 @@ module _ {D A : Type 0} {m : _} {T : Type 0} where
     next = omega (arith, begun.next, alters.changes.next);
     faults = alters.changes.faults ∙ ap (faults_after b.cause) begun.faults;
   })
+
+  -- ---- of layers
+
+  -- there was no memory
+  pub no_memory : (kept : Layers D A m) (f : Fault) (result : Result T Broken) → IsErrAnd result (λ e. e ≡ before f) → f ≡ fault.Memory → OnlyNow kept → BeginsChange kept kept result
+  no_memory kept f result is memory now = record {
+    begins = none_begun kept.cache f result is memory (λ honest c left. now (device_of kept.cache) c honest left);
+    untouched = λ t sound. any_err result _ (λ b quiet. sound);
+    written = on_any_err result _ (λ was. was);
+  }
+
+  -- the gate was not opened
+  pub not_opened : (old new : Layers D A m) (b : Broken) (result : Result T Broken) → IsErrAnd result (λ e. e ≡ b) → Begins {T = T} old.cache new.cache (Err b) → ((t : Table) → IsSound old t → IsSound new t) → (IsWritten old → IsWritten new)
+      → BeginsChange old new result
+  not_opened old new b result is begins kept written = record {
+    begins = handed_on old.cache new.cache b result is begins;
+    untouched = λ t sound. any_err result _ (λ _ quiet. kept t sound);
+    written = on_any_err result _ written;
+  }
+
+  -- it was, and pages were half changed, or changed
+  pub broke_behind : {R S : Type 0} (old mid new : Layers D A m) {x : R} (b : Broken) (result : Result T Broken) → IsErrAnd result (λ e. e ≡ b) → IsSameBut mid new → Begins old.cache mid.cache (Ok x)
+      → ((t : Table) → IsSound old t → IsSound mid t) → (IsWritten old → IsWritten mid) → Alters {T = S} mid.cache new.cache (Err b) → BeginsChange old new result
+  broke_behind old mid new {x} b result is same begun kept written alters = record {
+    begins = begun_and_broke old.cache mid.cache new.cache x b result is begun alters;
+    untouched = λ t sound. the_err result b (λ e. e.touched ≡ false → IsSound new t) is (λ quiet. sound_kept mid new t (alters.untouched quiet) same.0 same.1 (λ w. sym same.2 ∙ w) (kept t sound));
+    written = on_any_err result _ (λ was. same.2 ∙ written was);
+  }
+
+  pub made_behind : {S : Type 0} (old mid new : Layers D A m) (cache : PageCache D A m) {x : S} {y : T} → new.cache ≡ cache → Begins old.cache mid.cache (Ok x) → ChangesUntil mid.cache cache None → BeginsChange old new (Ok y)
+  made_behind old mid new cache {x} {y} same begun changes = record {
+    begins = subst (λ (c : PageCache D A m). Begins old.cache c (Ok y)) (sym same) (begun_and_made old.cache mid.cache cache x y begun changes);
+    untouched = λ t sound. tt;
+    written = tt;
+  }

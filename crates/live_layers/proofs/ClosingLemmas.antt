@@ -8,7 +8,7 @@ use Rattle.page_cache.specs.Cache.{IsHonest, IsUnchanged, KeepsGate, KeepsMap, b
 use Rattle.page_cache.specs.declared.cache.PageCache.{PageCache}
 use Rattle.page_file.specs.Fault.{IsOfDevice}
 use Rattle.page_file.specs.Laws.{stops_of_a_run_go_on}
-use Rattle.page_file.specs.Stops.{SameButGate, StopSince}
+use Rattle.page_file.specs.Stops.{StopSince}
 use Rattle.page_file.specs.declared.fault.Fault.{Fault}
 use Rattle.page_file.specs.declared.fault.Fault.TheVariants as fault
 use Rattle.page_file.specs.declared.gate.Gate.{Gate}
@@ -25,9 +25,9 @@ use Rattle.live_layers.proofs.KeepLemmas.{kept_catalog, kept_table}
 use Rattle.live_layers.proofs.StopLemmas.{image_aside, or_this, this_one}
 
 -- a fault of the device breaks a closing off
-pub breaks_off : (rose spent : Type 0) (f : Fault) → IsOfDevice f → (f ≡ fault.Device → rose) → IsFaultOfChange rose spent f
-breaks_off rose spent f (inl e) risen = subst (IsFaultOfChange rose spent) (sym e) tt
-breaks_off rose spent f (inr e) risen = subst (IsFaultOfChange rose spent) (sym e) (risen e)
+pub breaks_off : (rose : Type 0) (f : Fault) → IsOfDevice f → (f ≡ fault.Device → rose) → IsFaultOfChange rose f
+breaks_off rose f (inl e) risen = subst (IsFaultOfChange rose) (sym e) tt
+breaks_off rose f (inr e) risen = subst (IsFaultOfChange rose) (sym e) (risen e)
 
 -- a gate that is open or unsure is not shut
 pub open_is_not_shut : (gate : Gate) → gate ≡ Open → ¬ (gate ≡ Shut)

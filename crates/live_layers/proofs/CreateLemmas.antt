@@ -1,9 +1,9 @@
 -- A layer that is made: the table has one more, and the pages hold it.
-use Rattle.std.proofs.Common.{◌≡◌, ◌∙◌, ℕ, ◌+◌, ◌<◌, ◌≤◌, ◌^◌, List, length, get_or, map, true, false, cond, Bool, ◌&&◌, Option, refl, sym, ap, subst, arith, ⊎_elim}
-use Rattle.std.specs.Prelude.{◌⊎◌, None, Some, IsSome, sum_by, is_some}
+use Rattle.std.proofs.Common.{◌≡◌, ◌∙◌, ℕ, ◌+◌, ◌<◌, ◌≤◌, ◌^◌, List, length, get_or, map, true, false, cond, Bool, ◌&&◌, refl, sym, ap, subst, arith, ⊎_elim}
+use Rattle.std.specs.Prelude.{None, Some, IsSome, sum_by}
 use Rattle.std.specs.Cmp.Derive.{both_true}
-use Rattle.std.specs.Cmp.Lexicographic.{nat_list_cmp_total, slice_cmp}
-use Rattle.std.specs.FinMap.{contains_key, empty, entries, get-entries, insert as map_insert, len, len-empty, len-entries, len-insert}
+use Rattle.std.specs.Cmp.Lexicographic.{nat_list_cmp_total}
+use Rattle.std.specs.FinMap.{contains_key, empty, entries, insert as map_insert, len, len-empty, len-entries, len-insert}
 use Rattle.std.specs.List.{Contains, insert}
 use Rattle.std.specs.Ordering.{nat_cmp}
 use Rattle.std.proofs.lemmas.Bool.{cases_lt}
@@ -17,11 +17,9 @@ use Rattle.layer_pages.specs.Changes.{BecomesLayer, IsEmptyLeaf}
 use Rattle.layer_pages.specs.Layers.{CanBeRoot}
 use Rattle.node_page.specs.Parts.{no_page}
 use Rattle.node_page.specs.Rooted.{IsTreeAt}
-use Rattle.node_page.specs.Standing.{PageMap}
 use Rattle.node_page.proofs.StandingLemmas.{equal_pages_stand, one_tree_stands}
 use Rattle.page_cache.specs.Cache.{IsPageMap, next_of, pages}
 use Rattle.page_cache.specs.Laws.{a_live_page_was_given_out}
-use Rattle.page_cache.specs.declared.cache.PageCache.{PageCache}
 use Rattle.plain_table.specs.Commands.Command.{Create}
 use Rattle.plain_table.specs.Step.{after, changed, kept_or, refusal_of}
 use Rattle.plain_table.specs.Table.{Layer, Table, is_dims, is_fanout, is_layer_name, most_objects, object_count}

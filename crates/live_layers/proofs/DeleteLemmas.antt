@@ -1,5 +1,5 @@
 -- Why the deletion of an object is refused, and what one that is not does to the table.
-use Rattle.std.proofs.Common.{◌≡◌, ◌∙◌, ℕ, List, [], ◌∷◌, Bool, true, false, not, Option, Some, None, refl, sym, ap, inl, inr}
+use Rattle.std.proofs.Common.{◌≡◌, ◌∙◌, ℕ, List, [], ◌∷◌, false, not, Option, Some, None, refl, sym, ap, inl, inr}
 use Rattle.std.specs.Prelude.{◌⊎◌, is_some}
 use Rattle.std.specs.FinMap.{contains_key, get}
 use Rattle.box_math.specs.Bounds.{Bounds}
@@ -27,7 +27,7 @@ box_answered rose None id its b (inl e) = (refl, ap first_box e)
 box_answered rose (Some r) id its b (inl e) = absurd (cc)
 box_answered rose why id its b (inr never) = absurd never
 
-pub none_answered : (rose : Type 0) (why : Option Refusal) (rows : List (ℕ × Bounds)) (r : Refusal) → IsReply rose why (Boxes rows) (Refused r) → (why ≡ Some r) ⊎ IsFault rose ⊥ r
+pub none_answered : (rose : Type 0) (why : Option Refusal) (rows : List (ℕ × Bounds)) (r : Refusal) → IsReply rose why (Boxes rows) (Refused r) → (why ≡ Some r) ⊎ IsFault rose r
 none_answered rose None rows r (inl e) = absurd (cc)
 none_answered rose (Some s) rows r (inl e) = inl (cc)
 none_answered rose why rows r (inr failed) = inr failed

@@ -1,9 +1,9 @@
 -- A layer that goes: the table has one less, and the pages hold it.
 use Rattle.std.proofs.Common.{◌≡◌, ◌∙◌, ℕ, zero, suc, ◌+◌, ◌-◌, ◌^◌, ◌<◌, ◌≤◌, List, [], ◌∷◌, length, get_or, map, Bool, true, false, cond, not, ◌&&◌, Option, None, Some, refl, sym, ap, subst, arith, T, ⊎_elim}
-use Rattle.std.specs.Prelude.{IsSome, is_some, sum_by}
+use Rattle.std.specs.Prelude.{is_some, sum_by}
 use Rattle.std.specs.Cmp.{IsTotalOrder, alike_right, eq_by_cmp_equiv}
 use Rattle.std.specs.Cmp.Lexicographic.{nat_list_cmp_total, slice_cmp}
-use Rattle.std.specs.FinMap.{contains_key, entries, entries-from_sorted, entries_sorted, find, from_sorted, get, get-entries, get-from_sorted, get-remove, is_sorted, len, len-entries, nat_cmp-IsAntisymmetric, remove as map_remove, same_map, slice_cmp-IsAntisymmetric}
+use Rattle.std.specs.FinMap.{contains_key, entries, entries-from_sorted, entries_sorted, find, from_sorted, get, get-entries, get-from_sorted, get-remove, is_sorted, len, nat_cmp-IsAntisymmetric, remove as map_remove, same_map, slice_cmp-IsAntisymmetric}
 use Rattle.std.specs.FinMap.Entries.{below_all, find_tied}
 use Rattle.std.specs.List.{All, Contains, remove}
 use Rattle.std.specs.Ordering.{eq_by_cmp, is_eq, nat_cmp}
@@ -21,7 +21,6 @@ use Rattle.node_page.specs.Parts.{IsAllOf, Moves, both, no_page}
 use Rattle.node_page.specs.Standing.{PageMap}
 use Rattle.node_page.proofs.PartLemmas.{all_of_same, all_pages_move, the_rest_stays}
 use Rattle.page_cache.specs.Cache.{IsPageMap, next_of, pages}
-use Rattle.page_cache.specs.declared.cache.PageCache.{PageCache}
 use Rattle.plain_table.specs.Commands.Command.{Drop}
 use Rattle.plain_table.specs.Laws.{a_change_makes_another_table}
 use Rattle.plain_table.specs.Step.{after, refusal_of}

@@ -1,8 +1,8 @@
 -- Why an insertion is refused, and what one that is not does to the table.
 use Rattle.std.proofs.Common.{◌≡◌, ◌∙◌, ℕ, ◌+◌, ◌<◌, ◌≤◌, List, true, false, Bool, Option, Some, None, refl, sym, ap, arith}
-use Rattle.std.specs.Prelude.{nat_le, ◌==◌, is_some, unwrap_or}
+use Rattle.std.specs.Prelude.{nat_le, ◌==◌, unwrap_or}
 use Rattle.std.proofs.lemmas.Bool.Decides.{nat_tests}
-use Rattle.std.specs.FinMap.{contains_key, get, get-entries, insert as map_insert, len}
+use Rattle.std.specs.FinMap.{contains_key, get, get-entries, insert as map_insert}
 use Rattle.box_math.specs.Bounds.{Bounds}
 use Rattle.plain_table.specs.Boxes.{dims_of, given_bounds, is_ordered}
 use Rattle.plain_table.specs.Commands.Command.{Insert}

@@ -1,8 +1,8 @@
 -- The pairs of a join of two trees are those of the objects of their layers. Turned, pairs in the order of a join are in the
 -- order of the nearest, of which there is one list.
-use Rattle.std.proofs.Common.{◌≡◌, ◌∙◌, ℕ, suc, ◌+◌, ◌<◌, ◌≤◌, Bool, true, false, cond, ◌&&◌, ◌||◌, ◌==◌, nat_lt, nat_le, List, [], ◌∷◌, ◌++◌, length, get_or, map, refl, sym, ap, subst, inl, inr, ⊎_elim, arith, T}
+use Rattle.std.proofs.Common.{◌≡◌, ◌∙◌, ℕ, suc, ◌+◌, ◌<◌, ◌≤◌, Bool, true, false, cond, ◌==◌, nat_lt, List, [], ◌∷◌, get_or, map, refl, sym, ap, subst, inl, inr, ⊎_elim, arith, T}
 use Rattle.std.specs.Prelude.{IfErr, IfOk, IsPermutation, None, Some, Ok, Err, Result, Vec, filter}
-use Rattle.std.specs.FinMap.{contains_key, entries, entries_sorted, is_sorted}
+use Rattle.std.specs.FinMap.{entries, entries_sorted, is_sorted}
 use Rattle.std.specs.FinMap.Entries.{below_all}
 use Rattle.std.specs.List.Sorted.{IsSorted}
 use Rattle.std.specs.Ordering.{nat_cmp, is_lt, ordering_then}
@@ -190,6 +190,6 @@ module _ (t : Table) (first second : List ℕ) (named : is_layer_name first ≡ 
       pub joins : ((layer_at t first).dims == (layer_at t second).dims) ≡ true → refusal_of t (Join first second) ≡ None
       joins e = let there = named_there t first place finds in let there' = named_there t second other finds' in rw (named, named', there, there', e) refl
 
-pub pairs_replied : {A : Type 0} (rose : Type 0) (rows : List (ℕ × ℕ)) (result : Result (Vec (ℕ × ℕ) A) Refusal) → IfOk result (λ pairs. pairs.items ≡ rows) → IfErr result (IsFault rose ⊥) → IsReply rose None (Pairs rows) (pairs_answer result)
+pub pairs_replied : {A : Type 0} (rose : Type 0) (rows : List (ℕ × ℕ)) (result : Result (Vec (ℕ × ℕ) A) Refusal) → IfOk result (λ pairs. pairs.items ≡ rows) → IfErr result (IsFault rose) → IsReply rose None (Pairs rows) (pairs_answer result)
 pairs_replied rose rows (Ok pairs) is failed = inl (ap Pairs is)
 pairs_replied rose rows (Err r) is failed = inr failed

@@ -6,6 +6,7 @@ pub mod FindLemmas
 pub mod TableLemmas
 pub mod HoldLemmas
 pub mod KeepLemmas
+pub mod QuestionLemmas
 pub mod StopLemmas
 pub mod Results
 pub mod OpenLemmas
@@ -35,3 +36,4 @@ pub mod UsedLemmas
 pub mod FoundLemmas
 pub mod ListingLemmas
 pub mod DumpLemmas
+pub mod CountLemmas

@@ -1,26 +1,22 @@
 -- Why a load is refused, and what one that is not does to the table.
 use Rattle.std.proofs.Common.{◌≡◌, ◌∙◌, ◌⊎◌, inl, inr, ℕ, ◌+◌, ◌<◌, ◌≤◌, List, [], ◌∷◌, length, get_or, map, true, false, Bool, cond, eqb, not, Option, Some, None, refl, sym, ap, subst, arith}
-use Rattle.std.specs.Prelude.{Ok, IsPermutation, ◌&&◌, is_some, nat_lt, unwrap_or}
+use Rattle.std.specs.Prelude.{IsPermutation, ◌&&◌, is_some, nat_lt, unwrap_or}
 use Rattle.std.specs.FinMap.{contains_key, entries, find, from_entries, len, len-entries}
 use Rattle.std.specs.Ordering.{nat_cmp}
 use Rattle.std.proofs.lemmas.Bool.Decides.{nat_tests}
 use Rattle.std.proofs.lemmas.List.{length-map}
-use Rattle.block_device.specs.Device.{Blocks}
 use Rattle.box_math.specs.Bounds.{Bounds}
 use Rattle.catalog_page.specs.Layout.{Record, records_of}
 use Rattle.id_table.proofs.AddLemmas.{same_key}
-use Rattle.page_cache.specs.Cache.{IsHonest, device_of}
-use Rattle.page_cache.specs.Laws.{no_call_keeps_the_gate, no_call_keeps_the_map}
+use Rattle.page_cache.specs.Laws.{no_call_keeps_the_map}
 use Rattle.plain_table.specs.Commands.Command.{Load}
-use Rattle.plain_table.specs.Laws.{no_change_leaves_the_table, none_holds}
+use Rattle.plain_table.specs.Laws.{none_holds}
 use Rattle.plain_table.specs.Loads.{GivenObjects, are_ordered, given_object, have_dims, ids_of, least_repeated, with_objects}
-use Rattle.plain_table.specs.Step.{changes, first_refusal, is_admitted, load_refusals, refusal_of, refused_or}
-use Rattle.plain_table.specs.Step.Answer.{Done}
+use Rattle.plain_table.specs.Step.{changes, first_refusal, is_admitted, load_refusals, refusal_of}
 use Rattle.plain_table.specs.Table.{Layer, Table, is_layer_name, layer_at, most_objects, object_count}
 use Rattle.plain_table.specs.declared.refusal.Refusal.{Refusal}
 use Rattle.plain_table.specs.declared.refusal.Refusal.TheVariants as refusal
 use Rattle.store_law.specs.Lawful.{IsFault}
-use Rattle.live_layers.specs.Changes.{ChangeLeaves, IsChanged}
 use Rattle.live_layers.specs.Keeping.{Finds, IsSound}
 use Rattle.live_layers.specs.Loading.{ReachesObjects, boxes_refusals, times_in}
 use Rattle.live_layers.specs.Staying.{KeepsTrees}
@@ -29,7 +25,6 @@ use Rattle.live_layers.proofs.AskLemmas.{named_there}
 use Rattle.live_layers.proofs.FillLemmas.{AreApart, entries_made}
 use Rattle.live_layers.proofs.RepeatLemmas.{each_once, times_more}
 use Rattle.live_layers.proofs.ReplaceLemmas.{count_there, reading, row_there}
-use Rattle.live_layers.proofs.StopLemmas.{kept_run}
 
 -- ---- names
 
@@ -60,7 +55,7 @@ after_boxes layer given count =
 
 -- one that is refused is why the load is
 pub box_refused_there : (t : Table) (name : List ℕ) (place : ℕ) (given : GivenObjects) (dims : ℕ) → is_layer_name name ≡ true → Finds t name place → (layer_at t name).dims ≡ dims → (r : Refusal)
-    → (first_refusal (boxes_refusals dims given) ≡ Some r) ⊎ IsFault ⊥ ⊥ r → (refusal_of t (Load name given) ≡ Some r) ⊎ IsFault ⊥ ⊥ r
+    → (first_refusal (boxes_refusals dims given) ≡ Some r) ⊎ IsFault ⊥ r → (refusal_of t (Load name given) ≡ Some r) ⊎ IsFault ⊥ r
 box_refused_there t name place given dims good finds axes r (inl is) =
     inl (as_load t name place given good finds ∙ first_of (not (have_dims (layer_at t name).dims given)) (not (are_ordered given)) (after_boxes (layer_at t name) given (object_count t)) r (ap (λ (k : ℕ). first_refusal (boxes_refusals k given)) axes ∙ is))
 box_refused_there t name place given dims good finds axes r (inr h) = inr h
@@ -79,15 +74,14 @@ all_reach t name place given dims objects good finds axes none boxes =
 -- ---- faults
 
 -- want of memory, which may refuse anything
-pub only_memory : (rose spent : Type 0) (r : Refusal) → IsFault ⊥ ⊥ r → IsFault rose spent r
-only_memory rose spent refusal.Memory h = h
-only_memory rose spent refusal.Device h = absurd h
-only_memory rose spent refusal.NoPages h = absurd h
-only_memory rose spent r h = h
+pub only_memory : (rose : Type 0) (r : Refusal) → IsFault ⊥ r → IsFault rose r
+only_memory rose refusal.Memory h = h
+only_memory rose refusal.Device h = absurd h
+only_memory rose r h = h
 
-pub allowed_anyhow : (rose : Type 0) (why : Option Refusal) (r : Refusal) → (why ≡ Some r) ⊎ IsFault ⊥ ⊥ r → (why ≡ Some r) ⊎ IsFault rose ⊥ r
+pub allowed_anyhow : (rose : Type 0) (why : Option Refusal) (r : Refusal) → (why ≡ Some r) ⊎ IsFault ⊥ r → (why ≡ Some r) ⊎ IsFault rose r
 allowed_anyhow rose why r (inl h) = inl h
-allowed_anyhow rose why r (inr h) = inr (only_memory rose ⊥ r h)
+allowed_anyhow rose why r (inr h) = inr (only_memory rose r h)
 
 -- ---- objects of different identifiers
 

@@ -2,7 +2,7 @@
 use Rattle.std.proofs.Common.{◌≡◌, ◌∙◌, ℕ, ◌+◌, ◌≤◌, List, Bool, true, false, not, ◌&&◌, cond, get_or, Option, Some, None, refl, sym, ap, arith}
 use Rattle.std.specs.Prelude.{◌==◌, is_some, slice_set}
 use Rattle.std.specs.Cmp.{nat_cmp_total}
-use Rattle.std.specs.FinMap.{contains_key, get, insert as map_insert, len, len-insert}
+use Rattle.std.specs.FinMap.{get, insert as map_insert, len, len-insert}
 use Rattle.box_math.specs.Bounds.{Bounds}
 use Rattle.catalog_page.specs.Layout.{Record, records_of}
 use Rattle.layer_pages.specs.Changes.{BecomesLayer, HasReplaced}
@@ -15,7 +15,6 @@ use Rattle.plain_table.specs.Step.{box_refusals, changes, first_refusal, missing
 use Rattle.plain_table.specs.Table.{Layer, Table, layer_at, most_objects, object_box, object_count, with_object}
 use Rattle.plain_table.specs.declared.boxes.RawBox.{RawBox}
 use Rattle.plain_table.specs.declared.refusal.Refusal.{Refusal}
-use Rattle.plain_table.specs.declared.refusal.Refusal.TheVariants as refusal
 use Rattle.tree_node.specs.declared.node.Root.{Root}
 use Rattle.live_layers.specs.Catalog.{with_tree}
 use Rattle.live_layers.specs.Keeping.{ChangesTree, Finds, IsSound}

@@ -11,10 +11,10 @@ use Rattle.node_page.specs.Standing.{PageMap}
 use Rattle.node_page.proofs.StandingLemmas.{one_tree_stands}
 use Rattle.page_file.specs.Pages.{next_in, pages_in}
 use Rattle.page_file.specs.declared.fault.Fault.{Fault}
-use Rattle.plain_table.specs.Table.{Table, Layer}
+use Rattle.plain_table.specs.Table.{Table}
 use Rattle.tree_node.specs.Trees.{Tree, objects_in}
 use Rattle.tree_node.specs.declared.node.Root.{Root}
-use Rattle.live_layers.specs.Image.{HasNoCatalog, IsImage, OpeningRefuses}
+use Rattle.live_layers.specs.Image.{IsImage, OpeningRefuses}
 use Rattle.live_layers.specs.Layers.{Holds, LayerStands, LayersStand, Reading, entry_of, root_of, row_of}
 
 -- ---- one table

@@ -1,6 +1,6 @@
 -- What questions are answered of the layer of a name: as the table answers them, or a fault.
-use Rattle.std.proofs.Common.{◌≡◌, ◌∙◌, ◌⊎◌, ℕ, List, [], ◌∷◌, Bool, true, false, not, cond, Option, Some, None, refl, sym, ap, subst, inl, inr}
-use Rattle.std.specs.Prelude.{IsErrAnd, Ok, Err, Result, Vec, ◌==◌, ℤ, filter, nat_lt, nat_le, ◌&&◌, ◌||◌, is_some, unwrap_or}
+use Rattle.std.proofs.Common.{◌≡◌, ◌∙◌, ◌⊎◌, ℕ, List, [], ◌∷◌, true, false, not, Option, Some, None, refl, sym, ap, subst, inl, inr}
+use Rattle.std.specs.Prelude.{IsErrAnd, Ok, Err, Result, Vec, ◌==◌, filter, is_some, unwrap_or}
 use Rattle.std.specs.FinMap.{entries, get}
 use Rattle.box_math.specs.Bounds.{Bounds}
 use Rattle.plain_table.specs.Answers.{box_answer, boxes_answer, count_answer, distances_answer}
@@ -36,23 +36,13 @@ none_named t name place good belongs = λ more. let absent = not_there t name pl
 -- ---- replies
 
 -- what is answered of a layer of the name is what the table answers, or a fault
-pub replied : (rose spent : Type 0) (t : Table) (c : Command) (why : Option Refusal) (a : Answer) → refusal_of t c ≡ why → IsReply rose why (answer_of t c) a → (a ≡ reply_of t c) ⊎ RefusedBy (IsFault rose spent) a
-replied rose spent t c why a e (inl is) = inl (is ∙ ap (λ (o : Option Refusal). refused_or o (answer_of t c)) (sym e))
-replied rose spent t c why a e (inr failed) = inr (weaker a failed)
-  where
-    fault_of : (r : Refusal) → IsFault rose ⊥ r → IsFault rose spent r
-    fault_of refusal.Memory h = tt
-    fault_of refusal.Device h = h
-    fault_of refusal.NoPages h = absurd h
-    fault_of r h = absurd h
-
-    weaker : (a : Answer) → RefusedBy (IsFault rose ⊥) a → RefusedBy (IsFault rose spent) a
-    weaker (Refused r) h = fault_of r h
-    weaker a h = absurd h
+pub replied : (rose : Type 0) (t : Table) (c : Command) (why : Option Refusal) (a : Answer) → refusal_of t c ≡ why → IsReply rose why (answer_of t c) a → (a ≡ reply_of t c) ⊎ RefusedBy (IsFault rose) a
+replied rose t c why a e (inl is) = inl (is ∙ ap (λ (o : Option Refusal). refused_or o (answer_of t c)) (sym e))
+replied rose t c why a e (inr failed) = inr failed
 
 -- a fault
-pub reply_failed : (rose : Type 0) (why : Option Refusal) (answer a : Answer) (r : Refusal) → IsFault rose ⊥ r → a ≡ Refused r → IsReply rose why answer a
-reply_failed rose why answer a r failed is = inr (subst (RefusedBy (IsFault rose ⊥)) (sym is) failed)
+pub reply_failed : (rose : Type 0) (why : Option Refusal) (answer a : Answer) (r : Refusal) → IsFault rose r → a ≡ Refused r → IsReply rose why answer a
+reply_failed rose why answer a r failed is = inr (subst (RefusedBy (IsFault rose)) (sym is) failed)
 
 -- the answers of a refusal that is known
 pub err_boxes : {A : Type 0} (result : Result (Vec (ℕ × AnyBox) A) Refusal) (r : Refusal) → IsErrAnd result (λ e. e ≡ r) → boxes_answer result ≡ Refused r

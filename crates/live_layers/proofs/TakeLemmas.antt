@@ -1,8 +1,8 @@
 -- A layer that has other objects after a change of its pages, and an object taken out of one.
-use Rattle.std.proofs.Common.{◌≡◌, ◌∙◌, ℕ, zero, suc, ◌+◌, ◌-◌, ◌≤◌, List, length, get_or, Some, None, Option, Bool, cond, true, false, refl, sym, ap, subst, arith}
+use Rattle.std.proofs.Common.{◌≡◌, ◌∙◌, ℕ, zero, suc, ◌+◌, ◌-◌, ◌≤◌, List, get_or, Some, Option, Bool, cond, false, refl, sym, ap, subst, arith}
 use Rattle.std.specs.Prelude.{is_some, slice_set, unwrap_or}
 use Rattle.std.specs.Cmp.{nat_cmp_total}
-use Rattle.std.specs.FinMap.{contains_key, empty_of_len, entries, get, get-empty, insert as map_insert, len, len-entries, len-remove, remove}
+use Rattle.std.specs.FinMap.{empty_of_len, get, get-empty, insert as map_insert, len, len-entries, len-remove, remove}
 use Rattle.std.specs.Ordering.{nat_cmp}
 use Rattle.box_math.specs.Bounds.{Bounds}
 use Rattle.catalog_page.specs.Layout.{Record, records_of}

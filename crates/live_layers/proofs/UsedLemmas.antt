@@ -45,7 +45,7 @@ none_listed (x ∷ xs) n e =
     let both = or_false (eqb n x) (is_member eqb xs n) e in
     omega (arith, not_here x n (λ (is : x ≡ n). not_same n x both.0 (sym is)), none_listed xs n both.1)
 
-some_listed : (list : List ℕ) (n : ℕ) → is_member eqb list n ≡ true → 0 < named_pages list n
+pub some_listed : (list : List ℕ) (n : ℕ) → is_member eqb list n ≡ true → 0 < named_pages list n
 some_listed [] n e = absurd (cc)
 some_listed (x ∷ xs) n e = ⊎_elim
     (λ (is : x ≡ n). omega (arith, here_once x n is))

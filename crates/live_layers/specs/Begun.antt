@@ -1,5 +1,5 @@
 -- What a change of pages behind the gate leaves of a cache and its device (our rule, docs/FORMAT.md, "Stops").
-use Rattle.std.specs.Prelude.{ℕ, ◌≡◌, ◌≤◌, ◌↔◌, true, List, Result, OnOk, IfErr}
+use Rattle.std.specs.Prelude.{◌≡◌, ◌≤◌, ◌↔◌, true, false, List, Result, OnErr, OnOk, IfErr}
 use Rattle.block_device.specs.Device.{LeavesOnly}
 use Rattle.node_page.specs.Broken.{cause_in}
 use Rattle.node_page.specs.declared.broken.Broken.{Broken}
@@ -9,7 +9,8 @@ use Rattle.page_cache.specs.declared.cache.PageCache.{PageCache}
 use Rattle.page_file.specs.declared.gate.Gate.TheVariants.{Open}
 use Rattle.plain_table.specs.Table.{Table}
 use Rattle.live_layers.specs.Image.{IsRefusedOrImageOf}
-use Rattle.live_layers.specs.Keeping.{RestLeavesOneOf}
+use Rattle.live_layers.specs.Keeping.{IsSound, IsWritten, RestLeavesOneOf}
+use Rattle.live_layers.specs.declared.layers.Layers.{Layers}
 
 -- A change was begun, and then made or broken off. A stop leaves what one at rest leaves. Where pages may be changed the
 -- gate is open. Honesty stays, no page number is taken back, and the count of the device's faults rises by one where it was
@@ -23,3 +24,10 @@ pub record Begins {D A : Type 0} {m : _} {T : Type 0} (old new : PageCache D A m
   pub honest : IsHonest old ↔ IsHonest new
   pub next : next_of old ≤ next_of new
   pub faults : m.faults (device_of new) ≡ faults_behind (cause_in result) (m.faults (device_of old))
+
+-- The same of layers, of which it keeps what was written where it broke off, and each table where that was before pages were
+-- touched.
+pub record BeginsChange {D A : Type 0} {m : _} {T : Type 0} (old new : Layers D A m) (result : Result T Broken) : Type 0 where
+  pub begins : Begins old.cache new.cache result
+  pub untouched : (t : Table) → IsSound old t → IfErr result (λ b. b.touched ≡ false → IsSound new t)
+  pub written : OnErr result (IsWritten old → IsWritten new)

@@ -1,7 +1,8 @@
--- What a change of live layers does: it is made, refused with the table as it was, or broken off half way.
-use Rattle.std.specs.Prelude.{◌≡◌, ◌⊎◌, List, Result, Ok, Err}
+-- What calls do to live layers. A change is made, refused with the table as it was, or broken off half way; a question is
+-- answered or refused.
+use Rattle.std.specs.Prelude.{◌≡◌, ◌⊎◌, List, Result, Ok, Err, OnErr}
 use Rattle.block_device.specs.Device.{HasRisen, LeavesOnly}
-use Rattle.page_cache.specs.Cache.{IsHonest, KeepsGate, device_of, gate_of, next_of}
+use Rattle.page_cache.specs.Cache.{IsHonest, KeepsGate, device_of, gate_of}
 use Rattle.page_file.specs.declared.fault.Fault.{Fault}
 use Rattle.page_file.specs.declared.fault.Fault.TheVariants as fault
 use Rattle.page_file.specs.declared.gate.Gate.TheVariants.{Open}
@@ -9,9 +10,12 @@ use Rattle.plain_table.specs.Commands.{Command}
 use Rattle.plain_table.specs.Step.{Answer, after, reply_of}
 use Rattle.plain_table.specs.Step.Answer.{Done, Refused}
 use Rattle.plain_table.specs.Table.{Table}
-use Rattle.store_law.specs.Lawful.{IsFault, IsSpent, MayWrite, RefusedBy}
+use Rattle.plain_table.specs.declared.refusal.Refusal.{Refusal}
+use Rattle.store_law.specs.Lawful.{IsFault, MayWrite, RefusedBy}
+use Rattle.live_layers.specs.Faults.{HasRefusalCause, HasUnmadeCause}
 use Rattle.live_layers.specs.Image.{IsRefusedOrImageOf}
-use Rattle.live_layers.specs.Keeping.{IsSound, RestLeavesOneOf}
+use Rattle.live_layers.specs.Keeping.{IsSound, IsWritten, RestLeavesOneOf}
+use Rattle.live_layers.specs.Staying.{KeepsTrees}
 use Rattle.live_layers.specs.declared.layers.Layers.{Layers}
 use Rattle.live_layers.specs.declared.unmade.Unmade.{Unmade}
 use Rattle.live_layers.specs.declared.unmade.Unmade.TheVariants as unmade
@@ -20,20 +24,19 @@ use Rattle.live_layers.specs.declared.unmade.Unmade.TheVariants as unmade
 abbrev pub Rose : {D A : Type 0} {m : _} → Layers D A m → Layers D A m → Type 0
 Rose {m = m} old new = HasRisen (m.faults (device_of old.cache)) (m.faults (device_of new.cache))
 
--- want of memory, a device that failed, or want of page numbers
-abbrev pub IsFaultOfChange : Type 0 → Type 0 → Fault → Type 0
-IsFaultOfChange rose spent fault.Memory = Unit {0}
-IsFaultOfChange rose spent fault.Device = rose
-IsFaultOfChange rose spent fault.NoPages = spent
-IsFaultOfChange rose spent f = ⊥
+-- want of memory, or a device that failed
+abbrev pub IsFaultOfChange : Type 0 → Fault → Type 0
+IsFaultOfChange rose fault.Memory = Unit {0}
+IsFaultOfChange rose fault.Device = rose
+IsFaultOfChange rose f = ⊥
 
 -- The change is made, and the layers are sound with the table after it; or it is refused, as the table refuses it or by a
 -- fault, and they are sound with the table as it was; or it broke off half way, and nothing is promised of them.
 abbrev pub IsChanged : {D A : Type 0} {m : _} → Layers D A m → Layers D A m → Table → Command → Result (Unit {0}) Unmade → Type 0
 IsChanged old new t c (Ok u) = (Done ≡ reply_of t c) × IsSound new (after t c)
 IsChanged old new t c (Err (unmade.Refused r)) =
-    IsSound new t × (((Refused r ≡ reply_of t c) × (after t c ≡ t)) ⊎ IsFault (Rose old new) (IsSpent (next_of new.cache) × MayWrite t c) r)
-IsChanged old new t c (Err (unmade.Broken f)) = IsHonest new.cache × MayWrite t c × IsFaultOfChange (Rose old new) (IsSpent (next_of new.cache)) f
+    IsSound new t × (((Refused r ≡ reply_of t c) × (after t c ≡ t)) ⊎ IsFault (Rose old new) r)
+IsChanged old new t c (Err (unmade.Broken f)) = IsHonest new.cache × MayWrite t c × IsFaultOfChange (Rose old new) f
 
 -- it broke off half way, or was made
 abbrev pub IsBegun : Result (Unit {0}) Unmade → Type 0
@@ -48,7 +51,34 @@ pub record ChangeLeaves {D A : Type 0} {m : _} (old new : Layers D A m) (t : Tab
   pub opened : ¬ (after t c ≡ t) → IsBegun result → gate_of new.cache ≡ Open
   pub quiet : after t c ≡ t → KeepsGate old.cache new.cache
 
+-- what a command does to layers that are sound with the table
+pub record IsChange {D A : Type 0} {m : _} (old new : Layers D A m) (t : Table) (c : Command) (result : Result (Unit {0}) Unmade) : Type 0 where
+  pub changed : IsChanged old new t c result
+  pub leaves : ChangeLeaves old new t c result
+
+-- What a change keeps of any layers: what was written, where it was not made; honesty; and the count of the device's
+-- faults, which rises by one where its failure ended the change.
+pub record KeepsInChange {D A : Type 0} {m : _} (old new : Layers D A m) (result : Result (Unit {0}) Unmade) : Type 0 where
+  pub written : OnErr result (IsWritten old → IsWritten new)
+  pub honest : IsHonest old.cache → IsHonest new.cache
+  pub cause : HasUnmadeCause (m.faults (device_of old.cache)) (m.faults (device_of new.cache)) result
+
+-- a change by a command, whichever table the layers are sound with
+pub record IsChangeBy {D A : Type 0} {m : _} (old new : Layers D A m) (c : Command) (result : Result (Unit {0}) Unmade) : Type 0 where
+  pub keeps : KeepsInChange old new result
+  pub lawful : (t : Table) → IsSound old t → IsChange old new t c result
+
+-- ---- questions
+
 -- A question is answered as the table answers it, or refused by a fault, and the layers are sound with the table as it was.
 abbrev pub IsAnswered : {D A : Type 0} {m : _} → Layers D A m → Layers D A m → Table → Command → Answer → Type 0
 IsAnswered old new t c a =
-    IsSound new t × ((a ≡ reply_of t c) ⊎ RefusedBy (IsFault (Rose old new) (IsSpent (next_of new.cache) × MayWrite t c)) a)
+    IsSound new t × ((a ≡ reply_of t c) ⊎ RefusedBy (IsFault (Rose old new)) a)
+
+-- What a question keeps of any layers: their trees, each table that they are sound with, and the gate; and the count of the
+-- device's faults rises by one with a refusal that says so, and with nothing else.
+pub record KeepsInQuestion {D A : Type 0} {m : _} {T : Type 0} (old new : Layers D A m) (result : Result T Refusal) : Type 0 where
+  pub trees : KeepsTrees old new
+  pub sound : (t : Table) → IsSound old t → IsSound new t
+  pub gate : KeepsGate old.cache new.cache
+  pub cause : HasRefusalCause (m.faults (device_of old.cache)) (m.faults (device_of new.cache)) result

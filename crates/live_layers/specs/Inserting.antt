@@ -18,4 +18,4 @@ pub record ReachesBox (t : Table) (name : List ℕ) (place : ℕ) (box : RawBox)
 -- nothing refuses what is asked, or it is refused so, or by a fault
 abbrev pub IsAllowedOr : {T : Type 0} → Type 0 → Option Refusal → Result T Refusal → Type 0
 IsAllowedOr rose why (Ok x) = why ≡ None
-IsAllowedOr rose why (Err r) = (why ≡ Some r) ⊎ IsFault rose ⊥ r
+IsAllowedOr rose why (Err r) = (why ≡ Some r) ⊎ IsFault rose r

@@ -53,7 +53,7 @@ rows_answer (Err r) = Refused r
 
 -- it is answered so where nothing refuses the question, and else refused so; or a fault refuses it
 abbrev pub IsReply : Type 0 → Option Refusal → Answer → Answer → Type 0
-IsReply rose why answer a = (a ≡ refused_or why answer) ⊎ RefusedBy (IsFault rose ⊥) a
+IsReply rose why answer a = (a ≡ refused_or why answer) ⊎ RefusedBy (IsFault rose) a
 
 -- ---- joins
 

@@ -67,7 +67,7 @@ put_past d (suc k) x (y ∷ ys) far h = at (put_past d k x ys far) (comes_first 
     at later false g = (g.0, later g.1)
 
 -- one that is farther changes nothing
-put_far : (k : ℕ) (x : ℕ × ℕ) (ys : List (ℕ × ℕ)) → Past x.1 k ys → take k (put_nearest_first x ys) ≡ take k ys
+pub put_far : (k : ℕ) (x : ℕ × ℕ) (ys : List (ℕ × ℕ)) → Past x.1 k ys → take k (put_nearest_first x ys) ≡ take k ys
 put_far zero x ys h = refl
 put_far (suc k) x [] h = absurd h
 put_far (suc k) x (y ∷ ys) h = at (put_far k x ys h.1) (comes_first x y) refl

@@ -293,6 +293,11 @@ nearest_moved fresh rest queue next x out perm =
     IsPermutation-trans (queue ++ fresh) (queue ++ (x ∷ rest)) (next ++ rest) (IsPermutation-append_right queue fresh (x ∷ rest) out)
     (IsPermutation-trans (queue ++ (x ∷ rest)) (x ∷ (queue ++ rest)) (next ++ rest) (IsPermutation-middle queue x rest) (IsPermutation-append_left rest (x ∷ queue) next perm))
 
+-- two facts of an answer make a third
+pub on_ok_both : {T E P Q R : Type 0} (r : Result T E) → (P → Q → R) → OnOk r P → OnOk r Q → OnOk r R
+on_ok_both (Ok x) f p q = f p q
+on_ok_both (Err e) f p q = tt
+
 pub on_ok : {T E : Type 0} (P : Type 0) (r : Result T E) → P → OnOk r P
 on_ok P (Ok x) p = p
 on_ok P (Err e) p = tt
@@ -382,25 +387,28 @@ module _ {B A : Type 0} {m : _} where
               (left_out waiting gone (reordered (rest ++ fresh) (waiting ++ gone) f moved) past);
         }
 
-        -- what was new was moved into the queue, and a node above the leaves was looked into
-        pub node_on : 0 < x.level → (next : PageCache B A m) (waiting gone children later newer : List Candidate) → AsksUntil now next None → looks_of next ≡ one_more (looks_of now)
-            → IsPermutation (rest ++ fresh) (waiting ++ gone) → All (λ c. Past c.distance k best) gone
-            → (IsHonest now → (c : NodeContent) → node_in dims (pages now x.page) ≡ Some c → c.level ≡ x.level → children ≡ map (candidate_at (far_from dims point) x.level) c.entries)
-            → IsPermutation (waiting ++ children) (later ++ newer) → ((d : ℕ) → All (IsAsFar d) later → All (IsAsFar d) newer)
+        -- a node above the leaves was looked into, after some of what was new was moved into the queue
+        pub node_on : 0 < x.level → (next : PageCache B A m) (waiting kept gone newest later newer : List Candidate) → AsksUntil now next None → looks_of next ≡ one_more (looks_of now)
+            → IsPermutation (rest ++ fresh) ((waiting ++ kept) ++ gone) → All (λ c. Past c.distance k best) gone
+            → (IsHonest now → (c : NodeContent) → node_in dims (pages now x.page) ≡ Some c → c.level ≡ x.level → newest ≡ kept ++ map (candidate_at (far_from dims point) x.level) c.entries)
+            → IsPermutation (waiting ++ newest) (later ++ newer) → ((d : ℕ) → All (IsAsFar d) later → All (IsAsFar d) newer)
             → Searching dims k root point old next later newer best
-        node_on high next waiting gone children later newer asks looked moved past entries shared led = record {
+        node_on high next waiting kept gone newest later newer asks looked moved past entries shared led = record {
           asks = asks_in_turn old now next None so_far.asks asks;
           few = so_far.few;
           led = led;
           tree = λ h t most tree.
-              let kept : Frontier dims (pages old) (far_from dims point) t.row k (x ∷ waiting) best (looks_of old) (looks_of now) =
-              left_out (x ∷ waiting) gone (reordered (x ∷ (rest ++ fresh)) (x ∷ (waiting ++ gone)) (taken h t most tree) (IsPermutation-cons x (rest ++ fresh) (waiting ++ gone) moved)) past in
-              let as_far : All (IsAsFar x.distance) waiting = all_front (IsAsFar x.distance) waiting gone (All-permutation (IsAsFar x.distance) (rest ++ fresh) (waiting ++ gone) moved rest_as_far) in
-              let o = opened x waiting kept as_far within in
+              let both = waiting ++ kept in
+              let near : Frontier dims (pages old) (far_from dims point) t.row k (x ∷ both) best (looks_of old) (looks_of now) =
+              left_out (x ∷ both) gone (reordered (x ∷ (rest ++ fresh)) (x ∷ (both ++ gone)) (taken h t most tree) (IsPermutation-cons x (rest ++ fresh) (both ++ gone) moved)) past in
+              let as_far : All (IsAsFar x.distance) both = all_front (IsAsFar x.distance) both gone (All-permutation (IsAsFar x.distance) (rest ++ fresh) (both ++ gone) moved rest_as_far) in
+              let o = opened x both near as_far within in
               let content : NodeContent = record { level = x.level; entries = row_items o.row } in
               let is = entries (so_far.asks.gate.honest.0 h) content (ap (node_in dims) (so_far.asks.map.pages_stay h x.page) ∙ o.there.node) refl in
-              let f : Frontier dims (pages old) (far_from dims point) t.row k (waiting ++ children) best (looks_of old) (looks_of next) =
-              subst (λ (n : ℕ). Frontier dims (pages old) (far_from dims point) t.row k (waiting ++ children) best (looks_of old) n) (sym looked)
-              (subst (λ (cs : List Candidate). Frontier dims (pages old) (far_from dims point) t.row k (waiting ++ cs) best (looks_of old) (one_more (looks_of now))) (sym is) (o.node high)) in
-              reordered (waiting ++ children) (later ++ newer) f shared;
+              let children = map (candidate_at (far_from dims point) x.level) (row_items o.row) in
+              let f : Frontier dims (pages old) (far_from dims point) t.row k (waiting ++ newest) best (looks_of old) (looks_of next) =
+              subst (λ (n : ℕ). Frontier dims (pages old) (far_from dims point) t.row k (waiting ++ newest) best (looks_of old) n) (sym looked)
+              (subst (λ (cs : List Candidate). Frontier dims (pages old) (far_from dims point) t.row k cs best (looks_of old) (one_more (looks_of now)))
+              (append_assoc waiting kept children ∙ ap (λ (cs : List Candidate). waiting ++ cs) (sym is)) (o.node high)) in
+              reordered (waiting ++ newest) (later ++ newer) f shared;
         }

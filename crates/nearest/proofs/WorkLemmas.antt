@@ -47,3 +47,7 @@ some_work x = one_power x.level
 -- what is moved from one list to another, but for what is left out
 pub moved_work : (xs ys us vs : List Candidate) → IsPermutation (xs ++ ys) (us ++ vs) → work_in us + work_in vs ≡ work_in xs + work_in ys
 moved_work xs ys us vs perm = omega (arith, sum_by-append work_of xs ys, sum_by-append work_of us vs, sum_by-IsPermutation work_of (xs ++ ys) (us ++ vs) perm)
+
+-- the same where some of what was there before stays
+pub settled_work : (xs ys us vs gone : List Candidate) → IsPermutation (xs ++ ys) ((us ++ vs) ++ gone) → work_in us + work_in vs + work_in gone ≡ work_in xs + work_in ys
+settled_work xs ys us vs gone perm = omega (arith, moved_work xs ys (us ++ vs) gone perm, sum_by-append work_of us vs)

@@ -1,15 +1,22 @@
 //! The nearest of the objects seen so far.
 
-ghost use Rattle.std.specs.Prelude.{◌≡◌, ◌↔◌, ◌≤◌, [], length, take, IfOk, IfErr, IsTrue, OnOk};
+ghost use Rattle.std.specs.Prelude.{◌≡◌, ◌↔◌, ◌≤◌, [], false, length, take, IfOk, IfErr, IsTrue, OnOk};
+ghost use Rattle.box_math.specs.Bounds.{Bounds, IsBox, meets_test};
+ghost use Rattle.box_math.specs.Measures.{point_dist2_of};
 ghost use Rattle.box_math.specs.Nearest.{put_nearest_first};
 ghost use Rattle.nearest.specs.Candidates.{Past};
 ghost use Rattle.page_file.specs.declared.fault.Fault.TheVariants as fault;
 
 use crate::candidate::Object;
+use crate::reach::{box_around, side_of};
+use box_math::BBox;
 use page_file::Fault;
 use std::alloc::Allocator;
 use std::collections::BinaryHeap;
 use std::marker::Model;
+
+// Memory for so many objects is taken at once.
+const FEW: usize = 16;
 
 /// The k nearest objects so far. Contracts see their identifiers and distances in the order of an answer.
 #[derive(Drop)]
@@ -30,12 +37,12 @@ impl<H: Allocator> Model for Best<H> {
 }
 
 impl<H: Allocator> Best<H> {
-    pub(crate) fn new(alloc: H) -> Best<H>
-        ensures { result ≡ [] }
+    pub(crate) fn new(alloc: H, k: usize) -> Result<Best<H>, Fault>
+        ensures none { IfOk result (λ best. best ≡ []) }
+        ensures memory { IfErr result (λ f. f ≡ fault.Memory) }
     {
-        Best {
-            heap: BinaryHeap::new(alloc),
-        }
+        let heap = BinaryHeap::with_capacity(alloc, k.min(FEW))?;
+        Ok(Best { heap })
     }
 
     /// Takes the object in, if it is among the k nearest.
@@ -75,6 +82,27 @@ impl<H: Allocator> Best<H> {
         match self.heap.peek() {
             Some(last) => last.distance < distance,
             None => false,
+        }
+    }
+
+    /// Whether k objects are known.
+    pub(crate) fn is_full(&self, k: usize) -> bool {
+        self.heap.len() >= k
+    }
+
+    /// A box round the point: where k objects are known, all are nearer than what misses it.
+    pub(crate) fn reach<const D: usize>(&self, point: &[i32; D], k: usize) -> BBox<D>
+        requires few { length self.now ≤ k }
+        requires some { 1 ≤ k }
+        ensures { (b : Bounds) → IsBox D b → meets_test D b result ≡ false
+            → Past (point_dist2_of D b point.now) k self.now }
+    {
+        if self.heap.len() < k {
+            return box_around(point, u32::MAX);
+        }
+        match self.heap.peek() {
+            Some(last) => box_around(point, side_of(last.distance)),
+            None => box_around(point, u32::MAX),
         }
     }
 

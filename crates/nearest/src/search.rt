@@ -1,19 +1,22 @@
 //! The search for the objects nearest to a point: what is nearest is taken first.
 
 ghost use Rattle.std.specs.Prelude.{◌≡◌, ◌⊎◌, ℕ, ◌+◌, ◌^◌, ◌<◌, ◌≤◌, ◌++◌, Some, [], ◌∷◌};
-ghost use Rattle.std.specs.Prelude.{List, All, slice_index_or, map, length, IsPermutation, IfOk, IfErr, IfSome, IfNone, OnOk};
+ghost use Rattle.std.specs.Prelude.{List, All, false, slice_get, slice_index_or, map, length, IsPermutation};
+ghost use Rattle.std.specs.Prelude.{IfOk, IfErr, IfSome, IfNone, OnOk};
 ghost use Rattle.block_device.specs.Device.{one_more};
-ghost use Rattle.box_math.specs.Bounds.{Bounds, IsDims};
+ghost use Rattle.box_math.specs.Bounds.{Bounds, IsBox, IsDims};
+ghost use Rattle.box_math.specs.Masks.{has_bit};
 ghost use Rattle.box_math.specs.Measures.{point_dist2_of};
 ghost use Rattle.page_file.specs.Fault.{IsDamage, IsOfDevice};
 ghost use Rattle.page_file.specs.declared.fault.Fault.TheVariants as fault;
 ghost use Rattle.page_cache.specs.Cache.{IsHonest, looks_of, pages};
 ghost use Rattle.page_cache.specs.Calls.{Asks};
-ghost use Rattle.tree_node.specs.Nodes.{NodeContent};
+ghost use Rattle.tree_node.specs.Nodes.{Item, NodeContent};
 ghost use Rattle.tree_node.specs.Searches.{admitted, counted};
 ghost use Rattle.tree_node.specs.Trees.{Tree};
 ghost use Rattle.node_page.specs.Rooted.{IsTreeAt};
 ghost use Rattle.node_page.specs.Standing.{node_in};
+ghost use Rattle.node_page.specs.Views.{content_in};
 ghost use Rattle.nearest.specs.Candidates.{IsAsFar, Past, candidate_at, offered, row_at, work_in};
 ghost use Rattle.nearest.specs.Nearest.{is_searched, nearest_rows};
 ghost use Rattle.nearest.specs.declared.candidate.Candidate.{Candidate};
@@ -22,10 +25,13 @@ use crate::best::Best;
 use crate::candidate::{Candidate, child_of, object_of};
 use crate::queue::Queue;
 use block_device::BlockDevice;
-use node_page::{Root, view_node};
+use node_page::{NodeView, Root, view_node};
 use page_cache::PageCache;
 use page_file::Fault;
 use std::alloc::Allocator;
+
+// So many new candidates are moved into the queue before more are read.
+const MANY: usize = 128;
 
 /// The k objects of a tree that are nearest to the point, or all of fewer: each by its identifier and the square of the
 /// distance from the point to its box, by that distance and then by identifier.
@@ -52,9 +58,9 @@ pub fn nearest<const D: usize, B: BlockDevice, A: Allocator + Copy, H: Allocator
         IfErr result IsOfDevice }
     ensures other_faults { IfErr result (λ f. IsOfDevice f ⊎ IsDamage f) }
 {
-    let mut best = Best::new(alloc);
-    let mut queue = Queue::new(alloc);
-    let mut fresh = Vec::new(alloc);
+    let mut best = Best::new(alloc, k)?;
+    let mut queue = Queue::new(alloc)?;
+    let mut fresh = Vec::with_capacity(alloc, MANY)?;
     queue.push(Candidate {
         distance: 0,
         page: root.page,
@@ -65,7 +71,7 @@ pub fn nearest<const D: usize, B: BlockDevice, A: Allocator + Copy, H: Allocator
             look_at_objects::<D, B, A, H>(cache, first.page, point, k, &mut best)?;
             settle(&mut fresh, &best, k, &mut queue)?;
         } else {
-            settle(&mut fresh, &best, k, &mut queue)?;
+            settle_many(&mut fresh, &best, k, &mut queue)?;
             look_at_children::<D, B, A, H>(cache, first, point, &mut fresh)?;
             push_nearest(&mut fresh, &mut queue)?;
         }
@@ -89,7 +95,7 @@ fn take_within<H: Allocator>(queue: &mut Queue<H>, best: &Best<H>, k: usize) -> 
     Some(first)
 }
 
-// Reads a leaf, and offers its objects.
+// Reads a leaf, and offers its objects, but for those that are too far when it is read.
 fn look_at_objects<const D: usize, B: BlockDevice, A: Allocator + Copy, H: Allocator>(
     cache: &mut PageCache<B, A>,
     page: u32,
@@ -111,10 +117,34 @@ fn look_at_objects<const D: usize, B: BlockDevice, A: Allocator + Copy, H: Alloc
     ensures other_faults { IfErr result (λ f. IsOfDevice f ⊎ IsDamage f) }
 {
     let view = view_node::<D, B, A>(cache, page, 0)?;
+    let mut mask = near_mask(&view, point, k, best);
     for place in 0..view.len() {
-        best.offer(object_of(&view.entry(place), point), k)?;
+        if mask & 1 == 1 {
+            best.offer(object_of(&view.entry(place), point), k)?;
+        }
+        mask >>= 1;
     }
     Ok(())
+}
+
+// Which entries of a leaf may be among the k best: bit k of the mask is set for each but those that are farther.
+fn near_mask<const D: usize, H: Allocator>(
+    view: &NodeView<'_, D>,
+    point: &[i32; D],
+    k: usize,
+    best: &Best<H>,
+) -> u128
+    requires some { 1 ≤ k }
+    requires few { length best.now ≤ k }
+    requires boxes { All (λ item. IsBox D item.bounds) (content_in view.now).entries }
+    requires small { length (content_in view.now).entries ≤ 100 }
+    ensures { (place : ℕ) (item : Item) → slice_get (content_in view.now).entries place ≡ Some item
+        → has_bit result place ≡ false → Past (point_dist2_of D item.bounds point.now) k best.now }
+{
+    if !best.is_full(k) {
+        return u128::MAX;
+    }
+    view.mask(&best.reach(point, k))
 }
 
 // Reads a node above the leaves, and appends its children.
@@ -174,6 +204,27 @@ fn nearest_place(candidates: &[Candidate]) -> usize
         }
     }
     place
+}
+
+// Does as `settle`, where there are so many new candidates that it would take long to find the nearest. Fewer wait
+// until a leaf was read: most are too far by then.
+fn settle_many<H: Allocator>(
+    fresh: &mut Vec<Candidate, H>,
+    best: &Best<H>,
+    k: usize,
+    queue: &mut Queue<H>,
+) -> Result<(), Fault>
+    requires some { 1 ≤ k }
+    requires few { length best.now ≤ k }
+    ensures all { OnOk result ((gone : List Candidate)
+        × IsPermutation (queue.old ++ fresh.old.items) ((queue.new ++ fresh.new.items) ++ gone)
+        × All (λ c. Past c.distance k best.now) gone) }
+    ensures memory { IfErr result (λ f. f ≡ fault.Memory) }
+{
+    if fresh.len() < MANY {
+        return Ok(());
+    }
+    settle(fresh, best, k, queue)
 }
 
 // Moves the new candidates into the queue, but for those that are farther than the k best.

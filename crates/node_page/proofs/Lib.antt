@@ -1,5 +1,6 @@
 -- The files of lemmas.
 pub mod Places
+pub mod ReadLemmas
 pub mod Reading
 pub mod HeadWritten
 pub mod Writing
@@ -21,3 +22,4 @@ pub mod GivenLemmas
 pub mod VisitLemmas
 pub mod BoxTests
 pub mod CheckLemmas
+pub mod CountLemmas

@@ -1,14 +1,14 @@
 -- What may end a change of trees (our rule, docs/FORMAT.md, "Trees of pages").
-use Rattle.std.specs.Prelude.{◌≡◌, ◌^◌, ◌≤◌, ◌⊎◌}
+use Rattle.std.specs.Prelude.{◌≡◌, ◌⊎◌}
 use Rattle.page_file.specs.Fault.{IsDamage, IsOfDevice}
 use Rattle.page_file.specs.declared.fault.Fault.{Fault}
 use Rattle.page_file.specs.declared.fault.Fault.TheVariants as fault
-use Rattle.page_cache.specs.Cache.{next_of}
+use Rattle.page_cache.specs.Cache.{IsFull}
 use Rattle.page_cache.specs.declared.cache.PageCache.{PageCache}
 
--- memory or the device, or each page number is given out: no page is damaged
+-- memory or the device, or each page number is live: no page is damaged
 abbrev pub IsNoDamage : {D A : Type 0} {m : _} → PageCache D A m → Fault → Type 0
-IsNoDamage cache f = IsOfDevice f ⊎ ((f ≡ fault.NoPages) × (2 ^ 31 ≤ next_of cache))
+IsNoDamage cache f = IsOfDevice f ⊎ ((f ≡ fault.NoPages) × IsFull cache)
 
 -- and in any pages: memory or the device, no page number left, or a damaged page
 abbrev pub IsChangeFault : Fault → Type 0

@@ -19,6 +19,7 @@ use page_file::Fault;
 use std::alloc::Allocator;
 
 /// Reads the node of that level in the page that the cache lends, as `read_node` does, without copying it.
+#[tactic(auto, using(crate::proofs::ReadLemmas::no_node))]
 pub fn view_node<'a, const D: usize, B: BlockDevice, A: Allocator + Copy>(
     cache: &'a mut PageCache<B, A>,
     page: u32,

@@ -7,8 +7,8 @@ ghost use Rattle.page_file.specs.Fault.{IsDamage, IsOfDevice};
 ghost use Rattle.page_file.specs.Pages.{SameBut};
 ghost use Rattle.page_file.specs.declared.fault.Fault.TheVariants as fault;
 ghost use Rattle.page_file.specs.declared.gate.Gate.TheVariants.{Open};
-ghost use Rattle.page_cache.specs.Cache.{IsHonest, IsLive, IsPageMap, IsUnchanged, device_of, gate_of, given, looks_of};
-ghost use Rattle.page_cache.specs.Cache.{next_of, pages};
+ghost use Rattle.page_cache.specs.Cache.{Grows, IsHonest, IsLive, IsPageMap, IsUnchanged, device_of, gate_of};
+ghost use Rattle.page_cache.specs.Cache.{given, looks_of, next_of, pages};
 ghost use Rattle.page_cache.specs.Calls.{Asks, Changes};
 ghost use Rattle.tree_node.specs.Nodes.{NodeContent, content_of};
 ghost use Rattle.node_page.specs.Layout.{IsSpellable};
@@ -111,6 +111,7 @@ pub fn write_node<const D: usize, B: BlockDevice, A: Allocator + Copy>(
     ensures others { IsHonest cache.old → IsLive cache.old page → SameBut page (pages cache.old) (pages cache.new) }
     ensures sound { IsPageMap cache.old → IsLive cache.old page → IsPageMap cache.new }
     ensures next { next_of cache.new ≡ next_of cache.old }
+    ensures grows { Grows 0 cache.old cache.new }
     ensures looks { looks_of cache.new ≡ looks_of cache.old }
     ensures outside { (page < 2) ⊎ (next_of cache.old ≤ page)
         → (result ≡ Err (fault.Damaged page)) × IsUnchanged cache.old cache.new }

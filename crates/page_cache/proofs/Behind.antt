@@ -86,6 +86,7 @@ module _ {D A : Type 0} {m : _} where
   pub map_from : (old new : PageCache D A m) → below.header_of new.file ≡ below.header_of old.file → (IsHonest old ↔ IsHonest new) → (IsHonest old → blocks_behind new ≡ blocks_behind old) → KeepsMap old new
   map_from old new header honest blocks = record {
     next = ap (λ (h : Header). h.next) header;
+    free_count = ap (λ (h : Header). h.count) header;
     pages_stay = λ h k. ap (λ (b : Blocks). page_of b (below.header_of new.file) k) (blocks h) ∙ ap (λ (x : Header). page_of (blocks_behind old) x k) header;
     given_stay = λ h k. ap (λ (b : Blocks). given_pages b (next_of new) k) (blocks h) ∙ ap (λ (x : Header). given_pages (blocks_behind old) x.next k) header;
     sound = (
@@ -108,6 +109,7 @@ module _ {D A : Type 0} {m : _} where
         device = ap (λ (f : PageFile D m). below.device_of f) file;
         gate = ap (λ (f : PageFile D m). below.gate_of f) file;
         next = ap (λ (x : Header). x.next) header;
+        free_count = ap (λ (x : Header). x.count) header;
         pages_stay = λ k. ap (λ (x : Blocks). page_of x (below.header_of new.file) k) b ∙ ap (λ (x : Header). page_of (blocks_behind old) x k) header;
         given_stay = λ k. ap (λ (x : Blocks). given_pages x (next_of new) k) b ∙ ap (λ (x : Header). given_pages (blocks_behind old) x.next k) header;
         sound = (map_same old new file changed).sound;
@@ -163,6 +165,7 @@ module _ {D A : Type 0} {m : _} where
   pub map_by_file : (old new : PageCache D A m) → ((k : ℕ) → changed_pages old.frames.entries k ≡ None) → ((k : ℕ) → changed_pages new.frames.entries k ≡ None) → below.KeepsMap old.file new.file → KeepsMap old new
   map_by_file old new none_old none_new keeps = record {
     next = keeps.next;
+    free_count = keeps.free_count;
     pages_stay = λ h k. pages_below new none_new k ∙ keeps.pages_stay h k ∙ sym (pages_below old none_old k);
     given_stay = λ h k. given_below new none_new k ∙ keeps.given_stay h k ∙ sym (given_below old none_old k);
     sound = (λ p. (map_below new none_new).1 (keeps.sound.0 ((map_below old none_old).0 p)), λ p. (map_below old none_old).1 (keeps.sound.1 ((map_below new none_new).0 p)));

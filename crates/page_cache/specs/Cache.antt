@@ -32,6 +32,14 @@ next_of cache = below.next_of cache.file
 abbrev pub free_count_of : {D A : Type 0} {m : _} → PageCache D A m → ℕ
 free_count_of cache = below.free_count_of cache.file
 
+-- At most so many more pages are live: those given out that are not free rose by no more.
+abbrev pub Grows : {D A : Type 0} {m : _} → ℕ → PageCache D A m → PageCache D A m → Type 0
+Grows most old new = below.Grows most old.file new.file
+
+-- each page number is given out, and none is free
+abbrev pub IsFull : {D A : Type 0} {m : _} → PageCache D A m → Type 0
+IsFull cache = below.IsFull cache.file
+
 -- the blocks as they are read once each changed page is written
 abbrev pub blocks_behind : {D A : Type 0} {m : _} → PageCache D A m → Blocks
 blocks_behind cache = laid_over (changed_pages cache.frames.entries) (blocks_of cache)
@@ -80,9 +88,10 @@ pub record IsPageMap {D A : Type 0} {m : _} (cache : PageCache D A m) : Type 0 w
 abbrev pub KeepsGate : {D A : Type 0} {m : _} → PageCache D A m → PageCache D A m → Type 0
 KeepsGate old new = below.KeepsGate old.file new.file
 
--- The map stays, and is as sound as it was; so do the pages given out that are not live.
+-- The map stays, and is as sound as it was; so do the pages given out that are not live, and the count of the free ones.
 pub record KeepsMap {D A : Type 0} {m : _} (old new : PageCache D A m) : Type 0 where
   pub next : next_of new ≡ next_of old
+  pub free_count : free_count_of new ≡ free_count_of old
   pub pages_stay : IsHonest old → (k : ℕ) → pages new k ≡ pages old k
   pub given_stay : IsHonest old → (k : ℕ) → given new k ≡ given old k
   pub sound : IsPageMap old ↔ IsPageMap new
@@ -101,6 +110,7 @@ pub record IsUnchanged {D A : Type 0} {m : _} (old new : PageCache D A m) : Type
   pub device : device_of new ≡ device_of old
   pub gate : gate_of new ≡ gate_of old
   pub next : next_of new ≡ next_of old
+  pub free_count : free_count_of new ≡ free_count_of old
   pub pages_stay : (k : ℕ) → pages new k ≡ pages old k
   pub given_stay : (k : ℕ) → given new k ≡ given old k
   pub sound : IsPageMap old ↔ IsPageMap new

@@ -1,5 +1,5 @@
 -- What a file of pages stands for, and what calls keep of it.
-use Rattle.std.specs.Prelude.{◌≡◌, ◌<◌, ◌↔◌, ℕ, List, Option, Some, None, IsSome}
+use Rattle.std.specs.Prelude.{◌≡◌, ◌+◌, ◌^◌, ◌<◌, ◌≤◌, ◌↔◌, ℕ, List, Option, Some, None, IsSome}
 use Rattle.block_device.specs.Device.{Blocks, block_at}
 use Rattle.page_file.specs.Layout.{catalog_block}
 use Rattle.page_file.specs.Opening.{failed_check}
@@ -38,6 +38,14 @@ next_of file = file.header.next
 abbrev pub free_count_of : {D : Type 0} {m : _} → PageFile D m → ℕ
 free_count_of file = file.header.count
 
+-- At most so many more pages are live: those given out that are not free rose by no more.
+abbrev pub Grows : {D : Type 0} {m : _} → ℕ → PageFile D m → PageFile D m → Type 0
+Grows most old new = next_of new + free_count_of old ≤ next_of old + free_count_of new + most
+
+-- each page number is given out, and none is free
+abbrev pub IsFull : {D : Type 0} {m : _} → PageFile D m → Type 0
+IsFull file = (next_of file ≡ 2 ^ 31) × (free_count_of file ≡ 0)
+
 -- the map from live page number to the page's bytes
 abbrev pub pages : {D : Type 0} {m : _} → PageFile D m → ℕ → Option (List ℕ)
 pages {m = m} file n = page_of (m.shown file.device) file.header n
@@ -67,9 +75,10 @@ pub record KeepsGate {D : Type 0} {m : _} (old new : PageFile D m) : Type 0 wher
   pub blocks : IsHonest old → ¬ (gate_of old ≡ Open) → blocks_of new ≡ blocks_of old
   pub stops : IsHonest old → AddsOnly m.moment m.left_since old.device new.device (StopSince (gate_of old) (blocks_of old))
 
--- The map stays, and is as sound as it was; so do the pages given out that are not live.
+-- The map stays, and is as sound as it was; so do the pages given out that are not live, and the count of the free ones.
 pub record KeepsMap {D : Type 0} {m : _} (old new : PageFile D m) : Type 0 where
   pub next : next_of new ≡ next_of old
+  pub free_count : free_count_of new ≡ free_count_of old
   pub pages_stay : IsHonest old → (k : ℕ) → pages new k ≡ pages old k
   pub given_stay : IsHonest old → (k : ℕ) → given new k ≡ given old k
   pub sound : IsPageMap old ↔ IsPageMap new

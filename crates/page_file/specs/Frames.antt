@@ -46,6 +46,7 @@ pub map_kept : {D : Type 0} {m : _} (old new : PageFile D m) → new.header ≡ 
     → (IsHonest old → (k : ℕ) → 2 ≤ k → block_at k (m.shown new.device) ≡ block_at k (m.shown old.device)) → KeepsMap old new
 map_kept {m = m} old new header honest same = record {
   next = ap (λ (h : Header). h.next) header;
+  free_count = ap (λ (h : Header). h.count) header;
   pages_stay = λ h k. ap (λ (x : Header). page_of (m.shown new.device) x k) header ∙ pages_same (m.shown old.device) (m.shown new.device) old.header (same h) k;
   given_stay = λ h k. ap (λ (x : Header). given_pages (m.shown new.device) x.next k) header ∙ given_same (m.shown old.device) (m.shown new.device) old.header.next (same h) k;
   sound = (

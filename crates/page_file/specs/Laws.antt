@@ -121,11 +121,12 @@ the_gate_is_kept_in_turn {m = m} old mid new a b = record {
 }
 
 pub no_call_keeps_the_map : {D : Type 0} {m : _} (file : PageFile D m) → KeepsMap file file
-no_call_keeps_the_map file = record { next = refl; pages_stay = λ h k. refl; given_stay = λ h k. refl; sound = (λ p. p, λ p. p) }
+no_call_keeps_the_map file = record { next = refl; free_count = refl; pages_stay = λ h k. refl; given_stay = λ h k. refl; sound = (λ p. p, λ p. p) }
 
 pub the_map_is_kept_in_turn : {D : Type 0} {m : _} (old mid new : PageFile D m) → (IsHonest old → IsHonest mid) → KeepsMap old mid → KeepsMap mid new → KeepsMap old new
 the_map_is_kept_in_turn old mid new honest a b = record {
   next = b.next ∙ a.next;
+  free_count = b.free_count ∙ a.free_count;
   pages_stay = λ h k. b.pages_stay (honest h) k ∙ a.pages_stay h k;
   given_stay = λ h k. b.given_stay (honest h) k ∙ a.given_stay h k;
   sound = (λ p. b.sound.0 (a.sound.0 p), λ p. a.sound.1 (b.sound.1 p));

@@ -22,8 +22,7 @@ pub data Command : Type 0 where
   Check : Command
   Reopen : Command
 
--- A command that may give up: answered by a fault of memory, of the device or of page numbers in the place of what the
--- table answers. A count and a listing of the layers take nothing that could be refused.
+-- A command that may give up: answered by a fault of memory or of the device in the place of what the table answers. A count and a listing of the layers take nothing that could be refused.
 abbrev pub MayGiveUp : Command → Type 0
 MayGiveUp (Count name) = ⊥
 MayGiveUp Layers = ⊥

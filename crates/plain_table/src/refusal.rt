@@ -82,7 +82,7 @@ pub enum Refusal {
     /// The line is none of the language.
     #[error("not a command")]
     BadLine,
-    /// All page numbers were given out.
+    /// Each page number is live, which a sound store never comes to.
     #[error("no page number is left")]
     NoPages,
 }

@@ -1,9 +1,9 @@
 -- What ends a call.
-use Rattle.std.proofs.Common.{◌≡◌, ◌⊎◌, ℕ, ◌≤◌, ⊎_elim, inl, inr, subst}
+use Rattle.std.proofs.Common.{◌⊎◌, ⊎_elim, inl, inr}
 
--- where a number is as great as it can be, a greater one is too
-pub spent : (X Y : Type 0) (limit was now : ℕ) → X ⊎ Y → (Y → was ≡ limit) → was ≤ now → X ⊎ (Y × (limit ≤ now))
-spent X Y limit was now h full rises = ⊎_elim (λ (x : X). inl x) (λ (y : Y). inr (y, subst (λ k. k ≤ now) (full y) rises)) h
+-- the second of two cases, with what it says of the pages
+pub with_full : (X Y Z : Type 0) → X ⊎ Y → (Y → Z) → X ⊎ (Y × Z)
+with_full X Y Z h full = ⊎_elim (λ (x : X). inl x) (λ (y : Y). inr (y, full y)) h
 
 -- one case more between two
 pub one_more : (X Y Z : Type 0) → X ⊎ Z → X ⊎ (Y ⊎ Z)

@@ -45,6 +45,16 @@ pub record InsertsTo (dims most : ℕ) (m m' : PageMap) (level : ℕ) (t : Tree)
   pub insertion : IsInsertion dims most elsewhere branch level t new
   pub moves : Moves m m' (λ n. occurs_in n t + occurs_on n branch) (λ n. occurs_in n new)
 
+-- ---- by how many pages the live ones grow at most
+
+-- one placing splits a node on each of the levels 0 to 40, and makes one root
+abbrev pub most_placing_pages : ℕ
+most_placing_pages = 42
+
+-- an insertion has 1 placing, and 30 more for each of the 41 levels: 1,231 times 42 pages are fewer
+abbrev pub most_new_pages : ℕ
+most_new_pages = 2 ^ 16
+
 -- ---- between the placings
 
 -- how often a page occurs in a tree and in what waits

@@ -3,7 +3,7 @@
 ghost use Rattle.std.specs.Prelude.{◌≡◌, ◌^◌, ◌+◌, ◌<◌, ◌≤◌, ◌∷◌, [], Some, None, ℕ, IfOk, IfErr};
 ghost use Rattle.box_math.specs.Bounds.{IsDims};
 ghost use Rattle.page_file.specs.declared.gate.Gate.TheVariants.{Open};
-ghost use Rattle.page_cache.specs.Cache.{IsPageMap, gate_of, pages};
+ghost use Rattle.page_cache.specs.Cache.{Grows, IsPageMap, gate_of, pages};
 ghost use Rattle.page_cache.specs.Calls.{Changes};
 ghost use Rattle.tree_node.specs.Nodes.{item_of};
 ghost use Rattle.node_page.specs.Layout.{IsReference};
@@ -32,6 +32,7 @@ pub(crate) fn grow<const D: usize, B: BlockDevice, A: Allocator + Copy>(
     requires page { (3 ≤ root.page) × (root.page < 2 ^ 31) }
     requires refers { IsReference 1 beside.reference }
     ensures changes { Changes cache.old cache.new result }
+    ensures grows { Grows 1 cache.old cache.new }
     ensures level { IfOk result (λ new. (new.level ≡ root.level + 1) × (new.level ≤ 40)) }
     ensures page { IfOk result (λ new. (3 ≤ new.page) × (new.page < 2 ^ 31)) }
     ensures grown { IsPageMap cache.old → IfOk result (λ new. IsPageMap cache.new

@@ -4,7 +4,7 @@ ghost use Rattle.std.specs.Prelude.{◌≡◌, ◌^◌, ◌+◌, ◌<◌, ◌≤
 ghost use Rattle.box_math.specs.Bounds.{IsDims};
 ghost use Rattle.page_file.specs.declared.fault.Fault.TheVariants as fault;
 ghost use Rattle.page_file.specs.declared.gate.Gate.TheVariants.{Open};
-ghost use Rattle.page_cache.specs.Cache.{IsPageMap, IsUnchanged, gate_of, pages};
+ghost use Rattle.page_cache.specs.Cache.{Grows, IsPageMap, IsUnchanged, gate_of, pages};
 ghost use Rattle.tree_node.specs.Boxes.{RowHasBoxes};
 ghost use Rattle.tree_node.specs.Nodes.{item_of};
 ghost use Rattle.tree_node.specs.Shape.{HasLooseShape};
@@ -13,6 +13,7 @@ ghost use Rattle.node_page.specs.Broken.{Alters, before};
 ghost use Rattle.node_page.specs.Layout.{IsReference};
 ghost use Rattle.node_page.specs.Faults.{IsChangeFault, IsNoDamage};
 ghost use Rattle.reinsert.specs.Inserted.{CanInsert, InsertsTo, IsAt, IsRootFrom, StepsTo};
+ghost use Rattle.reinsert.specs.Inserted.{most_new_pages, most_placing_pages};
 ghost use Rattle.reinsert.specs.Kept.{EntryHasShape, StateHasShape};
 ghost use Rattle.reinsert.specs.Placed.{measure_of};
 ghost use Rattle.reinsert.specs.Placing.{State};
@@ -37,8 +38,8 @@ use tree_node::{Entry, Root};
 ///
 /// A refusal that is not `touched` leaves the map as it was; the room of what waits is taken before the first write.
 /// Where the trees have their shape, but that a root may have one entry, a refusal is of memory or of the device, or
-/// all page numbers are given out (`NoPages`). A tree of level 40 takes no entry, since it could grow: its root is
-/// `Damaged`, untouched.
+/// each page number is live (`NoPages`). A tree of level 40 takes no entry, since it could grow: its root is `Damaged`,
+/// untouched. Also after a refusal, at most `most_new_pages` more pages are live.
 pub fn insert_at<const D: usize, B: BlockDevice, A: Allocator + Copy, H: Allocator>(
     alloc: H,
     cache: &mut PageCache<B, A>,
@@ -54,6 +55,7 @@ pub fn insert_at<const D: usize, B: BlockDevice, A: Allocator + Copy, H: Allocat
     requires root { (3 ≤ root.page) × (root.page < 2 ^ 31) }
     requires refers { IsReference level entry.now.reference }
     ensures alters { Alters cache.old cache.new result }
+    ensures grows { Grows most_new_pages cache.old cache.new }
     ensures root { IfOk result (IsRootFrom root) }
     ensures inserted { IsPageMap cache.old → (t : Tree) (branch : Branch) (elsewhere : ℕ → ℕ)
         → CanInsert D (pages cache.old) root (item_of entry.now) level t branch elsewhere →
@@ -86,6 +88,7 @@ pub fn insert_with<const D: usize, B: BlockDevice, A: Allocator + Copy>(
     requires root { (3 ≤ root.page) × (root.page < 2 ^ 31) }
     requires refers { IsReference level entry.now.reference }
     ensures alters { Alters cache.old cache.new result }
+    ensures grows { Grows most_new_pages cache.old cache.new }
     ensures root { IfOk result (IsRootFrom root) }
     ensures inserted { IsPageMap cache.old → (t : Tree) (branch : Branch) (elsewhere : ℕ → ℕ)
         → CanInsert D (pages cache.old) root (item_of entry.now) level t branch elsewhere →
@@ -138,6 +141,7 @@ fn place_one<const D: usize, B: BlockDevice, A: Allocator + Copy>(
     requires root { (3 ≤ root.page) × (root.page < 2 ^ 31) }
     requires refers { IsReference first.now.level first.now.entry.reference }
     ensures alters { Alters cache.old cache.new result }
+    ensures grows { Grows most_placing_pages cache.old cache.new }
     ensures measure { measure_of waiting.new ≤ measure_of waiting.old }
     ensures root { IfOk result (IsRootFrom root) }
     ensures placed { IsPageMap cache.old → (s : State) (elsewhere : ℕ → ℕ)

@@ -7,7 +7,7 @@ ghost use Rattle.arrayvec.specs.ArrayVec.{array_vec_len};
 ghost use Rattle.box_math.specs.Bounds.{IsDims};
 ghost use Rattle.page_file.specs.Fault.{IsDamage, IsOfDevice};
 ghost use Rattle.page_file.specs.declared.gate.Gate.TheVariants.{Open};
-ghost use Rattle.page_cache.specs.Cache.{IsHonest, IsLive, IsPageMap, gate_of, pages};
+ghost use Rattle.page_cache.specs.Cache.{Grows, IsHonest, IsLive, IsPageMap, gate_of, pages};
 ghost use Rattle.page_cache.specs.Calls.{Asks, Changes};
 ghost use Rattle.choose_subtree.specs.Choice.{IsChosenChild};
 ghost use Rattle.tree_node.specs.Nodes.{Item, NodeContent, content_of, item_of};
@@ -49,6 +49,7 @@ pub(crate) fn place<const D: usize, B: BlockDevice, A: Allocator + Copy>(
     requires levels { (target ≤ at.level) × (at.level ≤ top) × (top ≤ 40) }
     requires refers { IsReference target entry.now.reference }
     ensures alters { Alters cache.old cache.new result }
+    ensures grows { Grows (at.level + 1) cache.old cache.new }
     ensures measure { measure_of waiting.new ≤ measure_of waiting.old }
     ensures beside { IfOk result (λ s. IfSome s.beside (λ e. IsReference (at.level + 1) e.reference)) }
     ensures placed { IsPageMap cache.old → (row : Row) (branch : Branch) → item_in branch ≡ item_of entry.now
@@ -146,6 +147,7 @@ fn put_here<const D: usize, B: BlockDevice, A: Allocator + Copy>(
     requires refers { All (λ e. IsReference node.old.level e.reference) node.old.entries.items }
     requires refers_too { IsReference node.old.level entry.now.reference }
     ensures alters { Alters cache.old cache.new result }
+    ensures grows { Grows 1 cache.old cache.new }
     ensures measure { measure_of waiting.new ≤ measure_of waiting.old }
     ensures beside { IfOk result (λ s. IfSome s.beside (λ e. IsReference (node.old.level + 1) e.reference)) }
     ensures settled { IsPageMap cache.old → (branches : List Branch)
@@ -196,6 +198,7 @@ fn put_above<const D: usize, B: BlockDevice, A: Allocator + Copy>(
     requires refers { All (λ e. IsReference node.old.level e.reference) node.old.entries.items }
     requires beside { IfSome lower.beside (λ e. IsReference node.old.level e.reference) }
     ensures alters { Alters cache.old cache.new result }
+    ensures grows { Grows 1 cache.old cache.new }
     ensures measure { measure_of waiting.new ≤ measure_of waiting.old }
     ensures beside { IfOk result (λ s. IfSome s.beside (λ e. IsReference (node.old.level + 1) e.reference)) }
     ensures settled { IsPageMap cache.old → (branches : List Branch)
@@ -238,6 +241,7 @@ fn settle_above<const D: usize, B: BlockDevice, A: Allocator + Copy>(
     requires refers { All (λ e. IsReference node.old.level e.reference) node.old.entries.items }
     requires beside { IfSome lower.beside (λ e. IsReference node.old.level e.reference) }
     ensures changes { Changes cache.old cache.new result }
+    ensures grows { Grows 1 cache.old cache.new }
     ensures measure { measure_of waiting.new ≤ measure_of waiting.old }
     ensures beside { IfOk result (λ s. IfSome s.beside (λ e. IsReference (node.old.level + 1) e.reference)) }
     ensures settled { IsPageMap cache.old → (branches : List Branch)

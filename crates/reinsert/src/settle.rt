@@ -5,7 +5,7 @@ ghost use Rattle.std.specs.Prelude.{IfErr, IfSome};
 ghost use Rattle.arrayvec.specs.ArrayVec.{array_vec_len};
 ghost use Rattle.box_math.specs.Bounds.{IsDims};
 ghost use Rattle.page_file.specs.declared.gate.Gate.TheVariants.{Open};
-ghost use Rattle.page_cache.specs.Cache.{IsLive, IsPageMap, gate_of, pages};
+ghost use Rattle.page_cache.specs.Cache.{Grows, IsLive, IsPageMap, gate_of, pages};
 ghost use Rattle.page_cache.specs.Calls.{Changes};
 ghost use Rattle.tree_node.specs.Nodes.{content_of, item_of};
 ghost use Rattle.tree_node.specs.Rows.{item_in};
@@ -55,6 +55,7 @@ pub(crate) fn settle<const D: usize, B: BlockDevice, A: Allocator + Copy>(
     requires few { array_vec_len node.now.entries ≤ m_max + 1 }
     requires refers { All (λ e. IsReference node.now.level e.reference) node.now.entries.items }
     ensures changes { Changes cache.old cache.new result }
+    ensures grows { Grows 1 cache.old cache.new }
     ensures measure { measure_of waiting.new ≤ measure_of waiting.old }
     ensures beside { IfOk result (λ s. IfSome s.beside (λ e. IsReference (node.now.level + 1) e.reference)) }
     ensures settled { IsPageMap cache.old → (branches : List Branch)
@@ -105,6 +106,7 @@ fn write_fitting<const D: usize, B: BlockDevice, A: Allocator + Copy>(
     requires few { array_vec_len node.now.entries ≤ 100 }
     requires refers { All (λ e. IsReference node.now.level e.reference) node.now.entries.items }
     ensures changes { Changes cache.old cache.new result }
+    ensures grows { Grows 0 cache.old cache.new }
     ensures alone { IfOk result (λ s. s.beside ≡ None) }
     ensures settled { IsPageMap cache.old
         → (most top : ℕ) (called : List Bool) (waits : List (Wait D)) (branches : List Branch)
@@ -141,6 +143,7 @@ fn take_out_far<const D: usize, B: BlockDevice, A: Allocator + Copy>(
     requires refers { All (λ e. IsReference node.now.level e.reference) node.now.entries.items }
     requires first { is_called waiting.old.called node.now.level ≡ false }
     ensures changes { Changes cache.old cache.new result }
+    ensures grows { Grows 0 cache.old cache.new }
     ensures measure { measure_of waiting.new ≤ measure_of waiting.old }
     ensures alone { IfOk result (λ s. s.beside ≡ None) }
     ensures settled { IsPageMap cache.old → (top : ℕ) (branches : List Branch) → node.now.level < top
@@ -182,6 +185,7 @@ fn split_off<const D: usize, B: BlockDevice, A: Allocator + Copy>(
     requires many { array_vec_len node.now.entries ≡ m_max + 1 }
     requires refers { All (λ e. IsReference node.now.level e.reference) node.now.entries.items }
     ensures changes { Changes cache.old cache.new result }
+    ensures grows { Grows 1 cache.old cache.new }
     ensures measure { measure_of waiting.new ≤ measure_of waiting.old }
     ensures beside { IfOk result (λ s. IfSome s.beside (λ e. IsReference (node.now.level + 1) e.reference)) }
     ensures settled { IsPageMap cache.old → (top : ℕ) (branches : List Branch)
@@ -230,6 +234,7 @@ fn write_both<const D: usize, B: BlockDevice, A: Allocator + Copy>(
     requires first { IsSpellable (content_of first.now) }
     requires second { IsSpellable (content_of second.now) }
     ensures changes { Changes cache.old cache.new result }
+    ensures grows { Grows 1 cache.old cache.new }
     ensures number { IfOk result (λ n. (3 ≤ n) × (n < 2 ^ 31)) }
     ensures written { IsPageMap cache.old → IsLive cache.old page →
         IfOk result (λ n. IsPageMap cache.new

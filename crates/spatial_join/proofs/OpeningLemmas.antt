@@ -1,5 +1,5 @@
 -- What is opened of two nodes has the objects that they have, and no more pairs of nodes that meet.
-use Rattle.std.proofs.Common.{◌≡◌, ◌∙◌, ℕ, ◌+◌, ◌-◌, ◌<◌, ◌≤◌, nat_le, Bool, true, false, cond, Option, Some, None, List, [], ◌∷◌, ◌++◌, refl, sym, ap, subst, arith}
+use Rattle.std.proofs.Common.{◌≡◌, ◌∙◌, ℕ, zero, suc, ◌+◌, ◌-◌, ◌<◌, ◌≤◌, ◌^◌, All, slice_index_or, nat_le, Bool, true, false, cond, Option, Some, None, List, [], ◌∷◌, ◌++◌, refl, sym, ap, subst, arith}
 use Rattle.std.specs.Prelude.{◌↔◌}
 use Rattle.std.proofs.lemmas.Bool.Decides.{nat_tests}
 use Rattle.std.proofs.lemmas.List.{append-nil}
@@ -132,3 +132,15 @@ root_above dims level other page row items h same =
 
 pub has_pages : (c : NodeContent) → IsSpellable c → HasPages c
 has_pages c s above = λ k d lt. let r = s.refers k d lt above in omega (arith, r.1)
+
+-- so has one with a single entry, or none
+pub lone_has_pages : (c : NodeContent) (o : Option Bounds) (page : ℕ) → c.entries ≡ lone o page → page < 2 ^ 32 → HasPages c
+lone_has_pages c o page is below above = subst (All (λ (item : Item). item.reference < 2 ^ 32)) (sym is) (each o)
+  where
+    only_one : (b : Bounds) (k : ℕ) (d : Item) → k < 1 → (slice_index_or (lone (Some b) page) k d).reference < 2 ^ 32
+    only_one b zero d lt = below
+    only_one b (suc k) d lt = absurd (omega (arith, lt))
+
+    each : (o : Option Bounds) → All (λ (item : Item). item.reference < 2 ^ 32) (lone o page)
+    each None = λ k d lt. absurd (omega (arith, lt))
+    each (Some b) = only_one b

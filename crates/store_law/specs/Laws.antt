@@ -10,7 +10,7 @@ use Rattle.plain_table.specs.Table.{Table}
 use Rattle.plain_table.specs.declared.queries.RawQuery.TheVariants as query
 use Rattle.plain_table.specs.declared.refusal.Refusal.{Refusal}
 use Rattle.plain_table.specs.declared.refusal.Refusal.TheVariants as refusal
-use Rattle.store_law.specs.Lawful.{IsFault, Lawful, LawfulFrom, MayWrite, RefusedBy, blames_device}
+use Rattle.store_law.specs.Lawful.{IsFault, Lawful, LawfulFrom, RefusedBy, blames_device}
 use Rattle.store_law.specs.Sessions.{LawfulStep, Session, SessionState}
 use Rattle.store_law.specs.States.{Request, StoreState}
 use Rattle.store_law.specs.States.Request.{Asks, BadCommand}
@@ -21,15 +21,15 @@ use Rattle.store_law.specs.Stops.{Stops, after_request}
 
 -- a bad line is answered so, whatever the store's state
 pub a_bad_line_is_lawful : (s : SessionState) → LawfulStep s BadCommand (Refused refusal.BadLine) s
-a_bad_line_is_lawful s = record { answer = (refl, refl); stops = refl; faults = omega arith; next = omega arith }
+a_bad_line_is_lawful s = record { answer = (refl, refl); stops = refl; faults = omega arith }
 
 -- to answer as the table does is lawful
-pub the_tables_reply_is_lawful : (rose spent : Type 0) (t u : Table) (c : Command) (a : Answer) → a ≡ reply_of t c → u ≡ after t c → LawfulFrom rose spent t c a (Alive u)
-the_tables_reply_is_lawful rose spent t u c a e f = inl (e, ap Alive f)
+pub the_tables_reply_is_lawful : (rose : Type 0) (t u : Table) (c : Command) (a : Answer) → a ≡ reply_of t c → u ≡ after t c → LawfulFrom rose t c a (Alive u)
+the_tables_reply_is_lawful rose t u c a e f = inl (e, ap Alive f)
 
 -- and to want memory for a command that may give up, and leave the table as it was
-pub want_of_memory_is_lawful : (rose spent : Type 0) (t u : Table) (c : Command) (a : Answer) → a ≡ Refused refusal.Memory → MayGiveUp c → u ≡ t → LawfulFrom rose spent t c a (Alive u)
-want_of_memory_is_lawful rose spent t u c a e may f = inr (inl (subst (RefusedBy (IsFault rose (spent × MayWrite t c))) (sym e) tt, may, ap Alive f))
+pub want_of_memory_is_lawful : (rose : Type 0) (t u : Table) (c : Command) (a : Answer) → a ≡ Refused refusal.Memory → MayGiveUp c → u ≡ t → LawfulFrom rose t c a (Alive u)
+want_of_memory_is_lawful rose t u c a e may f = inr (inl (subst (RefusedBy (IsFault rose)) (sym e) tt, may, ap Alive f))
 
 -- ---- the table's own refusals blame no device
 
@@ -79,25 +79,22 @@ sessions_join old mid new (r ∷ rs) ss (a ∷ as') bs p q = (p.0, p.1, sessions
 sessions_join old mid new [] ss (a ∷ as') bs p q = elim p [ ]
 sessions_join old mid new (r ∷ rs) ss [] bs p q = elim p [ ]
 
--- how often the device has failed does not fall, nor how many page numbers were given out
-pub no_count_falls : (old new : SessionState) (rs : List Request) (as' : List Answer) → Session old rs as' new → (old.faults ≤ new.faults) × (old.next ≤ new.next)
-no_count_falls old new [] [] p = (let e = ap (λ (s : SessionState). s.faults) p in omega (arith, e), let e = ap (λ (s : SessionState). s.next) p in omega (arith, e))
-no_count_falls old new (r ∷ rs) (a ∷ as') p =
-    let rest = no_count_falls p.0 new rs as' p.2 in
-    let step = p.1 in
-    (omega (arith, rest.0, step.faults), omega (arith, rest.1, step.next))
+-- how often the device has failed does not fall
+pub no_count_falls : (old new : SessionState) (rs : List Request) (as' : List Answer) → Session old rs as' new → old.faults ≤ new.faults
+no_count_falls old new [] [] p = let e = ap (λ (s : SessionState). s.faults) p in omega (arith, e)
+no_count_falls old new (r ∷ rs) (a ∷ as') p = omega (arith, no_count_falls p.0 new rs as' p.2, p.1.faults)
 no_count_falls old new [] (a ∷ as') p = elim p [ ]
 no_count_falls old new (r ∷ rs) [] p = elim p [ ]
 
 -- a store that has failed stays so
-dead_after : (rose spent : Type 0) (old new : StoreState) (r : Request) (a : Answer) → old ≡ Dead → Lawful rose spent old r a new → new ≡ Dead
-dead_after rose spent Dead new BadCommand a e h = h.1
-dead_after rose spent Dead new (Asks c) a e h = h.1
-dead_after rose spent (Alive t) new r a e h = absurd (cc)
+dead_after : (rose : Type 0) (old new : StoreState) (r : Request) (a : Answer) → old ≡ Dead → Lawful rose old r a new → new ≡ Dead
+dead_after rose Dead new BadCommand a e h = h.1
+dead_after rose Dead new (Asks c) a e h = h.1
+dead_after rose (Alive t) new r a e h = absurd (cc)
 
 pub a_dead_store_stays_dead : (old new : SessionState) (rs : List Request) (as' : List Answer) → old.state ≡ Dead → Session old rs as' new → new.state ≡ Dead
 a_dead_store_stays_dead old new [] [] e p = ap (λ (s : SessionState). s.state) p ∙ e
-a_dead_store_stays_dead old new (r ∷ rs) (a ∷ as') e p = a_dead_store_stays_dead p.0 new rs as' (dead_after _ _ old.state p.0.state r a e p.1.answer) p.2
+a_dead_store_stays_dead old new (r ∷ rs) (a ∷ as') e p = a_dead_store_stays_dead p.0 new rs as' (dead_after _ old.state p.0.state r a e p.1.answer) p.2
 a_dead_store_stays_dead old new [] (a ∷ as') e p = elim p [ ]
 a_dead_store_stays_dead old new (r ∷ rs) [] e p = elim p [ ]
 

@@ -3,30 +3,26 @@ use Rattle.std.specs.Prelude.{ℕ, ◌≡◌, ◌≤◌, List, [], ◌∷◌}
 use Rattle.block_device.specs.Device.{HasRisen}
 use Rattle.plain_table.specs.Step.{Answer}
 use Rattle.plain_table.specs.Table.{Table}
-use Rattle.store_law.specs.Lawful.{IsSpent, Lawful}
+use Rattle.store_law.specs.Lawful.{Lawful}
 use Rattle.store_law.specs.States.{Request, StoreState}
 use Rattle.store_law.specs.States.StoreState.{Alive}
 use Rattle.store_law.specs.Stops.{Stops, after_request}
 
--- What is known of a store between two requests: its state, what stops leave, how often the device has failed so far, and
--- one more than the greatest page number given out.
+-- What is known of a store between two requests: its state, what stops leave, and how often the device has failed so far.
 pub record SessionState : Type 0 where
   pub state : StoreState
   pub stops : Stops
   pub faults : ℕ
-  pub next : ℕ
 
 -- the answer to a request, and the state that it leaves
 abbrev pub LawfulAnswer : SessionState → Request → Answer → SessionState → Type 0
-LawfulAnswer old r a new = Lawful (HasRisen old.faults new.faults) (IsSpent new.next) old.state r a new.state
+LawfulAnswer old r a new = Lawful (HasRisen old.faults new.faults) old.state r a new.state
 
--- One request answered lawfully, and what stops leave after it. How often the device has failed does not fall, nor how
--- many page numbers were given out.
+-- One request answered lawfully, and what stops leave after it. How often the device has failed does not fall.
 pub record LawfulStep (old : SessionState) (r : Request) (a : Answer) (new : SessionState) : Type 0 where
   pub answer : LawfulAnswer old r a new
   pub stops : new.stops ≡ after_request old.state old.stops r a
   pub faults : old.faults ≤ new.faults
-  pub next : old.next ≤ new.next
 
 -- lawful steps, each from what the one before left
 abbrev pub Session : SessionState → List Request → List Answer → SessionState → Type 0

@@ -31,11 +31,11 @@ pub fn sessions_join()
         Session old rs xs mid → Session mid ss ys new → Session old (rs ++ ss) (xs ++ ys) new }
 {}
 
-/// Neither the count of the device's faults nor that of page numbers given out falls in a session.
+/// The count of the device's faults does not fall in a session.
 #[tactic(auto, using(crate::specs::Laws::no_count_falls))]
 pub fn no_count_falls()
     ensures { (old new : SessionState) (rs : List Request) (xs : List Answer) → Session old rs xs new →
-        (old.faults ≤ new.faults) × (old.next ≤ new.next) }
+        old.faults ≤ new.faults }
 {}
 
 /// A store that has failed stays so.

@@ -9,15 +9,15 @@ use layer_store::{RawBox, RawPoint, Refusal, Store};
 use std::alloc::Global;
 use std::test::Fail;
 
-// Two boxes that touch in a point.
-const TWO: [Command; 3] = [
+/// Two boxes that touch in a point.
+pub const TWO: [Command; 3] = [
     Command::Create(b"a", 2, 4),
     Command::Insert(b"a", 1, RawBox::Two([0, 0], [1, 1])),
     Command::Insert(b"a", 2, RawBox::Two([1, 1], [2, 2])),
 ];
 
-// Points on a line, whose leaves are {1,2} and {3,4,5}.
-const FIVE: [Command; 6] = [
+/// Points on a line, whose leaves are {1,2} and {3,4,5}.
+pub const FIVE: [Command; 6] = [
     Command::Create(b"l", 2, 4),
     Command::Insert(b"l", 1, RawBox::Two([0, 0], [0, 0])),
     Command::Insert(b"l", 2, RawBox::Two([1, 0], [1, 0])),
@@ -68,8 +68,8 @@ const MOVED: Scene = Scene {
     ],
 };
 
-// The leaf of object 2 alone is given up, and the root with it: the leaf is {3,4,5,2}.
-const DELETED: Scene = Scene {
+/// The leaf of object 2 alone is given up, and the root with it: the leaf is {3,4,5,2}.
+pub const DELETED: Scene = Scene {
     made: &[Command::Delete(b"l", 1)],
     asked: &[
         (
@@ -102,8 +102,8 @@ const INSERTED_ANEW: Scene = Scene {
     ],
 };
 
-// Packed: the leaves are {1,2,3} and {4,5}. And loads that are refused, or of nothing.
-const LOADED: Scene = Scene {
+/// Packed: the leaves are {1,2,3} and {4,5}. And loads that are refused, or of nothing.
+pub const LOADED: Scene = Scene {
     made: &[
         Command::Create(b"t", 2, 4),
         Command::Load(
@@ -177,8 +177,8 @@ const LOADED: Scene = Scene {
     ],
 };
 
-// Joins of layers, also with themselves, and what there is.
-const JOINED: Scene = Scene {
+/// Joins of layers, also with themselves, and what there is.
+pub const JOINED: Scene = Scene {
     made: &[
         Command::Create(b"c", 3, 4),
         Command::Insert(b"c", 2, RawBox::Three([i32::MAX; 3], [i32::MAX; 3])),

@@ -23,6 +23,8 @@ mod listing;
 #[cfg(test)]
 mod refused;
 #[cfg(test)]
+mod refused_changes;
+#[cfg(test)]
 mod rows;
 #[cfg(test)]
 mod sessions;

@@ -1,20 +1,22 @@
 //! Each growth and each call of the device refused in turn. A command says so and the table stays, or in a change the
 //! store fails; and what is left is opened as the table that was closed last, or refused.
 
+use crate::change_rows::{DELETED, FIVE, JOINED, LOADED, TWO};
 use crate::commands::{Command, PLANE, SPACE, answer, listed, represents};
-use crate::fixture::{closed, device_of, new_store, opened};
+use crate::fixture::{closed, opened};
+use crate::rows::{FIRST_OVERFLOW, LINE, Row, Scene, TOUCHING};
 use block_device::{BlockDevice, FuseDevice, FuseMode, MemoryDevice};
 use layer_store::{RawBox, RawPoint, Refusal, Store, create_store, open_store};
 use list_table::ListTable;
 use refusing::Refusing;
-use std::alloc::Global;
+use std::alloc::{AllocError, Global};
 use std::process::Abort;
 use std::test::Fail;
 
 // More growths, and more calls of the device, than the script makes.
 const MOST: u32 = 10000;
 
-const NAMES: [&[u8]; 5] = [b"a", b"c", b"l", b"r", b"u"];
+const NAMES: [&[u8]; 6] = [b"a", b"c", b"l", b"r", b"t", b"u"];
 
 // Identifiers are below this.
 const IDS: u64 = 9;
@@ -125,24 +127,32 @@ const REMOVALS: [Command; 38] = [
 
 const SCRIPTS: [&[Command]; 2] = [&SCRIPT, &REMOVALS];
 
-// A change after the script.
-const OBJECT: Command = Command::Insert(b"l", 7, RawBox::Two([4, 0], [4, 0]));
+// Worked rows, and what is made before them.
+const ROWS: [(&[&[Command]], Scene); 6] = [
+    (&[], TOUCHING),
+    (&[], LINE),
+    (&[], FIRST_OVERFLOW),
+    (&[&FIVE], DELETED),
+    (&[&TWO, &FIVE], JOINED),
+    (&[], LOADED),
+];
 
-type Heap = Refusing<Global>;
+/// What takes memory, and can be told to refuse it.
+pub type Heap = Refusing<Global>;
 
-// What became of a command.
+/// What became of a command.
 #[derive(Clone, Copy, Debug, PartialEq, Eq)]
-enum Ending {
-    // It was answered as the plain list does.
+pub enum Ending {
+    /// It was answered as the plain list does.
     Answered,
-    // It was refused for the cause, the store went on, and then it was answered.
+    /// It was refused for the cause, the store went on, and then it was answered.
     Refused,
-    // The store failed for the cause.
+    /// The store failed for the cause.
     Failed,
 }
 
-// Puts a command to a store to which something is refused, and nothing more once the cause is answered.
-fn put<D: BlockDevice>(
+/// Puts a command to a store to which something is refused, and nothing more once the cause is answered.
+pub fn put<D: BlockDevice>(
     rt: &impl Abort,
     alloc: Global,
     store: &mut Store<D, &Heap>,
@@ -162,7 +172,8 @@ fn put<D: BlockDevice>(
         assert!(rt; given == wanted, "{command:?}: {given:?}");
         return Ending::Answered;
     }
-    heap.relent();
+    let is_refused = heap.relent();
+    assert!(rt; is_refused || cause == Refusal::Device, "{command:?}");
     assert!(rt; represents(alloc, store, table, &NAMES, IDS), "{command:?}");
     let (given, wanted) = (answer(alloc, store, command), listed(alloc, table, command));
     assert!(rt;
@@ -185,9 +196,9 @@ fn say_that_it_failed<D: BlockDevice>(
     }
 }
 
-// The store failed in this command: each command says so, and its device, which comes back with a closing, is that of a
-// store that was not closed, or, after a reopening, has the table.
-fn check_failed<'a, D: BlockDevice + Drop>(
+/// The store failed in this command: each command says so, and its device, which comes back with a closing, is that of
+/// a store that was not closed, or, after a reopening, has the table.
+pub fn check_failed<'a, D: BlockDevice + Drop>(
     rt: &impl Abort,
     alloc: Global,
     store: Store<D, &'a Heap>,
@@ -380,6 +391,30 @@ fn fail_calls(rt: &impl Abort, alloc: Global, script: &[Command<'_>]) -> Result<
     Ok(seen)
 }
 
+// All commands of a row, each question after a reopening, so that it reads its pages anew.
+fn row_script(
+    alloc: Global,
+    before: &[&[Command<'static>]],
+    row: Scene,
+) -> Result<Vec<Command<'static>>, AllocError> {
+    let mut script = Vec::new(alloc);
+    for made in before {
+        script.extend_from_slice(made)?;
+    }
+    script.extend_from_slice(row.made)?;
+    ask_anew(&mut script, row.asked)?;
+    Ok(script)
+}
+
+// Adds the questions, each after a reopening.
+fn ask_anew(script: &mut Vec<Command<'static>>, asked: &[Row]) -> Result<(), AllocError> {
+    for (command, _, _) in asked {
+        script.push(Command::Reopen)?;
+        script.push(*command)?;
+    }
+    Ok(())
+}
+
 #[test]
 fn each_growth_is_refused_in_turn(rt: HostRuntime) -> Result<(), Fail> {
     for script in SCRIPTS {
@@ -396,39 +431,20 @@ fn each_call_of_the_device_fails_in_turn(rt: HostRuntime) -> Result<(), Fail> {
     Ok(())
 }
 
-// An opening makes four calls of the device: a sync, and the reads of gate, header and catalog.
 #[test]
-fn an_insertion_whose_first_call_fails_goes_on(rt: HostRuntime) -> Result<(), Fail> {
-    let heap = Refusing::new(rt.alloc());
-    let mut ending = Ending::Failed;
-    for passes in 0..MOST {
-        let mut store = new_store(rt.alloc(), 8)?;
-        let mut table = ListTable::new(rt.alloc());
-        for &command in SCRIPT.iter() {
-            answer(rt.alloc(), &mut store, command).is_ok();
-            listed(rt.alloc(), &mut table, command).is_ok();
-        }
-        let device = FuseDevice::new(device_of(store)?, u64::from(passes), FuseMode::Once);
-        match opened(&heap, device, 8) {
-            Ok(store) => {
-                let mut store = store;
-                ending = put(
-                    &rt,
-                    rt.alloc(),
-                    &mut store,
-                    &mut table,
-                    &heap,
-                    OBJECT,
-                    Refusal::Device,
-                );
-                assert!(rt; passes >= 4 && (passes != 4 || ending == Ending::Refused));
-                if ending == Ending::Answered {
-                    break;
-                }
-            }
-            Err(refusal) => assert!(rt; passes < 4 && refusal == Refusal::Device),
-        }
+fn each_growth_of_worked_rows_is_refused_in_turn(rt: HostRuntime) -> Result<(), Fail> {
+    for (before, row) in ROWS {
+        let script = row_script(rt.alloc(), before, row)?;
+        assert_eq!(rt; refuse_growths(&rt, rt.alloc(), &script)?, ALL);
     }
-    assert!(rt; ending == Ending::Answered);
+    Ok(())
+}
+
+#[test]
+fn each_call_of_the_device_in_worked_rows_fails_in_turn(rt: HostRuntime) -> Result<(), Fail> {
+    for (before, row) in ROWS {
+        let script = row_script(rt.alloc(), before, row)?;
+        assert_eq!(rt; fail_calls(&rt, rt.alloc(), &script)?, ALL);
+    }
     Ok(())
 }

@@ -78,8 +78,8 @@ const EXTREMES: Scene = Scene {
     ],
 };
 
-// Two boxes that touch in a point, and commands that are refused.
-const TOUCHING: Scene = Scene {
+/// Two boxes that touch in a point, and commands that are refused.
+pub const TOUCHING: Scene = Scene {
     made: &[
         Command::Create(b"a", 2, 4),
         Command::Insert(b"a", 1, RawBox::Two([0, 0], [1, 1])),
@@ -122,6 +122,12 @@ const TOUCHING: Scene = Scene {
             None,
         ),
         (Command::Get(b"a", 1), Ok(&[1, 0, 0, 1, 1]), None),
+        (Command::Layers, Ok(&[97, 2, 4, 2]), None),
+        (
+            Command::Dump,
+            Ok(&[97, 2, 4, 97, 1, 0, 0, 1, 1, 97, 2, 1, 1, 2, 2]),
+            None,
+        ),
         (
             Command::Insert(b"a", 3, RawBox::Two([1, 0], [0, 0])),
             Err(Refusal::BadBox),
@@ -151,8 +157,8 @@ const TOUCHING: Scene = Scene {
     ],
 };
 
-// Points on a line: all ties of the split are equal, and the leaves are {1,2} and {3,4,5}.
-const LINE: Scene = Scene {
+/// Points on a line: all ties of the split are equal, and the leaves are {1,2} and {3,4,5}.
+pub const LINE: Scene = Scene {
     made: &[
         Command::Create(b"l", 2, 4),
         Command::Insert(b"l", 1, RawBox::Two([0, 0], [0, 0])),
@@ -177,8 +183,8 @@ const LINE: Scene = Scene {
     ],
 };
 
-// The first overflow below a root, which inserts object 6 again: the leaves are {1,2,7,6} and {3,4,5,8}.
-const FIRST_OVERFLOW: Scene = Scene {
+/// The first overflow below a root, which inserts object 6 again: the leaves are {1,2,7,6} and {3,4,5,8}.
+pub const FIRST_OVERFLOW: Scene = Scene {
     made: &[
         Command::Create(b"r", 2, 4),
         Command::Insert(b"r", 1, RawBox::Two([0, 0], [0, 0])),

@@ -6,7 +6,7 @@ use crate::fixture::{closed, device_of, opened};
 use block_device::{BlockDevice, FuseDevice, FuseMode, Left, MemoryDevice};
 use layer_store::{RawBox, Refusal, Store, create_store};
 use list_table::ListTable;
-use std::alloc::Global;
+use std::alloc::{AllocError, Global};
 use std::process::Abort;
 use std::test::Fail;
 
@@ -71,7 +71,19 @@ const REMOVALS: [Command; 15] = [
     Command::Delete(b"l", 1),
 ];
 
-const SCRIPTS: [&[Command]; 2] = [&SCRIPT, &REMOVALS];
+// A removal that leaves its leaf with too few objects, and so gives up the root.
+const DELETION: [Command; 8] = [
+    Command::Create(b"l", 2, 4),
+    Command::Insert(b"l", 1, RawBox::Two([0, 0], [0, 0])),
+    Command::Insert(b"l", 2, RawBox::Two([1, 0], [1, 0])),
+    Command::Insert(b"l", 3, RawBox::Two([2, 0], [2, 0])),
+    Command::Insert(b"l", 4, RawBox::Two([3, 0], [3, 0])),
+    Command::Insert(b"l", 5, RawBox::Two([10, 0], [10, 0])),
+    Command::Reopen,
+    Command::Delete(b"l", 1),
+];
+
+const SCRIPTS: [&[Command]; 3] = [&SCRIPT, &REMOVALS, &DELETION];
 
 // What a run left on its device, and what may be found there.
 #[derive(Drop)]
@@ -81,51 +93,60 @@ struct Remains {
     is_stopped: bool,
     // how many commands had made the table that was closed last
     closed: usize,
-    // how many had made the last table
-    made: usize,
+    // how many had made the table whose closing was not finished, where there is one
+    closing: Option<usize>,
     // whether opening may refuse it
     is_changed: bool,
 }
 
 impl Remains {
-    // Nothing was made.
+    // What the creation of a store leaves that is not finished.
     fn nothing(alloc: Global) -> Self {
         Remains {
             device: MemoryDevice::new(alloc),
             is_stopped: true,
             closed: 0,
-            made: 0,
+            closing: Some(0),
             is_changed: true,
+        }
+    }
+
+    // Notes whether the closing of the table of so many commands was finished.
+    fn note_closing(&mut self, made: usize, is_finished: bool) {
+        if is_finished {
+            self.closed = made;
+            self.closing = None;
+            self.is_changed = false;
+        } else {
+            self.closing = Some(made);
         }
     }
 }
 
-// Runs the script until a call of the device fails.
+// Runs the script until a call of the device fails, and answers how many commands made the table.
 fn run_commands<D: BlockDevice>(
     alloc: Global,
     script: &[Command<'_>],
     store: &mut Store<D>,
     remains: &mut Remains,
-) {
+) -> usize {
     let mut table = ListTable::new(alloc);
     for (k, &command) in script.iter().enumerate() {
         let given = answer(alloc, store, command);
-        let is_finished = given != Err(Refusal::Device) && given != Err(Refusal::StoreFailed(17));
         let before = listed(alloc, &mut table, Command::Dump);
         listed(alloc, &mut table, command).is_ok();
         if listed(alloc, &mut table, Command::Dump) != before {
             remains.is_changed = true;
         }
         // a reopening that fails has finished its closing
-        if command.is_closing() && given != Err(Refusal::Device) {
-            remains.is_changed = false;
-            remains.closed = k;
+        if command.is_closing() {
+            remains.note_closing(k, given != Err(Refusal::Device));
         }
-        if !is_finished {
-            break;
+        if given == Err(Refusal::Device) || given == Err(Refusal::StoreFailed(17)) {
+            return k;
         }
-        remains.made = k.saturating_add(1);
     }
+    script.len()
 }
 
 // Runs the script, and closes the store, on a device all of whose calls fail after so many.
@@ -143,12 +164,12 @@ fn run(alloc: Global, script: &[Command<'_>], passes: u32) -> Remains {
             return remains;
         }
     };
-    remains.is_changed = false;
-    run_commands(alloc, script, &mut store, &mut remains);
+    remains.note_closing(0, true);
+    let made = run_commands(alloc, script, &mut store, &mut remains);
     let (refusal, device) = closed(store);
-    if refusal.is_none() {
-        remains.is_changed = false;
-        remains.closed = remains.made;
+    // a store that failed is not closed
+    if refusal != Some(Refusal::StoreFailed(19)) {
+        remains.note_closing(made, refusal.is_none());
     }
     remains.is_stopped = device.calls() > u64::from(passes);
     remains.device = device.into_inner();
@@ -164,48 +185,95 @@ fn table_after(alloc: Global, script: &[Command<'_>], count: usize) -> ListTable
     table
 }
 
-// Whether what is left of the device may be left of that run.
-fn may_remain(alloc: Global, script: &[Command<'_>], remains: Remains, left: Left) -> bool {
-    let mut closed = table_after(alloc, script, remains.closed);
-    let mut made = table_after(alloc, script, remains.made);
-    match opened(alloc, remains.device.after_stop(left), 8) {
-        Ok(store) => {
-            let mut store = store;
-            represents(alloc, &mut store, &mut closed, &NAMES, IDS)
-                || remains.is_changed && represents(alloc, &mut store, &mut made, &NAMES, IDS)
-        }
+// What is found where a run was stopped.
+#[derive(Clone, Copy, Debug, PartialEq, Eq)]
+enum Found {
+    // The table that so many commands made, which may be there.
+    Table(usize),
+    // Blocks that opening refuses, which may be there.
+    Refused,
+    // What may not be there.
+    Wrong,
+}
+
+// Whether the store has the table of so many commands.
+fn is_after(
+    alloc: Global,
+    script: &[Command<'_>],
+    store: &mut Store<MemoryDevice>,
+    count: usize,
+) -> bool {
+    let mut table = table_after(alloc, script, count);
+    represents(alloc, store, &mut table, &NAMES, IDS)
+}
+
+// What is found in what is left of the device.
+fn find(alloc: Global, script: &[Command<'_>], remains: Remains, left: Left) -> Found {
+    let mut store = match opened(alloc, remains.device.after_stop(left), 8) {
+        Ok(store) => store,
         Err(refusal) => {
-            remains.is_changed
-                && match refusal {
-                    Refusal::NotAStore | Refusal::NotClosed | Refusal::WrongVersion => true,
-                    Refusal::Damaged(page) => page < 3,
-                    _ => false,
-                }
+            let is_due = match refusal {
+                Refusal::NotAStore | Refusal::NotClosed | Refusal::WrongVersion => true,
+                Refusal::Damaged(page) => page < 3,
+                _ => false,
+            };
+            return if remains.is_changed && is_due {
+                Found::Refused
+            } else {
+                Found::Wrong
+            };
         }
+    };
+    if is_after(alloc, script, &mut store, remains.closed) {
+        return Found::Table(remains.closed);
+    }
+    match remains.closing {
+        Some(count) if is_after(alloc, script, &mut store, count) => Found::Table(count),
+        _ => Found::Wrong,
     }
 }
 
-// Stops the script at each call, of which there are fewer than `MOST`.
-fn stop_at_each_call(rt: &impl Abort, alloc: Global, script: &[Command<'_>], left: Left) {
+// Stops the script at each call, of which there are fewer than `MOST`, and answers what is found.
+fn stop_at_each_call(
+    rt: &impl Abort,
+    alloc: Global,
+    script: &[Command<'_>],
+    left: Left,
+) -> Result<Vec<Found>, AllocError> {
+    let mut all = Vec::new(alloc);
     for passes in 0..MOST {
         let remains = run(alloc, script, passes);
         let is_stopped = remains.is_stopped;
-        assert!(rt;
-            may_remain(alloc, script, remains, left),
-            "{left:?} after {passes} calls"
-        );
+        let found = find(alloc, script, remains, left);
+        assert!(rt; found != Found::Wrong, "{left:?} after {passes} calls");
+        all.push(found)?;
         if !is_stopped {
-            return;
+            return Ok(all);
         }
     }
     assert!(rt; false, "more calls");
+    Ok(all)
+}
+
+// Each table that was closed is found after some stop, and so are blocks that opening refuses.
+fn see_each(rt: &impl Abort, script: &[Command<'_>], all: &[Found]) {
+    for (k, command) in script.iter().enumerate() {
+        assert!(rt;
+            !command.is_closing() || all.contains(&Found::Table(k)),
+            "{k}"
+        );
+    }
+    for found in [Found::Refused, Found::Table(0), Found::Table(script.len())] {
+        assert!(rt; all.contains(&found), "{found:?}");
+    }
 }
 
 #[test]
 fn a_stop_at_each_call_leaves_no_wrong_table(rt: HostRuntime) -> Result<(), Fail> {
     for script in SCRIPTS {
         for left in LEFTS {
-            stop_at_each_call(&rt, rt.alloc(), script, left);
+            let all = stop_at_each_call(&rt, rt.alloc(), script, left)?;
+            see_each(&rt, script, &all);
         }
     }
     Ok(())

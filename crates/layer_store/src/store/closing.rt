@@ -2,20 +2,21 @@
 
 ghost use Rattle.std.specs.Prelude.{◌≡◌, ◌⊎◌, ◌∷◌, Ok, Err, IsOk, IfOk, IfErr, OnErr};
 ghost use Rattle.block_device.specs.Device.{LeavesOnly, Only};
-ghost use Rattle.live_layers.specs.Faults.{HasRefusalCause, faults_after_refusal};
+ghost use Rattle.live_layers.specs.Faults.{faults_after_refusal};
 ghost use Rattle.live_layers.specs.Image.{IsImage, IsRefusedOrImageOf};
 ghost use Rattle.plain_table.specs.Answers.{done_answer};
 ghost use Rattle.plain_table.specs.Commands.Command.{Reopen};
 ghost use Rattle.plain_table.specs.Table.{Table};
 ghost use Rattle.plain_table.specs.declared.refusal.Refusal.TheVariants as refusal;
-ghost use Rattle.store_law.specs.Sessions.{LawfulStep, SessionState, Takes};
-ghost use Rattle.store_law.specs.States.Request.{Asks};
+ghost use Rattle.store_law.specs.Sessions.{SessionState};
 ghost use Rattle.store_law.specs.States.StoreState.{Alive, Dead};
 ghost use Rattle.store_law.specs.Stops.{tables_left};
+ghost use Rattle.layer_store.specs.Commands.{CountsFaults, StaysDead, TakesStep};
 ghost use Rattle.layer_store.specs.Faults.{IsMemoryOrDevice};
 ghost use Rattle.layer_store.specs.Representation.{HasFailed, IsInState, IsSettled, Represents, RepresentsTable};
 ghost use Rattle.layer_store.specs.Representation.{StopsLeave, blocks_in, device_in};
 
+use crate::store::changes::tell;
 use crate::store::{FAILED, Store};
 use block_device::BlockDevice;
 use live_layers::as_refusal;
@@ -29,7 +30,7 @@ impl<D: BlockDevice, A: Allocator + Copy> Store<D, A> {
     /// Refused while closing it answers `Memory` or `Device`, and the store goes on. Refused afterwards it answers
     /// `StoreFailed` with the number of the fault, the store has failed, and the blocks are an image of its table.
     pub fn reopen(&mut self) -> Result<(), Refusal>
-        ensures step { Takes Represents self.old self.new (λ s s'. LawfulStep s (Asks Reopen) (done_answer result) s') }
+        ensures step { TakesStep self.old self.new Reopen (done_answer result) }
         ensures closed { (t : Table) → RepresentsTable self.old t → IsOk result ⊎ HasFailed self.new →
             IsImage (blocks_in self.new) t }
 
@@ -47,14 +48,14 @@ impl<D: BlockDevice, A: Allocator + Copy> Store<D, A> {
 
         // One that is refused after its closing has failed; and one that has failed stays so, on any device.
         ensures ends { OnErr result (IsSettled self.new → IsInState self.new Dead) }
-        ensures dead { IsInState self.old Dead → (result ≡ Err (refusal.StoreFailed 19)) × (self.new ≡ self.old) }
-        ensures cause { HasRefusalCause (D.faults (device_in self.old)) (D.faults (device_in self.new)) result }
+        ensures dead { StaysDead self.old self.new result }
+        ensures cause { CountsFaults self.old self.new result }
     {
         if self.failed {
             return Err(FAILED);
         }
         let closed = self.layers.reopen();
-        self.tell(closed)
+        tell(&mut self.failed, closed)
     }
 
     /// Closes the table into the file, and hands the device back.

@@ -5,10 +5,9 @@ ghost use Rattle.live_layers.specs.Keeping.{alloc_of};
 ghost use Rattle.plain_table.specs.Commands.{Command, MayGiveUp};
 ghost use Rattle.plain_table.specs.Step.Answer.{Refused};
 ghost use Rattle.plain_table.specs.declared.refusal.Refusal.TheVariants as refusal;
-ghost use Rattle.store_law.specs.Sessions.{LawfulStep, Takes};
-ghost use Rattle.store_law.specs.States.Request.{Asks};
 ghost use Rattle.store_law.specs.States.StoreState.{Dead};
-ghost use Rattle.layer_store.specs.Representation.{IsInState, Represents, layers_in};
+ghost use Rattle.layer_store.specs.Commands.{TakesStep};
+ghost use Rattle.layer_store.specs.Representation.{IsInState, layers_in};
 
 use crate::store::{FAILED, Store};
 use block_device::BlockDevice;
@@ -26,8 +25,7 @@ impl<D: BlockDevice, A: Allocator + Copy> Store<D, A> {
     /// What a command is answered for which the caller found no memory: `Memory`, or `StoreFailed(19)` by a store that
     /// failed. The store stays as it is.
     pub fn out_of_memory(&mut self) -> Refusal
-        ensures step { (c : Command) → MayGiveUp c → Takes Represents self.old self.new
-            (λ s s'. LawfulStep s (Asks c) (Refused result) s') }
+        ensures step { (c : Command) → MayGiveUp c → TakesStep self.old self.new c (Refused result) }
         ensures same { self.new ≡ self.old }
         ensures dead { IsInState self.old Dead → result ≡ refusal.StoreFailed 19 }
     {

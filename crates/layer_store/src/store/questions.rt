@@ -1,8 +1,6 @@
 //! The commands that only ask.
 
-ghost use Rattle.std.specs.Prelude.{◌≡◌, ◌*◌, Err, OnOk};
-ghost use Rattle.live_layers.specs.Faults.{HasRefusalCause};
-ghost use Rattle.live_layers.specs.Image.{MayRemain};
+ghost use Rattle.std.specs.Prelude.{◌≡◌, ◌*◌, OnOk};
 ghost use Rattle.live_layers.specs.Keeping.{LooksAtTree};
 ghost use Rattle.live_layers.specs.Questions.{LooksAtTrees, is_admitted};
 ghost use Rattle.nearest.specs.Nearest.{is_searched};
@@ -12,14 +10,10 @@ ghost use Rattle.plain_table.specs.Boxes.{given_point, point_dims};
 ghost use Rattle.plain_table.specs.Commands.Command.{Count, Get, Join, Nearest, Range};
 ghost use Rattle.plain_table.specs.Step.{nearest_rows};
 ghost use Rattle.plain_table.specs.Table.{Table, layer_at};
-ghost use Rattle.plain_table.specs.declared.refusal.Refusal.TheVariants as refusal;
-ghost use Rattle.store_law.specs.Sessions.{LawfulStep, SessionState, Takes};
-ghost use Rattle.store_law.specs.States.Request.{Asks};
-ghost use Rattle.store_law.specs.States.StoreState.{Dead};
 ghost use Rattle.tree_node.specs.Joins.{admitted_pairs};
 ghost use Rattle.tree_node.specs.Searches.{admitted};
-ghost use Rattle.layer_store.specs.Representation.{IsInState, KeepsStore, Represents, RepresentsTable, StopsLeave};
-ghost use Rattle.layer_store.specs.Representation.{device_in, layers_in, looks_in};
+ghost use Rattle.layer_store.specs.Commands.{Answers};
+ghost use Rattle.layer_store.specs.Representation.{RepresentsTable, layers_in, looks_in};
 
 use crate::store::{FAILED, Store};
 use block_device::BlockDevice;
@@ -31,13 +25,7 @@ impl<D: BlockDevice, A: Allocator + Copy> Store<D, A> {
     ///
     /// Refused, in this order, by BadName, NoLayer and NoObject.
     pub fn get(&mut self, layer: &[u8], id: u64) -> Result<AnyBox, Refusal>
-        ensures step { Takes Represents self.old self.new
-            (λ s s'. LawfulStep s (Asks (Get layer.now id)) (box_answer id result) s') }
-        ensures kept { KeepsStore self.old self.new }
-        ensures stops { (s : SessionState) → Represents self.old s →
-            StopsLeave self.old self.new (MayRemain s.stops.now) }
-        ensures dead { IsInState self.old Dead → (result ≡ Err (refusal.StoreFailed 19)) × (self.new ≡ self.old) }
-        ensures cause { HasRefusalCause (D.faults (device_in self.old)) (D.faults (device_in self.new)) result }
+        ensures answers { Answers self.old self.new (Get layer.now id) (box_answer id) result }
     {
         if self.failed {
             return Err(FAILED);
@@ -49,11 +37,8 @@ impl<D: BlockDevice, A: Allocator + Copy> Store<D, A> {
     ///
     /// Refused, in this order, by BadName and NoLayer.
     pub fn count(&mut self, layer: &[u8]) -> Result<u64, Refusal>
-        ensures step { Takes Represents self.old self.new
-            (λ s s'. LawfulStep s (Asks (Count layer.now)) (count_answer result) s') }
+        ensures answers { Answers self.old self.new (Count layer.now) count_answer result }
         ensures same { self.new ≡ self.old }
-        ensures dead { IsInState self.old Dead → result ≡ Err (refusal.StoreFailed 19) }
-        ensures cause { HasRefusalCause (D.faults (device_in self.old)) (D.faults (device_in self.new)) result }
     {
         if self.failed {
             return Err(FAILED);
@@ -66,16 +51,10 @@ impl<D: BlockDevice, A: Allocator + Copy> Store<D, A> {
     ///
     /// Refused, in this order, by BadName, NoLayer, WrongDims and BadBox.
     pub fn range(&mut self, layer: &[u8], query: RawQuery) -> Result<Vec<(u64, AnyBox), A>, Refusal>
-        ensures step { Takes Represents self.old self.new
-            (λ s s'. LawfulStep s (Asks (Range layer.now query)) (boxes_answer result) s') }
+        ensures answers { Answers self.old self.new (Range layer.now query) boxes_answer result }
         ensures looks { (t : Table) → RepresentsTable self.old t →
             OnOk result (LooksAtTree (layers_in self.old) (layers_in self.new) layer.now
             (admitted (is_admitted (layer_at t layer.now).dims query))) }
-        ensures kept { KeepsStore self.old self.new }
-        ensures stops { (s : SessionState) → Represents self.old s →
-            StopsLeave self.old self.new (MayRemain s.stops.now) }
-        ensures dead { IsInState self.old Dead → (result ≡ Err (refusal.StoreFailed 19)) × (self.new ≡ self.old) }
-        ensures cause { HasRefusalCause (D.faults (device_in self.old)) (D.faults (device_in self.new)) result }
     {
         if self.failed {
             return Err(FAILED);
@@ -94,17 +73,11 @@ impl<D: BlockDevice, A: Allocator + Copy> Store<D, A> {
         k: u64,
         point: RawPoint,
     ) -> Result<Vec<(u64, u128), A>, Refusal>
-        ensures step { Takes Represents self.old self.new
-            (λ s s'. LawfulStep s (Asks (Nearest layer.now k point)) (distances_answer result) s') }
+        ensures answers { Answers self.old self.new (Nearest layer.now k point) distances_answer result }
         ensures looks { (t : Table) → RepresentsTable self.old t →
             OnOk result (LooksAtTree (layers_in self.old) (layers_in self.new) layer.now
             (admitted (is_searched (point_dims point) k (given_point point)
             (nearest_rows (layer_at t layer.now) k point)))) }
-        ensures kept { KeepsStore self.old self.new }
-        ensures stops { (s : SessionState) → Represents self.old s →
-            StopsLeave self.old self.new (MayRemain s.stops.now) }
-        ensures dead { IsInState self.old Dead → (result ≡ Err (refusal.StoreFailed 19)) × (self.new ≡ self.old) }
-        ensures cause { HasRefusalCause (D.faults (device_in self.old)) (D.faults (device_in self.new)) result }
     {
         if self.failed {
             return Err(FAILED);
@@ -116,16 +89,10 @@ impl<D: BlockDevice, A: Allocator + Copy> Store<D, A> {
     ///
     /// Refused, in this order, by BadName, NoLayer, WrongDims and BadBox.
     pub fn window(&mut self, layer: &[u8], bounds: RawBox) -> Result<Vec<(u64, AnyBox), A>, Refusal>
-        ensures step { Takes Represents self.old self.new
-            (λ s s'. LawfulStep s (Asks (Range layer.now (RawQuery.Window bounds))) (boxes_answer result) s') }
+        ensures answers { Answers self.old self.new (Range layer.now (RawQuery.Window bounds)) boxes_answer result }
         ensures looks { (t : Table) → RepresentsTable self.old t →
             OnOk result (LooksAtTree (layers_in self.old) (layers_in self.new) layer.now
             (admitted (is_admitted (layer_at t layer.now).dims (RawQuery.Window bounds)))) }
-        ensures kept { KeepsStore self.old self.new }
-        ensures stops { (s : SessionState) → Represents self.old s →
-            StopsLeave self.old self.new (MayRemain s.stops.now) }
-        ensures dead { IsInState self.old Dead → (result ≡ Err (refusal.StoreFailed 19)) × (self.new ≡ self.old) }
-        ensures cause { HasRefusalCause (D.faults (device_in self.old)) (D.faults (device_in self.new)) result }
     {
         self.range(layer, RawQuery::Window(bounds))
     }
@@ -134,16 +101,10 @@ impl<D: BlockDevice, A: Allocator + Copy> Store<D, A> {
     ///
     /// Refused, in this order, by BadName, NoLayer, WrongDims and BadBox.
     pub fn inside(&mut self, layer: &[u8], bounds: RawBox) -> Result<Vec<(u64, AnyBox), A>, Refusal>
-        ensures step { Takes Represents self.old self.new
-            (λ s s'. LawfulStep s (Asks (Range layer.now (RawQuery.Inside bounds))) (boxes_answer result) s') }
+        ensures answers { Answers self.old self.new (Range layer.now (RawQuery.Inside bounds)) boxes_answer result }
         ensures looks { (t : Table) → RepresentsTable self.old t →
             OnOk result (LooksAtTree (layers_in self.old) (layers_in self.new) layer.now
             (admitted (is_admitted (layer_at t layer.now).dims (RawQuery.Inside bounds)))) }
-        ensures kept { KeepsStore self.old self.new }
-        ensures stops { (s : SessionState) → Represents self.old s →
-            StopsLeave self.old self.new (MayRemain s.stops.now) }
-        ensures dead { IsInState self.old Dead → (result ≡ Err (refusal.StoreFailed 19)) × (self.new ≡ self.old) }
-        ensures cause { HasRefusalCause (D.faults (device_in self.old)) (D.faults (device_in self.new)) result }
     {
         self.range(layer, RawQuery::Inside(bounds))
     }
@@ -152,16 +113,10 @@ impl<D: BlockDevice, A: Allocator + Copy> Store<D, A> {
     ///
     /// Refused, in this order, by BadName, NoLayer, WrongDims and BadBox.
     pub fn around(&mut self, layer: &[u8], bounds: RawBox) -> Result<Vec<(u64, AnyBox), A>, Refusal>
-        ensures step { Takes Represents self.old self.new
-            (λ s s'. LawfulStep s (Asks (Range layer.now (RawQuery.Around bounds))) (boxes_answer result) s') }
+        ensures answers { Answers self.old self.new (Range layer.now (RawQuery.Around bounds)) boxes_answer result }
         ensures looks { (t : Table) → RepresentsTable self.old t →
             OnOk result (LooksAtTree (layers_in self.old) (layers_in self.new) layer.now
             (admitted (is_admitted (layer_at t layer.now).dims (RawQuery.Around bounds)))) }
-        ensures kept { KeepsStore self.old self.new }
-        ensures stops { (s : SessionState) → Represents self.old s →
-            StopsLeave self.old self.new (MayRemain s.stops.now) }
-        ensures dead { IsInState self.old Dead → (result ≡ Err (refusal.StoreFailed 19)) × (self.new ≡ self.old) }
-        ensures cause { HasRefusalCause (D.faults (device_in self.old)) (D.faults (device_in self.new)) result }
     {
         self.range(layer, RawQuery::Around(bounds))
     }
@@ -170,16 +125,10 @@ impl<D: BlockDevice, A: Allocator + Copy> Store<D, A> {
     ///
     /// Refused, in this order, by BadName, NoLayer and WrongDims.
     pub fn point(&mut self, layer: &[u8], point: RawPoint) -> Result<Vec<(u64, AnyBox), A>, Refusal>
-        ensures step { Takes Represents self.old self.new
-            (λ s s'. LawfulStep s (Asks (Range layer.now (RawQuery.Point point))) (boxes_answer result) s') }
+        ensures answers { Answers self.old self.new (Range layer.now (RawQuery.Point point)) boxes_answer result }
         ensures looks { (t : Table) → RepresentsTable self.old t →
             OnOk result (LooksAtTree (layers_in self.old) (layers_in self.new) layer.now
             (admitted (is_admitted (layer_at t layer.now).dims (RawQuery.Point point)))) }
-        ensures kept { KeepsStore self.old self.new }
-        ensures stops { (s : SessionState) → Represents self.old s →
-            StopsLeave self.old self.new (MayRemain s.stops.now) }
-        ensures dead { IsInState self.old Dead → (result ≡ Err (refusal.StoreFailed 19)) × (self.new ≡ self.old) }
-        ensures cause { HasRefusalCause (D.faults (device_in self.old)) (D.faults (device_in self.new)) result }
     {
         self.range(layer, RawQuery::Point(point))
     }
@@ -191,16 +140,10 @@ impl<D: BlockDevice, A: Allocator + Copy> Store<D, A> {
     /// Refused, in this order, by BadName, NoLayer and DimsDiffer. Both names are tried before it is asked whether
     /// there are such layers.
     pub fn join(&mut self, first: &[u8], second: &[u8]) -> Result<Vec<(u64, u64), A>, Refusal>
-        ensures step { Takes Represents self.old self.new
-            (λ s s'. LawfulStep s (Asks (Join first.now second.now)) (pairs_answer result) s') }
+        ensures answers { Answers self.old self.new (Join first.now second.now) pairs_answer result }
         ensures looks { (t : Table) → RepresentsTable self.old t →
             OnOk result (LooksAtTrees (layers_in self.old) (layers_in self.new) first.now second.now
             (λ tree other. 2 * admitted_pairs (layer_at t first.now).dims tree other)) }
-        ensures kept { KeepsStore self.old self.new }
-        ensures stops { (s : SessionState) → Represents self.old s →
-            StopsLeave self.old self.new (MayRemain s.stops.now) }
-        ensures dead { IsInState self.old Dead → (result ≡ Err (refusal.StoreFailed 19)) × (self.new ≡ self.old) }
-        ensures cause { HasRefusalCause (D.faults (device_in self.old)) (D.faults (device_in self.new)) result }
     {
         if self.failed {
             return Err(FAILED);

@@ -1,19 +1,15 @@
 //! The commands that ask of all layers.
 
-ghost use Rattle.std.specs.Prelude.{◌≡◌, ◌≤◌, ◌⊎◌, ◌+◌, ◌*◌, length, Err, IfErr, OnOk};
+ghost use Rattle.std.specs.Prelude.{◌≡◌, ◌≤◌, ◌⊎◌, ◌+◌, ◌*◌, length, IfErr, OnOk};
 ghost use Rattle.live_layers.specs.Checked.{IsCheckRefusal};
-ghost use Rattle.live_layers.specs.Faults.{HasRefusalCause};
-ghost use Rattle.live_layers.specs.Image.{MayRemain};
 ghost use Rattle.live_layers.specs.Keeping.{records_in};
 ghost use Rattle.page_cache.specs.Cache.{next_of};
 ghost use Rattle.plain_table.specs.Answers.{done_answer, dump_answer, layers_answer};
 ghost use Rattle.plain_table.specs.Commands.Command.{Check, Dump, Layers as ListLayers};
-ghost use Rattle.plain_table.specs.declared.refusal.Refusal.TheVariants as refusal;
-ghost use Rattle.store_law.specs.Sessions.{LawfulStep, SessionState, Takes};
-ghost use Rattle.store_law.specs.States.Request.{Asks};
 ghost use Rattle.store_law.specs.States.StoreState.{Dead};
-ghost use Rattle.layer_store.specs.Representation.{BeginsWithSome, IsAliveWithSome, IsInState, IsSettled, KeepsStore};
-ghost use Rattle.layer_store.specs.Representation.{Represents, StopsLeave, cache_in, device_in, layers_in, looks_in};
+ghost use Rattle.layer_store.specs.Commands.{Answers};
+ghost use Rattle.layer_store.specs.Representation.{BeginsWithSome, IsAliveWithSome, IsInState, IsSettled};
+ghost use Rattle.layer_store.specs.Representation.{cache_in, device_in, layers_in, looks_in};
 
 use crate::store::{FAILED, Store};
 use arrayvec::ArrayVec;
@@ -25,11 +21,8 @@ impl<D: BlockDevice, A: Allocator + Copy> Store<D, A> {
     /// The layers, ascending by name, by their records: the name, axes, fanout and number of objects of each. It takes
     /// no memory, and makes no call of the device.
     pub fn layers(&mut self) -> Result<ArrayVec<LayerInfo, 60>, Refusal>
-        ensures step { Takes Represents self.old self.new
-            (λ s s'. LawfulStep s (Asks ListLayers) (layers_answer result) s') }
+        ensures answers { Answers self.old self.new ListLayers layers_answer result }
         ensures same { self.new ≡ self.old }
-        ensures dead { IsInState self.old Dead → result ≡ Err (refusal.StoreFailed 19) }
-        ensures cause { HasRefusalCause (D.faults (device_in self.old)) (D.faults (device_in self.new)) result }
     {
         if self.failed {
             Err(FAILED)
@@ -41,13 +34,7 @@ impl<D: BlockDevice, A: Allocator + Copy> Store<D, A> {
     /// All layers and objects, as the commands that make them again: for each layer, ascending by name, the one that
     /// creates it, and then those that insert its objects, ascending by identifier.
     pub fn dump(&mut self) -> Result<Vec<DumpRow, A>, Refusal>
-        ensures step { Takes Represents self.old self.new
-            (λ s s'. LawfulStep s (Asks Dump) (dump_answer result) s') }
-        ensures kept { KeepsStore self.old self.new }
-        ensures stops { (s : SessionState) → Represents self.old s →
-            StopsLeave self.old self.new (MayRemain s.stops.now) }
-        ensures dead { IsInState self.old Dead → (result ≡ Err (refusal.StoreFailed 19)) × (self.new ≡ self.old) }
-        ensures cause { HasRefusalCause (D.faults (device_in self.old)) (D.faults (device_in self.new)) result }
+        ensures answers { Answers self.old self.new Dump dump_answer result }
     {
         if self.failed {
             return Err(FAILED);
@@ -61,19 +48,13 @@ impl<D: BlockDevice, A: Allocator + Copy> Store<D, A> {
     ///
     /// Refused by `Memory`, `Device` or `Damaged`, and on an honest device with a sound store not by `Damaged`.
     pub fn check(&mut self) -> Result<(), Refusal>
-        ensures step { Takes Represents self.old self.new
-            (λ s s'. LawfulStep s (Asks Check) (done_answer result) s') }
+        ensures answers { Answers self.old self.new Check done_answer result }
         ensures sound { D.honest (device_in self.old) → OnOk result (IsAliveWithSome self.new) }
         ensures begins { D.honest (device_in self.old) → IsSettled self.old →
             OnOk result (BeginsWithSome self.new (D.moment (device_in self.new))) }
         ensures looks { looks_in self.new ≤ looks_in self.old +
             (1 + 2 * (length (records_in (layers_in self.old)) * next_of (cache_in self.old))) }
         ensures refused { IsInState self.old Dead ⊎ IfErr result IsCheckRefusal }
-        ensures kept { KeepsStore self.old self.new }
-        ensures stops { (s : SessionState) → Represents self.old s →
-            StopsLeave self.old self.new (MayRemain s.stops.now) }
-        ensures dead { IsInState self.old Dead → (result ≡ Err (refusal.StoreFailed 19)) × (self.new ≡ self.old) }
-        ensures cause { HasRefusalCause (D.faults (device_in self.old)) (D.faults (device_in self.new)) result }
     {
         if self.failed {
             return Err(FAILED);

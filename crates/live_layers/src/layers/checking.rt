@@ -1,9 +1,9 @@
 //! All pages checked: whether the layers are sound.
 
-ghost use Rattle.std.specs.Prelude.{◌≡◌, ◌+◌, ◌*◌, ◌≤◌, ◌⊎◌, List, true, IfErr, IsTrue, IfOk, OnOk, length};
+ghost use Rattle.std.specs.Prelude.{◌≡◌, ◌+◌, ◌*◌, ◌≤◌, ◌⊎◌, List, true, IfErr, IsTrue, OnOk, length};
 ghost use Rattle.std.specs.Prelude.{map as each};
 ghost use Rattle.catalog_page.specs.Layout.{record_of};
-ghost use Rattle.page_cache.specs.Cache.{IsHonest, IsPageMap, KeepsGate, KeepsMap, device_of, looks_of};
+ghost use Rattle.page_cache.specs.Cache.{IsHonest, IsPageMap, looks_of};
 ghost use Rattle.page_cache.specs.Cache.{next_of, pages};
 ghost use Rattle.page_cache.specs.Calls.{Asks};
 ghost use Rattle.page_file.specs.Fault.{IsDamage, IsOfDevice};
@@ -13,11 +13,11 @@ ghost use Rattle.plain_table.specs.Commands.Command.{Check};
 ghost use Rattle.plain_table.specs.Table.{Table};
 ghost use Rattle.live_layers.specs.Catalog as catalog;
 ghost use Rattle.live_layers.specs.Catalog.{AreLayers, objects_named};
-ghost use Rattle.live_layers.specs.Changes.{IsAnswered};
+ghost use Rattle.live_layers.specs.Changes.{IsAnswered, KeepsInQuestion};
 ghost use Rattle.live_layers.specs.Checked.{FindsLayers, IsCheckRefusal, IsFoundSound};
-ghost use Rattle.live_layers.specs.Faults.{HasRefusalCause};
-ghost use Rattle.live_layers.specs.Keeping.{IsSound, IsWritten, cache_of, records_in};
+ghost use Rattle.live_layers.specs.Keeping.{IsSound, cache_of, records_in};
 ghost use Rattle.live_layers.specs.Layers.{LayersStand, Reading, in_use, row_of};
+ghost use Rattle.live_layers.specs.Staying.{KeepsTrees};
 
 mod lists;
 mod once;
@@ -48,12 +48,8 @@ impl<B: BlockDevice, A: Allocator + Copy> Layers<B, A> {
         ensures sound { IsHonest (cache_of self.old) → OnOk result (IsFoundSound self.new) }
         ensures looks { looks_of (cache_of self.new) ≤ looks_of (cache_of self.old) +
             (1 + 2 * (length (records_in self.old) * next_of (cache_of self.old))) }
-        ensures gate { KeepsGate (cache_of self.old) (cache_of self.new) }
-        ensures map { KeepsMap (cache_of self.old) (cache_of self.new) }
-        ensures written { IsWritten self.old → IsWritten self.new }
         ensures refused { IfErr result IsCheckRefusal }
-        ensures cause { HasRefusalCause (B.faults (device_of (cache_of self.old)))
-            (B.faults (device_of (cache_of self.new))) result }
+        ensures keeps { KeepsInQuestion self.old self.new result }
     {
         match self.check_all() {
             Ok(()) => Ok(()),
@@ -69,7 +65,7 @@ impl<B: BlockDevice, A: Allocator + Copy> Layers<B, A> {
         ensures sound { (t : Table) → IsSound self.old t → IsSound self.new t }
         ensures looks { looks_of (cache_of self.new) ≤ looks_of (cache_of self.old) +
             (1 + 2 * (length (records_in self.old) * next_of (cache_of self.old))) }
-        ensures written { IsWritten self.old → IsWritten self.new }
+        ensures trees { KeepsTrees self.old self.new }
         ensures faults { IfErr result (λ f. IsOfDevice f ⊎ IsDamage f) }
     {
         if !are_good(&self.records, self.cache.next_number(), self.object_count) {

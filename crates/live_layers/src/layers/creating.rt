@@ -1,16 +1,14 @@
 //! Layers made.
 
-ghost use Rattle.std.specs.Prelude.{◌≡◌, ◌≤◌, ◌<◌, length, MatchResult, IfErr, IfOk, OnErr, OnOk, None, Some, false};
+ghost use Rattle.std.specs.Prelude.{◌≡◌, ◌≤◌, ◌<◌, length, MatchResult, IfErr, IfOk, OnOk, None, Some, false};
 ghost use Rattle.layer_pages.specs.Changes.{IsEmptyLeaf};
-ghost use Rattle.page_cache.specs.Cache.{IsHonest, device_of, next_of};
 ghost use Rattle.plain_table.specs.Commands.Command.{Create};
 ghost use Rattle.plain_table.specs.Step.{refusal_of};
 ghost use Rattle.plain_table.specs.Table.{Table};
 ghost use Rattle.store_law.specs.Lawful.{blames_device};
-ghost use Rattle.live_layers.specs.Changes.{ChangeLeaves, IsChanged};
+ghost use Rattle.live_layers.specs.Changes.{IsChangeBy};
 ghost use Rattle.live_layers.specs.Creating.{BringsTree, MayBeLayer};
-ghost use Rattle.live_layers.specs.Faults.{HasUnmadeCause};
-ghost use Rattle.live_layers.specs.Keeping.{Belongs, IsSound, IsWritten, cache_of, records_in};
+ghost use Rattle.live_layers.specs.Keeping.{Belongs, IsSound, records_in};
 
 mod add_layer;
 
@@ -26,17 +24,9 @@ impl<B: BlockDevice, A: Allocator + Copy> Layers<B, A> {
     ///
     /// Refused, in this order, by BadName, BadDims, BadFanout, LayerExists and TooManyLayers.
     pub fn create(&mut self, name: &[u8], dims: u64, fanout: u64) -> Result<(), Unmade>
-        ensures changed { (t : Table) → IsSound self.old t →
-            IsChanged self.old self.new t (Create name.now dims fanout) result }
-        ensures leaves { (t : Table) → IsSound self.old t →
-            ChangeLeaves self.old self.new t (Create name.now dims fanout) result }
+        ensures change { IsChangeBy self.old self.new (Create name.now dims fanout) result }
         ensures tree { (t : Table) → IsSound self.old t →
             OnOk result (BringsTree self.old self.new name.now IsEmptyLeaf) }
-        ensures written { OnErr result (IsWritten self.old → IsWritten self.new) }
-        ensures honest { IsHonest (cache_of self.old) → IsHonest (cache_of self.new) }
-        ensures next { next_of (cache_of self.old) ≤ next_of (cache_of self.new) }
-        ensures cause { HasUnmadeCause (B.faults (device_of (cache_of self.old)))
-            (B.faults (device_of (cache_of self.new))) result }
     {
         match self.check_layer(name, dims, fanout) {
             Ok(place) => change_of(self.add_layer(place, name, dims as u8, fanout as u8)),

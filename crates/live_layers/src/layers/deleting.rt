@@ -1,12 +1,10 @@
 //! An object deleted from a layer.
 
-ghost use Rattle.std.specs.Prelude.{◌≤◌, OnErr, OnOk};
-ghost use Rattle.page_cache.specs.Cache.{IsHonest, device_of, next_of};
+ghost use Rattle.std.specs.Prelude.{OnOk};
 ghost use Rattle.plain_table.specs.Commands.Command.{Delete};
 ghost use Rattle.plain_table.specs.Table.{Table, layer_at};
-ghost use Rattle.live_layers.specs.Changes.{ChangeLeaves, IsChanged};
-ghost use Rattle.live_layers.specs.Faults.{HasUnmadeCause};
-ghost use Rattle.live_layers.specs.Keeping.{ChangesTree, IsSound, IsWritten, cache_of};
+ghost use Rattle.live_layers.specs.Changes.{IsChangeBy};
+ghost use Rattle.live_layers.specs.Keeping.{ChangesTree, IsSound};
 ghost use Rattle.live_layers.specs.Rules.{HasLost};
 
 mod delete_at;
@@ -23,16 +21,9 @@ impl<B: BlockDevice, A: Allocator + Copy> Layers<B, A> {
     ///
     /// Refused, in this order, by BadName, NoLayer and NoObject.
     pub fn delete(&mut self, name: &[u8], id: u64) -> Result<(), Unmade>
-        ensures changed { (t : Table) → IsSound self.old t → IsChanged self.old self.new t (Delete name.now id) result }
-        ensures leaves { (t : Table) → IsSound self.old t →
-            ChangeLeaves self.old self.new t (Delete name.now id) result }
+        ensures change { IsChangeBy self.old self.new (Delete name.now id) result }
         ensures tree { (t : Table) → IsSound self.old t → OnOk result
             (ChangesTree self.old self.new name.now (HasLost (layer_at t name.now) id)) }
-        ensures written { OnErr result (IsWritten self.old → IsWritten self.new) }
-        ensures honest { IsHonest (cache_of self.old) → IsHonest (cache_of self.new) }
-        ensures next { next_of (cache_of self.old) ≤ next_of (cache_of self.new) }
-        ensures cause { HasUnmadeCause (B.faults (device_of (cache_of self.old)))
-            (B.faults (device_of (cache_of self.new))) result }
     {
         let place = match self.named(name) {
             Ok(place) => place,

@@ -5,18 +5,17 @@ ghost use Rattle.std.specs.FinMap.{entries};
 ghost use Rattle.box_math.specs.Bounds.{IsDims};
 ghost use Rattle.catalog_page.specs.Layout.{record_of};
 ghost use Rattle.layer_pages.specs.Layers.{IsLayerAt, LayerPages, Objects};
-ghost use Rattle.page_cache.specs.Cache.{IsHonest, KeepsGate, KeepsMap, device_of, pages};
+ghost use Rattle.page_cache.specs.Cache.{IsHonest, pages};
 ghost use Rattle.page_cache.specs.Calls.{Asks};
-ghost use Rattle.page_file.specs.Fault.{IsDamage, IsOfDevice};
+ghost use Rattle.page_file.specs.Fault.{IsOfDevice};
 ghost use Rattle.plain_table.specs.Answers.{dump_answer};
 ghost use Rattle.plain_table.specs.Commands.Command.{Dump};
 ghost use Rattle.plain_table.specs.Listings.{dump_lines};
 ghost use Rattle.plain_table.specs.Listings.DumpLine.{InsertLine};
 ghost use Rattle.plain_table.specs.Table.{Table};
 ghost use Rattle.live_layers.specs.Catalog.{AreLayers};
-ghost use Rattle.live_layers.specs.Changes.{IsAnswered};
-ghost use Rattle.live_layers.specs.Faults.{HasRefusalCause};
-ghost use Rattle.live_layers.specs.Keeping.{IsSound, IsWritten, cache_of};
+ghost use Rattle.live_layers.specs.Changes.{IsAnswered, KeepsInQuestion};
+ghost use Rattle.live_layers.specs.Keeping.{IsSound};
 ghost use Rattle.live_layers.specs.Layers.{LayerStands, LayersStand, Reading, entry_of, row_of};
 ghost use Rattle.live_layers.specs.Listing.{lines_of, lines_of_layers};
 
@@ -41,11 +40,7 @@ impl<B: BlockDevice, A: Allocator + Copy> Layers<B, A> {
     pub fn dump(&mut self) -> Result<Vec<DumpRow, A>, Refusal>
         ensures answered { (t : Table) → IsSound self.old t →
             IsAnswered self.old self.new t Dump (dump_answer result) }
-        ensures gate { KeepsGate (cache_of self.old) (cache_of self.new) }
-        ensures map { KeepsMap (cache_of self.old) (cache_of self.new) }
-        ensures written { IsWritten self.old → IsWritten self.new }
-        ensures cause { HasRefusalCause (B.faults (device_of (cache_of self.old)))
-            (B.faults (device_of (cache_of self.new))) result }
+        ensures keeps { KeepsInQuestion self.old self.new result }
     {
         match dump_layers(self.alloc, &mut self.cache, &self.records) {
             Ok(rows) => Ok(rows),

@@ -1,13 +1,13 @@
 //! The objects of a layer that has none.
 
-ghost use Rattle.std.specs.Prelude.{◌≡◌, ◌+◌, ◌<◌, ◌≤◌, ℕ, List, false, IfErr, IsPermutation, OnErr, OnOk, length};
+ghost use Rattle.std.specs.Prelude.{◌≡◌, ◌+◌, ◌<◌, ◌≤◌, ℕ, List, IfErr, IsPermutation, OnOk, length};
 ghost use Rattle.std.specs.FinMap as map;
 ghost use Rattle.box_math.specs.Bounds.{IsDims};
 ghost use Rattle.layer_pages.specs.Layers.{Objects};
-ghost use Rattle.node_page.specs.Faults.{IsNoDamage};
+ghost use Rattle.page_file.specs.Fault.{IsOfDevice};
 ghost use Rattle.plain_table.specs.Table.{Table, layer_at, most_objects};
-ghost use Rattle.live_layers.specs.Begun.{Begins};
-ghost use Rattle.live_layers.specs.Keeping.{ChangesTree, Finds, IsSound, IsWritten, cache_of, records_in};
+ghost use Rattle.live_layers.specs.Begun.{BeginsChange};
+ghost use Rattle.live_layers.specs.Keeping.{ChangesTree, Finds, IsSound, cache_of, records_in};
 ghost use Rattle.live_layers.specs.Rules.{HasFilled};
 
 use crate::layers::Layers;
@@ -36,14 +36,11 @@ impl<B: BlockDevice, A: Allocator + Copy> Layers<B, A> {
             (layer_at t name).dims ≡ D → map.len (layer_at t name).objects ≡ 0 →
             IsPermutation objects.old (map.entries all) →
             OnOk result (ChangesTree self.old self.new name (HasFilled (layer_at t name) objects.old)) }
-        ensures untouched { (t : Table) → IsSound self.old t →
-            IfErr result (λ b. b.touched ≡ false → IsSound self.new t) }
         ensures faults { (t : Table) (name : List ℕ) (all : Objects) → IsSound self.old t → Finds t name place →
             (layer_at t name).dims ≡ D → map.len (layer_at t name).objects ≡ 0 →
             IsPermutation objects.old (map.entries all) →
-            IfErr result (λ b. IsNoDamage (cache_of self.new) b.cause) }
-        ensures begins { Begins (cache_of self.old) (cache_of self.new) result }
-        ensures written { OnErr result (IsWritten self.old → IsWritten self.new) }
+            IfErr result (λ b. IsOfDevice b.cause) }
+        ensures begins { BeginsChange self.old self.new result }
     {
         self.begin()?;
         let located = self.locate(place);

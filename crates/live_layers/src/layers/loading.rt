@@ -1,14 +1,12 @@
 //! All objects of a layer at once.
 
-ghost use Rattle.std.specs.Prelude.{◌≡◌, ◌≤◌, true, false, map, OnErr, OnOk};
-ghost use Rattle.page_cache.specs.Cache.{IsHonest, device_of, next_of};
+ghost use Rattle.std.specs.Prelude.{◌≡◌, true, false, map, OnOk};
 ghost use Rattle.plain_table.specs.Commands.Command.{Load};
 ghost use Rattle.plain_table.specs.Loads.{given_object};
 ghost use Rattle.plain_table.specs.Step.{changes};
 ghost use Rattle.plain_table.specs.Table.{Table, layer_at};
-ghost use Rattle.live_layers.specs.Changes.{ChangeLeaves, IsChanged};
-ghost use Rattle.live_layers.specs.Faults.{HasUnmadeCause};
-ghost use Rattle.live_layers.specs.Keeping.{ChangesTree, IsSound, IsWritten, cache_of};
+ghost use Rattle.live_layers.specs.Changes.{IsChangeBy};
+ghost use Rattle.live_layers.specs.Keeping.{ChangesTree, IsSound};
 ghost use Rattle.live_layers.specs.Rules.{HasFilled};
 ghost use Rattle.live_layers.specs.Staying.{KeepsTrees};
 
@@ -30,20 +28,12 @@ impl<B: BlockDevice, A: Allocator + Copy> Layers<B, A> {
     ///
     /// Refused, in this order, by BadName, NoLayer, WrongDims, BadBox, NotEmpty, DuplicateInLoad and TooManyObjects.
     pub fn load(&mut self, name: &[u8], objects: &[(u64, RawBox)]) -> Result<(), Unmade>
-        ensures changed { (t : Table) → IsSound self.old t →
-            IsChanged self.old self.new t (Load name.now objects.now) result }
-        ensures leaves { (t : Table) → IsSound self.old t →
-            ChangeLeaves self.old self.new t (Load name.now objects.now) result }
+        ensures change { IsChangeBy self.old self.new (Load name.now objects.now) result }
         ensures tree { (t : Table) → IsSound self.old t → changes t (Load name.now objects.now) ≡ true →
             OnOk result (ChangesTree self.old self.new name.now
             (HasFilled (layer_at t name.now) (map given_object objects.now))) }
         ensures same { (t : Table) → IsSound self.old t → changes t (Load name.now objects.now) ≡ false →
             KeepsTrees self.old self.new }
-        ensures written { OnErr result (IsWritten self.old → IsWritten self.new) }
-        ensures honest { IsHonest (cache_of self.old) → IsHonest (cache_of self.new) }
-        ensures next { next_of (cache_of self.old) ≤ next_of (cache_of self.new) }
-        ensures cause { HasUnmadeCause (B.faults (device_of (cache_of self.old)))
-            (B.faults (device_of (cache_of self.new))) result }
     {
         if !is_layer_name(name) {
             return Err(Unmade::Refused(Refusal::BadName));

@@ -22,6 +22,7 @@ impl<D: BlockDevice, A: Allocator> Layers<D, A> {
         ensures root { CanBeRoot result.root }
         ensures located { (t : Table) (name : List ℕ) → IsSound self.now t → Finds t name place →
             IsLocated self.now t name result }
+        ensures few { length (records_in self.now) ≤ 60 }
         ensures by_record { (d : _) → result ≡ located_by (slice_index_or (records_in self.now) place d) }
     {
         let record = &self.records[place];

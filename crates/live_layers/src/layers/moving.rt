@@ -1,14 +1,12 @@
 //! An object of a layer that gets another box.
 
-ghost use Rattle.std.specs.Prelude.{◌≡◌, ◌≤◌, false, true, OnErr, OnOk};
-ghost use Rattle.page_cache.specs.Cache.{IsHonest, device_of, next_of};
+ghost use Rattle.std.specs.Prelude.{◌≡◌, false, true, OnOk};
 ghost use Rattle.plain_table.specs.Boxes.{given_bounds};
 ghost use Rattle.plain_table.specs.Commands.Command.{Move};
 ghost use Rattle.plain_table.specs.Step.{changes};
 ghost use Rattle.plain_table.specs.Table.{Table, layer_at};
-ghost use Rattle.live_layers.specs.Changes.{ChangeLeaves, IsChanged};
-ghost use Rattle.live_layers.specs.Faults.{HasUnmadeCause};
-ghost use Rattle.live_layers.specs.Keeping.{ChangesTree, IsSound, IsWritten, cache_of};
+ghost use Rattle.live_layers.specs.Changes.{IsChangeBy};
+ghost use Rattle.live_layers.specs.Keeping.{ChangesTree, IsSound};
 ghost use Rattle.live_layers.specs.Rules.{HasMoved};
 ghost use Rattle.live_layers.specs.Staying.{KeepsTrees};
 
@@ -28,20 +26,12 @@ impl<B: BlockDevice, A: Allocator + Copy> Layers<B, A> {
     ///
     /// Refused, in this order, by BadName, NoLayer, WrongDims, BadBox and NoObject.
     pub fn move_object(&mut self, name: &[u8], id: u64, bounds: RawBox) -> Result<(), Unmade>
-        ensures changed { (t : Table) → IsSound self.old t →
-            IsChanged self.old self.new t (Move name.now id bounds) result }
-        ensures leaves { (t : Table) → IsSound self.old t →
-            ChangeLeaves self.old self.new t (Move name.now id bounds) result }
+        ensures change { IsChangeBy self.old self.new (Move name.now id bounds) result }
         ensures tree { (t : Table) → IsSound self.old t → changes t (Move name.now id bounds) ≡ true →
             OnOk result (ChangesTree self.old self.new name.now
             (HasMoved (layer_at t name.now) id (given_bounds bounds))) }
         ensures same { (t : Table) → IsSound self.old t → changes t (Move name.now id bounds) ≡ false →
             KeepsTrees self.old self.new }
-        ensures written { OnErr result (IsWritten self.old → IsWritten self.new) }
-        ensures honest { IsHonest (cache_of self.old) → IsHonest (cache_of self.new) }
-        ensures next { next_of (cache_of self.old) ≤ next_of (cache_of self.new) }
-        ensures cause { HasUnmadeCause (B.faults (device_of (cache_of self.old)))
-            (B.faults (device_of (cache_of self.new))) result }
     {
         let place = match self.named(name) {
             Ok(place) => place,

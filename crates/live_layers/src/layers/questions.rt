@@ -2,7 +2,7 @@
 
 ghost use Rattle.std.specs.Prelude.{◌≡◌, ◌*◌, false, IfErr, OnOk};
 ghost use Rattle.nearest.specs.Nearest.{is_searched};
-ghost use Rattle.page_cache.specs.Cache.{KeepsGate, KeepsMap, device_of, looks_of};
+ghost use Rattle.page_cache.specs.Cache.{looks_of};
 ghost use Rattle.plain_table.specs.Answers.{box_answer, boxes_answer, count_answer};
 ghost use Rattle.plain_table.specs.Answers.{distances_answer, pairs_answer};
 ghost use Rattle.plain_table.specs.Boxes.{given_point, point_dims};
@@ -12,9 +12,8 @@ ghost use Rattle.plain_table.specs.Table.{Table, layer_at};
 ghost use Rattle.store_law.specs.Lawful.{blames_device};
 ghost use Rattle.tree_node.specs.Joins.{admitted_pairs};
 ghost use Rattle.tree_node.specs.Searches.{admitted};
-ghost use Rattle.live_layers.specs.Changes.{IsAnswered};
-ghost use Rattle.live_layers.specs.Faults.{HasRefusalCause};
-ghost use Rattle.live_layers.specs.Keeping.{IsSound, IsWritten, LooksAtTree, cache_of};
+ghost use Rattle.live_layers.specs.Changes.{IsAnswered, KeepsInQuestion};
+ghost use Rattle.live_layers.specs.Keeping.{IsSound, LooksAtTree, cache_of};
 ghost use Rattle.live_layers.specs.Questions.{LooksAtTrees, is_admitted};
 
 mod boxes;
@@ -37,11 +36,7 @@ impl<B: BlockDevice, A: Allocator + Copy> Layers<B, A> {
             IsAnswered self.old self.new t (Range name.now query) (boxes_answer result) }
         ensures looks { (t : Table) → IsSound self.old t → OnOk result (LooksAtTree self.old self.new name.now
             (admitted (is_admitted (layer_at t name.now).dims query))) }
-        ensures gate { KeepsGate (cache_of self.old) (cache_of self.new) }
-        ensures map { KeepsMap (cache_of self.old) (cache_of self.new) }
-        ensures written { IsWritten self.old → IsWritten self.new }
-        ensures cause { HasRefusalCause (B.faults (device_of (cache_of self.old)))
-            (B.faults (device_of (cache_of self.new))) result }
+        ensures keeps { KeepsInQuestion self.old self.new result }
     {
         let place = self.named(name)?;
         let located = self.locate(place);
@@ -58,11 +53,7 @@ impl<B: BlockDevice, A: Allocator + Copy> Layers<B, A> {
     pub fn get(&mut self, name: &[u8], id: u64) -> Result<AnyBox, Refusal>
         ensures answered { (t : Table) → IsSound self.old t →
             IsAnswered self.old self.new t (Get name.now id) (box_answer id result) }
-        ensures gate { KeepsGate (cache_of self.old) (cache_of self.new) }
-        ensures map { KeepsMap (cache_of self.old) (cache_of self.new) }
-        ensures written { IsWritten self.old → IsWritten self.new }
-        ensures cause { HasRefusalCause (B.faults (device_of (cache_of self.old)))
-            (B.faults (device_of (cache_of self.new))) result }
+        ensures keeps { KeepsInQuestion self.old self.new result }
     {
         let place = self.named(name)?;
         let located = self.locate(place);
@@ -100,11 +91,7 @@ impl<B: BlockDevice, A: Allocator + Copy> Layers<B, A> {
         ensures looks { (t : Table) → IsSound self.old t → OnOk result (LooksAtTree self.old self.new name.now
             (admitted (is_searched (point_dims point) k (given_point point)
             (nearest_rows (layer_at t name.now) k point)))) }
-        ensures gate { KeepsGate (cache_of self.old) (cache_of self.new) }
-        ensures map { KeepsMap (cache_of self.old) (cache_of self.new) }
-        ensures written { IsWritten self.old → IsWritten self.new }
-        ensures cause { HasRefusalCause (B.faults (device_of (cache_of self.old)))
-            (B.faults (device_of (cache_of self.new))) result }
+        ensures keeps { KeepsInQuestion self.old self.new result }
     {
         let place = self.named(name)?;
         let located = self.locate(place);
@@ -125,11 +112,7 @@ impl<B: BlockDevice, A: Allocator + Copy> Layers<B, A> {
             IsAnswered self.old self.new t (Join first.now second.now) (pairs_answer result) }
         ensures looks { (t : Table) → IsSound self.old t → OnOk result (LooksAtTrees self.old self.new first.now
             second.now (λ tree other. 2 * admitted_pairs (layer_at t first.now).dims tree other)) }
-        ensures gate { KeepsGate (cache_of self.old) (cache_of self.new) }
-        ensures map { KeepsMap (cache_of self.old) (cache_of self.new) }
-        ensures written { IsWritten self.old → IsWritten self.new }
-        ensures cause { HasRefusalCause (B.faults (device_of (cache_of self.old)))
-            (B.faults (device_of (cache_of self.new))) result }
+        ensures keeps { KeepsInQuestion self.old self.new result }
     {
         if !is_layer_name(first) || !is_layer_name(second) {
             return Err(Refusal::BadName);

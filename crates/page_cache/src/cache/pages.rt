@@ -7,7 +7,7 @@ ghost use Rattle.page_file.specs.Fault.{HasCause, IsOfDevice, IsDamage};
 ghost use Rattle.page_file.specs.Pages.{SameBut, TakesFirst};
 ghost use Rattle.page_file.specs.declared.fault.Fault.TheVariants as fault;
 ghost use Rattle.page_file.specs.declared.gate.Gate.TheVariants.{Open};
-ghost use Rattle.page_cache.specs.Cache.{IsBroken, IsHeld, IsHonest, IsLive};
+ghost use Rattle.page_cache.specs.Cache.{Grows, IsBroken, IsFull, IsHeld, IsHonest, IsLive};
 ghost use Rattle.page_cache.specs.Cache.{IsPageMap, IsUnchanged, KeepsGate, KeepsMap};
 ghost use Rattle.page_cache.specs.Cache.{capacity_of, device_of, free_count_of, free_of, gate_of, given, looks_of};
 ghost use Rattle.page_cache.specs.Cache.{next_of, pages};
@@ -95,6 +95,7 @@ impl<D: BlockDevice, A: Allocator + Copy> PageCache<D, A> {
         ensures given_others { IsHonest self.old → SameBut n (given self.old) (given self.new) }
         ensures sound { IsPageMap self.old → IsLive self.old n → IsPageMap self.new }
         ensures next { next_of self.new ≡ next_of self.old }
+        ensures grows { Grows 0 self.old self.new }
         ensures looks { looks_of self.new ≡ looks_of self.old }
         ensures holds { OnOk result (IsHeld self.new n) }
         ensures outside { (n < 2) ⊎ (next_of self.old ≤ n) →
@@ -162,7 +163,8 @@ impl<D: BlockDevice, A: Allocator + Copy> PageCache<D, A> {
         ensures number { IfOk result (λ n. (3 ≤ n) × (n < next_of self.new)) }
         ensures next { (next_of self.old ≤ next_of self.new) × (next_of self.new ≤ next_of self.old + 1) }
         ensures looks { looks_of self.new ≡ looks_of self.old }
-        ensures no_pages { IsErrOf result fault.NoPages → next_of self.old ≡ 2 ^ 31 }
+        ensures grows { Grows 1 self.old self.new }
+        ensures full { IsErrOf result fault.NoPages → IsFull self.new }
         ensures all_live { IsErrOf result fault.NoPages → (n : ℕ) → 2 ≤ n → n < 2 ^ 31 → IsLive self.old n }
         ensures faults { IsPageMap self.old → IfErr result (λ f. IsOfDevice f ⊎ (f ≡ fault.NoPages)) }
         ensures damaged { IsHonest self.old →
@@ -189,6 +191,7 @@ impl<D: BlockDevice, A: Allocator + Copy> PageCache<D, A> {
         ensures given_others { IsHonest self.old → SameBut n (given self.old) (given self.new) }
         ensures sound { IsPageMap self.old → IsLive self.old n → IsPageMap self.new }
         ensures next { next_of self.new ≡ next_of self.old }
+        ensures grows { Grows 0 self.old self.new }
         ensures looks { looks_of self.new ≡ looks_of self.old }
         ensures outside { (n < 3) ⊎ (next_of self.old ≤ n) →
             (result ≡ Err (fault.Damaged n)) × IsUnchanged self.old self.new }

@@ -5,7 +5,7 @@ ghost use Rattle.block_bytes.specs.Numbers.{zeros};
 ghost use Rattle.block_device.specs.Device.{Only, Torn, block_at, written};
 ghost use Rattle.page_file.specs.Fault.{HasCause, IsOfDevice, IsDamage};
 ghost use Rattle.page_file.specs.File.{device_of, blocks_of, free_of, header_of, IsBroken, IsHonest, gate_of};
-ghost use Rattle.page_file.specs.File.{next_of, pages, given, IsLive, IsPageMap, KeepsGate, KeepsMap};
+ghost use Rattle.page_file.specs.File.{Grows, IsFull, next_of, pages, given, IsLive, IsPageMap, KeepsGate, KeepsMap};
 ghost use Rattle.page_file.specs.Layout.{free_block};
 ghost use Rattle.page_file.specs.Pages.{HasGiven, MayHaveGiven, SameBut, TakesFirst, free_page_link, may_link};
 ghost use Rattle.page_file.specs.Pages.{next_given, with_one_free, with_one_given, with_one_taken};
@@ -55,8 +55,8 @@ impl<D: BlockDevice> PageFile<D> {
         ensures number { IfOk result (λ n. (3 ≤ n) × (n < next_of self.new)) }
         ensures next { (next_of self.old ≤ next_of self.new) × (next_of self.new ≤ next_of self.old + 1) }
         ensures refused_next { OnErr result (next_of self.new ≡ next_of self.old) }
-        ensures no_pages { IsErrOf result fault.NoPages → next_of self.old ≡ 2 ^ 31 }
-        ensures none_free { IsErrOf result fault.NoPages → (header_of self.old).count ≡ 0 }
+        ensures grows { Grows 1 self.old self.new }
+        ensures full { IsErrOf result fault.NoPages → IsFull self.old × IsFull self.new }
         ensures all_live { IsErrOf result fault.NoPages → (n : ℕ) → 2 ≤ n → n < 2 ^ 31 → IsLive self.old n }
         ensures faults { IsPageMap self.old → IfErr result (λ f. IsOfDevice f ⊎ (f ≡ fault.NoPages)) }
         ensures damaged { IsHonest self.old →
@@ -80,8 +80,8 @@ impl<D: BlockDevice> PageFile<D> {
         ensures number { IfOk result (λ n. (3 ≤ n) × (n < next_of self.new)) }
         ensures next { (next_of self.old ≤ next_of self.new) × (next_of self.new ≤ next_of self.old + 1) }
         ensures refused_next { OnErr result (next_of self.new ≡ next_of self.old) }
-        ensures no_pages { IsErrOf result fault.NoPages →
-            (next_of self.old ≡ 2 ^ 31) × ((header_of self.old).count ≡ 0) }
+        ensures grows { Grows 1 self.old self.new }
+        ensures full { IsErrOf result fault.NoPages → IsFull self.old × IsFull self.new }
         ensures damaged { IsHonest self.old →
             IfErr result (λ f. IsOfDevice f ⊎ ((f ≡ fault.NoPages) ⊎ IsBroken self.old self.new f)) }
         ensures other_faults { IfErr result (λ f. IsOfDevice f ⊎ ((f ≡ fault.NoPages) ⊎ IsDamage f)) }
@@ -134,6 +134,7 @@ impl<D: BlockDevice> PageFile<D> {
         ensures block { IsHonest self.old →
             OnOk result (blocks_of self.new ≡ written (header_of self.old).first zeros (blocks_of self.old)) }
         ensures torn { IsHonest self.old → Torn (header_of self.old).first (blocks_of self.old) (blocks_of self.new) }
+        ensures grows { Grows 1 self.old self.new }
         ensures number { (3 ≤ (header_of self.old).first) × ((header_of self.old).first < next_of self.old) }
         ensures next { next_of self.new ≡ next_of self.old }
         ensures damaged { IsHonest self.old → IfErr result (λ f. IsOfDevice f ⊎ IsBroken self.old self.new f) }
@@ -265,6 +266,7 @@ impl<D: BlockDevice> PageFile<D> {
             (blocks_of self.old)) }
         ensures torn { IsHonest self.old → Torn n (blocks_of self.old) (blocks_of self.new) }
         ensures next { next_of self.new ≡ next_of self.old }
+        ensures grows { Grows 0 self.old self.new }
         ensures outside { (n < 3) ⊎ (next_of self.old ≤ n) → (result ≡ Err (fault.Damaged n)) × (self.new ≡ self.old) }
         ensures faults { IsPageMap self.old → IsLive self.old n → ¬ (n ≡ 2) → IfErr result IsOfDevice }
         ensures room_faults { IsHonest self.old → 3 ≤ n → n < next_of self.old →

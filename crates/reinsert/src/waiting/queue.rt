@@ -32,6 +32,7 @@ impl<const D: usize> Waiting<D> {
     pub(crate) fn begin(&mut self)
         ensures waits { self.new.waits.items ≡ [] }
         ensures called { self.new.called ≡ none_called }
+        ensures measure { measure_of self.new ≤ 1230 }
     {
         self.waits.clear();
         self.called = [false; 41];

@@ -1,10 +1,9 @@
 -- A page given out, and then written.
-use Rattle.std.proofs.Common.{◌∙◌, None, List, ℕ, Option, Err, ap, refl, subst, sym}
+use Rattle.std.proofs.Common.{◌∙◌, None, List, ℕ, Option, inl, inr, refl, subst, sym, ⊎_elim}
 use Rattle.std.specs.Prelude.{IsSome}
 use Rattle.page_cache.specs.Calls.{changes_and_refuses, changes_in_turn}
 use Rattle.node_page.proofs.NodeLemmas.{at_error}
 use Rattle.node_page.specs.Faults.{IsNoDamage}
-use Rattle.bulk_load.proofs.CacheLemmas.{spent}
 use Rattle.bulk_load.proofs.nodes.write_new.Goals as goal
 
 pub returns-in_err-write_node-clause-changes : goal.returns-in_err-write_node-clause-changes
@@ -23,4 +22,4 @@ returns-clause-others g c = λ map k other.
 pub returns-in_err-page-clause-faults : goal.returns-in_err-page-clause-faults
 returns-in_err-page-clause-faults g c = λ map.
     at_error c.from_residual.result c.in_err-page.field-0.0 (IsNoDamage c.allocate.new.self) c.from_residual.ensures.1
-    (spent _ _ _ _ _ (c.in_err-page.ensures.faults map) (λ is. c.in_err-page.ensures.no_pages (ap Err is)) c.in_err-page.ensures.next.0)
+    (⊎_elim (λ device. inl device) (λ none. inr (none, c.in_err-page.ensures.full (cc none))) (c.in_err-page.ensures.faults map))

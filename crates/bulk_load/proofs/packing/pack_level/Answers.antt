@@ -58,3 +58,13 @@ returns-in-Ok-clause-packed g c = λ sound bs waits.
       moves = moves_same (pages c.args.cache.now) (pages c.write_level.new.cache) (pages_below (joined w.runs)) (pages_below bs) (pages_below l.parents) (pages_below l.parents)
           (λ n. below_permuted bs (joined w.runs) n w.same) (λ n. refl) l.moves;
     }
+
+pub returns-in-Ok-clause-grows : goal.returns-in-Ok-clause-grows
+returns-in-Ok-clause-grows g c =
+    let t : TiledSizes (length c.tile.new.entries) c.in_ok-sizes.sizes.items = tiled_sizes c.args.m_max c.args.entries.now c.tile.new.entries c.in_ok-sizes.sizes.items c.requires.dims c.requires.sized.0 c.requires.sized.1 c.requires.above c.in_ok-sizes.ensures.tiled in
+    omega (arith, t.half, c.write_level.ensures.grows, ap length c.as_slice.ensures.value, length_permutation c.args.entries.now c.tile.new.entries c.tile.ensures.all)
+
+pub returns-clause-grows : goal.returns-clause-grows
+returns-clause-grows g c =
+    let t : TiledSizes (length c.tile.new.entries) c.in_ok-sizes.sizes.items = tiled_sizes c.args.m_max c.args.entries.now c.tile.new.entries c.in_ok-sizes.sizes.items c.requires.dims c.requires.sized.0 c.requires.sized.1 c.requires.above c.in_ok-sizes.ensures.tiled in
+    omega (arith, t.half, c.write_level.ensures.grows, ap length c.as_slice.ensures.value, length_permutation c.args.entries.now c.tile.new.entries c.tile.ensures.all)

@@ -24,6 +24,7 @@ pub runs-init : goal.runs-init
 runs-init g c = record {
   changes = no_call_changes c.args.cache.now;
   sound = λ map. map;
+  grows = omega arith;
   here = refl;
   count = ap length c.requires.empty;
   refers = subst (λ (is : List Item). All (λ item. IsReference (c.args.level + 1) item.reference) is) (sym (ap items_of c.requires.empty)) (All-nil (λ (item : Item). IsReference (c.args.level + 1) item.reference));
@@ -115,6 +116,7 @@ runs-preserved g c =
     record {
       changes = changes_in_turn c.args.cache.now c.runs.cache c.write_parent.new.cache None c.runs.invariant.changes c.in_ok-parent.ensures.changes;
       sound = λ map. c.write_parent.ensures.sound (c.runs.invariant.sound map);
+      grows = omega (arith, c.runs.invariant.grows, c.write_parent.ensures.grows);
       here = omega (arith, c.runs.invariant.here, run_ends c.args.sizes.now c.runs.place c.runs-test.true);
       count = omega (arith, ap length c.in_ok-push.ensures.items, length-append c.runs.parents.items (c.in_ok-parent.parent ∷ []), c.runs.invariant.count);
       refers = subst (λ (is : List Item). All P is) (sym seen) (All-append P (items_of c.runs.parents.items) (item_of c.in_ok-parent.parent ∷ []) c.runs.invariant.refers

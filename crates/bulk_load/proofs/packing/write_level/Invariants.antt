@@ -1,6 +1,6 @@
 -- What holds at each turn of the loop over the runs.
 use Rattle.std.proofs.Common.{◌≡◌, ◌+◌, List, None, length, map, take, drop, All}
-use Rattle.page_cache.specs.Cache.{IsPageMap, pages}
+use Rattle.page_cache.specs.Cache.{Grows, IsPageMap, pages}
 use Rattle.page_cache.specs.Calls.{ChangesUntil}
 use Rattle.tree_node.specs.Nodes.{items_of}
 use Rattle.tree_node.specs.Positions.{total}
@@ -16,6 +16,7 @@ abbrev pub invariant-runs : goal.invariant-runs
 invariant-runs g l = record {
   changes : ChangesUntil l.fn.cache l.cache None;
   sound : IsPageMap l.fn.cache → IsPageMap l.cache;
+  grows : Grows l.place l.fn.cache l.cache;
   here : l.from ≡ total (λ size. size) (take l.place l.sizes);
   count : length l.parents.items ≡ l.place;
   refers : All (λ item. IsReference (l.level + 1) item.reference) (items_of l.parents.items);

@@ -1,5 +1,5 @@
 -- The goals of `insert_kept` that are proved by hand.
-use Rattle.std.proofs.Common.{◌≡◌, ◌∙◌, ℕ, ◌+◌, List, None, Some, map, refl, sym, ap, subst, arith}
+use Rattle.std.proofs.Common.{◌+◌, List, None, Some, map, refl, ap, subst, arith}
 use Rattle.page_cache.specs.Cache.{pages}
 use Rattle.page_cache.specs.Calls.{changes_in_turn, no_call_changes}
 use Rattle.tree_node.specs.Nodes.{item_of}
@@ -14,6 +14,8 @@ pub inserting-init : goal.inserting-init
 inserting-init g c = (
   no_call_changes c.args.cache.now,
   c.requires.root,
+  omega arith,
+  omega arith,
   λ h t ws elsewhere can.
       (h, filled_first g.row.D c.args.m_max (pages c.args.cache.now) t ws elsewhere c.args.root (held_now c.args.kept.now) can),
 )
@@ -23,7 +25,7 @@ returns-then-orphan-now-clause-faults g c = λ h t ws elsewhere can shaped.
     let D = g.row.D in
     let m : PageMap = pages c.args.cache.now in
     let m1 : PageMap = pages c.inserting.cache in
-    let so_far = c.inserting.invariant.2 h t ws elsewhere can in
+    let so_far = c.inserting.invariant.4 h t ws elsewhere can in
     let f = subst (λ (hs : List Held). Filled D c.args.m_max m m1 t ws elsewhere c.inserting.now hs) c.in-Some.ensures.some so_far.1 in
     let item = item_of c.in-Some.orphan.entry in
     let level = c.in-Some.orphan.level in
@@ -37,7 +39,7 @@ returns-in-Err-clause-faults g c = λ h t ws elsewhere can shaped.
     let D = g.row.D in
     let m : PageMap = pages c.args.cache.now in
     let m1 : PageMap = pages c.inserting.cache in
-    let so_far = c.inserting.invariant.2 h t ws elsewhere can in
+    let so_far = c.inserting.invariant.4 h t ws elsewhere can in
     let f = subst (λ (hs : List Held). Filled D c.args.m_max m m1 t ws elsewhere c.inserting.now hs) c.in-Some.ensures.some so_far.1 in
     let item = item_of c.in-Some.orphan.entry in
     let level = c.in-Some.orphan.level in
@@ -51,11 +53,13 @@ pub inserting-preserved : goal.inserting-preserved
 inserting-preserved g c = (
   changes_in_turn c.args.cache.now c.inserting.cache c.insert_with.new.cache None c.inserting.invariant.0 c.in-Ok.ensures.alters.changes,
   record { low = c.in-Ok.ensures.root.low; page = c.in-Ok.ensures.root.page },
+  omega (arith, c.inserting.invariant.2, c.in-Some.ensures.fewer),
+  omega (arith, c.inserting.invariant.2, c.inserting.invariant.3, c.in-Some.ensures.fewer, c.in-Ok.ensures.grows),
   λ h t ws elsewhere can.
       let D = g.row.D in
       let m : PageMap = pages c.args.cache.now in
       let m1 : PageMap = pages c.inserting.cache in
-      let so_far = c.inserting.invariant.2 h t ws elsewhere can in
+      let so_far = c.inserting.invariant.4 h t ws elsewhere can in
       let f = subst (λ (hs : List Held). Filled D c.args.m_max m m1 t ws elsewhere c.inserting.now hs) c.in-Some.ensures.some so_far.1 in
       let item = item_of c.in-Some.orphan.entry in
       let level = c.in-Some.orphan.level in
@@ -70,7 +74,7 @@ inserting-preserved g c = (
 
 pub returns-clause-filled : goal.returns-clause-filled
 returns-clause-filled g c = λ h t ws elsewhere can.
-    let so_far = c.inserting.invariant.2 h t ws elsewhere can in (
+    let so_far = c.inserting.invariant.4 h t ws elsewhere can in (
       so_far.0,
       filled_end g.row.D c.args.m_max (pages c.args.cache.now) (pages c.inserting.cache) t ws elsewhere c.inserting.now (held_now c.inserting.kept) so_far.1
           (ap (map (orphan_held {D = g.row.D})) (c.in_default.ensures.none refl)),

@@ -1,10 +1,11 @@
 -- What holds at each turn of the loop of `insert_kept`, and what falls.
-use Rattle.std.proofs.Common.{ℕ, List, None}
+use Rattle.std.proofs.Common.{ℕ, ◌*◌, ◌-◌, ◌≤◌, List, None}
 use Rattle.arrayvec.specs.ArrayVec.{array_vec_len}
-use Rattle.page_cache.specs.Cache.{IsPageMap, pages}
+use Rattle.page_cache.specs.Cache.{Grows, IsPageMap, pages}
 use Rattle.page_cache.specs.Calls.{ChangesUntil}
 use Rattle.tree_node.specs.Rows.{Waiter}
 use Rattle.tree_node.specs.Trees.{Tree}
+use Rattle.reinsert.specs.Inserted.{most_new_pages}
 use Rattle.condense.specs.Filled.{CanFill}
 use Rattle.condense.specs.Removed.{IsRoot}
 use Rattle.condense.specs.Taken.{held_now}
@@ -16,6 +17,8 @@ abbrev pub invariant-inserting : goal.invariant-inserting
 invariant-inserting g l =
     ChangesUntil l.fn.cache l.cache None
     × IsRoot l.now
+    × (array_vec_len l.kept.orphans ≤ array_vec_len l.fn.kept.orphans)
+    × Grows (most_new_pages * (array_vec_len l.fn.kept.orphans - array_vec_len l.kept.orphans)) l.fn.cache l.cache
     × (IsPageMap l.fn.cache → (t : Tree) (ws : List Waiter) (elsewhere : ℕ → ℕ) → CanFill g.row.D (pages l.fn.cache) l.fn.root t ws elsewhere (held_now l.fn.kept)
     → IsPageMap l.cache × Filled g.row.D l.m_max (pages l.fn.cache) (pages l.cache) t ws elsewhere l.now (held_now l.kept))
 

@@ -3,7 +3,7 @@ use Rattle.std.proofs.Common.{Err, None, sym, subst, arith}
 use Rattle.page_file.specs.Fault.{IsOfDevice}
 use Rattle.page_cache.specs.Cache.{pages}
 use Rattle.page_cache.specs.Calls.{asks_changes, changes_in_turn}
-use Rattle.node_page.specs.Broken.{changes_and_breaks}
+use Rattle.node_page.specs.Broken.{changes_and_breaks, made_alters}
 use Rattle.node_page.specs.declared.broken.Broken.{Broken}
 use Rattle.condense.specs.Taken.{tree_at}
 use Rattle.condense.proofs.FreeLemmas.{asked_later, broken_later, children_freed, freed_none, freed_root, is_root, moves_at, next_child, root_live, stands_there}
@@ -12,6 +12,7 @@ use Rattle.condense.proofs.free.+free_tree.Goals as goal
 pub children-init : goal.children-init
 children-init g t c = (
   asks_changes c.args.cache.now c.read_node.new.cache None c.in_ok-node.ensures.asks,
+  omega (arith, c.in_ok-node.ensures.asks.map.next, c.in_ok-node.ensures.asks.map.free_count),
   λ first. c.in_ok-node.ensures.asks,
   λ h row stands. (c.in_ok-node.ensures.asks.map.sound.0 h, freed_none (pages c.args.cache.now) (pages c.read_node.new.cache) row (c.in_ok-node.ensures.asks.map.pages_stay h.honest)),
 )
@@ -19,9 +20,10 @@ children-init g t c = (
 pub children-preserved : goal.children-preserved
 children-preserved g t c = (
   changes_in_turn c.args.cache.now c.children.cache c.free_tree.new.cache None c.children.invariant.0 c.in_default.ensures.alters.changes,
+  omega (arith, c.children.invariant.1, c.in_default.ensures.grows),
   λ never. absurd (omega (arith, never)),
   λ h row stands.
-      let so_far = c.children.invariant.2 h row stands in
+      let so_far = c.children.invariant.3 h row stands in
       let below = c.child_of-below.result in
       let next = next_child g.row.D (pages c.args.cache.now) (pages c.children.cache) c.args.root row c.in_ok-node.node.level c.child_count-at-end.result c.children.at c.in_ok-node.node.entries.items stands
       (c.in_ok-node.ensures.node h.honest) c.in_ok-node.ensures.level c.child_count-at-end.ensures.leaf c.child_count-at-end.ensures.above so_far.1 (omega (arith, c.children-test.true)) c.child_of-below.result c.child_of-below.ensures.page c.child_of-below.ensures.level in (
@@ -33,17 +35,17 @@ children-preserved g t c = (
 pub returns-in-Err-clause-alters : goal.returns-in-Err-clause-alters
 returns-in-Err-clause-alters g t c =
     broken_later c.args.cache.now c.children.cache c.free_tree.new.cache c.in-Err.broken c.broken_after.result c.children.at c.broken_after.ensures.cause c.broken_after.ensures.touched
-    c.children.invariant.0 c.children.invariant.1 c.in-Err.ensures.alters.changes c.in-Err.ensures.asked
+    c.children.invariant.0 c.children.invariant.2 c.in-Err.ensures.alters.changes c.in-Err.ensures.asked
 
 pub returns-in-Err-clause-asked : goal.returns-in-Err-clause-asked
 returns-in-Err-clause-asked g t c =
     asked_later c.args.cache.now c.children.cache c.free_tree.new.cache c.in-Err.broken c.broken_after.result c.children.at c.broken_after.ensures.cause c.broken_after.ensures.touched
-    c.children.invariant.1 c.in-Err.ensures.asked
+    c.children.invariant.2 c.in-Err.ensures.asked
 
 pub returns-in-Err-clause-sound : goal.returns-in-Err-clause-sound
 returns-in-Err-clause-sound g t c = λ h whole at standing.
     let stands = stands_there g.row.D (pages c.args.cache.now) c.args.root whole at standing in
-    let so_far = c.children.invariant.2 h whole.row stands in
+    let so_far = c.children.invariant.3 h whole.row stands in
     let below = c.child_of-below.result in
     let next = next_child g.row.D (pages c.args.cache.now) (pages c.children.cache) c.args.root whole.row c.in_ok-node.node.level c.child_count-at-end.result c.children.at c.in_ok-node.node.entries.items stands
     (c.in_ok-node.ensures.node h.honest) c.in_ok-node.ensures.level c.child_count-at-end.ensures.leaf c.child_count-at-end.ensures.above so_far.1 (omega (arith, c.children-test.true)) c.child_of-below.result c.child_of-below.ensures.page c.child_of-below.ensures.level in
@@ -52,16 +54,19 @@ returns-in-Err-clause-sound g t c = λ h whole at standing.
 pub returns-in-Err-clause-faults : goal.returns-in-Err-clause-faults
 returns-in-Err-clause-faults g t c = λ h whole at standing low.
     let stands = stands_there g.row.D (pages c.args.cache.now) c.args.root whole at standing in
-    let so_far = c.children.invariant.2 h whole.row stands in
+    let so_far = c.children.invariant.3 h whole.row stands in
     let below = c.child_of-below.result in
     let next = next_child g.row.D (pages c.args.cache.now) (pages c.children.cache) c.args.root whole.row c.in_ok-node.node.level c.child_count-at-end.result c.children.at c.in_ok-node.node.entries.items stands
     (c.in_ok-node.ensures.node h.honest) c.in_ok-node.ensures.level c.child_count-at-end.ensures.leaf c.child_count-at-end.ensures.above so_far.1 (omega (arith, c.children-test.true)) c.child_of-below.result c.child_of-below.ensures.page c.child_of-below.ensures.level in
     subst IsOfDevice (sym c.broken_after.ensures.cause) (c.in-Err.ensures.faults so_far.0 (tree_at below next.row) (is_root below next.row) next.stands c.child_of-below.ensures.low)
 
+pub returns-in-Ok-clause-alters : goal.returns-in-Ok-clause-alters
+returns-in-Ok-clause-alters g t c = made_alters c.args.cache.now c.free.new.self tt (changes_in_turn c.args.cache.now c.children.cache c.free.new.self None c.children.invariant.0 c.in-Ok.ensures.changes)
+
 pub returns-in-Ok-clause-freed : goal.returns-in-Ok-clause-freed
 returns-in-Ok-clause-freed g t c = λ h whole at standing.
     let stands = stands_there g.row.D (pages c.args.cache.now) c.args.root whole at standing in
-    let so_far = c.children.invariant.2 h whole.row stands in
+    let so_far = c.children.invariant.3 h whole.row stands in
     let gone = children_freed g.row.D (pages c.args.cache.now) (pages c.children.cache) c.args.root whole.row c.in_ok-node.node.level c.child_count-at-end.result c.children.at c.in_ok-node.node.entries.items stands
     (c.in_ok-node.ensures.node h.honest) c.in_ok-node.ensures.level c.child_count-at-end.ensures.leaf c.child_count-at-end.ensures.above so_far.1 (omega (arith, c.children-test.false)) in
     let live = root_live g.row.D (pages c.args.cache.now) (pages c.children.cache) c.args.root.page c.args.root.level whole.row stands gone in
@@ -71,7 +76,7 @@ returns-in-Ok-clause-freed g t c = λ h whole at standing.
 pub returns-in-Ok-clause-sound : goal.returns-in-Ok-clause-sound
 returns-in-Ok-clause-sound g t c = λ h whole at standing.
     let stands = stands_there g.row.D (pages c.args.cache.now) c.args.root whole at standing in
-    let so_far = c.children.invariant.2 h whole.row stands in
+    let so_far = c.children.invariant.3 h whole.row stands in
     let gone = children_freed g.row.D (pages c.args.cache.now) (pages c.children.cache) c.args.root whole.row c.in_ok-node.node.level c.child_count-at-end.result c.children.at c.in_ok-node.node.entries.items stands
     (c.in_ok-node.ensures.node h.honest) c.in_ok-node.ensures.level c.child_count-at-end.ensures.leaf c.child_count-at-end.ensures.above so_far.1 (omega (arith, c.children-test.false)) in
     let live = root_live g.row.D (pages c.args.cache.now) (pages c.children.cache) c.args.root.page c.args.root.level whole.row stands gone in
@@ -83,7 +88,7 @@ returns-in-Err-free-clause-alters g t c = changes_and_breaks c.args.cache.now c.
 pub returns-in-Err-free-clause-sound : goal.returns-in-Err-free-clause-sound
 returns-in-Err-free-clause-sound g t c = λ h whole at standing.
     let stands = stands_there g.row.D (pages c.args.cache.now) c.args.root whole at standing in
-    let so_far = c.children.invariant.2 h whole.row stands in
+    let so_far = c.children.invariant.3 h whole.row stands in
     let gone = children_freed g.row.D (pages c.args.cache.now) (pages c.children.cache) c.args.root whole.row c.in_ok-node.node.level c.child_count-at-end.result c.children.at c.in_ok-node.node.entries.items stands
     (c.in_ok-node.ensures.node h.honest) c.in_ok-node.ensures.level c.child_count-at-end.ensures.leaf c.child_count-at-end.ensures.above so_far.1 (omega (arith, c.children-test.false)) in
     let live = root_live g.row.D (pages c.args.cache.now) (pages c.children.cache) c.args.root.page c.args.root.level whole.row stands gone in
@@ -92,7 +97,7 @@ returns-in-Err-free-clause-sound g t c = λ h whole at standing.
 pub returns-in-Err-free-clause-faults : goal.returns-in-Err-free-clause-faults
 returns-in-Err-free-clause-faults g t c = λ h whole at standing low.
     let stands = stands_there g.row.D (pages c.args.cache.now) c.args.root whole at standing in
-    let so_far = c.children.invariant.2 h whole.row stands in
+    let so_far = c.children.invariant.3 h whole.row stands in
     let gone = children_freed g.row.D (pages c.args.cache.now) (pages c.children.cache) c.args.root whole.row c.in_ok-node.node.level c.child_count-at-end.result c.children.at c.in_ok-node.node.entries.items stands
     (c.in_ok-node.ensures.node h.honest) c.in_ok-node.ensures.level c.child_count-at-end.ensures.leaf c.child_count-at-end.ensures.above so_far.1 (omega (arith, c.children-test.false)) in
     let live = root_live g.row.D (pages c.args.cache.now) (pages c.children.cache) c.args.root.page c.args.root.level whole.row stands gone in

@@ -1,6 +1,6 @@
 -- What holds at each turn of the loop of `give_way`, and what falls.
 use Rattle.std.proofs.Common.{None}
-use Rattle.page_cache.specs.Cache.{IsPageMap, pages}
+use Rattle.page_cache.specs.Cache.{Grows, IsPageMap, pages}
 use Rattle.page_cache.specs.Calls.{ChangesUntil}
 use Rattle.tree_node.specs.Trees.{Tree}
 use Rattle.node_page.specs.Standing.{Stands}
@@ -14,6 +14,7 @@ abbrev pub invariant-lowering : goal.invariant-lowering
 invariant-lowering g l =
     ChangesUntil l.fn.cache l.cache None
     × IsRoot l.now
+    × Grows 0 l.fn.cache l.cache
     × (IsPageMap l.fn.cache → (t : Tree) → IsRootOf l.fn.root t → Stands g.row.D (pages l.fn.cache) t → IsPageMap l.cache × Lowered g.row.D (pages l.fn.cache) (pages l.cache) t l.now)
 
 abbrev pub decreases-lowering : goal.decreases-lowering

@@ -1,9 +1,11 @@
 -- The goals of `leave_out` that are proved by hand.
 use Rattle.std.proofs.Common.{rules, ◌-◌, All, arith, subst, sym}
+use Rattle.page_file.specs.Fault.{IsOfDevice}
 use Rattle.tree_node.specs.declared.node.Entry.{Entry}
 use Rattle.node_page.specs.Layout.{IsReference}
 use Rattle.reinsert.proofs.AboveLemmas.{All-mapped}
 use Rattle.condense.proofs.CutLemmas.{cut_removed, items-removed}
+use Rattle.condense.proofs.LowerLemmas.{at_fault}
 use Rattle.condense.proofs.put.leave_out.Goals as goal
 
 pub keep-requires : goal.keep-requires
@@ -17,3 +19,13 @@ returns-clause-cut g c = cut_removed c.args.node.level c.args.node.entries.items
 
 pub returns-clause-entries : goal.returns-clause-entries
 returns-clause-entries g c = items-removed c.remove.new.self.items c.args.node.entries.items c.args.place c.remove.ensures.items
+
+pub returns-clause-gone : goal.returns-clause-gone
+returns-clause-gone g c = λ h live. c.in_ok-free.ensures.freed h.honest live
+
+pub returns-in_err-free-clause-others : goal.returns-in_err-free-clause-others
+returns-in_err-free-clause-others g c = λ h live. c.free.ensures.others h.honest live
+
+pub returns-in_err-free-clause-faults : goal.returns-in_err-free-clause-faults
+returns-in_err-free-clause-faults g c = λ h live.
+    at_fault c.from_residual.result c.in_err-free.field-0.0 IsOfDevice c.from_residual.ensures.1 (c.in_err-free.ensures.faults h live (λ two. omega (arith, two, c.requires.page)))

@@ -1,5 +1,5 @@
 -- The goals of `write_back` that are proved by hand.
-use Rattle.std.proofs.Common.{◌≡◌, ◌∙◌, ◌++◌, [], List, map, refl, None, All, ap, sym}
+use Rattle.std.proofs.Common.{◌∙◌, List, map, refl, None, ap}
 use Rattle.std.proofs.lemmas.List.{append-nil}
 use Rattle.tree_node.specs.declared.node.Entry.{Entry}
 use Rattle.tree_node.specs.Boxes.{least_box}

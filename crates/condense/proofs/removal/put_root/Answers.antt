@@ -1,9 +1,8 @@
 -- The goals of `put_root` that are proved by hand.
-use Rattle.std.proofs.Common.{rules, All, ◌≡◌, ◌∙◌, ℕ, ◌<◌, ◌≤◌, None, Some, length, map, inl, refl, sym, ap, subst, arith}
+use Rattle.std.proofs.Common.{rules, All, None, length, map, inl, sym, ap, subst, arith}
 use Rattle.std.specs.Prelude.{◌⊎◌}
 use Rattle.std.proofs.lemmas.List.{length-map}
 use Rattle.page_file.specs.Fault.{IsDamage, IsOfDevice}
-use Rattle.page_file.specs.declared.fault.Fault.{Fault}
 use Rattle.page_cache.specs.Cache.{IsPageMap, pages}
 use Rattle.page_cache.specs.Calls.{changes_and_refuses, changes_in_turn, fault_in}
 use Rattle.tree_node.specs.Nodes.{Item, content_of, item_of}

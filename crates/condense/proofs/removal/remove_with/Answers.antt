@@ -1,5 +1,5 @@
 -- The goals of `remove_with` that are proved by hand.
-use Rattle.std.proofs.Common.{rules, ◌≡◌, ◌∙◌, ℕ, ◌≤◌, ◌*◌, ◌+◌, length, Err, Ok, None, Some, IfErr, List, [], map, false, inl, inr, refl, sym, ap, subst, arith}
+use Rattle.std.proofs.Common.{rules, ◌≡◌, ◌∙◌, ◌≤◌, ◌*◌, ◌+◌, length, Err, Ok, None, Some, map, false, inl, inr, sym, ap, subst, arith}
 use Rattle.std.specs.Prelude.{◌⊎◌}
 use Rattle.arrayvec.specs.ArrayVec.{array_vec_len}
 use Rattle.page_file.specs.Fault.{IsOfDevice}
@@ -10,11 +10,10 @@ use Rattle.tree_node.specs.declared.node.Node.{Node}
 use Rattle.tree_node.specs.Nodes.{content_of, item_of}
 use Rattle.node_page.specs.Broken.{alters_so, before, changes_and_breaks, made_alters}
 use Rattle.node_page.specs.declared.broken.Broken.{Broken}
-use Rattle.node_page.specs.Standing.{PageMap, Stands}
 use Rattle.node_page.specs.Faults.{IsChangeFault, IsNoDamage}
 use Rattle.reinsert.proofs.BrokenLemmas.{at_broken}
 use Rattle.reinsert.proofs.FaultLemmas.{one_more}
-use Rattle.condense.specs.Taken.{HasTaken, IsCut, held_now, orphan_held, tree_at}
+use Rattle.condense.specs.Taken.{HasTaken, IsCut, held_now, orphan_held}
 use Rattle.condense.proofs.BelowLemmas.{at_some, is_none}
 use Rattle.condense.proofs.FreeLemmas.{stands_there}
 use Rattle.condense.proofs.LeadLemmas.{leads_there, takes_contained}

@@ -1,5 +1,5 @@
 -- The goals of `take_out` that are proved by hand.
-use Rattle.std.proofs.Common.{rules, ◌≡◌, ◌∙◌, ℕ, ◌+◌, ◌*◌, ◌-◌, ◌<◌, ◌≤◌, false, None, Some, Ok, IfOk, IfErr, IfSome, length, map, refl, sym, ap, subst, arith}
+use Rattle.std.proofs.Common.{rules, ◌≡◌, ◌∙◌, ◌+◌, ◌*◌, ◌-◌, ◌<◌, ◌≤◌, false, None, Some, IfOk, IfSome, length, map, refl, sym, ap, subst, arith}
 use Rattle.std.proofs.lemmas.Bool.{true≢false}
 use Rattle.arrayvec.specs.ArrayVec.{array_vec_len}
 use Rattle.page_file.specs.Fault.{IsDamage, IsOfDevice}
@@ -14,7 +14,6 @@ use Rattle.tree_node.specs.Nodes.{content_of, item_of}
 use Rattle.tree_node.specs.Trees.{row_items}
 use Rattle.node_page.specs.Broken.{alters_so, before, made_alters}
 use Rattle.node_page.specs.declared.broken.Broken.{Broken}
-use Rattle.node_page.specs.Layout.{IsSpellable}
 use Rattle.node_page.specs.Standing.{PageMap}
 use Rattle.reinsert.proofs.BrokenLemmas.{at_broken, changes_and_alters}
 use Rattle.condense.specs.Taken.{HasTaken, IsCut, held_now, orphan_held}

@@ -1,11 +1,11 @@
 -- The goals of `add_run` that are proved by hand: where the chain of the objects begins, and what is put there.
-use Rattle.std.proofs.Common.{◌≡◌, ◌∙◌, ◌<◌, ◌≤◌, ℕ, None, Some, ap, inl, length, subst, sym, take}
+use Rattle.std.proofs.Common.{◌≡◌, ◌∙◌, ◌<◌, ◌≤◌, ◌⊎◌, ℕ, None, Some, ap, arith, inl, inr, length, subst, sym, take}
 use Rattle.page_file.specs.Fault.{IsOfDevice}
-use Rattle.page_cache.specs.Cache.{next_of, pages}
+use Rattle.page_cache.specs.Cache.{Grows, pages}
 use Rattle.page_cache.specs.Calls.{asks_in_turn}
+use Rattle.node_page.specs.Faults.{IsNoDamage}
 use Rattle.id_table.specs.Changes.{Fills}
-use Rattle.id_table.specs.Faults.{IsOfPages}
-use Rattle.id_table.specs.Pages.{IsRun, PutsBefore, with_more}
+use Rattle.id_table.specs.Pages.{IsRun, IsWholeRun, PutsBefore, with_more}
 use Rattle.id_table.specs.Table.{bucket_in, chain_at, objects_of}
 use Rattle.id_table.proofs.AddLemmas.{puts_from}
 use Rattle.id_table.proofs.BucketLemmas.{if_err}
@@ -20,7 +20,7 @@ pub returns-in_err-room-clause-faults : goal.returns-in_err-room-clause-faults
 returns-in_err-room-clause-faults g c = λ map t at stands.
     let class = c.class_of-class.result in
     let s = starts g.row.D c.args.directory class c.in_ok-first.first c.args.cache.now c.read_link.new.cache c.in_ok-first.ensures.asks c.in_ok-first.ensures.link map.honest c.class_of-class.ensures.bound t at stands in
-    refused_before c.from_residual-in_err-room.result c.in_err-room.field-0.0 (λ f. IsOfPages (next_of c.args.cache.now) f) c.from_residual-in_err-room.ensures.1
+    refused_before c.from_residual-in_err-room.result c.in_err-room.field-0.0 (IsNoDamage c.room_in.new.cache) c.from_residual-in_err-room.ensures.1
     (inl (c.in_err-room.ensures.there s.honest (chain_at t class) s.begins_now))
 
 pub returns-then-room-clause-alters : goal.returns-then-room-clause-alters
@@ -32,6 +32,20 @@ pub returns-then-room-clause-count : goal.returns-then-room-clause-count
 returns-then-room-clause-count g c =
     let run : ℕ → Type 0 = IsRun c.class_of-class.result c.args.objects.now in
     broken_if c.put_in.result c.midway.result run run (λ n. (0 < n) × (n ≤ length c.args.objects.now)) c.midway.ensures c.put_in.ensures.run c.put_in.ensures.run (λ n r again. (r.some, r.few))
+
+pub returns-then-room-clause-whole : goal.returns-then-room-clause-whole
+returns-then-room-clause-whole g c =
+    let run : ℕ → Type 0 = IsRun c.class_of-class.result c.args.objects.now in
+    let none : Grows 0 c.args.cache.now c.put_in.new.cache = omega (
+      arith,
+      c.in_ok-first.ensures.asks.map.next,
+      c.in_ok-first.ensures.asks.map.free_count,
+      c.in_ok-room.ensures.asks.map.next,
+      c.in_ok-room.ensures.asks.map.free_count,
+      c.put_in.ensures.grows,
+    ) in
+    broken_if c.put_in.result c.midway.result run run (λ n. Grows 0 c.args.cache.now c.put_in.new.cache ⊎ IsWholeRun c.args.objects.now n) c.midway.ensures
+    c.put_in.ensures.run c.put_in.ensures.run (λ n r again. inl none)
 
 pub returns-then-room-clause-sound : goal.returns-then-room-clause-sound
 returns-then-room-clause-sound g c = λ map t at stands.
@@ -70,8 +84,8 @@ returns-then-room-clause-faults g c = λ map t at stands.
     let some = c.in_ok-room.ensures.some c.if-room.true in
     let asks = asks_in_turn c.args.cache.now c.read_link.new.cache c.room_in.new.cache None c.in_ok-first.ensures.asks c.in_ok-room.ensures.asks in
     let live = first_is_live g.row.D first (chain_at t class) c.args.cache.now c.room_in.new.cache asks map.honest s.begins some in
-    broken_err c.put_in.result c.midway.result (λ f. IsOfPages (next_of c.args.cache.now) f) c.midway.ensures
-    (if_err c.put_in.result IsOfDevice (λ f. IsOfPages (next_of c.args.cache.now) f) (λ f is. inl is) (c.put_in.ensures.faults (asks.gate.honest.0 map.honest) live))
+    broken_err c.put_in.result c.midway.result (IsNoDamage c.put_in.new.cache) c.midway.ensures
+    (if_err c.put_in.result IsOfDevice (IsNoDamage c.put_in.new.cache) (λ f is. inl is) (c.put_in.ensures.faults (asks.gate.honest.0 map.honest) live))
 
 pub returns-clause-alters : goal.returns-clause-alters
 returns-clause-alters g c =
@@ -82,6 +96,12 @@ pub returns-clause-count : goal.returns-clause-count
 returns-clause-count g c =
     let run : ℕ → Type 0 = IsRun c.class_of-class.result c.args.objects.now in
     broken_if c.put_alone.result c.midway-2.result run run (λ n. (0 < n) × (n ≤ length c.args.objects.now)) c.midway-2.ensures c.put_alone.ensures.run c.put_alone.ensures.run (λ n r again. (r.some, r.few))
+
+pub returns-clause-whole : goal.returns-clause-whole
+returns-clause-whole g c =
+    let whole : ℕ → Type 0 = IsWholeRun c.args.objects.now in
+    broken_if c.put_alone.result c.midway-2.result whole whole (λ n. Grows 0 c.args.cache.now c.put_alone.new.cache ⊎ whole n) c.midway-2.ensures
+    c.put_alone.ensures.whole c.put_alone.ensures.whole (λ n w again. inr w)
 
 pub returns-clause-added : goal.returns-clause-added
 returns-clause-added g c = λ map t at stands fresh.

@@ -1,10 +1,10 @@
 -- The goals of `put_before` that are proved by hand.
 use Rattle.std.proofs.Common.{◌∙◌, None, IsSome, inl, inr, ⊎_elim, sym, ap, subst, arith}
 use Rattle.page_file.specs.Fault.{IsOfDevice}
-use Rattle.page_cache.specs.Cache.{next_of, pages}
+use Rattle.page_cache.specs.Cache.{pages}
 use Rattle.page_cache.specs.Calls.{changes_and_refuses, changes_in_turn, fault_in}
+use Rattle.node_page.specs.Faults.{IsNoDamage}
 use Rattle.node_page.proofs.NodeLemmas.{at_error, on_ok}
-use Rattle.id_table.specs.Faults.{IsOfPages}
 use Rattle.id_table.specs.Table.{bucket_in}
 use Rattle.id_table.proofs.BucketLemmas.{apart_pages, if_err, is_there}
 use Rattle.id_table.proofs.adding.put_before.Goals as goal
@@ -65,12 +65,12 @@ returns-clause-faults g c = λ map live.
     let map2 = c.write_bucket.ensures.sound map1 live_n in
     let same_d = c.write_bucket.ensures.others map1.honest live_n d differ in
     let live_d2 = subst IsSome (sym same_d) live_d1 in
-    if_err c.write_link.result IsOfDevice (λ f. IsOfPages (next_of c.args.cache.now) f) (λ f is. inl is) (c.write_link.ensures.faults map2.honest live_d2)
+    if_err c.write_link.result IsOfDevice (IsNoDamage c.write_link.new.cache) (λ f is. inl is) (c.write_link.ensures.faults map2.honest live_d2)
 
 pub returns-in_err-number-clause-faults : goal.returns-in_err-number-clause-faults
 returns-in_err-number-clause-faults g c = λ map live.
-    at_error c.from_residual.result c.in_err-number.field-0.0 (λ f. IsOfPages (next_of c.args.cache.now) f) c.from_residual.ensures.1
-    (⊎_elim (λ device. inl device) (λ none. inr (none, c.in_err-number.ensures.no_pages (cc none))) (c.in_err-number.ensures.faults map))
+    at_error c.from_residual.result c.in_err-number.field-0.0 (IsNoDamage c.allocate.new.self) c.from_residual.ensures.1
+    (⊎_elim (λ device. inl device) (λ none. inr (none, c.in_err-number.ensures.full (cc none))) (c.in_err-number.ensures.faults map))
 
 pub returns-in_err-write_bucket-clause-changes : goal.returns-in_err-write_bucket-clause-changes
 returns-in_err-write_bucket-clause-changes g c =

@@ -1,22 +1,24 @@
 -- The goals of `fill` that are proved by hand.
-use Rattle.std.proofs.Common.{◌≡◌, ◌∙◌, ◌⊎◌, ◌-◌, ℕ, List, drop, inl, inr, ⊎_elim, ◌≤◌, Some, false, arith, length, length-drop, ltb, subst, sym, take}
+use Rattle.std.proofs.Common.{◌≡◌, ◌∙◌, ◌⊎◌, ◌-◌, ℕ, List, drop, ◌<◌, ◌≤◌, Some, false, arith, length, length-drop, ltb, subst, sym, take}
 use Rattle.std.proofs.lemmas.List.{take_rest}
 use Rattle.std.proofs.lemmas.Bool.Decides.{nat_tests}
-use Rattle.page_file.specs.Fault.{IsDamage}
-use Rattle.page_cache.specs.Cache.{next_of, pages}
+use Rattle.page_cache.specs.Cache.{Grows, pages}
 use Rattle.page_cache.specs.Calls.{ChangesUntil, changes_in_turn, no_call_changes}
 use Rattle.page_cache.specs.Laws.{no_call_keeps_the_map, the_map_is_kept_in_turn}
 use Rattle.page_file.specs.declared.fault.Fault.{Fault}
+use Rattle.node_page.specs.Faults.{IsNoDamage}
 use Rattle.id_table.specs.Changes.{AreNew, Fills}
-use Rattle.id_table.specs.Faults.{IsOfPages}
+use Rattle.id_table.specs.Pages.{IsWholeRun}
 use Rattle.id_table.specs.Table.{Object, objects_of}
-use Rattle.id_table.proofs.FillLemmas.{all_filled, filling_begins, fills_on, wants_pages}
+use Rattle.id_table.proofs.FillLemmas.{all_filled, filling_begins, fills_on, next_is_low, next_of_some, run_takes}
 use Rattle.id_table.proofs.filling.fill.Goals as goal
 
 pub loop-filled-init : goal.loop-filled-init
 loop-filled-init g c = record {
   filling = filling_begins g.row.D c.args.directory c.args.cache.now c.args.objects.now (no_call_changes c.args.cache.now);
   within = omega arith;
+  grows = omega arith;
+  takes = λ _. omega arith;
   kept = λ _. no_call_keeps_the_map c.args.cache.now;
 }
 
@@ -33,6 +35,9 @@ loop-filled-preserved g c =
           subst (λ (es : List Object). Fills g.row.D (pages c.loop-filled.cache) (pages c.add_run.new.cache) t (take count es)) rest
           (c.in-Ok.ensures.added map t at stands (subst (λ (es : List Object). AreNew (objects_of t) es) (sym rest) new)));
       within = omega (arith, so_far.within, few, length-drop filled objects);
+      grows = omega (arith, so_far.grows, c.in-Ok.ensures.grows, c.in-Ok.ensures.count.0);
+      takes = λ sorted. run_takes c.args.cache.now c.loop-filled.cache c.add_run.new.cache objects filled count sorted (omega (arith, c.loop-filled-test.true)) (so_far.takes sorted) c.in-Ok.ensures.grows
+          (subst (λ (es : List Object). Grows 0 c.loop-filled.cache c.add_run.new.cache ⊎ IsWholeRun es count) rest c.in-Ok.ensures.whole);
       kept = λ none. absurd (omega (arith, none, c.in-Ok.ensures.count.0));
     }
 
@@ -58,8 +63,18 @@ returns-in-Err-clause-sound g c = λ map t at stands new.
 pub returns-in-Err-clause-faults : goal.returns-in-Err-clause-faults
 returns-in-Err-clause-faults g c = λ map t at stands new.
     let f = c.loop-filled.invariant.filling.left map t at stands new in
-    subst (λ (f : Fault). IsOfPages (next_of c.add_run.new.cache) f) (sym c.broken_after.ensures.cause)
-    (wants_pages c.loop-filled.cache c.add_run.new.cache c.in-Err.broken.cause c.in-Err.ensures.alters.changes.next (c.in-Err.ensures.faults f.map_is f.table (f.page ∙ at) f.stands))
+    subst (λ (f : Fault). IsNoDamage c.add_run.new.cache f) (sym c.broken_after.ensures.cause) (c.in-Err.ensures.faults f.map_is f.table (f.page ∙ at) f.stands)
+
+pub returns-in-Err-clause-grows_in_order : goal.returns-in-Err-clause-grows_in_order
+returns-in-Err-clause-grows_in_order g c = λ sorted.
+    let objects = c.args.objects.now in
+    let filled = c.loop-filled.filled in
+    let some : 0 < length (drop filled objects) = omega (arith, c.loop-filled-test.true, length-drop filled objects) in
+    omega (arith, c.loop-filled.invariant.takes sorted, c.in-Err.ensures.grows, c.loop-filled.invariant.within, (next_of_some (drop filled objects) some).1)
+
+pub returns-clause-grows_in_order : goal.returns-clause-grows_in_order
+returns-clause-grows_in_order g c = λ sorted.
+    omega (arith, c.loop-filled.invariant.takes sorted, c.loop-filled.invariant.within, next_is_low (drop c.loop-filled.filled c.args.objects.now))
 
 pub returns-clause-filled : goal.returns-clause-filled
 returns-clause-filled g c = λ map t at stands new.
@@ -68,11 +83,3 @@ returns-clause-filled g c = λ map t at stands new.
 
 pub returns-clause-sound : goal.returns-clause-sound
 returns-clause-sound g c = λ map t at stands new. (c.loop-filled.invariant.filling.left map t at stands new).map_is
-
-pub returns-in-Err-clause-other_faults : goal.returns-in-Err-clause-other_faults
-returns-in-Err-clause-other_faults g c =
-    subst (λ (f : Fault). IsOfPages (next_of c.add_run.new.cache) f ⊎ IsDamage f) (sym c.broken_after.ensures.cause)
-    (⊎_elim
-    (λ (of_pages : IsOfPages (next_of c.loop-filled.cache) c.in-Err.broken.cause). inl (wants_pages c.loop-filled.cache c.add_run.new.cache c.in-Err.broken.cause c.in-Err.ensures.alters.changes.next of_pages))
-    (λ (damage : IsDamage c.in-Err.broken.cause). inr damage)
-    c.in-Err.ensures.other_faults)

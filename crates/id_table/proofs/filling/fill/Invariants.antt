@@ -1,7 +1,8 @@
 -- What holds at each turn of the loop of `fill`.
-use Rattle.std.proofs.Common.{◌≡◌, ◌-◌, ◌≤◌, length}
-use Rattle.page_cache.specs.Cache.{KeepsMap}
-use Rattle.id_table.proofs.FillLemmas.{Filling}
+use Rattle.std.proofs.Common.{◌≡◌, ◌+◌, ◌-◌, ◌/◌, ◌≤◌, drop, length}
+use Rattle.page_cache.specs.Cache.{Grows, KeepsMap}
+use Rattle.id_table.specs.Pages.{next_class}
+use Rattle.id_table.proofs.FillLemmas.{AreInOrder, Filling}
 use Rattle.id_table.proofs.filling.fill.Given as goal
 
 -- the objects so far are added, and no page is touched before the first of them is
@@ -9,6 +10,8 @@ abbrev pub invariant-loop-filled : goal.invariant-loop-filled
 invariant-loop-filled g l = record {
   filling : Filling g.row.D l.fn.directory l.fn.cache l.cache l.objects l.filled;
   within : l.filled ≤ length l.objects;
+  grows : Grows l.filled l.fn.cache l.cache;
+  takes : AreInOrder l.objects → Grows (l.filled / 100 + next_class (drop l.filled l.objects)) l.fn.cache l.cache;
   kept : l.filled ≡ 0 → KeepsMap l.fn.cache l.cache;
 }
 

@@ -16,7 +16,7 @@ returns-then-number-eq0-clause-freed g c = λ map chain stands once. all_freed c
 
 pub loop-freed-preserved : goal.loop-freed-preserved
 loop-freed-preserved g c =
-    frees_on c.loop-freed.invariant c.in_ok-number.number c.free_bucket.new.cache c.if-number-eq0.false c.in_ok-number.ensures.changes c.in_ok-number.ensures.next
+    frees_on c.loop-freed.invariant c.in_ok-number.number c.free_bucket.new.cache c.if-number-eq0.false c.in_ok-number.ensures.changes c.in_ok-number.ensures.next c.in_ok-number.ensures.grows
     c.in_ok-number.ensures.following c.in_ok-number.ensures.gone c.in_ok-number.ensures.others c.in_ok-number.ensures.sound
 
 pub returns-clause-faults : goal.returns-clause-faults

@@ -9,7 +9,7 @@ use Rattle.id_table.proofs.freeing.free_pages.Goals as goal
 
 pub loop-class-init : goal.loop-class-init
 loop-class-init g c =
-    all_begins g.row.D c.args.directory c.args.cache.now c.free.new.self c.args.bytes.now c.in_ok-free.ensures.changes c.in_ok-free.ensures.next
+    all_begins g.row.D c.args.directory c.args.cache.now c.free.new.self c.args.bytes.now c.in_ok-free.ensures.changes c.in_ok-free.ensures.next c.in_ok-free.ensures.grows
     (λ map live. c.in_ok-free.ensures.freed map.honest live) (λ map live. c.in_ok-free.ensures.others map.honest live) c.in_ok-free.ensures.sound
 
 pub returns-in_err-free_chain-clause-sound : goal.returns-in_err-free_chain-clause-sound
@@ -32,7 +32,7 @@ returns-in_err-free_chain-clause-faults g c = λ map t at stands there.
 pub loop-class-preserved : goal.loop-class-preserved
 loop-class-preserved g c =
     let small : c.loop-class.class < 1000 = omega (arith, c.loop-class-test.true) in
-    frees_all_on c.loop-class.invariant small c.link_of.result c.free_chain.new.cache c.link_of.ensures c.in_ok-free_chain.ensures.changes c.in_ok-free_chain.ensures.next
+    frees_all_on c.loop-class.invariant small c.link_of.result c.free_chain.new.cache c.link_of.ensures c.in_ok-free_chain.ensures.changes c.in_ok-free_chain.ensures.next c.in_ok-free_chain.ensures.grows
     c.in_ok-free_chain.ensures.sound c.in_ok-free_chain.ensures.freed
 
 pub returns-clause-sound : goal.returns-clause-sound

@@ -11,7 +11,6 @@ use Rattle.node_page.specs.Faults.{IsNoDamage}
 use Rattle.reinsert.proofs.BrokenLemmas.{at_broken}
 use Rattle.layer_pages.specs.Changes.{BecomesLayer, HasInserted}
 use Rattle.layer_pages.specs.Layers.{IsLayerAt, part_of_layer}
-use Rattle.layer_pages.proofs.FaultLemmas.{no_damage}
 use Rattle.layer_pages.proofs.MadeLemmas.{absent_meanwhile, branch, can_insert, entry_has_shape, ids_meanwhile, layer_inserted}
 use Rattle.layer_pages.proofs.inserting.insert.Goals as goal
 
@@ -74,4 +73,4 @@ returns-in-Err-clause-faults g c = λ sound l objects at.
     (can_insert D c.from.result m c.args.root c.args.directory l objects is id bounds) in
     let stand = ids_meanwhile D c.from.result m c.args.root c.args.directory l objects is id bounds (pages c.insert_with.new.cache) c.in_ok-after.after to.1 in
     subst (λ (b : Broken). IsNoDamage c.add.new.cache b.cause) (sym c.midway.ensures)
-    (no_damage c.insert_with.new.cache c.add.new.cache c.in-Err.broken.cause c.in-Err.ensures.alters.changes.next (c.in-Err.ensures.faults to.0 l.ids is.directory_is stand))
+    (c.in-Err.ensures.faults to.0 l.ids is.directory_is stand)

@@ -1,16 +1,22 @@
 -- A packed tree, and then the table.
-use Rattle.std.proofs.Common.{◌≡◌, ◌∙◌, List, None, All, map as each, refl, sym, ap, subst}
+use Rattle.std.proofs.Common.{◌≡◌, ◌∙◌, ℕ, List, None, All, length, map as each, refl, sym, ap, subst, arith}
+use Rattle.std.proofs.lemmas.List.{length-map}
 use Rattle.box_math.specs.Bounds.{IsBox}
 use Rattle.page_cache.specs.Cache.{pages}
 use Rattle.page_cache.specs.Calls.{changes_in_turn}
-use Rattle.tree_node.specs.Nodes.{Item, items_of}
+use Rattle.tree_node.specs.Nodes.{Item, item_of, items_of}
+use Rattle.tree_node.specs.declared.node.Entry.{Entry}
 use Rattle.node_page.specs.Broken.{alters_and_breaks, made_alters}
 use Rattle.node_page.specs.declared.broken.Broken.{Broken}
 use Rattle.bulk_load.specs.Loads.{Loads}
 use Rattle.node_page.specs.Faults.{IsNoDamage}
+use Rattle.id_table.specs.Table.{Object}
 use Rattle.layer_pages.specs.Changes.{item_of_object}
 use Rattle.layer_pages.proofs.LoadLemmas.{layer_loaded, layer_still, low_root}
 use Rattle.layer_pages.proofs.loading.load.Goals as goal
+
+as_many : {D : ℕ} (entries lent : List (Entry D)) (objects : List Object) → lent ≡ entries → items_of entries ≡ each item_of_object objects → length lent ≡ length objects
+as_many entries lent objects same items = ap length same ∙ sym (length-map entries item_of) ∙ ap length items ∙ length-map objects item_of_object
 
 pub returns-then-not-can_be_root-clause-faults : goal.returns-then-not-can_be_root-clause-faults
 returns-then-not-can_be_root-clause-faults g c = λ sound l most all is same. absurd (c.if-not-can_be_root.ensures.no refl
@@ -50,3 +56,15 @@ returns-clause-faults g c = λ sound l most all is same.
     subst (λ (b : Broken). IsNoDamage c.put_ids.new.cache b.cause) (sym c.midway-in-Err.ensures)
     (c.in-Err.ensures.faults (c.load.ensures.sound sound) l most all
     (layer_still g.row.D c.args.m_max most (pages c.args.cache.now) (pages c.load.new.cache) c.args.root c.in_ok-after.after c.args.directory l is c.args.objects.now loads) same)
+
+pub returns-in_err-after-clause-grows : goal.returns-in_err-after-clause-grows
+returns-in_err-after-clause-grows g c = omega (arith, c.load.ensures.grows, as_many _ c.as_mut_slice.result.now c.args.objects.now c.as_mut_slice.ensures.value c.in_ok-entries.ensures.items)
+
+pub returns-then-not-can_be_root-clause-grows : goal.returns-then-not-can_be_root-clause-grows
+returns-then-not-can_be_root-clause-grows g c = omega (arith, c.load.ensures.grows, as_many _ c.as_mut_slice.result.now c.args.objects.now c.as_mut_slice.ensures.value c.in_ok-entries.ensures.items)
+
+pub returns-in-Ok-clause-grows : goal.returns-in-Ok-clause-grows
+returns-in-Ok-clause-grows g c = omega (arith, c.load.ensures.grows, as_many _ c.as_mut_slice.result.now c.args.objects.now c.as_mut_slice.ensures.value c.in_ok-entries.ensures.items, c.put_ids.ensures.grows)
+
+pub returns-clause-grows : goal.returns-clause-grows
+returns-clause-grows g c = omega (arith, c.load.ensures.grows, as_many _ c.as_mut_slice.result.now c.args.objects.now c.as_mut_slice.ensures.value c.in_ok-entries.ensures.items, c.put_ids.ensures.grows)

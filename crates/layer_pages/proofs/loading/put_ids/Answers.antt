@@ -1,18 +1,18 @@
 -- The table is filled, and then the old tree is freed.
-use Rattle.std.proofs.Common.{ℕ, ◌≤◌, List, None, sym, subst, arith}
+use Rattle.std.proofs.Common.{ℕ, List, None, length, inl, sym, subst, arith, rules}
 use Rattle.std.specs.FinMap as map
 use Rattle.std.specs.FinMap.{entries}
 use Rattle.std.specs.Prelude.{IsPermutation}
-use Rattle.std.proofs.lemmas.List.Sorted.{IsPermutation-sym, IsPermutation-trans}
-use Rattle.page_cache.specs.Cache.{next_of, pages}
+use Rattle.std.proofs.lemmas.List.Sorted.{IsNonDecreasingBy-from_sort_by_key, IsPermutation-sym, IsPermutation-trans, length_permutation}
+use Rattle.page_cache.specs.Cache.{Grows, pages}
 use Rattle.page_cache.specs.Calls.{changes_in_turn}
 use Rattle.node_page.specs.Broken.{alters_and_breaks, made_alters}
 use Rattle.node_page.specs.declared.broken.Broken.{Broken}
-use Rattle.id_table.specs.Table.{Object}
+use Rattle.id_table.specs.Table.{Object, class_of}
 use Rattle.node_page.specs.Faults.{IsNoDamage}
 use Rattle.reinsert.proofs.BrokenLemmas.{at_broken}
+use Rattle.layer_pages.specs.Changes.{most_filled_pages}
 use Rattle.layer_pages.specs.Layers.{Objects}
-use Rattle.layer_pages.proofs.FaultLemmas.{no_damage, of_device}
 use Rattle.layer_pages.proofs.LayerLemmas.{root_of}
 use Rattle.layer_pages.proofs.LoadLemmas.{all_new, table_left, tree_still}
 use Rattle.layer_pages.proofs.loading.put_ids.Goals as goal
@@ -20,15 +20,12 @@ use Rattle.layer_pages.proofs.loading.put_ids.Goals as goal
 still_all : (old sorted : List Object) (all : Objects) → IsPermutation old sorted → IsPermutation old (entries all) → IsPermutation sorted (entries all)
 still_all old sorted all moved same = IsPermutation-trans sorted old (entries all) (IsPermutation-sym old sorted moved) same
 
-no_fewer : (n : ℕ) → n ≤ n
-no_fewer n = omega arith
-
 pub returns-in_err-fill-clause-faults : goal.returns-in_err-fill-clause-faults
 returns-in_err-fill-clause-faults g c = λ sound l most all is same.
     let sorted = c.sort_unstable_by_key.new.self in
     let fresh = all_new g.row.D most (pages c.args.cache.now) c.args.root c.args.directory l is sorted all (still_all _ sorted all c.sort_unstable_by_key.ensures.permutation same) in
     at_broken c.from_residual.result c.in_err-fill.field-0.0 (λ (b : Broken). IsNoDamage c.fill.new.cache b.cause) c.from_residual.ensures.1
-    (no_damage c.fill.new.cache c.fill.new.cache c.in_err-fill.field-0.0.cause (no_fewer (next_of c.fill.new.cache)) (c.in_err-fill.ensures.faults sound l.ids is.directory_is is.ids fresh))
+    (c.in_err-fill.ensures.faults sound l.ids is.directory_is is.ids fresh)
 
 pub returns-in-Ok-clause-alters : goal.returns-in-Ok-clause-alters
 returns-in-Ok-clause-alters g c = made_alters c.args.cache.now c.free_tree.new.cache tt
@@ -67,6 +64,27 @@ returns-in-Err-clause-faults g c = λ sound l most all is same.
     let fresh = all_new g.row.D most m c.args.root c.args.directory l is sorted all still in
     let filled = c.in_ok-fill.ensures.filled sound l.ids is.directory_is is.ids fresh in
     subst (λ (b : Broken). IsNoDamage c.free_tree.new.cache b.cause) (sym c.midway.ensures)
-    (of_device c.free_tree.new.cache c.in-Err.broken.cause
+    (inl
     (c.in-Err.ensures.faults (c.fill.ensures.sound sound l.ids is.directory_is is.ids fresh) l.tree (root_of g.row.D most m c.args.root c.args.directory l map.empty is)
     (tree_still g.row.D most m c.args.root c.args.directory l is sorted all still (pages c.fill.new.cache) filled) c.requires.root.page.0))
+
+pub returns-in_err-fill-clause-grows : goal.returns-in_err-fill-clause-grows
+returns-in_err-fill-clause-grows g c =
+    let class : Object → ℕ = λ o. class_of o.0 in
+    let filled : Grows (most_filled_pages (length c.sort_unstable_by_key.new.self)) c.args.cache.now c.fill.new.cache =
+    c.fill.ensures.grows_in_order (IsNonDecreasingBy-from_sort_by_key class _ c.sort_unstable_by_key.ensures.sorted (λ a r q k. search rules)) in
+    omega (arith, filled, length_permutation _ _ c.sort_unstable_by_key.ensures.permutation)
+
+pub returns-in-Ok-clause-grows : goal.returns-in-Ok-clause-grows
+returns-in-Ok-clause-grows g c =
+    let class : Object → ℕ = λ o. class_of o.0 in
+    let filled : Grows (most_filled_pages (length c.sort_unstable_by_key.new.self)) c.args.cache.now c.fill.new.cache =
+    c.fill.ensures.grows_in_order (IsNonDecreasingBy-from_sort_by_key class _ c.sort_unstable_by_key.ensures.sorted (λ a r q k. search rules)) in
+    omega (arith, filled, length_permutation _ _ c.sort_unstable_by_key.ensures.permutation, c.free_tree.ensures.grows)
+
+pub returns-in-Err-clause-grows : goal.returns-in-Err-clause-grows
+returns-in-Err-clause-grows g c =
+    let class : Object → ℕ = λ o. class_of o.0 in
+    let filled : Grows (most_filled_pages (length c.sort_unstable_by_key.new.self)) c.args.cache.now c.fill.new.cache =
+    c.fill.ensures.grows_in_order (IsNonDecreasingBy-from_sort_by_key class _ c.sort_unstable_by_key.ensures.sorted (λ a r q k. search rules)) in
+    omega (arith, filled, length_permutation _ _ c.sort_unstable_by_key.ensures.permutation, c.free_tree.ensures.grows)

@@ -1,5 +1,5 @@
 -- An object fewer in the tree, and then in the table.
-use Rattle.std.proofs.Common.{ℕ, ◌≡◌, None, false, sym, subst, arith}
+use Rattle.std.proofs.Common.{ℕ, ◌≡◌, None, false, inl, sym, subst, arith}
 use Rattle.std.specs.FinMap as map
 use Rattle.std.specs.Prelude.{◌⊎◌}
 use Rattle.page_file.specs.Fault.{IsOfDevice}
@@ -14,7 +14,6 @@ use Rattle.reinsert.proofs.BrokenLemmas.{at_broken}
 use Rattle.condense.proofs.RemoveLemmas.{refused_so}
 use Rattle.layer_pages.specs.Changes.{BecomesLayer, HasRemoved}
 use Rattle.layer_pages.specs.Layers.{IsLayerAt, part_of_layer}
-use Rattle.layer_pages.proofs.FaultLemmas.{of_device}
 use Rattle.layer_pages.proofs.RemovedLemmas.{can_remove, ids_between, in_a_leaf, in_no_leaf, in_table, layer_removed}
 use Rattle.layer_pages.proofs.removing.remove.Goals as goal
 
@@ -93,5 +92,5 @@ returns-in-Err-clause-faults g c = λ sound l objects at there.
     let to = c.in_ok-after.ensures.removed sound l.tree (part_of l.ids) (can_remove D c.from.result m c.args.root c.args.directory l objects is) in
     let stand = ids_between D c.from.result m c.args.root c.args.directory l objects is id bounds (pages c.remove_with.new.cache) c.in_ok-after.after to.1 in
     subst (λ (b : Broken). IsNoDamage c.remove.new.cache b.cause) (sym c.midway.ensures)
-    (of_device c.remove.new.cache c.in-Err.broken.cause
+    (inl
     (c.in-Err.ensures.faults to.0 l.ids is.directory_is stand (in_table D c.from.result m c.args.root c.args.directory l objects is id bounds there)))

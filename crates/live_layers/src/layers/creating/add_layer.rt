@@ -1,18 +1,19 @@
 //! The pages and the record of a layer that is made.
 
-ghost use Rattle.std.specs.Prelude.{◌≡◌, ◌≤◌, ◌<◌, ℕ, IfErr, IfOk, OnErr, OnOk, false, true, length};
+ghost use Rattle.std.specs.Prelude.{◌≡◌, ◌≤◌, ◌<◌, ℕ, IfErr, IfOk, OnOk, false, true, length};
 ghost use Rattle.std.specs.FinMap as map;
 ghost use Rattle.layer_pages.specs.Changes.{BecomesLayer, IsEmptyLeaf};
 ghost use Rattle.layer_pages.specs.Layers.{CanBeRoot};
 ghost use Rattle.node_page.specs.Broken.{Alters};
+ghost use Rattle.page_file.specs.Fault.{IsOfDevice};
 ghost use Rattle.node_page.specs.Faults.{IsNoDamage};
 ghost use Rattle.node_page.specs.Parts.{no_page};
-ghost use Rattle.page_cache.specs.Cache.{IsPageMap, gate_of, next_of, pages};
+ghost use Rattle.page_cache.specs.Cache.{Grows, IsPageMap, gate_of, next_of, pages};
 ghost use Rattle.page_file.specs.declared.gate.Gate.TheVariants.{Open};
 ghost use Rattle.plain_table.specs.Table.{Table, is_dims};
-ghost use Rattle.live_layers.specs.Begun.{Begins};
+ghost use Rattle.live_layers.specs.Begun.{BeginsChange};
 ghost use Rattle.live_layers.specs.Creating.{BringsTree, MayBeLayer, new_layer};
-ghost use Rattle.live_layers.specs.Keeping.{Belongs, IsSound, IsWritten, cache_of, records_in};
+ghost use Rattle.live_layers.specs.Keeping.{Belongs, IsSound, cache_of, records_in};
 
 use crate::layers::Layers;
 use crate::names::name_of;
@@ -39,12 +40,9 @@ impl<B: BlockDevice, A: Allocator + Copy> Layers<B, A> {
             OnOk result (IsSound self.new (map.insert t name.now (new_layer dims fanout))) }
         ensures tree { (t : Table) → IsSound self.old t → Belongs t name.now place →
             OnOk result (BringsTree self.old self.new name.now IsEmptyLeaf) }
-        ensures untouched { (t : Table) → IsSound self.old t →
-            IfErr result (λ b. b.touched ≡ false → IsSound self.new t) }
         ensures faults { (t : Table) → IsSound self.old t →
-            IfErr result (λ b. IsNoDamage (cache_of self.new) b.cause) }
-        ensures begins { Begins (cache_of self.old) (cache_of self.new) result }
-        ensures written { OnErr result (IsWritten self.old → IsWritten self.new) }
+            IfErr result (λ b. IsOfDevice b.cause) }
+        ensures begins { BeginsChange self.old self.new result }
     {
         self.begin()?;
         let (root, directory) = make_pages(&mut self.cache, dims)?;
@@ -75,6 +73,7 @@ fn make_pages<B: BlockDevice, A: Allocator + Copy>(
     ensures sound { IsPageMap cache.old → IsPageMap cache.new }
     ensures made { IsPageMap cache.old → (most : ℕ) → IfOk result (λ made.
         BecomesLayer dims most (pages cache.old) (pages cache.new) no_page made.0 made.1 map.empty IsEmptyLeaf) }
+    ensures grows { Grows 2 cache.old cache.new }
     ensures faults { IsPageMap cache.old → IfErr result (λ b. IsNoDamage cache.new b.cause) }
 {
     if dims == 2 {

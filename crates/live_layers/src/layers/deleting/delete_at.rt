@@ -1,13 +1,11 @@
 //! An object deleted from the layer at a place.
 
-ghost use Rattle.std.specs.Prelude.{◌≡◌, ◌≤◌, ◌<◌, ℕ, List, OnErr, OnOk, length};
+ghost use Rattle.std.specs.Prelude.{◌≡◌, ◌<◌, ℕ, List, OnOk, length};
 ghost use Rattle.box_math.specs.Bounds.{IsDims};
-ghost use Rattle.page_cache.specs.Cache.{IsHonest, device_of, next_of};
 ghost use Rattle.plain_table.specs.Commands.Command.{Delete};
 ghost use Rattle.plain_table.specs.Table.{Table, layer_at};
-ghost use Rattle.live_layers.specs.Changes.{ChangeLeaves, IsChanged};
-ghost use Rattle.live_layers.specs.Faults.{HasUnmadeCause};
-ghost use Rattle.live_layers.specs.Keeping.{ChangesTree, IsSound, IsWritten, cache_of, records_in};
+ghost use Rattle.live_layers.specs.Changes.{IsChange, KeepsInChange};
+ghost use Rattle.live_layers.specs.Keeping.{ChangesTree, IsSound, records_in};
 ghost use Rattle.live_layers.specs.Reaching.{Reaches};
 ghost use Rattle.live_layers.specs.Rules.{HasLost};
 
@@ -29,18 +27,12 @@ impl<B: BlockDevice, A: Allocator + Copy> Layers<B, A> {
         requires dims { IsDims D }
         requires axes { located.now.dims ≡ D }
         requires within { place < length (records_in self.old) }
-        ensures changed { (t : Table) (name : List ℕ) → IsSound self.old t →
-            Reaches self.old t name place located.now → IsChanged self.old self.new t (Delete name id) result }
-        ensures leaves { (t : Table) (name : List ℕ) → IsSound self.old t →
-            Reaches self.old t name place located.now → ChangeLeaves self.old self.new t (Delete name id) result }
+        ensures change { (t : Table) (name : List ℕ) → IsSound self.old t →
+            Reaches self.old t name place located.now → IsChange self.old self.new t (Delete name id) result }
         ensures tree { (t : Table) (name : List ℕ) → IsSound self.old t →
             Reaches self.old t name place located.now →
             OnOk result (ChangesTree self.old self.new name (HasLost (layer_at t name) id)) }
-        ensures written { OnErr result (IsWritten self.old → IsWritten self.new) }
-        ensures honest { IsHonest (cache_of self.old) → IsHonest (cache_of self.new) }
-        ensures next { next_of (cache_of self.old) ≤ next_of (cache_of self.new) }
-        ensures cause { HasUnmadeCause (B.faults (device_of (cache_of self.old)))
-            (B.faults (device_of (cache_of self.new))) result }
+        ensures keeps { KeepsInChange self.old self.new result }
     {
         match self.box_of::<D>(located, id) {
             Ok(bounds) => change_of(self.take_object(place, id, &bounds)),

@@ -1,12 +1,12 @@
 //! An object taken out of the tree and the identifier table of a layer.
 
-ghost use Rattle.std.specs.Prelude.{◌≡◌, ◌<◌, ℕ, List, Some, false, IfErr, OnErr, OnOk, length};
+ghost use Rattle.std.specs.Prelude.{◌≡◌, ◌<◌, ℕ, List, Some, IfErr, OnOk, length};
 ghost use Rattle.std.specs.FinMap as map;
 ghost use Rattle.box_math.specs.Bounds.{IsDims};
-ghost use Rattle.node_page.specs.Faults.{IsNoDamage};
+ghost use Rattle.page_file.specs.Fault.{IsOfDevice};
 ghost use Rattle.plain_table.specs.Table.{Table, layer_at, without_object};
-ghost use Rattle.live_layers.specs.Begun.{Begins};
-ghost use Rattle.live_layers.specs.Keeping.{ChangesTree, Finds, IsSound, IsWritten, cache_of, records_in};
+ghost use Rattle.live_layers.specs.Begun.{BeginsChange};
+ghost use Rattle.live_layers.specs.Keeping.{ChangesTree, Finds, IsSound, cache_of, records_in};
 ghost use Rattle.live_layers.specs.Rules.{HasLost};
 
 use crate::layers::Layers;
@@ -35,13 +35,10 @@ impl<B: BlockDevice, A: Allocator + Copy> Layers<B, A> {
         ensures tree { (t : Table) (name : List ℕ) → IsSound self.old t → Finds t name place →
             (layer_at t name).dims ≡ D → map.get (layer_at t name).objects id ≡ Some bounds.now →
             OnOk result (ChangesTree self.old self.new name (HasLost (layer_at t name) id)) }
-        ensures untouched { (t : Table) → IsSound self.old t →
-            IfErr result (λ b. b.touched ≡ false → IsSound self.new t) }
         ensures faults { (t : Table) (name : List ℕ) → IsSound self.old t → Finds t name place →
             (layer_at t name).dims ≡ D → map.get (layer_at t name).objects id ≡ Some bounds.now →
-            IfErr result (λ b. IsNoDamage (cache_of self.new) b.cause) }
-        ensures begins { Begins (cache_of self.old) (cache_of self.new) result }
-        ensures written { OnErr result (IsWritten self.old → IsWritten self.new) }
+            IfErr result (λ b. IsOfDevice b.cause) }
+        ensures begins { BeginsChange self.old self.new result }
     {
         let mut waiting = Waiting::make(self.alloc)?;
         let mut kept = Kept::make(self.alloc)?;

@@ -1,19 +1,19 @@
 //! The pages and the record of a layer that goes.
 
-ghost use Rattle.std.specs.Prelude.{◌≡◌, ◌<◌, ℕ, List, IfErr, OnErr, OnOk, false, length};
+ghost use Rattle.std.specs.Prelude.{◌≡◌, ◌<◌, ℕ, List, IfErr, OnOk, false, length};
 ghost use Rattle.std.specs.FinMap as map;
 ghost use Rattle.box_math.specs.Bounds.{IsDims};
 ghost use Rattle.layer_pages.specs.Layers.{CanBeRoot, IsLayerAt, LayerPages, Objects, part_of_layer};
 ghost use Rattle.node_page.specs.Broken.{Alters};
-ghost use Rattle.node_page.specs.Faults.{IsNoDamage};
+ghost use Rattle.page_file.specs.Fault.{IsOfDevice};
 ghost use Rattle.node_page.specs.Parts.{Moves, no_page};
 ghost use Rattle.page_cache.specs.Cache.{IsPageMap, gate_of, pages};
 ghost use Rattle.page_file.specs.Fault.{IsOfDevice};
 ghost use Rattle.page_file.specs.declared.gate.Gate.TheVariants.{Open};
 ghost use Rattle.plain_table.specs.Table.{Table};
-ghost use Rattle.live_layers.specs.Begun.{Begins};
+ghost use Rattle.live_layers.specs.Begun.{BeginsChange};
 ghost use Rattle.live_layers.specs.Dropping.{KeepsOtherTrees};
-ghost use Rattle.live_layers.specs.Keeping.{Finds, IsSound, IsWritten, cache_of, records_in};
+ghost use Rattle.live_layers.specs.Keeping.{Finds, IsSound, cache_of, records_in};
 
 use crate::layers::Layers;
 use crate::located::Located;
@@ -31,12 +31,9 @@ impl<B: BlockDevice, A: Allocator + Copy> Layers<B, A> {
             OnOk result (IsSound self.new (map.remove t name)) }
         ensures others { (t : Table) (name : List ℕ) → IsSound self.old t → Finds t name place →
             OnOk result (KeepsOtherTrees self.old self.new name) }
-        ensures untouched { (t : Table) → IsSound self.old t →
-            IfErr result (λ b. b.touched ≡ false → IsSound self.new t) }
         ensures faults { (t : Table) (name : List ℕ) → IsSound self.old t → Finds t name place →
-            IfErr result (λ b. IsNoDamage (cache_of self.new) b.cause) }
-        ensures begins { Begins (cache_of self.old) (cache_of self.new) result }
-        ensures written { OnErr result (IsWritten self.old → IsWritten self.new) }
+            IfErr result (λ b. IsOfDevice b.cause) }
+        ensures begins { BeginsChange self.old self.new result }
     {
         self.begin()?;
         let located = self.locate(place);

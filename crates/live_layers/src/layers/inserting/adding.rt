@@ -1,12 +1,12 @@
 //! An object added to the tree and the identifier table of a layer.
 
-ghost use Rattle.std.specs.Prelude.{◌≡◌, ◌<◌, ℕ, List, false, IfErr, OnErr, OnOk, length};
+ghost use Rattle.std.specs.Prelude.{◌≡◌, ◌<◌, ℕ, List, false, IfErr, OnOk, length};
 ghost use Rattle.std.specs.FinMap as map;
-ghost use Rattle.box_math.specs.Bounds.{IsBox, IsDims};
-ghost use Rattle.node_page.specs.Faults.{IsNoDamage};
+ghost use Rattle.box_math.specs.Bounds.{IsDims};
+ghost use Rattle.page_file.specs.Fault.{IsOfDevice};
 ghost use Rattle.plain_table.specs.Table.{Table, layer_at, most_objects, with_object};
-ghost use Rattle.live_layers.specs.Begun.{Begins};
-ghost use Rattle.live_layers.specs.Keeping.{ChangesTree, Finds, IsSound, IsWritten, cache_of, records_in};
+ghost use Rattle.live_layers.specs.Begun.{BeginsChange};
+ghost use Rattle.live_layers.specs.Keeping.{ChangesTree, Finds, IsSound, cache_of, records_in};
 ghost use Rattle.live_layers.specs.Rules.{HasGained};
 
 use crate::layers::Layers;
@@ -35,12 +35,9 @@ impl<B: BlockDevice, A: Allocator + Copy> Layers<B, A> {
         ensures tree { (t : Table) (name : List ℕ) → IsSound self.old t → Finds t name place →
             (layer_at t name).dims ≡ D → map.contains_key (layer_at t name).objects id ≡ false →
             OnOk result (ChangesTree self.old self.new name (HasGained (layer_at t name) id bounds.now)) }
-        ensures untouched { (t : Table) → IsSound self.old t →
-            IfErr result (λ b. b.touched ≡ false → IsSound self.new t) }
         ensures faults { (t : Table) (name : List ℕ) → IsSound self.old t → Finds t name place →
-            (layer_at t name).dims ≡ D → IfErr result (λ b. IsNoDamage (cache_of self.new) b.cause) }
-        ensures begins { Begins (cache_of self.old) (cache_of self.new) result }
-        ensures written { OnErr result (IsWritten self.old → IsWritten self.new) }
+            (layer_at t name).dims ≡ D → IfErr result (λ b. IsOfDevice b.cause) }
+        ensures begins { BeginsChange self.old self.new result }
     {
         let mut waiting = Waiting::make(self.alloc)?;
         self.begin()?;

@@ -2,15 +2,13 @@
 
 ghost use Rattle.std.specs.Prelude.{◌≡◌, ◌<◌, ℕ, List, IfOk, nat_le};
 ghost use Rattle.box_math.specs.Bounds.{IsDims};
-ghost use Rattle.page_cache.specs.Cache.{KeepsGate, KeepsMap, device_of};
 ghost use Rattle.plain_table.specs.Boxes.{dims_of, given_bounds};
 ghost use Rattle.plain_table.specs.Step.{first_refusal, object_refusals};
 ghost use Rattle.plain_table.specs.Table.{Table, layer_at, most_objects, object_count};
 ghost use Rattle.plain_table.specs.declared.boxes.RawBox.{RawBox as GivenBox};
-ghost use Rattle.live_layers.specs.Changes.{Rose};
-ghost use Rattle.live_layers.specs.Faults.{HasRefusalCause};
+ghost use Rattle.live_layers.specs.Changes.{KeepsInQuestion, Rose};
 ghost use Rattle.live_layers.specs.Inserting.{IsAllowedOr};
-ghost use Rattle.live_layers.specs.Keeping.{IsSound, IsWritten, cache_of, records_in};
+ghost use Rattle.live_layers.specs.Keeping.{IsSound};
 ghost use Rattle.live_layers.specs.Located.{IsLocated};
 
 use crate::faults::as_refusal;
@@ -38,13 +36,7 @@ impl<B: BlockDevice, A: Allocator + Copy> Layers<B, A> {
             (first_refusal (object_refusals (layer_at t name) id box (nat_le most_objects (object_count t)))) result }
         ensures bounds { IfOk result (λ b. b ≡ record { low = low.entry; high = high.entry }) }
         ensures room { IfOk result (λ b. self.new.object_count < most_objects) }
-        ensures sound { (t : Table) → IsSound self.old t → IsSound self.new t }
-        ensures records { records_in self.new ≡ records_in self.old }
-        ensures written { IsWritten self.old → IsWritten self.new }
-        ensures gate { KeepsGate (cache_of self.old) (cache_of self.new) }
-        ensures map { KeepsMap (cache_of self.old) (cache_of self.new) }
-        ensures cause { HasRefusalCause (B.faults (device_of (cache_of self.old)))
-            (B.faults (device_of (cache_of self.new))) result }
+        ensures keeps { KeepsInQuestion self.old self.new result }
     {
         if usize::from(located.dims) != D {
             return Err(Refusal::WrongDims);

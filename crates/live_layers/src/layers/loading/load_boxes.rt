@@ -1,15 +1,13 @@
 //! Objects put into the layer at a place.
 
-ghost use Rattle.std.specs.Prelude.{◌≡◌, ◌≤◌, ◌<◌, ℕ, List, true, false, OnErr, OnOk, length};
+ghost use Rattle.std.specs.Prelude.{◌≡◌, ◌<◌, ℕ, List, true, false, OnOk, length};
 ghost use Rattle.box_math.specs.Bounds.{IsDims};
-ghost use Rattle.page_cache.specs.Cache.{IsHonest, device_of, next_of};
 ghost use Rattle.plain_table.specs.Commands.Command.{Load};
 ghost use Rattle.plain_table.specs.Loads.{GivenObjects};
 ghost use Rattle.plain_table.specs.Step.{changes};
 ghost use Rattle.plain_table.specs.Table.{Table, layer_at};
-ghost use Rattle.live_layers.specs.Changes.{ChangeLeaves, IsChanged};
-ghost use Rattle.live_layers.specs.Faults.{HasUnmadeCause};
-ghost use Rattle.live_layers.specs.Keeping.{ChangesTree, IsSound, IsWritten, cache_of, records_in};
+ghost use Rattle.live_layers.specs.Changes.{IsChange, KeepsInChange};
+ghost use Rattle.live_layers.specs.Keeping.{ChangesTree, IsSound, records_in};
 ghost use Rattle.live_layers.specs.Loading.{ReachesObjects};
 ghost use Rattle.live_layers.specs.Rules.{HasFilled};
 ghost use Rattle.live_layers.specs.Staying.{KeepsTrees};
@@ -30,22 +28,15 @@ impl<B: BlockDevice, A: Allocator + Copy> Layers<B, A> {
     ) -> Result<(), Unmade>
         requires dims { IsDims D }
         requires within { place < length (records_in self.old) }
-        ensures changed { (t : Table) (name : List ℕ) (given : GivenObjects) → IsSound self.old t →
-            ReachesObjects t name place given D objects.old → IsChanged self.old self.new t (Load name given) result }
-        ensures leaves { (t : Table) (name : List ℕ) (given : GivenObjects) → IsSound self.old t →
-            ReachesObjects t name place given D objects.old →
-            ChangeLeaves self.old self.new t (Load name given) result }
+        ensures change { (t : Table) (name : List ℕ) (given : GivenObjects) → IsSound self.old t →
+            ReachesObjects t name place given D objects.old → IsChange self.old self.new t (Load name given) result }
         ensures tree { (t : Table) (name : List ℕ) (given : GivenObjects) → IsSound self.old t →
             ReachesObjects t name place given D objects.old → changes t (Load name given) ≡ true →
             OnOk result (ChangesTree self.old self.new name (HasFilled (layer_at t name) objects.old)) }
         ensures same { (t : Table) (name : List ℕ) (given : GivenObjects) → IsSound self.old t →
             ReachesObjects t name place given D objects.old → changes t (Load name given) ≡ false →
             KeepsTrees self.old self.new }
-        ensures written { OnErr result (IsWritten self.old → IsWritten self.new) }
-        ensures honest { IsHonest (cache_of self.old) → IsHonest (cache_of self.new) }
-        ensures next { next_of (cache_of self.old) ≤ next_of (cache_of self.new) }
-        ensures cause { HasUnmadeCause (B.faults (device_of (cache_of self.old)))
-            (B.faults (device_of (cache_of self.new))) result }
+        ensures keeps { KeepsInChange self.old self.new result }
     {
         if let Err(refusal) = self.check_load(place, objects) {
             return Err(Unmade::Refused(refusal));

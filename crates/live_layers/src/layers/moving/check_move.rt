@@ -3,15 +3,13 @@
 ghost use Rattle.std.specs.Prelude.{◌≡◌, ℕ, List, IfOk, Some};
 ghost use Rattle.std.specs.FinMap as map;
 ghost use Rattle.box_math.specs.Bounds.{IsDims};
-ghost use Rattle.page_cache.specs.Cache.{KeepsGate, KeepsMap, device_of};
 ghost use Rattle.plain_table.specs.Boxes.{dims_of, given_bounds};
 ghost use Rattle.plain_table.specs.Step.{box_refusals, first_refusal, missing_refusals};
 ghost use Rattle.plain_table.specs.Table.{Table, layer_at};
 ghost use Rattle.plain_table.specs.declared.boxes.RawBox.{RawBox as GivenBox};
-ghost use Rattle.live_layers.specs.Changes.{Rose};
-ghost use Rattle.live_layers.specs.Faults.{HasRefusalCause};
+ghost use Rattle.live_layers.specs.Changes.{KeepsInQuestion, Rose};
 ghost use Rattle.live_layers.specs.Inserting.{IsAllowedOr};
-ghost use Rattle.live_layers.specs.Keeping.{IsSound, IsWritten, cache_of, records_in};
+ghost use Rattle.live_layers.specs.Keeping.{IsSound};
 ghost use Rattle.live_layers.specs.Located.{IsLocated};
 
 use crate::layers::Layers;
@@ -39,13 +37,7 @@ impl<B: BlockDevice, A: Allocator + Copy> Layers<B, A> {
         ensures has { (t : Table) (name : List ℕ) → IsSound self.old t → IsLocated self.old t name located.now →
             IfOk result (λ boxes. map.get (layer_at t name).objects id ≡ Some boxes.0) }
         ensures gets { IfOk result (λ boxes. boxes.1 ≡ record { low = low.entry; high = high.entry }) }
-        ensures sound { (t : Table) → IsSound self.old t → IsSound self.new t }
-        ensures records { records_in self.new ≡ records_in self.old }
-        ensures written { IsWritten self.old → IsWritten self.new }
-        ensures gate { KeepsGate (cache_of self.old) (cache_of self.new) }
-        ensures map { KeepsMap (cache_of self.old) (cache_of self.new) }
-        ensures cause { HasRefusalCause (B.faults (device_of (cache_of self.old)))
-            (B.faults (device_of (cache_of self.new))) result }
+        ensures keeps { KeepsInQuestion self.old self.new result }
     {
         if usize::from(located.dims) != D {
             return Err(Refusal::WrongDims);

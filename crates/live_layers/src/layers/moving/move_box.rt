@@ -1,17 +1,15 @@
 //! An object of the layer at a place that gets another box.
 
-ghost use Rattle.std.specs.Prelude.{◌≡◌, ◌≤◌, ◌<◌, ℕ, List, OnErr, OnOk, false, true, length};
+ghost use Rattle.std.specs.Prelude.{◌≡◌, ◌<◌, ℕ, List, OnOk, false, true, length};
 ghost use Rattle.box_math.specs.Bounds.{IsDims};
-ghost use Rattle.page_cache.specs.Cache.{IsHonest, device_of, next_of};
 ghost use Rattle.plain_table.specs.Boxes.{given_bounds};
 ghost use Rattle.plain_table.specs.Commands.Command.{Move};
 ghost use Rattle.plain_table.specs.Step.{changes};
 ghost use Rattle.plain_table.specs.Table.{Table, layer_at};
 ghost use Rattle.plain_table.specs.declared.boxes.RawBox.{RawBox as GivenBox};
-ghost use Rattle.live_layers.specs.Changes.{ChangeLeaves, IsChanged};
-ghost use Rattle.live_layers.specs.Faults.{HasUnmadeCause};
+ghost use Rattle.live_layers.specs.Changes.{IsChange, KeepsInChange};
 ghost use Rattle.live_layers.specs.Inserting.{ReachesBox};
-ghost use Rattle.live_layers.specs.Keeping.{ChangesTree, IsSound, IsWritten, cache_of, records_in};
+ghost use Rattle.live_layers.specs.Keeping.{ChangesTree, IsSound, records_in};
 ghost use Rattle.live_layers.specs.Rules.{HasMoved};
 ghost use Rattle.live_layers.specs.Staying.{KeepsTrees};
 
@@ -32,12 +30,9 @@ impl<B: BlockDevice, A: Allocator + Copy> Layers<B, A> {
     ) -> Result<(), Unmade>
         requires dims { IsDims D }
         requires within { place < length (records_in self.old) }
-        ensures changed { (t : Table) (name : List ℕ) (box : GivenBox) → IsSound self.old t →
+        ensures change { (t : Table) (name : List ℕ) (box : GivenBox) → IsSound self.old t →
             ReachesBox t name place box D (record { low = low.entry; high = high.entry }) →
-            IsChanged self.old self.new t (Move name id box) result }
-        ensures leaves { (t : Table) (name : List ℕ) (box : GivenBox) → IsSound self.old t →
-            ReachesBox t name place box D (record { low = low.entry; high = high.entry }) →
-            ChangeLeaves self.old self.new t (Move name id box) result }
+            IsChange self.old self.new t (Move name id box) result }
         ensures tree { (t : Table) (name : List ℕ) (box : GivenBox) → IsSound self.old t →
             ReachesBox t name place box D (record { low = low.entry; high = high.entry }) →
             changes t (Move name id box) ≡ true →
@@ -45,11 +40,7 @@ impl<B: BlockDevice, A: Allocator + Copy> Layers<B, A> {
         ensures same { (t : Table) (name : List ℕ) (box : GivenBox) → IsSound self.old t →
             ReachesBox t name place box D (record { low = low.entry; high = high.entry }) →
             changes t (Move name id box) ≡ false → KeepsTrees self.old self.new }
-        ensures written { OnErr result (IsWritten self.old → IsWritten self.new) }
-        ensures honest { IsHonest (cache_of self.old) → IsHonest (cache_of self.new) }
-        ensures next { next_of (cache_of self.old) ≤ next_of (cache_of self.new) }
-        ensures cause { HasUnmadeCause (B.faults (device_of (cache_of self.old)))
-            (B.faults (device_of (cache_of self.new))) result }
+        ensures keeps { KeepsInChange self.old self.new result }
     {
         let located = self.locate(place);
         let (known, bounds) = match self.check_move(&located, id, low, high) {

@@ -2,13 +2,11 @@
 
 ghost use Rattle.std.specs.Prelude.{◌≡◌, ◌∷◌, [], ℕ, List};
 ghost use Rattle.box_math.specs.Bounds.{IsDims};
-ghost use Rattle.page_cache.specs.Cache.{KeepsGate, KeepsMap, device_of};
 ghost use Rattle.plain_table.specs.Step.{first_refusal, missing_refusals, object_row};
 ghost use Rattle.plain_table.specs.Step.Answer.{Boxes};
 ghost use Rattle.plain_table.specs.Table.{Table, layer_at};
-ghost use Rattle.live_layers.specs.Changes.{Rose};
-ghost use Rattle.live_layers.specs.Faults.{HasRefusalCause};
-ghost use Rattle.live_layers.specs.Keeping.{IsSound, IsWritten, cache_of, records_in};
+ghost use Rattle.live_layers.specs.Changes.{KeepsInQuestion, Rose};
+ghost use Rattle.live_layers.specs.Keeping.{IsSound};
 ghost use Rattle.live_layers.specs.Located.{IsLocated};
 ghost use Rattle.live_layers.specs.Questions.{IsReply, bounds_answer};
 
@@ -33,13 +31,7 @@ impl<B: BlockDevice, A: Allocator + Copy> Layers<B, A> {
         ensures replied { (t : Table) (name : List ℕ) → IsSound self.old t → IsLocated self.old t name located.now →
             IsReply (Rose self.old self.new) (first_refusal (missing_refusals (layer_at t name) id))
             (Boxes (object_row (layer_at t name) id ∷ [])) (bounds_answer id result) }
-        ensures sound { (t : Table) → IsSound self.old t → IsSound self.new t }
-        ensures records { records_in self.new ≡ records_in self.old }
-        ensures gate { KeepsGate (cache_of self.old) (cache_of self.new) }
-        ensures map { KeepsMap (cache_of self.old) (cache_of self.new) }
-        ensures written { IsWritten self.old → IsWritten self.new }
-        ensures cause { HasRefusalCause (B.faults (device_of (cache_of self.old)))
-            (B.faults (device_of (cache_of self.new))) result }
+        ensures keeps { KeepsInQuestion self.old self.new result }
     {
         match get::<D, B, A>(&mut self.cache, located.directory, id) {
             Ok(Some(bounds)) => Ok(bounds),

@@ -1,10 +1,9 @@
 //! The nearest objects, from the tree of a layer.
 
-ghost use Rattle.std.specs.Prelude.{◌≡◌, ◌∷◌, [], ◌==◌, not, ℕ, List, OnOk, take};
+ghost use Rattle.std.specs.Prelude.{◌∷◌, [], ◌==◌, not, ℕ, List, OnOk, take};
 ghost use Rattle.std.specs.FinMap.{entries};
 ghost use Rattle.box_math.specs.Bounds.{IsDims};
 ghost use Rattle.nearest.specs.Nearest.{is_searched};
-ghost use Rattle.page_cache.specs.Cache.{KeepsGate, KeepsMap, device_of};
 ghost use Rattle.plain_table.specs.Answers.{distances_answer};
 ghost use Rattle.box_math.specs.Nearest.{by_distance};
 ghost use Rattle.plain_table.specs.Nearest.{is_count};
@@ -13,9 +12,8 @@ ghost use Rattle.plain_table.specs.Step.Answer.{Distances};
 ghost use Rattle.plain_table.specs.Table.{Table, layer_at};
 ghost use Rattle.plain_table.specs.declared.refusal.Refusal.TheVariants as refusal;
 ghost use Rattle.tree_node.specs.Searches.{admitted};
-ghost use Rattle.live_layers.specs.Changes.{Rose};
-ghost use Rattle.live_layers.specs.Faults.{HasRefusalCause};
-ghost use Rattle.live_layers.specs.Keeping.{IsSound, IsWritten, LooksAtTree, cache_of};
+ghost use Rattle.live_layers.specs.Changes.{KeepsInQuestion, Rose};
+ghost use Rattle.live_layers.specs.Keeping.{IsSound, LooksAtTree};
 ghost use Rattle.live_layers.specs.Located.{IsLocated};
 ghost use Rattle.live_layers.specs.Questions.{IsReply};
 
@@ -45,12 +43,7 @@ impl<B: BlockDevice, A: Allocator + Copy> Layers<B, A> {
         ensures looks { (t : Table) (name : List ℕ) → IsSound self.old t → IsLocated self.old t name located.now →
             OnOk result (LooksAtTree self.old self.new name (admitted (is_searched D k point.now
             (take k (by_distance (layer_at t name).dims point.now (entries (layer_at t name).objects)))))) }
-        ensures sound { (t : Table) → IsSound self.old t → IsSound self.new t }
-        ensures gate { KeepsGate (cache_of self.old) (cache_of self.new) }
-        ensures map { KeepsMap (cache_of self.old) (cache_of self.new) }
-        ensures written { IsWritten self.old → IsWritten self.new }
-        ensures cause { HasRefusalCause (B.faults (device_of (cache_of self.old)))
-            (B.faults (device_of (cache_of self.new))) result }
+        ensures keeps { KeepsInQuestion self.old self.new result }
     {
         if usize::from(located.dims) != D {
             return Err(Refusal::WrongDims);

@@ -2,14 +2,12 @@
 
 ghost use Rattle.std.specs.Prelude.{◌≡◌, ◌*◌, ℕ, List, IfOk, IfErr, OnOk};
 ghost use Rattle.box_math.specs.Bounds.{IsDims};
-ghost use Rattle.page_cache.specs.Cache.{KeepsGate, KeepsMap, device_of};
 ghost use Rattle.plain_table.specs.Step.{join_rows};
 ghost use Rattle.plain_table.specs.Table.{Table, layer_at};
 ghost use Rattle.store_law.specs.Lawful.{IsFault};
 ghost use Rattle.tree_node.specs.Joins.{admitted_pairs};
-ghost use Rattle.live_layers.specs.Changes.{Rose};
-ghost use Rattle.live_layers.specs.Faults.{HasRefusalCause};
-ghost use Rattle.live_layers.specs.Keeping.{IsSound, IsWritten, cache_of};
+ghost use Rattle.live_layers.specs.Changes.{KeepsInQuestion, Rose};
+ghost use Rattle.live_layers.specs.Keeping.{IsSound};
 ghost use Rattle.live_layers.specs.Located.{IsLocated};
 ghost use Rattle.live_layers.specs.Questions.{LooksAtTrees};
 
@@ -39,13 +37,8 @@ impl<B: BlockDevice, A: Allocator + Copy> Layers<B, A> {
             OnOk result (LooksAtTrees self.old self.new first second (λ s o. 2 * admitted_pairs D s o)) }
         ensures fault { (t : Table) (first second : List ℕ) → IsSound self.old t →
             IsLocated self.old t first left.now → IsLocated self.old t second right.now →
-            IfErr result (IsFault (Rose self.old self.new) ⊥) }
-        ensures sound { (t : Table) → IsSound self.old t → IsSound self.new t }
-        ensures gate { KeepsGate (cache_of self.old) (cache_of self.new) }
-        ensures map { KeepsMap (cache_of self.old) (cache_of self.new) }
-        ensures written { IsWritten self.old → IsWritten self.new }
-        ensures cause { HasRefusalCause (B.faults (device_of (cache_of self.old)))
-            (B.faults (device_of (cache_of self.new))) result }
+            IfErr result (IsFault (Rose self.old self.new)) }
+        ensures keeps { KeepsInQuestion self.old self.new result }
     {
         match join::<D, B, A, A>(self.alloc, &mut self.cache, left.root, right.root) {
             Ok(pairs) => Ok(pairs),

@@ -4,7 +4,7 @@ ghost use Rattle.std.specs.Prelude.{◌≡◌, ℕ, List, IfOk, IfErr, OnOk, fil
 ghost use Rattle.std.specs.FinMap.{entries};
 ghost use Rattle.box_math.specs.Bounds.{IsDims};
 ghost use Rattle.node_page.specs.Rooted.{IsTreeAt};
-ghost use Rattle.page_cache.specs.Cache.{IsHonest, KeepsGate, KeepsMap, device_of, looks_of, pages};
+ghost use Rattle.page_cache.specs.Cache.{IsHonest, looks_of, pages};
 ghost use Rattle.page_cache.specs.Calls.{Asks};
 ghost use Rattle.page_file.specs.Fault.{IsOfDevice};
 ghost use Rattle.plain_table.specs.Answers.{boxes_answer};
@@ -16,11 +16,11 @@ ghost use Rattle.range_query.specs.Queries.{IsRangeAnswer};
 ghost use Rattle.store_law.specs.Lawful.{IsFault};
 ghost use Rattle.tree_node.specs.Searches.{admitted, counted};
 ghost use Rattle.tree_node.specs.Trees.{Tree};
-ghost use Rattle.live_layers.specs.Changes.{Rose};
-ghost use Rattle.live_layers.specs.Faults.{HasRefusalCause};
-ghost use Rattle.live_layers.specs.Keeping.{IsSound, IsWritten, LooksAtTree, cache_of};
+ghost use Rattle.live_layers.specs.Changes.{KeepsInQuestion, Rose};
+ghost use Rattle.live_layers.specs.Keeping.{IsSound, LooksAtTree, cache_of};
 ghost use Rattle.live_layers.specs.Located.{IsLocated};
 ghost use Rattle.live_layers.specs.Questions.{IsReply, admits, is_admitted};
+ghost use Rattle.live_layers.specs.Staying.{KeepsTrees};
 
 use crate::faults::as_refusal;
 use crate::layers::Layers;
@@ -47,12 +47,7 @@ impl<B: BlockDevice, A: Allocator + Copy> Layers<B, A> {
             (Boxes (range_rows (layer_at t name) query)) (boxes_answer result) }
         ensures looks { (t : Table) (name : List ℕ) → IsSound self.old t → IsLocated self.old t name located.now →
             OnOk result (LooksAtTree self.old self.new name (admitted (is_admitted (layer_at t name).dims query))) }
-        ensures sound { (t : Table) → IsSound self.old t → IsSound self.new t }
-        ensures gate { KeepsGate (cache_of self.old) (cache_of self.new) }
-        ensures map { KeepsMap (cache_of self.old) (cache_of self.new) }
-        ensures written { IsWritten self.old → IsWritten self.new }
-        ensures cause { HasRefusalCause (B.faults (device_of (cache_of self.old)))
-            (B.faults (device_of (cache_of self.new))) result }
+        ensures keeps { KeepsInQuestion self.old self.new result }
     {
         let asked = query.two_axes()?;
         let rows = self.seek::<2>(located, &asked)?;
@@ -71,12 +66,7 @@ impl<B: BlockDevice, A: Allocator + Copy> Layers<B, A> {
             (Boxes (range_rows (layer_at t name) query)) (boxes_answer result) }
         ensures looks { (t : Table) (name : List ℕ) → IsSound self.old t → IsLocated self.old t name located.now →
             OnOk result (LooksAtTree self.old self.new name (admitted (is_admitted (layer_at t name).dims query))) }
-        ensures sound { (t : Table) → IsSound self.old t → IsSound self.new t }
-        ensures gate { KeepsGate (cache_of self.old) (cache_of self.new) }
-        ensures map { KeepsMap (cache_of self.old) (cache_of self.new) }
-        ensures written { IsWritten self.old → IsWritten self.new }
-        ensures cause { HasRefusalCause (B.faults (device_of (cache_of self.old)))
-            (B.faults (device_of (cache_of self.new))) result }
+        ensures keeps { KeepsInQuestion self.old self.new result }
     {
         let asked = query.three_axes()?;
         let rows = self.seek::<3>(located, &asked)?;
@@ -97,13 +87,8 @@ impl<B: BlockDevice, A: Allocator + Copy> Layers<B, A> {
         ensures looks { (t : Table) (name : List ℕ) → IsSound self.old t → IsLocated self.old t name located.now →
             OnOk result (LooksAtTree self.old self.new name (admitted (admits query.now))) }
         ensures fault { (t : Table) (name : List ℕ) → IsSound self.old t → IsLocated self.old t name located.now →
-            IfErr result (IsFault (Rose self.old self.new) ⊥) }
-        ensures sound { (t : Table) → IsSound self.old t → IsSound self.new t }
-        ensures gate { KeepsGate (cache_of self.old) (cache_of self.new) }
-        ensures map { KeepsMap (cache_of self.old) (cache_of self.new) }
-        ensures written { IsWritten self.old → IsWritten self.new }
-        ensures cause { HasRefusalCause (B.faults (device_of (cache_of self.old)))
-            (B.faults (device_of (cache_of self.new))) result }
+            IfErr result (IsFault (Rose self.old self.new)) }
+        ensures keeps { KeepsInQuestion self.old self.new result }
     {
         match self.seek_in_tree(located.root, query) {
             Ok(rows) => Ok(rows),
@@ -129,7 +114,7 @@ impl<B: BlockDevice, A: Allocator + Copy> Layers<B, A> {
         ensures stands { IsHonest (cache_of self.old) → (t : Tree) (most : ℕ) →
             IsTreeAt D most (pages (cache_of self.old)) root t → IfErr result IsOfDevice }
         ensures sound { (t : Table) → IsSound self.old t → IsSound self.new t }
-        ensures written { IsWritten self.old → IsWritten self.new }
+        ensures trees { KeepsTrees self.old self.new }
     {
         match query {
             Query::Window(bounds) => window(self.alloc, &mut self.cache, root, bounds),

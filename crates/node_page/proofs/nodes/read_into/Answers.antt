@@ -1,6 +1,6 @@
-use Rattle.std.proofs.Common.{◌≡◌, ◌⊎◌, rules, refl, sym, ◌∙◌}
+use Rattle.std.proofs.Common.{rules, refl, sym, ◌∙◌}
 use Rattle.page_file.specs.Fault.{IsOfDevice}
-use Rattle.page_cache.specs.Cache.{given, next_of, pages}
+use Rattle.page_cache.specs.Cache.{pages}
 use Rattle.page_cache.specs.Laws.{a_live_page_was_given_out}
 use Rattle.node_page.proofs.StandingLemmas.{page_of_node}
 use Rattle.node_page.proofs.NodeLemmas.{at_error, node_of_page}

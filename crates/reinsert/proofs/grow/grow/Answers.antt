@@ -1,25 +1,28 @@
 -- The goals of `grow` that are proved by hand.
-use Rattle.std.proofs.Common.{◌≡◌, ◌∙◌, ◌+◌, List, [], ◌∷◌, ◌++◌, Err, Some, map, ap}
+use Rattle.std.proofs.Common.{◌≡◌, ◌∙◌, ◌+◌, List, [], ◌∷◌, ◌++◌, Err, None, Some, map, ap}
 use Rattle.page_cache.specs.Cache.{pages}
 use Rattle.tree_node.specs.declared.node.Entry.{Entry}
 use Rattle.tree_node.specs.Nodes.{NodeContent, item_of}
 use Rattle.node_page.specs.Standing.{PageMap}
 use Rattle.reinsert.proofs.SettledLemmas.{is_some_from}
-use Rattle.page_cache.specs.Calls.{changes_and_refuses}
+use Rattle.page_cache.specs.Calls.{changes_and_refuses, changes_in_turn}
 use Rattle.node_page.proofs.NodeLemmas.{at_error}
 use Rattle.node_page.specs.Faults.{IsNoDamage, IsChangeFault}
-use Rattle.reinsert.proofs.FaultLemmas.{spent, one_more}
+use Rattle.reinsert.proofs.FaultLemmas.{with_full, one_more}
 use Rattle.reinsert.proofs.grow.grow.Goals as goal
 
 pub returns-in_err-page-clause-faults : goal.returns-in_err-page-clause-faults
 returns-in_err-page-clause-faults g c = λ h low.
     at_error c.from_residual.result c.in_err-page.field-0.0 (IsNoDamage c.allocate.new.self) c.from_residual.ensures.1
-    (spent _ _ _ _ _ (c.in_err-page.ensures.faults h) (λ is. c.in_err-page.ensures.no_pages (ap Err is)) c.in_err-page.ensures.next.0)
+    (with_full _ _ _ (c.in_err-page.ensures.faults h) (λ is. c.in_err-page.ensures.full (ap Err is)))
 
 pub returns-in_err-write_node-clause-changes : goal.returns-in_err-write_node-clause-changes
 returns-in_err-write_node-clause-changes g c =
     changes_and_refuses c.args.cache.now c.allocate.new.self c.write_node.new.cache c.in_err-write_node.field-0.0 c.from_residual-in_err-write_node.result c.from_residual-in_err-write_node.ensures.1
     c.in_ok-page.ensures.changes c.in_err-write_node.ensures.changes
+
+pub returns-clause-changes : goal.returns-clause-changes
+returns-clause-changes g c = changes_in_turn c.args.cache.now c.allocate.new.self c.write_node.new.cache None c.in_ok-page.ensures.changes c.in_ok-write_node.ensures.changes
 
 pub returns-clause-grown : goal.returns-clause-grown
 returns-clause-grown g c = λ h.

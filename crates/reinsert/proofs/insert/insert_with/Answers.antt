@@ -41,6 +41,8 @@ pub placing-init : goal.placing-init
 placing-init g c = (
   c.in_ok-now.ensures.alters.changes,
   c.in_ok-now.ensures.root,
+  omega (arith, c.in_ok-now.ensures.measure, c.begin.ensures.measure),
+  omega (arith, c.in_ok-now.ensures.measure, c.begin.ensures.measure, c.in_ok-now.ensures.grows),
   λ h t branch elsewhere can.
       let D = g.row.D in
       let m : PageMap = pages c.args.cache.now in
@@ -62,7 +64,7 @@ pub returns-in-Err-clause-faults : goal.returns-in-Err-clause-faults
 returns-in-Err-clause-faults g c = λ h t branch elsewhere can shape boxes entry.
     let D = g.row.D in
     let m1 : PageMap = pages c.placing.cache in
-    let r = c.placing.invariant.2 h t branch elsewhere can in
+    let r = c.placing.invariant.4 h t branch elsewhere can in
     let at1 = subst (λ (ws : List (Wait D)). IsAt D m1 c.placing.now ws c.placing.waiting.called elsewhere r.1.last) c.in-Some.ensures.some r.1.isat in
     let at2 = subst (λ (cs : List Bool). IsAt D m1 c.placing.now (c.next.new.self.waits.items ++ c.in-Some.wait ∷ []) cs elsewhere r.1.last) (sym c.next.ensures.called) at1 in
     let last = placings_keep_shape D c.args.m_max elsewhere r.1.count (at_first t branch c.args.level) r.1.last r.1.run (omega (arith, c.requires.most))
@@ -73,12 +75,14 @@ pub placing-preserved : goal.placing-preserved
 placing-preserved g c = (
   changes_in_turn c.args.cache.now c.placing.cache c.place_one-in-Some.new.cache None c.placing.invariant.0 c.in-Ok.ensures.alters.changes,
   record { rises = omega (arith, c.placing.invariant.1.rises, c.in-Ok.ensures.root.rises); low = c.in-Ok.ensures.root.low; page = c.in-Ok.ensures.root.page },
+  omega (arith, c.placing.invariant.2, c.in-Some.ensures.measure, c.in-Ok.ensures.measure),
+  omega (arith, c.placing.invariant.2, c.placing.invariant.3, c.in-Some.ensures.measure, c.in-Ok.ensures.measure, c.in-Ok.ensures.grows),
   λ h t branch elsewhere can.
       let D = g.row.D in
       let m : PageMap = pages c.args.cache.now in
       let m1 : PageMap = pages c.placing.cache in
       let s : State = at_first t branch c.args.level in
-      let r = c.placing.invariant.2 h t branch elsewhere can in
+      let r = c.placing.invariant.4 h t branch elsewhere can in
       let at1 = subst (λ (ws : List (Wait D)). IsAt D m1 c.placing.now ws c.placing.waiting.called elsewhere r.1.last) c.in-Some.ensures.some r.1.isat in
       let at2 = subst (λ (cs : List Bool). IsAt D m1 c.placing.now (c.next.new.self.waits.items ++ c.in-Some.wait ∷ []) cs elsewhere r.1.last) (sym c.next.ensures.called) at1 in
       let step = c.in-Ok.ensures.placed r.0 r.1.last elsewhere at2 in (
@@ -90,7 +94,7 @@ placing-preserved g c = (
 
 pub returns-clause-inserted : goal.returns-clause-inserted
 returns-clause-inserted g c = λ h t branch elsewhere can.
-    let r = c.placing.invariant.2 h t branch elsewhere can in
+    let r = c.placing.invariant.4 h t branch elsewhere can in
     (r.0, inserted_end g.row.D c.args.m_max c.args.level elsewhere (pages c.args.cache.now) (pages c.placing.cache) t branch c.placing.now c.placing.waiting.waits.items c.placing.waiting.called r.1 (c.in_default.ensures.none refl))
 
 pub returns-in_err-now-clause-other_faults : goal.returns-in_err-now-clause-other_faults

@@ -7,14 +7,14 @@ use Rattle.node_page.specs.Standing.{PageMap}
 use Rattle.node_page.proofs.NodeLemmas.{at_error}
 use Rattle.node_page.proofs.PartLemmas.{there_not_missing}
 use Rattle.node_page.specs.Faults.{IsNoDamage, IsChangeFault}
-use Rattle.reinsert.proofs.FaultLemmas.{spent, one_more}
+use Rattle.reinsert.proofs.FaultLemmas.{with_full, one_more}
 use Rattle.reinsert.proofs.SettledLemmas.{is_some_from, splits_off}
 use Rattle.reinsert.proofs.settle.write_both.Goals as goal
 
 pub returns-in_err-number-clause-faults : goal.returns-in_err-number-clause-faults
 returns-in_err-number-clause-faults g c = λ h live.
     at_error c.from_residual.result c.in_err-number.field-0.0 (IsNoDamage c.allocate.new.self) c.from_residual.ensures.1
-    (spent _ _ _ _ _ (c.in_err-number.ensures.faults h) (λ is. c.in_err-number.ensures.no_pages (ap Err is)) c.in_err-number.ensures.next.0)
+    (with_full _ _ _ (c.in_err-number.ensures.faults h) (λ is. c.in_err-number.ensures.full (ap Err is)))
 
 pub returns-in_err-write_node-clause-changes : goal.returns-in_err-write_node-clause-changes
 returns-in_err-write_node-clause-changes g c =

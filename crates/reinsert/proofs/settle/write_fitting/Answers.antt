@@ -1,12 +1,12 @@
 -- The goals of `write_fitting` that are proved by hand.
-use Rattle.std.proofs.Common.{rules, ◌∙◌, List, map, refl, ap}
+use Rattle.std.proofs.Common.{rules, ◌∙◌, List, map, refl, ap, inl}
 use Rattle.tree_node.specs.Boxes.{least_box}
 use Rattle.tree_node.specs.Nodes.{item_of}
 use Rattle.tree_node.specs.declared.node.Entry.{Entry}
 use Rattle.reinsert.proofs.SettledLemmas.{fits_settled, spellable_of}
 use Rattle.node_page.proofs.NodeLemmas.{at_error}
 use Rattle.reinsert.proofs.FaultLemmas.{one_more}
-use Rattle.node_page.specs.Faults.{IsChangeFault}
+use Rattle.node_page.specs.Faults.{IsChangeFault, IsNoDamage}
 use Rattle.reinsert.proofs.settle.write_fitting.Goals as goal
 
 pub write_node-requires : goal.write_node-requires
@@ -22,6 +22,9 @@ returns-clause-settled g c = λ h most top called waits branches few are can. (
       (c.least-bounds.ensures ∙ ap (λ (es : List (Entry g.row.D)). least_box g.row.D (map item_of es)) c.as_slice.ensures.value) refl refl refl
       (c.in_ok-write_node.ensures.written h.honest can.live) (c.write_node.ensures.others h.honest can.live),
 )
+
+pub returns-in_err-write_node-clause-faults : goal.returns-in_err-write_node-clause-faults
+returns-in_err-write_node-clause-faults g c = λ h live. at_error c.from_residual.result c.in_err-write_node.field-0.0 (IsNoDamage c.write_node.new.cache) c.from_residual.ensures.1 (inl (c.in_err-write_node.ensures.faults h.honest live))
 
 pub returns-in_err-write_node-clause-other_faults : goal.returns-in_err-write_node-clause-other_faults
 returns-in_err-write_node-clause-other_faults g c = at_error c.from_residual.result c.in_err-write_node.field-0.0 IsChangeFault c.from_residual.ensures.1 (one_more _ _ _ c.in_err-write_node.ensures.other_faults)

@@ -1,5 +1,5 @@
 -- The goals of `open` that are proved by hand.
-use Rattle.std.proofs.Common.{◌∙◌, ap}
+use Rattle.std.proofs.Common.{◌∙◌, ap, refl}
 use Rattle.std.proofs.lemmas.Result.{IfOk-weaker}
 use Rattle.page_cache.specs.Cache.{pages}
 use Rattle.tree_node.specs.Nodes.{content_of}
@@ -18,3 +18,6 @@ returns-then-other-node-clause-entries g c = λ h row at.
 
 pub returns-then-other-node-clause-references : goal.returns-then-other-node-clause-references
 returns-then-other-node-clause-references g c = IfOk-weaker c.read_node.result _ _ (λ node spellable. has_pages (content_of node) spellable) c.read_node.ensures.spellable
+
+pub returns-then-other-node-clause-stands : goal.returns-then-other-node-clause-stands
+returns-then-other-node-clause-stands g c = λ h row at. c.read_node.ensures.there h (record { level = c.args.node.level; entries = row_items row }) at.node refl

@@ -1,5 +1,5 @@
 -- The goals of `open_root` that are proved by hand.
-use Rattle.std.proofs.Common.{◌∙◌, Option, ap, sym, refl, arith}
+use Rattle.std.proofs.Common.{rules, ◌∙◌, Option, ap, sym, refl, arith}
 use Rattle.box_math.specs.Bounds.{Bounds}
 use Rattle.page_file.specs.Fault.{IsOfDevice}
 use Rattle.page_cache.specs.Cache.{pages}
@@ -10,7 +10,7 @@ use Rattle.node_page.proofs.LeafLemmas.{entries_there}
 use Rattle.node_page.proofs.NodeLemmas.{at_error}
 use Rattle.node_page.proofs.StandingLemmas.{page_of_node}
 use Rattle.spatial_join.specs.Opening.{lone}
-use Rattle.spatial_join.proofs.OpeningLemmas.{level_above, level_here, root_above, root_here}
+use Rattle.spatial_join.proofs.OpeningLemmas.{level_above, level_here, lone_has_pages, root_above, root_here}
 use Rattle.spatial_join.proofs.opening.open_root.Goals as goal
 
 pub returns-in_err-node-clause-stands : goal.returns-in_err-node-clause-stands
@@ -42,3 +42,6 @@ returns-clause-entries g c = λ h row at.
 
 pub returns-clause-few : goal.returns-clause-few
 returns-clause-few g c = omega (arith, c.above.ensures.few)
+
+pub returns-clause-references : goal.returns-clause-references
+returns-clause-references g c = lone_has_pages (content_of c.above.result) c.node_box.result c.args.root.page (search rules) (search rules)

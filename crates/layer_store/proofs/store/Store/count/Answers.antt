@@ -1,20 +1,12 @@
--- A count of the layers is a step of the store.
+-- A count of the layers is an answer of the store.
 use Rattle.std.proofs.Common.{refl}
-use Rattle.plain_table.specs.Answers.{count_answer}
-use Rattle.plain_table.specs.Commands.Command.{Count}
-use Rattle.plain_table.specs.Step.{refusal_of}
-use Rattle.layer_store.proofs.QuestionLemmas.{kept_or_same}
-use Rattle.layer_store.proofs.StoreLemmas.{blames_none, is_dead, not_both, takes_nothing, takes_reply}
+use Rattle.layer_store.specs.Representation.{device_in}
+use Rattle.layer_store.proofs.QuestionLemmas.{failed_answers, reply_answers}
 use Rattle.layer_store.proofs.store.Store.count.Goals as goal
 
-pub returns-then-self-clause-step : goal.returns-then-self-clause-step
-returns-then-self-clause-step g c = takes_nothing c.args.self.now (Count c.args.layer.now) c.if-self.true
+pub returns-then-self-clause-answers : goal.returns-then-self-clause-answers
+returns-then-self-clause-answers g c = failed_answers c.if-self.true (λ honest b left. g.met.D.BlockDevice.only_now (device_in c.args.self.now) b honest left) refl
 
-pub returns-clause-step : goal.returns-clause-step
-returns-clause-step g c = takes_reply c.args.self.now (Count c.args.layer.now) (count_answer c.count.result) c.if-self.false (λ t. kept_or_same (refusal_of t (Count c.args.layer.now)) t) (λ t stops. refl) c.count.ensures.answered
-
-pub returns-clause-dead : goal.returns-clause-dead
-returns-clause-dead g c = λ dead. absurd (not_both _ (is_dead c.args.self.now dead) c.if-self.false)
-
-pub returns-clause-cause : goal.returns-clause-cause
-returns-clause-cause g c = blames_none _ c.count.result c.count.ensures.cause
+pub returns-clause-answers : goal.returns-clause-answers
+returns-clause-answers g c =
+    reply_answers c.count.result c.if-self.false (λ honest b left. g.met.D.BlockDevice.only_now (device_in c.args.self.now) b honest left) (λ t. refl) (λ t stops. refl) c.count.ensures.answered c.count.ensures.cause

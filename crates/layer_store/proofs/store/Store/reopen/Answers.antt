@@ -15,48 +15,46 @@ pub returns-clause-step : goal.returns-clause-step
 returns-clause-step g c =
     let old = c.args.self.now in
     let made = c.reopen-closed in
-    step_told old c.tell.new.self made.new.self Reopen made.result c.tell.result c.if-self.false c.tell.ensures.told (c.tell.ensures.failed c.if-self.false) c.tell.ensures.layers tt
-    made.ensures.changed
+    step_told _ _ c.if-self.false c.tell.ensures tt made.ensures.changed
     (λ t stops sound was. reopening_leaves old.layers made.new.self t stops made.result (made.ensures.leaves t sound)
     (λ r is. refused_goes_on old.layers made.new.self t Reopen made.result r (λ as_table same. not_refused r as_table) (made.ensures.changed t sound) is) was)
-    (λ t sound. let same = made.ensures.next sound.map.honest in omega (arith, same)) (g.met.D.BlockDevice.faults_fit (device_in old)) made.ensures.cause
+    (g.met.D.BlockDevice.faults_fit (device_in old)) made.ensures.cause
 
 pub returns-then-self-clause-closed : goal.returns-then-self-clause-closed
 returns-then-self-clause-closed g c = λ t represents end. absurd (not_both _ c.if-self.true (alive_with c.args.self.now t represents).0)
 
 pub returns-clause-closed : goal.returns-clause-closed
-returns-clause-closed g c = image_closed c.args.self.now c.tell.new.self c.reopen-closed.new.self c.reopen-closed.result c.tell.result c.tell.ensures.told (c.tell.ensures.failed c.if-self.false) c.tell.ensures.layers c.reopen-closed.ensures.leaves
+returns-clause-closed g c = image_closed _ _ c.if-self.false c.tell.ensures c.reopen-closed.ensures.leaves
 
 pub returns-then-self-clause-stops : goal.returns-then-self-clause-stops
 returns-then-self-clause-stops g c = λ s t represents alive. absurd (not_both _ c.if-self.true (alive_in c.args.self.now s t represents alive).0)
 
 pub returns-clause-stops : goal.returns-clause-stops
-returns-clause-stops g c = stops_closed c.args.self.now c.tell.new.self c.reopen-closed.new.self c.reopen-closed.result c.tell.result c.tell.ensures.told (c.tell.ensures.failed c.if-self.false) c.tell.ensures.layers c.reopen-closed.ensures.leaves
+returns-clause-stops g c = stops_closed _ _ c.if-self.false c.tell.ensures c.reopen-closed.ensures.leaves
 
 pub returns-then-self-clause-durable : goal.returns-then-self-clause-durable
 returns-then-self-clause-durable g c = λ t represents end. absurd (not_both _ c.if-self.true (alive_with c.args.self.now t represents).0)
 
 pub returns-clause-durable : goal.returns-clause-durable
-returns-clause-durable g c = durable_closed c.args.self.now c.tell.new.self c.reopen-closed.new.self c.reopen-closed.result c.tell.result c.tell.ensures.told (c.tell.ensures.failed c.if-self.false) c.tell.ensures.layers c.reopen-closed.ensures.honest.0 c.reopen-closed.ensures.leaves
+returns-clause-durable g c = durable_closed _ _ c.if-self.false c.tell.ensures c.reopen-closed.ensures.leaves c.reopen-closed.ensures.honest.0
 
 pub returns-clause-now_settled : goal.returns-clause-now_settled
-returns-clause-now_settled g c = settled_closed c.args.self.now c.tell.new.self c.reopen-closed.new.self c.reopen-closed.result c.tell.result c.tell.ensures.told (c.tell.ensures.failed c.if-self.false) c.tell.ensures.layers c.reopen-closed.ensures.settled
+returns-clause-now_settled g c = settled_closed c.args.self.now _ c.if-self.false c.tell.ensures c.reopen-closed.ensures.settled
 
 pub returns-then-self-clause-quiet : goal.returns-then-self-clause-quiet
 returns-then-self-clause-quiet g c = λ t represents settled. absurd (not_both _ c.if-self.true (alive_with c.args.self.now t represents).0)
 
 pub returns-clause-quiet : goal.returns-clause-quiet
-returns-clause-quiet g c = quiet_closed c.args.self.now c.tell.new.self c.reopen-closed.new.self c.reopen-closed.result c.tell.result c.tell.ensures.told (c.tell.ensures.failed c.if-self.false) c.tell.ensures.layers
-    (λ honest b left. g.met.D.BlockDevice.only_now (device_in c.args.self.now) b honest left) c.reopen-closed.ensures.leaves
+returns-clause-quiet g c = quiet_closed _ _ c.if-self.false c.tell.ensures c.reopen-closed.ensures.leaves (λ honest b left. g.met.D.BlockDevice.only_now (device_in c.args.self.now) b honest left)
 
 pub returns-clause-dead : goal.returns-clause-dead
 returns-clause-dead g c = λ dead. absurd (not_both _ (is_dead c.args.self.now dead) c.if-self.false)
 
 pub returns-clause-cause : goal.returns-clause-cause
-returns-clause-cause g c = cause_told c.args.self.now c.tell.new.self c.reopen-closed.new.self Reopen c.reopen-closed.result c.tell.result c.if-self.false c.tell.ensures.told (c.tell.ensures.failed c.if-self.false) c.tell.ensures.layers c.reopen-closed.ensures.cause
+returns-clause-cause g c = cause_told c.tell.ensures c.reopen-closed.ensures.cause
 
 pub returns-then-self-clause-ends : goal.returns-then-self-clause-ends
 returns-then-self-clause-ends g c = λ settled. dead_so c.args.self.now c.if-self.true
 
 pub returns-clause-ends : goal.returns-clause-ends
-returns-clause-ends g c = ends_closed c.args.self.now c.tell.new.self c.reopen-closed.new.self c.reopen-closed.result c.tell.result c.tell.ensures.told (c.tell.ensures.failed c.if-self.false) c.tell.ensures.layers c.reopen-closed.ensures.refused
+returns-clause-ends g c = ends_closed c.args.self.now _ c.if-self.false c.tell.ensures c.reopen-closed.ensures.refused

@@ -1,40 +1,33 @@
 -- The pages are made, and the record is in its place; or the change was refused, or broke off.
-use Rattle.std.proofs.Common.{◌≡◌, ◌∙◌, ℕ, ◌<◌, ◌^◌, List, map, refl, sym, ap, subst, arith, inl}
-use Rattle.std.specs.Prelude.{Ok}
-use Rattle.std.specs.List.{insert}
-use Rattle.catalog_page.specs.Layout.{record_of, records_of}
+use Rattle.std.proofs.Common.{length, refl, ap, arith, inl}
+use Rattle.catalog_page.specs.Layout.{records_of}
 use Rattle.catalog_page.specs.declared.layer_record.LayerRecord.{LayerRecord}
 use Rattle.layer_pages.specs.Changes.{IsEmptyLeaf}
 use Rattle.page_cache.specs.Laws.{numbers_are_few}
-use Rattle.live_layers.specs.Catalog.{AreLayers}
-use Rattle.live_layers.proofs.BegunLemmas.{begun_and_broke, begun_and_made, handed_on}
+use Rattle.live_layers.proofs.CountLemmas.{no_page_wanted}
+use Rattle.live_layers.proofs.BegunLemmas.{broke_behind, made_behind, not_opened}
 use Rattle.live_layers.proofs.CreateLemmas.{brings_before, made_record, one_more_may_be, put_in, sound_made, tree_made}
-use Rattle.live_layers.proofs.KeepLemmas.{sound_kept}
-use Rattle.live_layers.proofs.Results.{any_err, the_err}
+use Rattle.live_layers.proofs.Results.{the_err}
 use Rattle.live_layers.proofs.layers.Layers.add_layer.Goals as goal
-
-pub returns-in_err-begin-clause-untouched : goal.returns-in_err-begin-clause-untouched
-returns-in_err-begin-clause-untouched g c = λ t sound. any_err c.from_residual.result _ (λ b quiet. c.begin.ensures.sound t sound)
-
-pub returns-in_err-begin-clause-faults : goal.returns-in_err-begin-clause-faults
-returns-in_err-begin-clause-faults g c = λ t sound. the_err c.from_residual.result c.in_err-begin.field-0.0 _ c.from_residual.ensures.1 (inl c.in_err-begin.ensures.faults)
 
 pub returns-in_err-begin-clause-begins : goal.returns-in_err-begin-clause-begins
 returns-in_err-begin-clause-begins g c =
-    handed_on c.args.self.now.cache c.begin.new.self.cache c.in_err-begin.field-0.0 c.from_residual.result c.from_residual.ensures.1 c.in_err-begin.ensures.begins
-
-pub returns-in_err-root-clause-untouched : goal.returns-in_err-root-clause-untouched
-returns-in_err-root-clause-untouched g c = λ t sound. the_err c.from_residual-in_err-root.result c.in_err-root.field-0.0 _ c.from_residual-in_err-root.ensures.1
-    (λ quiet. sound_kept c.begin.new.self _ t (c.in_err-root.ensures.alters.untouched quiet) refl refl (λ w. w) (c.begin.ensures.sound t sound))
-
-pub returns-in_err-root-clause-faults : goal.returns-in_err-root-clause-faults
-returns-in_err-root-clause-faults g c = λ t sound. the_err c.from_residual-in_err-root.result c.in_err-root.field-0.0 _ c.from_residual-in_err-root.ensures.1
-    (c.in_err-root.ensures.faults (c.begin.ensures.sound t sound).map)
+    not_opened c.args.self.now c.begin.new.self c.in_err-begin.field-0.0 c.from_residual.result c.from_residual.ensures.1 c.in_err-begin.ensures.begins c.begin.ensures.sound c.begin.ensures.written
 
 pub returns-in_err-root-clause-begins : goal.returns-in_err-root-clause-begins
 returns-in_err-root-clause-begins g c =
-    begun_and_broke c.args.self.now.cache c.begin.new.self.cache c.make_pages.new.cache tt c.in_err-root.field-0.0 c.from_residual-in_err-root.result c.from_residual-in_err-root.ensures.1 c.in_ok-begin.ensures.begins
+    broke_behind c.args.self.now c.begin.new.self _ c.in_err-root.field-0.0 c.from_residual-in_err-root.result c.from_residual-in_err-root.ensures.1 (refl, refl, refl) c.in_ok-begin.ensures.begins c.begin.ensures.sound c.begin.ensures.written
     c.in_err-root.ensures.alters
+
+pub returns-in_err-begin-clause-faults : goal.returns-in_err-begin-clause-faults
+returns-in_err-begin-clause-faults g c = λ t sound. the_err c.from_residual.result c.in_err-begin.field-0.0 _ c.from_residual.ensures.1 c.in_err-begin.ensures.faults
+
+pub returns-in_err-root-clause-faults : goal.returns-in_err-root-clause-faults
+returns-in_err-root-clause-faults g c = λ t sound.
+    let before = c.begin.ensures.sound t sound in
+    the_err c.from_residual-in_err-root.result c.in_err-root.field-0.0 _ c.from_residual-in_err-root.ensures.1
+    (no_page_wanted c.begin.new.self t before (omega (arith, c.requires.room, ap length c.begin.ensures.records)) 2 c.make_pages.new.cache _ (omega (arith)) c.make_pages.ensures.grows
+    (c.in_err-root.ensures.faults before.map))
 
 pub invariant_of-self-2 : goal.invariant_of-self-2
 invariant_of-self-2 g c =
@@ -77,4 +70,4 @@ returns-clause-tree g c = λ t sound belongs.
 
 pub returns-clause-begins : goal.returns-clause-begins
 returns-clause-begins g c =
-    begun_and_made c.args.self.now.cache c.begin.new.self.cache c.make_pages.new.cache tt tt c.in_ok-begin.ensures.begins c.in_ok-root.ensures.alters.changes
+    made_behind c.args.self.now c.begin.new.self _ c.make_pages.new.cache refl c.in_ok-begin.ensures.begins c.in_ok-root.ensures.alters.changes

@@ -1,8 +1,7 @@
 -- Each refusal is the table's, and none refuses the layer whose place is answered.
-use Rattle.std.proofs.Common.{◌≡◌, ◌∙◌, ◌<◌, ◌≤◌, ℕ, length, sym, ap, arith}
-use Rattle.std.specs.FinMap.{entries, len, len-entries}
+use Rattle.std.proofs.Common.{◌≡◌, ◌∙◌, length, sym, arith}
+use Rattle.std.specs.FinMap.{len, len-entries}
 use Rattle.page_cache.specs.Cache.{next_of, pages}
-use Rattle.plain_table.specs.Table.{most_layers}
 use Rattle.plain_table.proofs.StepLemmas.{create_exists, create_full, create_passes}
 use Rattle.live_layers.proofs.AskLemmas.{named_there, not_there}
 use Rattle.live_layers.proofs.CreateLemmas.{bad_dims, bad_fanout, bad_name}

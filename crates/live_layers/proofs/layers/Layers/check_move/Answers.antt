@@ -1,5 +1,5 @@
 -- Each refusal is the table's, and nothing refuses the box of an object that is answered.
-use Rattle.std.proofs.Common.{◌≡◌, ◌∙◌, ℕ, [], ◌∷◌, true, Option, Some, sym, ap, subst}
+use Rattle.std.proofs.Common.{◌≡◌, ◌∙◌, [], ◌∷◌, true, Option, Some, sym, ap, subst}
 use Rattle.std.specs.Prelude.{◌==◌, ◌⊎◌, is_some}
 use Rattle.plain_table.specs.Boxes.{dims_of, given_bounds, is_ordered}
 use Rattle.plain_table.specs.Step.{first_refusal, missing_refusals, object_row}
@@ -33,5 +33,5 @@ returns-in-Err-clause-allowed g c = λ t name box sound located axes given.
     let rose = Rose c.args.self.now c.box_of.new.self in
     let right : (dims_of box == layer.dims) ≡ true = tested_same (dims_of box) layer.dims there.dims located.dims ((sym c.from.ensures ∙ c.if-from.false) ∙ sym axes) in
     let test : is_ordered (dims_of box) (given_bounds box) ≡ is_some c.try_new.result = (λ i. is_ordered (axes i) (given i)) ∙ sym c.try_new.ensures.test in
-    subst (λ (o : Option Refusal). (o ≡ Some c.in-Err.refusal) ⊎ IsFault rose ⊥ c.in-Err.refusal) (sym (good_box layer id box right (test ∙ ap is_some c.in-Some.is)))
+    subst (λ (o : Option Refusal). (o ≡ Some c.in-Err.refusal) ⊎ IsFault rose c.in-Err.refusal) (sym (good_box layer id box right (test ∙ ap is_some c.in-Some.is)))
     (none_answered rose (first_refusal (missing_refusals layer id)) (object_row layer id ∷ []) c.in-Err.refusal (c.in-Err.ensures.replied t name sound located))

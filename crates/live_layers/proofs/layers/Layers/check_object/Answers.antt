@@ -11,7 +11,7 @@ use Rattle.store_law.specs.Lawful.{IsFault}
 use Rattle.live_layers.specs.Changes.{Rose}
 use Rattle.live_layers.proofs.AskLemmas.{device_refuses, risen_of, tested_other, tested_same}
 use Rattle.live_layers.proofs.InsertLemmas.{bad_box, duplicate, full_so, none_refuses, room_so, too_many, wrong_dims}
-use Rattle.live_layers.proofs.KeepLemmas.{sound_kept}
+use Rattle.live_layers.proofs.QuestionLemmas.{asks_and_answers, asks_and_fails, asks_and_refuses}
 use Rattle.live_layers.proofs.layers.Layers.check_object.Goals as goal
 
 pub returns-then-from-clause-allowed : goal.returns-then-from-clause-allowed
@@ -40,11 +40,8 @@ returns-in-Err-clause-allowed g c = λ t name box sound located axes given.
     let its : there.dims ≡ g.row.D = sym c.from.ensures ∙ c.if-from.false in
     let stand : IdsStand g.row.D (pages old.cache) located.layer.ids = subst (λ (k : ℕ). IdsStand k (pages old.cache) located.layer.ids) its located.stands.ids in
     let new = record old { cache = c.get.new.cache } in
-    inr (subst (λ (x : Refusal). IsFault (Rose old new) ⊥ x) (sym c.as_refusal.ensures)
-    (device_refuses (Rose old new) ⊥ c.in-Err.fault (c.in-Err.ensures.stands sound.map.honest located.layer.ids located.stands.directory_is stand) (risen_of _ _ c.in-Err.fault c.in-Err.ensures.asks.faults)))
-
-pub returns-in-Err-clause-sound : goal.returns-in-Err-clause-sound
-returns-in-Err-clause-sound g c = λ t sound. sound_kept c.args.self.now _ t c.get.ensures.asks.map refl refl (λ w. w) sound
+    inr (subst (λ (x : Refusal). IsFault (Rose old new) x) (sym c.as_refusal.ensures)
+    (device_refuses (Rose old new) c.in-Err.fault (c.in-Err.ensures.stands sound.map.honest located.layer.ids located.stands.directory_is stand) (risen_of _ _ c.in-Err.fault c.in-Err.ensures.asks.faults)))
 
 pub returns-then-is_some-clause-allowed : goal.returns-then-is_some-clause-allowed
 returns-then-is_some-clause-allowed g c = λ t name box sound located axes given.
@@ -60,9 +57,6 @@ returns-then-is_some-clause-allowed g c = λ t name box sound located axes given
     let found = c.in-Ok.ensures.found sound.map.honest located.layer.ids located.stands.directory_is stand in
     let has : contains_key layer.objects id ≡ c.is_some.result = ap (λ (o : Objects). is_some (find_in o id)) (sym located.stands.table) ∙ ap is_some (sym found) ∙ sym c.is_some.ensures in
     inl (duplicate layer id box full right (test ∙ ap is_some c.in-Some.is) (has ∙ c.if-is_some.true))
-
-pub returns-then-is_some-clause-sound : goal.returns-then-is_some-clause-sound
-returns-then-is_some-clause-sound g c = λ t sound. sound_kept c.args.self.now _ t c.get.ensures.asks.map refl refl (λ w. w) sound
 
 pub returns-then-self-ge-MOST_OBJECTS-clause-allowed : goal.returns-then-self-ge-MOST_OBJECTS-clause-allowed
 returns-then-self-ge-MOST_OBJECTS-clause-allowed g c = λ t name box sound located axes given.
@@ -80,9 +74,6 @@ returns-then-self-ge-MOST_OBJECTS-clause-allowed g c = λ t name box sound locat
     inl (too_many layer id box full right (test ∙ ap is_some c.in-Some.is) (has ∙ c.if-is_some.false)
     (full_so old.object_count most_objects (object_count t) c.if-self-ge-MOST_OBJECTS.true sound.counted))
 
-pub returns-then-self-ge-MOST_OBJECTS-clause-sound : goal.returns-then-self-ge-MOST_OBJECTS-clause-sound
-returns-then-self-ge-MOST_OBJECTS-clause-sound g c = λ t sound. sound_kept c.args.self.now _ t c.get.ensures.asks.map refl refl (λ w. w) sound
-
 pub returns-clause-allowed : goal.returns-clause-allowed
 returns-clause-allowed g c = λ t name box sound located axes given.
     let old = c.args.self.now in
@@ -99,5 +90,14 @@ returns-clause-allowed g c = λ t name box sound located axes given.
     none_refuses layer id box full right (test ∙ ap is_some c.in-Some.is) (has ∙ c.if-is_some.false)
     (room_so old.object_count most_objects (object_count t) c.if-self-ge-MOST_OBJECTS.false sound.counted)
 
-pub returns-clause-sound : goal.returns-clause-sound
-returns-clause-sound g c = λ t sound. sound_kept c.args.self.now _ t c.get.ensures.asks.map refl refl (λ w. w) sound
+pub returns-in-Err-clause-keeps : goal.returns-in-Err-clause-keeps
+returns-in-Err-clause-keeps g c = asks_and_fails c.args.self.now _ c.in-Err.fault c.as_refusal.ensures (refl, refl, refl) c.in-Err.ensures.asks
+
+pub returns-then-is_some-clause-keeps : goal.returns-then-is_some-clause-keeps
+returns-then-is_some-clause-keeps g c = asks_and_refuses c.args.self.now _ refl (refl, refl, refl) c.in-Ok.ensures.asks
+
+pub returns-then-self-ge-MOST_OBJECTS-clause-keeps : goal.returns-then-self-ge-MOST_OBJECTS-clause-keeps
+returns-then-self-ge-MOST_OBJECTS-clause-keeps g c = asks_and_refuses c.args.self.now _ refl (refl, refl, refl) c.in-Ok.ensures.asks
+
+pub returns-clause-keeps : goal.returns-clause-keeps
+returns-clause-keeps g c = asks_and_answers c.args.self.now _ (refl, refl, refl) c.in-Ok.ensures.asks

@@ -7,11 +7,12 @@ use Rattle.plain_table.specs.Commands.Command.{Dump}
 use Rattle.plain_table.specs.Listings.{all_lines, dump_lines}
 use Rattle.plain_table.specs.Step.Answer.{Dumped}
 use Rattle.plain_table.specs.declared.refusal.Refusal.{Refusal}
-use Rattle.store_law.specs.Lawful.{IsFault, IsSpent, MayWrite}
+use Rattle.store_law.specs.Lawful.{IsFault}
 use Rattle.live_layers.specs.Layers.{row_of}
 use Rattle.live_layers.specs.Listing.{lines_of}
 use Rattle.live_layers.proofs.AskLemmas.{device_refuses, risen_of}
 use Rattle.live_layers.proofs.KeepLemmas.{sound_kept}
+use Rattle.live_layers.proofs.QuestionLemmas.{asks_and_answers, asks_and_fails}
 use Rattle.live_layers.proofs.layers.Layers.dump.Goals as goal
 
 pub returns-in-Ok-clause-answered : goal.returns-in-Ok-clause-answered
@@ -27,9 +28,14 @@ returns-in-Err-clause-answered g c = λ t sound.
     let new = c.dump_layers.new.cache in
     let hs = sound.holds.layers in
     let rows : map row_of hs ≡ map record_of c.deref.result.now = sound.holds.rows ∙ sym (ap (map record_of) c.deref.ensures.0) in
-    let rose = HasRisen (g.B.BlockDevice.faults (device_of old)) (g.B.BlockDevice.faults (device_of new)) in
-    let spent = IsSpent (next_of new) × MayWrite t Dump in (
+    let rose = HasRisen (g.B.BlockDevice.faults (device_of old)) (g.B.BlockDevice.faults (device_of new)) in (
       sound_kept c.args.self.now _ t c.dump_layers.ensures.asks.map refl refl (λ w. w) sound,
-      inr (subst (λ (x : Refusal). IsFault rose spent x) (sym c.as_refusal.ensures)
-          (device_refuses rose spent c.in-Err.fault (c.in-Err.ensures.stands sound.map.honest hs rows sound.holds.stand) (risen_of _ _ c.in-Err.fault c.in-Err.ensures.asks.faults))),
+      inr (subst (λ (x : Refusal). IsFault rose x) (sym c.as_refusal.ensures)
+          (device_refuses rose c.in-Err.fault (c.in-Err.ensures.stands sound.map.honest hs rows sound.holds.stand) (risen_of _ _ c.in-Err.fault c.in-Err.ensures.asks.faults))),
     )
+
+pub returns-in-Ok-clause-keeps : goal.returns-in-Ok-clause-keeps
+returns-in-Ok-clause-keeps g c = asks_and_answers c.args.self.now _ (refl, refl, refl) c.in-Ok.ensures.asks
+
+pub returns-in-Err-clause-keeps : goal.returns-in-Err-clause-keeps
+returns-in-Err-clause-keeps g c = asks_and_fails c.args.self.now _ c.in-Err.fault c.as_refusal.ensures (refl, refl, refl) c.in-Err.ensures.asks

@@ -1,43 +1,37 @@
 -- The tree is packed and the table filled, and the record says so; or the change was refused, or broke off.
-use Rattle.std.proofs.Common.{refl, sym, subst, inl, arith}
-use Rattle.std.specs.Prelude.{Ok}
-use Rattle.page_cache.specs.declared.cache.PageCache.{PageCache}
+use Rattle.std.proofs.Common.{length, refl, arith}
 use Rattle.plain_table.specs.Table.{layer_at}
-use Rattle.live_layers.specs.Begun.{Begins}
+use Rattle.layer_pages.specs.Changes.{most_loaded_pages}
+use Rattle.live_layers.proofs.CountLemmas.{no_page_wanted_by_load}
 use Rattle.live_layers.specs.Rules.{HasFilled}
-use Rattle.live_layers.proofs.BegunLemmas.{begun_and_broke, begun_and_made, handed_on}
+use Rattle.live_layers.proofs.BegunLemmas.{broke_behind, made_behind, not_opened}
 use Rattle.live_layers.proofs.FillLemmas.{sound_filled, stands_empty, tree_filled}
-use Rattle.live_layers.proofs.KeepLemmas.{sound_kept}
 use Rattle.live_layers.proofs.ReplaceLemmas.{changes_before, reading}
-use Rattle.live_layers.proofs.Results.{any_err, the_err}
+use Rattle.live_layers.proofs.Results.{the_err}
 use Rattle.live_layers.proofs.layers.Layers.fill.Goals as goal
-
-pub returns-in_err-begin-clause-untouched : goal.returns-in_err-begin-clause-untouched
-returns-in_err-begin-clause-untouched g c = λ t sound. any_err c.from_residual.result _ (λ b quiet. c.begin.ensures.sound t sound)
-
-pub returns-in_err-begin-clause-faults : goal.returns-in_err-begin-clause-faults
-returns-in_err-begin-clause-faults g c = λ t name all sound finds dims none same. the_err c.from_residual.result _ _ c.from_residual.ensures.1 (inl c.in_err-begin.ensures.faults)
 
 pub returns-in_err-begin-clause-begins : goal.returns-in_err-begin-clause-begins
 returns-in_err-begin-clause-begins g c =
-    handed_on c.args.self.now.cache c.begin.new.self.cache c.in_err-begin.field-0.0 c.from_residual.result c.from_residual.ensures.1 c.in_err-begin.ensures.begins
+    not_opened c.args.self.now c.begin.new.self c.in_err-begin.field-0.0 c.from_residual.result c.from_residual.ensures.1 c.in_err-begin.ensures.begins c.begin.ensures.sound c.begin.ensures.written
 
-pub returns-in_err-root-clause-untouched : goal.returns-in_err-root-clause-untouched
-returns-in_err-root-clause-untouched g c = λ t sound. the_err c.from_residual-in_err-root.result c.in_err-root.field-0.0 _ c.from_residual-in_err-root.ensures.1
-    (λ quiet. sound_kept c.begin.new.self _ t (c.in_err-root.ensures.alters.untouched quiet) refl refl (λ w. w) (c.begin.ensures.sound t sound))
+pub returns-in_err-root-clause-begins : goal.returns-in_err-root-clause-begins
+returns-in_err-root-clause-begins g c =
+    broke_behind c.args.self.now c.begin.new.self _ c.in_err-root.field-0.0 c.from_residual-in_err-root.result c.from_residual-in_err-root.ensures.1 (refl, refl, refl) c.in_ok-begin.ensures.begins c.begin.ensures.sound c.begin.ensures.written
+    c.in_err-root.ensures.alters
+
+pub returns-in_err-begin-clause-faults : goal.returns-in_err-begin-clause-faults
+returns-in_err-begin-clause-faults g c = λ t name all sound finds dims none same. the_err c.from_residual.result _ _ c.from_residual.ensures.1 c.in_err-begin.ensures.faults
 
 pub returns-in_err-root-clause-faults : goal.returns-in_err-root-clause-faults
 returns-in_err-root-clause-faults g c = λ t name all sound finds dims none same.
     let kept = c.begin.new.self in
+    let count = length c.args.objects.now in
     let before = c.begin.ensures.sound t sound in
     let located = c.locate-located.result in
     let empty_there = stands_empty kept t name c.args.place before finds located c.locate-located.ensures.by_record g.row.D dims none in
     the_err c.from_residual-in_err-root.result c.in_err-root.field-0.0 _ c.from_residual-in_err-root.ensures.1
-    (c.in_err-root.ensures.faults before.map (reading kept t name c.args.place before finds).pages located.fanout all empty_there same)
-
-pub returns-in_err-root-clause-begins : goal.returns-in_err-root-clause-begins
-returns-in_err-root-clause-begins g c =
-    begun_and_broke c.args.self.now.cache c.begin.new.self.cache c.load.new.cache tt c.in_err-root.field-0.0 c.from_residual-in_err-root.result c.from_residual-in_err-root.ensures.1 c.in_ok-begin.ensures.begins c.in_err-root.ensures.alters
+    (no_page_wanted_by_load kept t before c.locate-located.ensures.few (most_loaded_pages count) count c.load.new.cache _ (omega (arith, c.requires.room, c.begin.ensures.count)) (omega (arith)) c.load.ensures.grows
+    (c.in_err-root.ensures.faults before.map (reading kept t name c.args.place before finds).pages located.fanout all empty_there same))
 
 pub returns-clause-filled : goal.returns-clause-filled
 returns-clause-filled g c = λ t name all sound finds dims none same.
@@ -67,5 +61,4 @@ returns-clause-tree g c = λ t name all sound finds dims none same.
 
 pub returns-clause-begins : goal.returns-clause-begins
 returns-clause-begins g c =
-    subst (λ (x : PageCache _ _ _). Begins c.args.self.now.cache x (Ok tt)) (sym c.note.ensures.cache)
-    (begun_and_made c.args.self.now.cache c.begin.new.self.cache c.load.new.cache tt tt c.in_ok-begin.ensures.begins c.in_ok-root.ensures.alters.changes)
+    made_behind c.args.self.now c.begin.new.self _ c.load.new.cache c.note.ensures.cache c.in_ok-begin.ensures.begins c.in_ok-root.ensures.alters.changes

@@ -7,7 +7,6 @@ use Rattle.plain_table.specs.Commands.Command.{Join}
 use Rattle.plain_table.specs.Step.{join_rows}
 use Rattle.plain_table.specs.Table.{layer_at}
 use Rattle.plain_table.specs.declared.refusal.Refusal.TheVariants as refusal
-use Rattle.store_law.specs.Lawful.{IsSpent, MayWrite}
 use Rattle.tree_node.specs.Joins.{admitted_pairs}
 use Rattle.live_layers.specs.Changes.{Rose}
 use Rattle.live_layers.specs.Questions.{LooksAtTrees}
@@ -59,7 +58,7 @@ returns-then-left-eq2-clause-answered g c = λ t sound.
     let new = c.pairs_in.new.self in
     let rose = Rose c.args.self.now new in
     let reply = pairs_replied rose (join_rows (layer_at t first) (layer_at t second)) c.pairs_in.result (c.pairs_in.ensures.pairs t first second sound located other) (c.pairs_in.ensures.fault t first second sound located other) in
-    (c.pairs_in.ensures.sound t sound, replied rose (IsSpent (next_of new.cache) × MayWrite t (Join first second)) t (Join first second) None (pairs_answer c.pairs_in.result) (joins t first second named named' c.in-Ok.place finds c.in-Ok-find.other_place finds' same) reply)
+    (c.pairs_in.ensures.keeps.sound t sound, replied rose t (Join first second) None (pairs_answer c.pairs_in.result) (joins t first second named named' c.in-Ok.place finds c.in-Ok-find.other_place finds' same) reply)
 
 pub returns-then-left-eq2-clause-looks : goal.returns-then-left-eq2-clause-looks
 returns-then-left-eq2-clause-looks g c = λ t sound.
@@ -85,7 +84,7 @@ returns-else-left-eq2-clause-answered g c = λ t sound.
     let new = c.pairs_in-else-left-eq2.new.self in
     let rose = Rose c.args.self.now new in
     let reply = pairs_replied rose (join_rows (layer_at t first) (layer_at t second)) c.pairs_in-else-left-eq2.result (c.pairs_in-else-left-eq2.ensures.pairs t first second sound located other) (c.pairs_in-else-left-eq2.ensures.fault t first second sound located other) in
-    (c.pairs_in-else-left-eq2.ensures.sound t sound, replied rose (IsSpent (next_of new.cache) × MayWrite t (Join first second)) t (Join first second) None (pairs_answer c.pairs_in-else-left-eq2.result) (joins t first second named named' c.in-Ok.place finds c.in-Ok-find.other_place finds' same) reply)
+    (c.pairs_in-else-left-eq2.ensures.keeps.sound t sound, replied rose t (Join first second) None (pairs_answer c.pairs_in-else-left-eq2.result) (joins t first second named named' c.in-Ok.place finds c.in-Ok-find.other_place finds' same) reply)
 
 pub returns-else-left-eq2-clause-looks : goal.returns-else-left-eq2-clause-looks
 returns-else-left-eq2-clause-looks g c = λ t sound.

@@ -1,5 +1,5 @@
 -- The record at the place is that of a layer that may be, and says where the layer stands.
-use Rattle.std.proofs.Common.{◌≡◌, ◌∙◌, List, get_or, ap, arith, sym}
+use Rattle.std.proofs.Common.{◌≡◌, ◌∙◌, List, get_or, length, ap, arith, sym}
 use Rattle.std.proofs.lemmas.List.{get_or-map, length-map}
 use Rattle.catalog_page.specs.Layout.{record_of, records_of}
 use Rattle.catalog_page.specs.declared.layer_record.LayerRecord.{LayerRecord}
@@ -41,6 +41,11 @@ returns-clause-located g c = λ t name sound finds.
     let r = c.index-deref-place.result in
     let is : r ≡ get_or kept.records.items place r = c.index-deref-place.is ∙ ap (λ (xs : List LayerRecord). get_or xs place r) c.deref.ensures.0 in
     located_here kept t name place sound finds r is
+
+pub returns-clause-few : goal.returns-clause-few
+returns-clause-few g c =
+    let items = c.args.self.now.records.items in
+    omega (arith, c.deref.ensures.1, ap length c.deref.ensures.0, length-map items record_of)
 
 pub returns-clause-by_record : goal.returns-clause-by_record
 returns-clause-by_record g c = λ d.

@@ -11,7 +11,6 @@ use Rattle.plain_table.specs.declared.boxes.RawPoint.{RawPoint}
 use Rattle.plain_table.specs.declared.boxes.RawPoint.TheVariants as raw
 use Rattle.tree_node.specs.Searches.{admitted}
 use Rattle.page_cache.specs.Cache.{next_of}
-use Rattle.store_law.specs.Lawful.{IsSpent, MayWrite}
 use Rattle.live_layers.specs.Changes.{IsAnswered, Rose}
 use Rattle.live_layers.specs.Keeping.{LooksAtTree}
 use Rattle.live_layers.proofs.ReplyLemmas.{err_distances, refused, replied}
@@ -31,7 +30,7 @@ returns-in-Two-clause-answered g c = λ t sound.
     let located = c.locate-located.ensures.located t name sound (c.in_ok-place.ensures.found t sound) in
     let p = raw.Two c.in-Two.point in
     subst (λ (point : RawPoint). IsAnswered c.args.self.now c.nearest_to.new.self t (Nearest name k point) (distances_answer c.nearest_to.result)) (sym c.in-Two.is)
-    (c.nearest_to.ensures.sound t sound, replied (Rose c.args.self.now c.nearest_to.new.self) (IsSpent (next_of c.nearest_to.new.self.cache) × MayWrite t (Nearest name k p)) t (Nearest name k p) (first_refusal (nearest_refusals (layer_at t name).dims k p)) (distances_answer c.nearest_to.result) (c.in_ok-place.ensures.named t sound (nearest_refusals (layer_at t name).dims k p)) (c.nearest_to.ensures.replied t name sound located))
+    (c.nearest_to.ensures.keeps.sound t sound, replied (Rose c.args.self.now c.nearest_to.new.self) t (Nearest name k p) (first_refusal (nearest_refusals (layer_at t name).dims k p)) (distances_answer c.nearest_to.result) (c.in_ok-place.ensures.named t sound (nearest_refusals (layer_at t name).dims k p)) (c.nearest_to.ensures.replied t name sound located))
 
 pub returns-in-Two-clause-looks : goal.returns-in-Two-clause-looks
 returns-in-Two-clause-looks g c = λ t sound.
@@ -48,7 +47,7 @@ returns-in-Three-clause-answered g c = λ t sound.
     let located = c.locate-located.ensures.located t name sound (c.in_ok-place.ensures.found t sound) in
     let p = raw.Three c.in-Three.point in
     subst (λ (point : RawPoint). IsAnswered c.args.self.now c.nearest_to-in-Three.new.self t (Nearest name k point) (distances_answer c.nearest_to-in-Three.result)) (sym c.in-Three.is)
-    (c.nearest_to-in-Three.ensures.sound t sound, replied (Rose c.args.self.now c.nearest_to-in-Three.new.self) (IsSpent (next_of c.nearest_to-in-Three.new.self.cache) × MayWrite t (Nearest name k p)) t (Nearest name k p) (first_refusal (nearest_refusals (layer_at t name).dims k p)) (distances_answer c.nearest_to-in-Three.result) (c.in_ok-place.ensures.named t sound (nearest_refusals (layer_at t name).dims k p)) (c.nearest_to-in-Three.ensures.replied t name sound located))
+    (c.nearest_to-in-Three.ensures.keeps.sound t sound, replied (Rose c.args.self.now c.nearest_to-in-Three.new.self) t (Nearest name k p) (first_refusal (nearest_refusals (layer_at t name).dims k p)) (distances_answer c.nearest_to-in-Three.result) (c.in_ok-place.ensures.named t sound (nearest_refusals (layer_at t name).dims k p)) (c.nearest_to-in-Three.ensures.replied t name sound located))
 
 pub returns-in-Three-clause-looks : goal.returns-in-Three-clause-looks
 returns-in-Three-clause-looks g c = λ t sound.

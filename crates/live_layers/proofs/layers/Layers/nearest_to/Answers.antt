@@ -16,8 +16,8 @@ use Rattle.std.specs.Prelude.{Option, ◌==◌}
 use Rattle.tree_node.specs.Searches.{admitted, counted}
 use Rattle.live_layers.proofs.AskLemmas.{device_refuses, risen_of, tested_same}
 use Rattle.live_layers.proofs.ReplyLemmas.{good_count, reply_failed}
-use Rattle.live_layers.proofs.KeepLemmas.{sound_kept}
 use Rattle.live_layers.proofs.LocateLemmas.{stands_with}
+use Rattle.live_layers.proofs.QuestionLemmas.{asks_and_answers, asks_and_fails}
 use Rattle.live_layers.proofs.layers.Layers.nearest_to.Goals as goal
 
 pub returns-in-Ok-clause-replied : goal.returns-in-Ok-clause-replied
@@ -57,9 +57,6 @@ returns-in-Ok-clause-looks g c = λ t name sound located.
           ∙ ap (λ (rows : List (ℕ × ℕ)). counted (looks_of old.cache) (admitted (is_searched g.row.D c.args.k point rows) tree)) nearest;
     }
 
-pub returns-in-Ok-clause-sound : goal.returns-in-Ok-clause-sound
-returns-in-Ok-clause-sound g c = λ t sound. sound_kept c.args.self.now _ t c.nearest.ensures.asks.map refl refl (λ w. w) sound
-
 pub returns-in-Err-clause-replied : goal.returns-in-Err-clause-replied
 returns-in-Err-clause-replied g c = λ t name sound located.
     let there = c.args.located.now in
@@ -68,8 +65,11 @@ returns-in-Err-clause-replied g c = λ t name sound located.
     let layer = layer_at t name in
     let rose = HasRisen (g.B.BlockDevice.faults (device_of c.args.self.now.cache)) (g.B.BlockDevice.faults (device_of c.nearest.new.cache)) in
     reply_failed rose (first_refusal ((not (g.row.D == layer.dims), refusal.WrongDims) ∷ (not (is_count c.args.k), refusal.BadCount) ∷ []))
-    (Distances (take c.args.k (by_distance layer.dims c.args.point.now (entries layer.objects)))) _ _ (device_refuses rose ⊥ c.in-Err.fault (c.in-Err.ensures.stands sound.map.honest located.layer.tree there.fanout at.tree) (risen_of _ _ c.in-Err.fault c.in-Err.ensures.asks.faults))
+    (Distances (take c.args.k (by_distance layer.dims c.args.point.now (entries layer.objects)))) _ _ (device_refuses rose c.in-Err.fault (c.in-Err.ensures.stands sound.map.honest located.layer.tree there.fanout at.tree) (risen_of _ _ c.in-Err.fault c.in-Err.ensures.asks.faults))
     (ap Refused c.as_refusal.ensures)
 
-pub returns-in-Err-clause-sound : goal.returns-in-Err-clause-sound
-returns-in-Err-clause-sound g c = λ t sound. sound_kept c.args.self.now _ t c.nearest.ensures.asks.map refl refl (λ w. w) sound
+pub returns-in-Ok-clause-keeps : goal.returns-in-Ok-clause-keeps
+returns-in-Ok-clause-keeps g c = asks_and_answers c.args.self.now _ (refl, refl, refl) c.in-Ok.ensures.asks
+
+pub returns-in-Err-clause-keeps : goal.returns-in-Err-clause-keeps
+returns-in-Err-clause-keeps g c = asks_and_fails c.args.self.now _ c.in-Err.fault c.as_refusal.ensures (refl, refl, refl) c.in-Err.ensures.asks

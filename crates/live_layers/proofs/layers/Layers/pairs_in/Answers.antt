@@ -8,8 +8,8 @@ use Rattle.std.proofs.Common.{◌∙◌}
 use Rattle.store_law.specs.Lawful.{IsFault}
 use Rattle.live_layers.proofs.AskLemmas.{device_refuses, risen_of}
 use Rattle.live_layers.proofs.JoinLemmas.{pairs_are}
-use Rattle.live_layers.proofs.KeepLemmas.{sound_kept}
 use Rattle.live_layers.proofs.LocateLemmas.{stands_with}
+use Rattle.live_layers.proofs.QuestionLemmas.{asks_and_answers, asks_and_fails}
 use Rattle.live_layers.proofs.layers.Layers.pairs_in.Goals as goal
 
 pub returns-in-Ok-clause-pairs : goal.returns-in-Ok-clause-pairs
@@ -37,9 +37,6 @@ returns-in-Ok-clause-looks g c = λ t first second sound located other.
       looks = c.in-Ok.ensures.looks sound.map.honest located.layer.tree other.layer.tree left.fanout right.fanout at.tree at'.tree;
     }
 
-pub returns-in-Ok-clause-sound : goal.returns-in-Ok-clause-sound
-returns-in-Ok-clause-sound g c = λ t sound. sound_kept c.args.self.now _ t c.join.ensures.asks.map refl refl (λ w. w) sound
-
 pub returns-in-Err-clause-fault : goal.returns-in-Err-clause-fault
 returns-in-Err-clause-fault g c = λ t first second sound located other.
     let old = c.args.self.now in
@@ -48,8 +45,11 @@ returns-in-Err-clause-fault g c = λ t first second sound located other.
     let at = stands_with old t first left located g.row.D c.requires.left in
     let at' = stands_with old t second right other g.row.D c.requires.right in
     let rose = HasRisen (g.B.BlockDevice.faults (device_of old.cache)) (g.B.BlockDevice.faults (device_of c.join.new.cache)) in
-    subst (λ (x : Refusal). IsFault rose ⊥ x) (sym c.as_refusal.ensures)
-    (device_refuses rose ⊥ c.in-Err.fault (c.in-Err.ensures.stands sound.map.honest located.layer.tree other.layer.tree left.fanout right.fanout at.tree at'.tree) (risen_of _ _ c.in-Err.fault c.in-Err.ensures.asks.faults))
+    subst (λ (x : Refusal). IsFault rose x) (sym c.as_refusal.ensures)
+    (device_refuses rose c.in-Err.fault (c.in-Err.ensures.stands sound.map.honest located.layer.tree other.layer.tree left.fanout right.fanout at.tree at'.tree) (risen_of _ _ c.in-Err.fault c.in-Err.ensures.asks.faults))
 
-pub returns-in-Err-clause-sound : goal.returns-in-Err-clause-sound
-returns-in-Err-clause-sound g c = λ t sound. sound_kept c.args.self.now _ t c.join.ensures.asks.map refl refl (λ w. w) sound
+pub returns-in-Ok-clause-keeps : goal.returns-in-Ok-clause-keeps
+returns-in-Ok-clause-keeps g c = asks_and_answers c.args.self.now _ (refl, refl, refl) c.in-Ok.ensures.asks
+
+pub returns-in-Err-clause-keeps : goal.returns-in-Err-clause-keeps
+returns-in-Err-clause-keeps g c = asks_and_fails c.args.self.now _ c.in-Err.fault c.as_refusal.ensures (refl, refl, refl) c.in-Err.ensures.asks

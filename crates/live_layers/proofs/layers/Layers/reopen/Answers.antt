@@ -1,7 +1,6 @@
 -- A closing that is finished, or refused, and what is read after it.
 use Rattle.std.proofs.Common.{◌∙◌}
 use Rattle.page_cache.specs.Laws.{the_gate_is_kept_in_turn}
-use Rattle.live_layers.specs.Closings.{ClosingLeaves}
 use Rattle.live_layers.proofs.ClosingLemmas.{read_image, rests_on_closed, then_read, unchanged_keeps_gate}
 use Rattle.live_layers.proofs.layers.Layers.reopen.Goals as goal
 

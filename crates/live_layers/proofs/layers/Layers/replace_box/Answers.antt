@@ -1,14 +1,12 @@
 -- The object has the other box in the tree and in the table, and the record says so; or the change was refused, or broke
 -- off.
-use Rattle.std.proofs.Common.{refl, sym, subst, arith}
-use Rattle.std.specs.Prelude.{Ok}
-use Rattle.page_cache.specs.declared.cache.PageCache.{PageCache}
+use Rattle.std.proofs.Common.{refl, arith}
 use Rattle.plain_table.specs.Table.{layer_at}
-use Rattle.live_layers.specs.Begun.{Begins}
+use Rattle.layer_pages.specs.Changes.{most_replaced_pages}
+use Rattle.live_layers.proofs.CountLemmas.{no_page_wanted}
 use Rattle.live_layers.specs.Rules.{HasMoved}
 use Rattle.live_layers.proofs.AddLemmas.{stands_at}
-use Rattle.live_layers.proofs.BegunLemmas.{begun_and_broke, begun_and_made, none_begun}
-use Rattle.live_layers.proofs.KeepLemmas.{sound_kept}
+use Rattle.live_layers.proofs.BegunLemmas.{broke_behind, made_behind, no_memory, not_opened}
 use Rattle.live_layers.proofs.ReplaceLemmas.{changes_before, reading}
 use Rattle.live_layers.proofs.Results.{the_err}
 use Rattle.live_layers.proofs.MoveLemmas.{sound_moved, tree_moved}
@@ -16,17 +14,20 @@ use Rattle.live_layers.proofs.layers.Layers.replace_box.Goals as goal
 
 pub returns-in_err-waiting-clause-begins : goal.returns-in_err-waiting-clause-begins
 returns-in_err-waiting-clause-begins g c =
-    let cache = c.args.self.now.cache in
-    none_begun cache c.in_err-waiting.field-0.0 c.from_residual.result c.from_residual.ensures.1 c.in_err-waiting.ensures (λ honest b left. g.met.B.BlockDevice.only_now cache.file.device b honest left)
+    no_memory c.args.self.now c.in_err-waiting.field-0.0 c.from_residual.result c.from_residual.ensures.1 c.in_err-waiting.ensures g.met.B.BlockDevice.only_now
 
 pub returns-in_err-kept-clause-begins : goal.returns-in_err-kept-clause-begins
 returns-in_err-kept-clause-begins g c =
-    let cache = c.args.self.now.cache in
-    none_begun cache c.in_err-kept.field-0.0 c.from_residual-in_err-kept.result c.from_residual-in_err-kept.ensures.1 c.in_err-kept.ensures (λ honest b left. g.met.B.BlockDevice.only_now cache.file.device b honest left)
+    no_memory c.args.self.now c.in_err-kept.field-0.0 c.from_residual-in_err-kept.result c.from_residual-in_err-kept.ensures.1 c.in_err-kept.ensures g.met.B.BlockDevice.only_now
 
-pub returns-in_err-root-clause-untouched : goal.returns-in_err-root-clause-untouched
-returns-in_err-root-clause-untouched g c = λ t sound. the_err c.from_residual-in_err-root.result c.in_err-root.field-0.0 _ c.from_residual-in_err-root.ensures.1
-    (λ quiet. sound_kept c.begin.new.self _ t (c.in_err-root.ensures.alters.untouched quiet) refl refl (λ w. w) (c.begin.ensures.sound t sound))
+pub returns-in_err-begin-clause-begins : goal.returns-in_err-begin-clause-begins
+returns-in_err-begin-clause-begins g c =
+    not_opened c.args.self.now c.begin.new.self c.in_err-begin.field-0.0 c.from_residual-in_err-begin.result c.from_residual-in_err-begin.ensures.1 c.in_err-begin.ensures.begins c.begin.ensures.sound c.begin.ensures.written
+
+pub returns-in_err-root-clause-begins : goal.returns-in_err-root-clause-begins
+returns-in_err-root-clause-begins g c =
+    broke_behind c.args.self.now c.begin.new.self _ c.in_err-root.field-0.0 c.from_residual-in_err-root.result c.from_residual-in_err-root.ensures.1 (refl, refl, refl) c.in_ok-begin.ensures.begins c.begin.ensures.sound c.begin.ensures.written
+    c.in_err-root.ensures.alters
 
 pub returns-in_err-root-clause-faults : goal.returns-in_err-root-clause-faults
 returns-in_err-root-clause-faults g c = λ t name sound finds dims there.
@@ -34,11 +35,8 @@ returns-in_err-root-clause-faults g c = λ t name sound finds dims there.
     let before = c.begin.ensures.sound t sound in
     let at = stands_at kept t name c.args.place before finds c.locate-located.result c.locate-located.ensures.by_record g.row.D dims in
     the_err c.from_residual-in_err-root.result c.in_err-root.field-0.0 _ c.from_residual-in_err-root.ensures.1
-    (c.in_err-root.ensures.faults before.map (reading kept t name c.args.place before finds).pages (layer_at t name).objects at there)
-
-pub returns-in_err-root-clause-begins : goal.returns-in_err-root-clause-begins
-returns-in_err-root-clause-begins g c =
-    begun_and_broke c.args.self.now.cache c.begin.new.self.cache c.replace.new.cache tt c.in_err-root.field-0.0 c.from_residual-in_err-root.result c.from_residual-in_err-root.ensures.1 c.in_ok-begin.ensures.begins c.in_err-root.ensures.alters
+    (no_page_wanted kept t before c.locate-located.ensures.few most_replaced_pages c.replace.new.cache _ (omega (arith)) c.replace.ensures.grows
+    (c.in_err-root.ensures.faults before.map (reading kept t name c.args.place before finds).pages (layer_at t name).objects at there))
 
 pub returns-clause-replaced : goal.returns-clause-replaced
 returns-clause-replaced g c = λ t name sound finds dims there.
@@ -66,5 +64,4 @@ returns-clause-tree g c = λ t name sound finds dims there.
 
 pub returns-clause-begins : goal.returns-clause-begins
 returns-clause-begins g c =
-    subst (λ (x : PageCache _ _ _). Begins c.args.self.now.cache x (Ok tt)) (sym c.note.ensures.cache)
-    (begun_and_made c.args.self.now.cache c.begin.new.self.cache c.replace.new.cache tt tt c.in_ok-begin.ensures.begins c.in_ok-root.ensures.alters.changes)
+    made_behind c.args.self.now c.begin.new.self _ c.replace.new.cache c.note.ensures.cache c.in_ok-begin.ensures.begins c.in_ok-root.ensures.alters.changes

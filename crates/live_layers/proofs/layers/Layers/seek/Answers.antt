@@ -30,5 +30,5 @@ returns-in-Err-clause-fault g c = λ t name sound located.
     let there = c.args.located.now in
     let at = stands_with c.args.self.now t name there located g.row.D c.requires.axes in
     let rose = Rose c.args.self.now c.seek_in_tree.new.self in
-    subst (λ (x : Refusal). IsFault rose ⊥ x) (sym c.as_refusal.ensures)
-    (device_refuses rose ⊥ c.in-Err.fault (c.in-Err.ensures.stands sound.map.honest located.layer.tree there.fanout at.tree) (risen_of _ _ c.in-Err.fault c.in-Err.ensures.asks.faults))
+    subst (λ (x : Refusal). IsFault rose x) (sym c.as_refusal.ensures)
+    (device_refuses rose c.in-Err.fault (c.in-Err.ensures.stands sound.map.honest located.layer.tree there.fanout at.tree) (risen_of _ _ c.in-Err.fault c.in-Err.ensures.asks.faults))

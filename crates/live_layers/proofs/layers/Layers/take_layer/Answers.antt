@@ -3,16 +3,20 @@ use Rattle.std.proofs.Common.{length, ap, arith, refl, inl}
 use Rattle.catalog_page.specs.Layout.{records_of}
 use Rattle.plain_table.specs.Table.{layer_at}
 use Rattle.live_layers.proofs.AddLemmas.{stands_at}
-use Rattle.live_layers.proofs.BegunLemmas.{begun_and_broke, begun_and_made}
+use Rattle.live_layers.proofs.BegunLemmas.{broke_behind, made_behind, not_opened}
 use Rattle.live_layers.proofs.DropLemmas.{keeps_before, one_less_may_be, sound_less, taken_out, trees_left}
-use Rattle.live_layers.proofs.KeepLemmas.{sound_kept}
 use Rattle.live_layers.proofs.ReplaceLemmas.{reading}
-use Rattle.live_layers.proofs.Results.{if_err, the_err}
+use Rattle.live_layers.proofs.Results.{the_err}
 use Rattle.live_layers.proofs.layers.Layers.take_layer.Goals as goal
 
-pub returns-in_err-free_pages-clause-untouched : goal.returns-in_err-free_pages-clause-untouched
-returns-in_err-free_pages-clause-untouched g c = λ t sound. the_err c.from_residual-in_err-free_pages.result c.in_err-free_pages.field-0.0 _ c.from_residual-in_err-free_pages.ensures.1
-    (λ quiet. sound_kept c.begin.new.self _ t (c.in_err-free_pages.ensures.alters.untouched quiet) refl refl (λ w. w) (c.begin.ensures.sound t sound))
+pub returns-in_err-begin-clause-begins : goal.returns-in_err-begin-clause-begins
+returns-in_err-begin-clause-begins g c =
+    not_opened c.args.self.now c.begin.new.self c.in_err-begin.field-0.0 c.from_residual.result c.from_residual.ensures.1 c.in_err-begin.ensures.begins c.begin.ensures.sound c.begin.ensures.written
+
+pub returns-in_err-free_pages-clause-begins : goal.returns-in_err-free_pages-clause-begins
+returns-in_err-free_pages-clause-begins g c =
+    broke_behind c.args.self.now c.begin.new.self _ c.in_err-free_pages.field-0.0 c.from_residual-in_err-free_pages.result c.from_residual-in_err-free_pages.ensures.1 (refl, refl, refl) c.in_ok-begin.ensures.begins c.begin.ensures.sound c.begin.ensures.written
+    c.in_err-free_pages.ensures.alters
 
 pub returns-in_err-free_pages-clause-faults : goal.returns-in_err-free_pages-clause-faults
 returns-in_err-free_pages-clause-faults g c = λ t name sound finds.
@@ -22,12 +26,7 @@ returns-in_err-free_pages-clause-faults g c = λ t name sound finds.
     let dims = (c.locate-located.ensures.located t name before finds).dims in
     let at = stands_at kept t name c.args.place before finds located c.locate-located.ensures.by_record located.dims dims in
     the_err c.from_residual-in_err-free_pages.result c.in_err-free_pages.field-0.0 _ c.from_residual-in_err-free_pages.ensures.1
-    (inl (c.in_err-free_pages.ensures.faults before.map (reading kept t name c.args.place before finds).pages located.fanout (layer_at t name).objects at))
-
-pub returns-in_err-free_pages-clause-begins : goal.returns-in_err-free_pages-clause-begins
-returns-in_err-free_pages-clause-begins g c =
-    begun_and_broke c.args.self.now.cache c.begin.new.self.cache c.free_pages.new.cache tt c.in_err-free_pages.field-0.0 c.from_residual-in_err-free_pages.result c.from_residual-in_err-free_pages.ensures.1 c.in_ok-begin.ensures.begins
-    c.in_err-free_pages.ensures.alters
+    (c.in_err-free_pages.ensures.faults before.map (reading kept t name c.args.place before finds).pages located.fanout (layer_at t name).objects at)
 
 pub invariant_of-self-2 : goal.invariant_of-self-2
 invariant_of-self-2 g c =
@@ -62,4 +61,4 @@ returns-clause-others g c = λ t name sound finds.
 
 pub returns-clause-begins : goal.returns-clause-begins
 returns-clause-begins g c =
-    begun_and_made c.args.self.now.cache c.begin.new.self.cache c.free_pages.new.cache tt tt c.in_ok-begin.ensures.begins c.in_ok-free_pages.ensures.alters.changes
+    made_behind c.args.self.now c.begin.new.self _ c.free_pages.new.cache refl c.in_ok-begin.ensures.begins c.in_ok-free_pages.ensures.alters.changes

@@ -3,7 +3,7 @@ use Rattle.std.proofs.Common.{◌≡◌, ◌∙◌, ◌<◌, ◌≤◌, List, No
 use Rattle.std.proofs.lemmas.List.{length-map, take_all}
 use Rattle.catalog_page.specs.Layout.{record_of}
 use Rattle.page_cache.specs.Cache.{pages}
-use Rattle.page_cache.specs.Calls.{asks_in_turn}
+use Rattle.page_cache.specs.Calls.{asks_and_refuses, asks_in_turn}
 use Rattle.page_file.specs.Fault.{IsOfDevice}
 use Rattle.plain_table.specs.Listings.{DumpLine, dump_lines}
 use Rattle.live_layers.specs.Layers.{Reading, entry_of, row_of}
@@ -17,6 +17,10 @@ use Rattle.live_layers.proofs.layers.dumping.dump_layers.Goals as goal
 
 pub dump_layer-requires : goal.dump_layer-requires
 dump_layer-requires g c = dims_fit c.args.records.now c.loop-record.record-index c.record-item.result c.record-item.is c.loop-record-test.true c.requires
+
+pub returns-in_err-dump_layer-clause-asks : goal.returns-in_err-dump_layer-clause-asks
+returns-in_err-dump_layer-clause-asks g c =
+    asks_and_refuses c.args.cache.now c.loop-record.cache c.dump_layer.new.cache c.in_err-dump_layer.field-0.0 c.from_residual.result c.from_residual.ensures.1 c.loop-record.invariant.asks c.in_err-dump_layer.ensures.asks
 
 pub returns-in_err-dump_layer-clause-stands : goal.returns-in_err-dump_layer-clause-stands
 returns-in_err-dump_layer-clause-stands g c = λ honest hs rows stand.

@@ -141,6 +141,7 @@ returns-clause-kept g c =
     let roomy : IsHonest old → old.file.header.next ≤ length X = room old mid new k c.first_free-first.result first gone in
     let may_of : IsHonest old → MayHaveGiven X Y old.file.header new.header = λ h. may old mid new k c.first_free-first.result first gone h (may_give (k.gate.honest.0 h)) in record {
       next = next ∙ ap (λ (x : Header). x.next) k.header;
+      free_count = count;
       pages_stay = λ h n. pages_unchanged X Y old.file.header new.header old.file.sound (roomy h) (may_of h) count n;
       given_stay = λ h n. given_unchanged X Y old.file.header new.header old.file.sound (roomy h) (may_of h) count n;
       sound = (
@@ -169,8 +170,8 @@ returns-clause-sound g c = λ map.
 pub returns-clause-all_live : goal.returns-clause-all_live
 returns-clause-all_live g c = λ is n low below.
     let old = c.args.self.now in let header = c.release.ensures.kept.header in
-    all_live (blocks_behind old) old.file.header (sym (ap (λ (x : Header). x.count) header) ∙ c.allocate.ensures.none_free is) n low
-    (omega (arith, below, c.allocate.ensures.no_pages is, ap (λ (x : Header). x.next) header))
+    all_live (blocks_behind old) old.file.header (sym (ap (λ (x : Header). x.count) header) ∙ (c.allocate.ensures.full is).0.1) n low
+    (omega (arith, below, (c.allocate.ensures.full is).0.0, ap (λ (x : Header). x.next) header))
 
 pub returns-clause-faults : goal.returns-clause-faults
 returns-clause-faults g c = λ map.

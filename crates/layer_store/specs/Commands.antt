@@ -1,0 +1,63 @@
+-- What each command keeps of the store that it works on: one word for commands that change, and one for those that ask.
+use Rattle.std.specs.Prelude.{◌≡◌, Bool, false, Result, Err}
+use Rattle.live_layers.specs.Faults.{HasRefusalCause}
+use Rattle.live_layers.specs.Image.{IsRefusedOrImageOf, MayRemain}
+use Rattle.live_layers.specs.Unmade.{is_broken, told}
+use Rattle.live_layers.specs.declared.unmade.Unmade.{Unmade}
+use Rattle.plain_table.specs.Answers.{done_answer}
+use Rattle.plain_table.specs.Commands.{Command}
+use Rattle.plain_table.specs.Step.{Answer, changes}
+use Rattle.plain_table.specs.Table.{Table}
+use Rattle.plain_table.specs.declared.refusal.Refusal.{Refusal}
+use Rattle.plain_table.specs.declared.refusal.Refusal.TheVariants as refusal
+use Rattle.store_law.specs.Sessions.{LawfulStep, SessionState, Takes}
+use Rattle.store_law.specs.States.Request.{Asks}
+use Rattle.store_law.specs.States.StoreState.{Alive, Dead}
+use Rattle.store_law.specs.Stops.{tables_left}
+use Rattle.layer_store.specs.Representation.{IsInState, IsSettled, KeepsStore, Represents, RepresentsTable, StopsLeave, device_in}
+use Rattle.layer_store.specs.declared.store.Store.{Store}
+
+-- the command was answered so, by one lawful step from whatever state of a session the store was in
+abbrev pub TakesStep : {D A : Type 0} {m : _} → Store D A m → Store D A m → Command → Answer → Type 0
+TakesStep old new c a = Takes Represents old new (λ s s'. LawfulStep s (Asks c) a s')
+
+-- a store that had failed answers so, and stays as it was, on any device
+abbrev pub StaysDead : {D A : Type 0} {m : _} {T : Type 0} → Store D A m → Store D A m → Result T Refusal → Type 0
+StaysDead old new result = IsInState old Dead → (result ≡ Err (refusal.StoreFailed 19)) × (new ≡ old)
+
+-- the count of the device's faults rose by one where it was refused with a fault of the device, and else not
+abbrev pub CountsFaults : {D A : Type 0} {m : _} {T : Type 0} → Store D A m → Store D A m → Result T Refusal → Type 0
+CountsFaults {m = m} old new result = HasRefusalCause (m.faults (device_in old)) (m.faults (device_in new)) result
+
+-- A command that may change the table was asked, and done or refused.
+pub record Changes {D A : Type 0} {m : _} (old new : Store D A m) (c : Command) (result : Result (Unit {0}) Refusal) : Type 0 where
+  -- it was answered by one lawful step
+  pub step : TakesStep old new c (done_answer result)
+  -- a stop leaves what one before the call leaves, or blocks that opening refuses
+  pub stops : (s : SessionState) (t : Table) → Represents old s → s.state ≡ Alive t → StopsLeave old new (IsRefusedOrImageOf (tables_left s.stops.now))
+  -- where the table stays, it leaves nothing else than before
+  pub quiet : (s : SessionState) (t : Table) → Represents old s → s.state ≡ Alive t → changes t c ≡ false → StopsLeave old new (MayRemain s.stops.now)
+  -- and what was settled is so still
+  pub settled : (t : Table) → RepresentsTable old t → changes t c ≡ false → IsSettled old → IsSettled new
+  -- a store that had failed stays so
+  pub dead : StaysDead old new result
+  -- faults of the device are counted
+  pub cause : CountsFaults old new result
+
+-- A command that only asks was asked, and its result is the answer.
+pub record Answers {D A : Type 0} {m : _} {T : Type 0} (old new : Store D A m) (c : Command) (answer : Result T Refusal → Answer) (result : Result T Refusal) : Type 0 where
+  -- it was answered by one lawful step
+  pub step : TakesStep old new c (answer result)
+  -- the gate stays with its moment, and the map of pages, and what was settled is so still
+  pub kept : KeepsStore old new
+  -- a stop leaves nothing else than before
+  pub stops : (s : SessionState) → Represents old s → StopsLeave old new (MayRemain s.stops.now)
+  -- a store that had failed stays so
+  pub dead : StaysDead old new result
+  -- faults of the device are counted
+  pub cause : CountsFaults old new result
+
+-- What was made of the layers is told, and where it broke off half way a store that was alive has failed.
+pub record Tells (old new : Bool) (made : Result (Unit {0}) Unmade) (result : Result (Unit {0}) Refusal) : Type 0 where
+  pub answer : result ≡ told made
+  pub failed : old ≡ false → new ≡ is_broken made
