@@ -21,3 +21,4 @@ pub mod GivenLemmas
 pub mod VisitLemmas
 pub mod BoxTests
 pub mod CheckLemmas
+pub mod DamageLemmas
