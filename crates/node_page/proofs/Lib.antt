@@ -23,3 +23,4 @@ pub mod VisitLemmas
 pub mod BoxTests
 pub mod CheckLemmas
 pub mod CountLemmas
+pub mod DamageLemmas

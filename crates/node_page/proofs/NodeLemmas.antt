@@ -17,6 +17,11 @@ pub at_error : {T : Type 0} (r : Result T Fault) (f : Fault) (P : Fault → Type
 at_error (Ok x) f P is p = tt
 at_error (Err e) f P is p = subst P (sym is) p
 
+-- what a refusal says, said in another way
+pub if_error : {T E : Type 0} (r : Result T E) (P Q : E → Type 0) → ((e : E) → P e → Q e) → IfErr r P → IfErr r Q
+if_error (Ok x) P Q so h = h
+if_error (Err e) P Q so h = so e h
+
 -- it is that refusal
 pub is_refusal : {T : Type 0} (r : Result T Fault) (f d : Fault) → IsErrAnd r (λ e. e ≡ f) → f ≡ d → r ≡ Err d
 is_refusal (Ok x) f d is same = elim is [ ]

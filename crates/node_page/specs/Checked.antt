@@ -1,12 +1,12 @@
 -- What a check of a tree finds (our rule, docs/FORMAT.md, "Trees of pages").
-use Rattle.std.specs.Prelude.{◌≡◌, ℕ, ◌+◌, List, ◌++◌, map}
+use Rattle.std.specs.Prelude.{◌≡◌, ℕ, ◌+◌, ◌<◌, List, [], ◌∷◌, ◌++◌, map, Contains, Some}
 use Rattle.box_math.specs.Bounds.{Bounds}
 use Rattle.node_page.specs.Visits.{times_in}
-use Rattle.tree_node.specs.Nodes.{Item, NodeContent}
+use Rattle.tree_node.specs.Nodes.{Item, NodeContent, references_of}
 use Rattle.tree_node.specs.Shape.{HasShape, RowHasShape}
 use Rattle.tree_node.specs.Trees.{Row, Tree, objects_in, occurs, occurs_in, row_items}
 use Rattle.node_page.specs.Parts.{Part}
-use Rattle.node_page.specs.Standing.{PageMap, RowStands, Stands}
+use Rattle.node_page.specs.Standing.{PageMap, RowStands, Stands, node_in}
 
 -- how often a list has each page
 abbrev pub named_pages : List ℕ → Part
@@ -36,3 +36,23 @@ pub record AddsTree (dims most : ℕ) (pages : PageMap) (c : NodeContent) (pairs
   pub shape : RowHasShape dims most row
   pub pairs_are : pairs ≡ pairs_before ++ objects_in row
   pub pages_are : (n : ℕ) → times_in n list ≡ times_in n list_before + occurs n row
+
+-- ---- the page that is damaged where no such tree stands
+
+-- a node names the page as that of a child
+abbrev pub Names : NodeContent → ℕ → Type 0
+Names c page = (0 < c.level) × Contains (references_of c) page
+
+-- a walk leads from one page to another, each time to a page that the node of the one before names
+abbrev pub Leads : ℕ → PageMap → ℕ → List ℕ → ℕ → Type 0
+Leads dims pages page [] last = last ≡ page
+Leads dims pages page (next ∷ walk) last =
+    ((c : NodeContent) × (node_in dims (pages page) ≡ Some c) × Names c next) × Leads dims pages next walk last
+
+-- some walk from a page comes to another
+abbrev pub ComesTo : ℕ → PageMap → ℕ → ℕ → Type 0
+ComesTo dims pages page last = (walk : List ℕ) × Leads dims pages page walk last
+
+-- and some walk from a child of a node
+abbrev pub ComesBelow : ℕ → PageMap → NodeContent → ℕ → Type 0
+ComesBelow dims pages c last = (next : ℕ) × Names c next × ComesTo dims pages next last

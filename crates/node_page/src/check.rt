@@ -10,7 +10,7 @@ ghost use Rattle.tree_node.specs.Boxes.{least_box};
 ghost use Rattle.tree_node.specs.Nodes.{content_of};
 ghost use Rattle.tree_node.specs.Shape.{HasShape, RowHasShape, least_entries};
 ghost use Rattle.tree_node.specs.Trees.{Row, Tree, occurs, row_items};
-ghost use Rattle.node_page.specs.Checked.{AddsTree, IsCheckedTree, pairs_of};
+ghost use Rattle.node_page.specs.Checked.{AddsTree, ComesBelow, ComesTo, IsCheckedTree, pairs_of};
 ghost use Rattle.node_page.specs.Layout.{IsSpellable};
 ghost use Rattle.node_page.specs.Standing.{RowStands, Stands};
 ghost use Rattle.node_page.specs.Visits.{times_in};
@@ -36,8 +36,9 @@ pub struct TreeFacts<const D: usize, H: Allocator> {
 /// Checks the tree at a root, each of whose nodes has at most `m_max` entries, and answers what it holds.
 ///
 /// On an honest device it answers so only where a tree of that shape stands at the root, no page of it twice; else it
-/// is `Damaged` with the number of a page. Where such a tree stands, a refusal is `Memory` or `Device`. It makes
-/// no more looks than page numbers were given out, whatever the pages are. Map and gate stay, also after a refusal.
+/// is `Damaged` with the number of a page that a walk down the nodes comes to. Where such a tree stands, a refusal is
+/// `Memory` or `Device`. It makes no more looks than page numbers were given out, whatever the pages are. Map and gate
+/// stay, also after a refusal.
 pub fn check_tree<const D: usize, B: BlockDevice, A: Allocator + Copy, H: Allocator + Copy>(
     alloc: H,
     cache: &mut PageCache<B, A>,
@@ -53,6 +54,8 @@ pub fn check_tree<const D: usize, B: BlockDevice, A: Allocator + Copy, H: Alloca
     ensures stands { IsHonest cache.old → (t : Tree) → t.page ≡ root.page → t.level ≡ root.level
         → Stands D (pages cache.old) t → HasShape D m_max t → IfErr result IsOfDevice }
     ensures looks { looks_of cache.new ≤ looks_of cache.old + next_of cache.old }
+    ensures damage { IsHonest cache.old
+        → IfErr result (λ f. (n : ℕ) → f ≡ fault.Damaged n → ComesTo D (given cache.old) root.page n) }
     ensures other_faults { IfErr result (λ f. IsOfDevice f ⊎ IsDamage f) }
 {
     let mut visits = Visits::new(alloc, cache.next_number())?;
@@ -109,6 +112,8 @@ fn add_below<const D: usize, B: BlockDevice, A: Allocator + Copy, H: Allocator +
     ensures numbers { length visits.new.marks.items ≡ length visits.old.marks.items }
     ensures looks { looks_of cache.new + length visits.old.pages.items
         ≤ looks_of cache.old + length visits.new.pages.items }
+    ensures damage { IsHonest cache.old → IfErr result (λ f. (n : ℕ) → f ≡ fault.Damaged n
+        → ComesBelow D (given cache.old) (content_of node.now) n) }
     ensures other_faults { IfErr result (λ f. IsOfDevice f ⊎ IsDamage f) }
 {
     if node.level == 0 {

@@ -79,8 +79,10 @@ pub fn read_into<const D: usize, B: BlockDevice, A: Allocator + Copy>(
     ensures looks { OnOk result (looks_of cache.new ≡ one_more (looks_of cache.old)) }
     ensures refused_looks { OnErr result
         ((looks_of cache.new ≡ looks_of cache.old) ⊎ (looks_of cache.new ≡ one_more (looks_of cache.old))) }
+    ensures outside { (page < 2) ⊎ (next_of cache.old ≤ page) → IsErrOf result (fault.Damaged page) }
     ensures there { IsHonest cache.old → (c : NodeContent) → node_in D (pages cache.old page) ≡ Some c
         → c.level ≡ level → IfErr result IsOfDevice }
+    ensures faults { IsHonest cache.old → IfErr result (λ f. IsOfDevice f ⊎ (f ≡ fault.Damaged page)) }
     ensures other_faults { IfErr result (λ f. IsOfDevice f ⊎ IsDamage f) }
 {
     if decode_into(cache.page(page)?, level, node) {

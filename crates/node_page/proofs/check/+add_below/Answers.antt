@@ -3,17 +3,20 @@ use Rattle.std.proofs.Common.{◌≡◌, ◌∙◌, ◌⊎◌, ℕ, ◌-◌, ◌
 use Rattle.std.proofs.lemmas.List.{length-map}
 use Rattle.block_device.specs.Device.{one_more}
 use Rattle.page_file.specs.Fault.{IsDamage, IsOfDevice}
+use Rattle.page_file.specs.declared.fault.Fault.TheVariants as fault
 use Rattle.page_cache.specs.Cache.{given, looks_of}
 use Rattle.page_cache.specs.Calls.{asks_and_refuses, asks_in_turn, no_call_asks}
 use Rattle.tree_node.specs.Nodes.{content_of, item_of}
 use Rattle.node_page.proofs.CheckLemmas.{adds_on, checked_all, checked_more, checked_none, leaf_adds, next_fits, next_here, next_node, next_unvisited, next_visited, one_longer, quiet_visit, refuses_quietly, visit_faults}
 use Rattle.tree_node.proofs.RowLemmas.{entry_item}
+use Rattle.node_page.specs.Checked.{ComesBelow}
 use Rattle.node_page.specs.Standing.{RowStands, node_in}
 use Rattle.node_page.specs.Visits.{times_in}
+use Rattle.node_page.proofs.DamageLemmas.{comes_below_child, comes_below_so, comes_to_child, damaged_read, damaged_visit, entry_names}
 use Rattle.node_page.proofs.GivenLemmas.{node_was_given_out}
 use Rattle.node_page.proofs.LeafLemmas.{child_page}
 use Rattle.node_page.proofs.StandingLemmas.{row_stays}
-use Rattle.node_page.proofs.NodeLemmas.{at_error, on_ok}
+use Rattle.node_page.proofs.NodeLemmas.{at_error, if_error, on_ok}
 use Rattle.node_page.proofs.check.+add_below.Goals as goal
 
 pub returns-then-node-eq0-clause-found : goal.returns-then-node-eq0-clause-found
@@ -156,3 +159,58 @@ loop-entry-preserved g t c =
       numbers = omega (arith, inv.numbers, c.in_ok-visit.ensures.marks, c.in_ok-add_below.ensures.numbers);
       looks = omega (arith, one_longer c.loop-entry.visits.pages.items c.visit.new.self.pages.items _ c.in_ok-visit.ensures.added, c.in_ok-below.ensures.looks, c.in_ok-add_below.ensures.looks, inv.looks);
     }
+
+pub returns-then-node-eq0-clause-damage : goal.returns-then-node-eq0-clause-damage
+returns-then-node-eq0-clause-damage g t c = λ h.
+    if_error c.add_pairs.result
+    (λ f. f ≡ fault.Memory)
+    (λ f. (n : ℕ) → f ≡ fault.Damaged n → ComesBelow g.row.D (given c.args.cache.now) (content_of c.args.node.now) n)
+    (λ f (memory : f ≡ fault.Memory) n (damaged : f ≡ fault.Damaged n). absurd (cc))
+    c.add_pairs.ensures.memory
+
+pub returns-in_err-visit-clause-damage : goal.returns-in_err-visit-clause-damage
+returns-in_err-visit-clause-damage g t c = λ h.
+    let entry = c.entry-item.result in
+    let items = map item_of c.as_slice-entry-items.result.now in
+    let same = ap (map item_of) (sym c.as_slice-entry-items.ensures.value) in
+    let within : c.loop-entry.entry-index < length items = omega (arith, length-map c.as_slice-entry-items.result.now item_of, c.loop-entry-test.true) in
+    let here = entry_item c.as_slice-entry-items.result.now c.loop-entry.entry-index entry (omega (arith, c.loop-entry-test.true)) c.entry-item.is in
+    let names = entry_names (content_of c.args.node.now) items c.loop-entry.entry-index (item_of entry) same (omega (arith, c.if-node-eq0.false)) within here in
+    at_error c.from_residual.result c.in_err-visit.field-0.0 (λ f. (n : ℕ) → f ≡ fault.Damaged n → ComesBelow g.row.D (given c.args.cache.now) (content_of c.args.node.now) n) c.from_residual.ensures.1
+    (λ n damaged. comes_to_child g.row.D (given c.args.cache.now) (content_of c.args.node.now) entry.reference n names (damaged_visit c.in_err-visit.field-0.0 entry.reference n c.in_err-visit.ensures.faults damaged))
+
+pub returns-in_err-below-clause-damage : goal.returns-in_err-below-clause-damage
+returns-in_err-below-clause-damage g t c = λ h.
+    let entry = c.entry-item.result in
+    let items = map item_of c.as_slice-entry-items.result.now in
+    let same = ap (map item_of) (sym c.as_slice-entry-items.ensures.value) in
+    let within : c.loop-entry.entry-index < length items = omega (arith, length-map c.as_slice-entry-items.result.now item_of, c.loop-entry-test.true) in
+    let here = entry_item c.as_slice-entry-items.result.now c.loop-entry.entry-index entry (omega (arith, c.loop-entry-test.true)) c.entry-item.is in
+    let names = entry_names (content_of c.args.node.now) items c.loop-entry.entry-index (item_of entry) same (omega (arith, c.if-node-eq0.false)) within here in
+    at_error c.from_residual-in_err-below.result c.in_err-below.field-0.0 (λ f. (n : ℕ) → f ≡ fault.Damaged n → ComesBelow g.row.D (given c.args.cache.now) (content_of c.args.node.now) n) c.from_residual-in_err-below.ensures.1
+    (λ n damaged. comes_to_child g.row.D (given c.args.cache.now) (content_of c.args.node.now) entry.reference n names (damaged_read c.in_err-below.field-0.0 entry.reference n (c.in_err-below.ensures.faults (c.loop-entry.invariant.asks.gate.honest.0 h)) damaged))
+
+pub returns-then-not-fits_below-clause-damage : goal.returns-then-not-fits_below-clause-damage
+returns-then-not-fits_below-clause-damage g t c = λ h n (damaged : fault.Damaged c.entry-item.result.reference ≡ fault.Damaged n).
+    let entry = c.entry-item.result in
+    let items = map item_of c.as_slice-entry-items.result.now in
+    let same = ap (map item_of) (sym c.as_slice-entry-items.ensures.value) in
+    let within : c.loop-entry.entry-index < length items = omega (arith, length-map c.as_slice-entry-items.result.now item_of, c.loop-entry-test.true) in
+    let here = entry_item c.as_slice-entry-items.result.now c.loop-entry.entry-index entry (omega (arith, c.loop-entry-test.true)) c.entry-item.is in
+    let names = entry_names (content_of c.args.node.now) items c.loop-entry.entry-index (item_of entry) same (omega (arith, c.if-node-eq0.false)) within here in
+    comes_to_child g.row.D (given c.args.cache.now) (content_of c.args.node.now) entry.reference n names (cc)
+
+pub returns-in_err-add_below-clause-damage : goal.returns-in_err-add_below-clause-damage
+returns-in_err-add_below-clause-damage g t c = λ h.
+    let entry = c.entry-item.result in
+    let items = map item_of c.as_slice-entry-items.result.now in
+    let same = ap (map item_of) (sym c.as_slice-entry-items.ensures.value) in
+    let within : c.loop-entry.entry-index < length items = omega (arith, length-map c.as_slice-entry-items.result.now item_of, c.loop-entry-test.true) in
+    let here = entry_item c.as_slice-entry-items.result.now c.loop-entry.entry-index entry (omega (arith, c.loop-entry-test.true)) c.entry-item.is in
+    let names = entry_names (content_of c.args.node.now) items c.loop-entry.entry-index (item_of entry) same (omega (arith, c.if-node-eq0.false)) within here in
+    let inv = c.loop-entry.invariant in
+    let a = asks_in_turn c.args.cache.now c.loop-entry.cache c.read_node.new.cache None inv.asks c.in_ok-below.ensures.asks in
+    let there = ap (node_in g.row.D) (sym (inv.asks.map.given_stay h entry.reference)) ∙ c.in_ok-below.ensures.given_node (inv.asks.gate.honest.0 h) in
+    at_error c.from_residual-in_err-add_below.result c.in_err-add_below.field-0.0 (λ f. (n : ℕ) → f ≡ fault.Damaged n → ComesBelow g.row.D (given c.args.cache.now) (content_of c.args.node.now) n) c.from_residual-in_err-add_below.ensures.1
+    (λ n damaged. comes_below_child g.row.D (given c.args.cache.now) (content_of c.args.node.now) (content_of c.in_ok-below.below) entry.reference n names there
+    (comes_below_so g.row.D (given c.args.cache.now) (given c.read_node.new.cache) (content_of c.in_ok-below.below) n (λ k. a.map.given_stay h k) (c.in_err-add_below.ensures.damage (a.gate.honest.0 h) n damaged)))

@@ -3,13 +3,15 @@ use Rattle.std.proofs.Common.{◌≡◌, ◌∙◌, ◌++◌, ◌∷◌, [], ℕ
 use Rattle.std.proofs.lemmas.List.{length-map}
 use Rattle.block_device.specs.Device.{one_more}
 use Rattle.page_file.specs.Fault.{IsOfDevice}
+use Rattle.page_file.specs.declared.fault.Fault.TheVariants as fault
 use Rattle.page_cache.specs.Cache.{given, looks_of}
 use Rattle.page_cache.specs.Calls.{asks_and_refuses, asks_in_turn, no_call_asks}
 use Rattle.page_cache.specs.Laws.{numbers_are_few}
 use Rattle.tree_node.specs.Nodes.{content_of, item_of}
-use Rattle.node_page.specs.Checked.{IsCheckedTree}
+use Rattle.node_page.specs.Checked.{ComesTo, IsCheckedTree}
 use Rattle.node_page.specs.Standing.{RowStands}
 use Rattle.node_page.proofs.CheckLemmas.{adds_on, checked_live, quiet_visit, refuses_quietly, root_count, root_visited, tree_checked}
+use Rattle.node_page.proofs.DamageLemmas.{comes_below_so, comes_on, damaged_read, damaged_visit}
 use Rattle.node_page.proofs.GivenLemmas.{live_tree_is_given}
 use Rattle.node_page.proofs.LeafLemmas.{entries_there}
 use Rattle.node_page.proofs.NodeLemmas.{at_error}
@@ -68,3 +70,24 @@ returns-clause-given_tree g c = λ h.
 
 pub returns-clause-tree : goal.returns-clause-tree
 returns-clause-tree g c = λ sound. checked_live g.row.D c.args.m_max c.args.cache.now c.args.root.page c.args.root.level c.add_below.new.pairs.items c.into_pages-pages.result.items sound (returns-clause-given_tree g c sound.honest)
+
+pub returns-in_err-visit-clause-damage : goal.returns-in_err-visit-clause-damage
+returns-in_err-visit-clause-damage g c = λ h.
+    at_error c.from_residual-in_err-visit.result c.in_err-visit.field-0.0 (λ f. (n : ℕ) → f ≡ fault.Damaged n → ComesTo g.row.D (given c.args.cache.now) c.args.root.page n) c.from_residual-in_err-visit.ensures.1
+    (λ n damaged. ([], damaged_visit c.in_err-visit.field-0.0 c.args.root.page n c.in_err-visit.ensures.faults damaged))
+
+pub returns-in_err-node-clause-damage : goal.returns-in_err-node-clause-damage
+returns-in_err-node-clause-damage g c = λ h.
+    at_error c.from_residual-in_err-node.result c.in_err-node.field-0.0 (λ f. (n : ℕ) → f ≡ fault.Damaged n → ComesTo g.row.D (given c.args.cache.now) c.args.root.page n) c.from_residual-in_err-node.ensures.1
+    (λ n damaged. ([], damaged_read c.in_err-node.field-0.0 c.args.root.page n (c.in_err-node.ensures.faults h) damaged))
+
+pub returns-then-not-is_root_count-clause-damage : goal.returns-then-not-is_root_count-clause-damage
+returns-then-not-is_root_count-clause-damage g c = λ h n (damaged : fault.Damaged c.args.root.page ≡ fault.Damaged n). ([], cc)
+
+pub returns-in_err-add_below-clause-damage : goal.returns-in_err-add_below-clause-damage
+returns-in_err-add_below-clause-damage g c = λ h.
+    let old = c.args.cache.now in
+    let a = c.in_ok-node.ensures.asks in
+    at_error c.from_residual-in_err-add_below.result c.in_err-add_below.field-0.0 (λ f. (n : ℕ) → f ≡ fault.Damaged n → ComesTo g.row.D (given c.args.cache.now) c.args.root.page n) c.from_residual-in_err-add_below.ensures.1
+    (λ n damaged. comes_on g.row.D (given old) c.args.root.page (content_of c.in_ok-node.node) n (c.in_ok-node.ensures.given_node h)
+    (comes_below_so g.row.D (given old) (given c.read_node.new.cache) (content_of c.in_ok-node.node) n (λ k. a.map.given_stay h k) (c.in_err-add_below.ensures.damage (a.gate.honest.0 h) n damaged)))
