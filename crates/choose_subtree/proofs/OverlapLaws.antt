@@ -1,10 +1,10 @@
 -- Sums of overlaps: how they grow with a box, and what a sum over the first entries says of the whole.
-use Rattle.std.proofs.Common.{◌≡◌, ◌≢◌, ℕ, zero, suc, ◌+◌, ◌<◌, ◌≤◌, true, false, List, length, arith, subst, eqb, add-one, inl, inr}
+use Rattle.std.proofs.Common.{◌≡◌, ◌≢◌, ℕ, zero, suc, ◌+◌, ◌<◌, ◌≤◌, true, false, List, length, arith, subst, ◌∙◌, eqb, add-one, inl, inr}
 use Rattle.std.proofs.lemmas.Bool.{cases_eq}
 use Rattle.std.proofs.lemmas.Bool.Decides.{nat_tests}
 use Rattle.box_math.specs.Bounds.{Bounds, IsBox, Within, join_of}
 use Rattle.box_math.specs.Measures.{sum_over, overlap_of}
-use Rattle.box_math.proofs.BoxLaws.{join_of-encloses}
+use Rattle.box_math.proofs.BoxLaws.{join_of-commutes, join_of-encloses, join_of-enclosing}
 use Rattle.box_math.proofs.Growth.{overlap_of-grows}
 use Rattle.tree_node.specs.Nodes.{Item}
 use Rattle.tree_node.specs.Boxes.{box_at}
@@ -68,3 +68,9 @@ overlap_more-same dims items new k i s z h =
     let a = overlap_with-same dims items k (box_at items k) i z in
     let b = overlap_with-same dims items k (join_of dims (box_at items k) new) i z in
     rw add-one (omega (arith, a, b, h))
+
+-- a box that holds the new one already does not grow, and neither does what it overlaps
+pub overlap_growth-none : (dims : ℕ) (items : List Item) (new : Bounds) (k : ℕ) (before : Bounds) → before ≡ box_at items k → IsBox dims before → Within dims new before → 0 ≡ overlap_growth dims items new k
+overlap_growth-none dims items new k before is box within =
+    let stays : join_of dims (box_at items k) new ≡ box_at items k = subst (λ b. join_of dims b new ≡ b) is (join_of-commutes dims before new ∙ join_of-enclosing dims new before box within) in
+    rw stays (omega arith)

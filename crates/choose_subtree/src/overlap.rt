@@ -55,7 +55,7 @@ pub(crate) fn overlap_growth_up_to<const D: usize>(
     Some(sum)
 }
 
-/// The growth.
+/// The growth. It is 0 where the box holds the new one already.
 pub(crate) fn whole_overlap_growth<const D: usize>(
     entries: &[Entry<D>],
     new: &BBox<D>,
@@ -68,6 +68,9 @@ pub(crate) fn whole_overlap_growth<const D: usize>(
     ensures bound { result < 2 ^ 103 }
 {
     let before = box_of(entries, k);
+    if before.encloses(new) {
+        return 0;
+    }
     let after = before.join(new);
     let mut sum = 0u128;
     for i in 0..entries.len() {

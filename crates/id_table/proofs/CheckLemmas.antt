@@ -209,3 +209,8 @@ module _ (dims : ℕ) (pages : PageMap) (class first : ℕ) (pairs_before : List
         (λ n. ⊎_elim (λ (is : 0 ≡ n). let zero_times : occurs_in_chain n chain ≡ 0 = ap (λ (k : ℕ). occurs_in_chain k chain) (sym is) ∙ none in omega (arith, zero_times, here_at 0 n is)) (λ (other : ¬ (0 ≡ n)). omega (arith, not_there 0 n other, once n)) (cases_eq 0 n))
         (λ n here. ⊎_elim (λ (is : 0 ≡ n). omega (arith, is, some)) (λ (other : ¬ (0 ≡ n)). (given n (chain_there dims pages first chain n stands (omega (arith, not_there 0 n other, here)))).1) (cases_eq 0 n)) in
         omega (arith, few, long, p.many, ap length q.is, length-append p.before q.rest)
+
+    -- and so it has not ended after as many
+    pub not_ended : (next : ℕ) → next ≤ walked → 0 < next → ((n : ℕ) → IsSome (pages n) → (2 ≤ n) × (n < next)) → ((n : ℕ) → named_pages list n ≤ 1) → ¬ (number ≡ 0)
+    not_ended next long some given once = λ (none : number ≡ 0).
+        never_so_long next p.before long some given (subst (ChainStands dims pages first) (append-nil p.before) (p.joins [] none)) (λ n. omega (arith, once n, p.pages_are n))

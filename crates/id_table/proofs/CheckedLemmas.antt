@@ -18,7 +18,7 @@ use Rattle.page_cache.specs.Laws.{a_live_page_is_given, a_page_in_use_is_live}
 use Rattle.page_cache.specs.declared.cache.PageCache.{PageCache}
 use Rattle.node_page.specs.Checked.{named_pages}
 use Rattle.node_page.specs.Standing.{PageMap}
-use Rattle.id_table.specs.Checked.{AddsBucket, AddsChain, AddsChains, IsCheckedTable, MayStand}
+use Rattle.id_table.specs.Checked.{AddsBucket, AddsChain, AddsChains, IsCheckedTable, LeadsAlong, MayStand}
 use Rattle.id_table.specs.Table.{Bucket, ChainStands, IdTable, IdsStand, IsDirectory, IsFilled, Object, bucket_in, entries_in, link_at, occurs_in_chain}
 use Rattle.id_table.proofs.CheckLemmas.{Prefix}
 use Rattle.id_table.proofs.ReplaceLemmas.{chain_stays}
@@ -242,6 +242,7 @@ module _ {B A : Type 0} {m : _} where
   pub record Chained (dims class first : ℕ) (old now : PageCache B A m) (walked number : ℕ) (pairs_before pairs : List Object) (list_before list : List ℕ) (seen : BTreeSet ℕ) (marks_before marks : ℕ) : Type 0 where
     pub asks : AsksUntil old now None
     pub found : IsHonest old → Prefix dims (given old) class first walked number pairs_before pairs list_before list seen
+    pub leads : IsHonest old → (walk : List ℕ) × LeadsAlong dims (given old) first walk number
     pub numbers : marks ≡ marks_before
     pub looks : looks_of now + length list_before ≤ looks_of old + length list
 

@@ -5,6 +5,7 @@ pub mod Results
 pub mod BucketLemmas
 pub mod CheckLemmas
 pub mod CheckedLemmas
+pub mod DamageLemmas
 pub mod WalkLemmas
 pub mod GetLemmas
 pub mod MakingLemmas

@@ -1,12 +1,12 @@
 -- What a check of an identifier table finds (our rule, docs/FORMAT.md, "Identifier tables").
-use Rattle.std.specs.Prelude.{◌≡◌, ℕ, Bool, true, ◌+◌, ◌<◌, ◌≤◌, List, ◌∷◌, [], ◌++◌, All, Some, length, slice_index_or, sum_by, if◌then◌else◌, ◌==◌}
+use Rattle.std.specs.Prelude.{◌≡◌, ◌⊎◌, ℕ, Bool, true, ◌+◌, ◌<◌, ◌≤◌, List, ◌∷◌, [], ◌++◌, All, Some, length, slice_index_or, sum_by, if◌then◌else◌, ◌==◌}
 use Rattle.std.specs.BTreeSet.{BTreeSet, contains}
 use Rattle.std.specs.List.{flat_map}
 use Rattle.std.specs.Ordering.{nat_cmp}
 use Rattle.bucket_page.specs.Layout.{BucketContent}
 use Rattle.node_page.specs.Checked.{named_pages}
 use Rattle.node_page.specs.Standing.{PageMap}
-use Rattle.id_table.specs.Table.{Bucket, ChainStands, IdTable, IdsStand, IsFilled, Object, bucket_in, class_of, entries_in, entries_of, link_at, occurs_in_chain, part_of, times_in}
+use Rattle.id_table.specs.Table.{Bucket, ChainStands, IdTable, IdsStand, IsDirectory, IsFilled, Object, bucket_in, class_of, entries_in, entries_of, link_at, occurs_in_chain, part_of, times_in}
 
 -- the pages stand for a table with its directory at this page, with these objects chain after chain, and with these pages
 pub record IsCheckedTable (dims : ℕ) (pages : PageMap) (directory : ℕ) (pairs : List Object) (list : List ℕ) : Type 0 where
@@ -71,3 +71,24 @@ pub record MayStand (dims : ℕ) (pages : PageMap) (directory : List ℕ) (chain
   pub stands : (class : ℕ) → class < length chains → ChainStands dims pages (link_at class directory) (slice_index_or chains class [])
   pub filled : (class : ℕ) → class < length chains → IsFilled class (slice_index_or chains class [])
   pub once : (n : ℕ) → named_pages list n + sum_by (occurs_in_chain n) chains ≤ 1
+
+-- ---- the page that is damaged where no such table stands
+
+-- a walk along a chain leads from one page to another, each time to the page that the bucket of the one before names
+abbrev pub LeadsAlong : ℕ → PageMap → ℕ → List ℕ → ℕ → Type 0
+LeadsAlong dims pages page [] last = last ≡ page
+LeadsAlong dims pages page (next ∷ walk) last =
+    ((c : BucketContent) × (bucket_in dims (pages page) ≡ Some c) × (c.next ≡ next)) × LeadsAlong dims pages next walk last
+
+-- some walk from the first page of a chain comes to a page, and not to its end
+abbrev pub ComesAlong : ℕ → PageMap → ℕ → ℕ → Type 0
+ComesAlong dims pages first last = (¬ (last ≡ 0)) × (walk : List ℕ) × LeadsAlong dims pages first walk last
+
+-- so does one along a chain that a directory names
+abbrev pub ComesFrom : ℕ → PageMap → List ℕ → ℕ → Type 0
+ComesFrom dims pages directory last = (class : ℕ) × (class < 1000) × ComesAlong dims pages (link_at class directory) last
+
+-- the page is where the directory has to be, or one of a chain that it names
+abbrev pub ComesInTable : ℕ → PageMap → ℕ → ℕ → Type 0
+ComesInTable dims pages directory last =
+    (last ≡ directory) ⊎ ((bytes : List ℕ) × (pages directory ≡ Some bytes) × IsDirectory dims bytes × ComesFrom dims pages bytes last)

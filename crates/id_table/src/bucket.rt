@@ -7,6 +7,7 @@ ghost use Rattle.box_math.specs.Bounds.{IsDims};
 ghost use Rattle.bucket_page.specs.Layout.{BucketContent, bucket_at, content_of};
 ghost use Rattle.page_file.specs.Fault.{IsDamage, IsOfDevice};
 ghost use Rattle.page_file.specs.Pages.{SameBut};
+ghost use Rattle.page_file.specs.declared.fault.Fault.TheVariants as fault;
 ghost use Rattle.page_file.specs.declared.gate.Gate.TheVariants.{Open};
 ghost use Rattle.page_cache.specs.Cache.{Grows, IsHonest, IsLive, IsPageMap, gate_of, next_of, pages};
 ghost use Rattle.page_cache.specs.Calls.{Asks, Changes};
@@ -55,6 +56,7 @@ pub(crate) fn look<const D: usize, B: BlockDevice, A: Allocator + Copy>(
         → IfOk result (λ r. (r.0 ≡ box_in id c.entries) × (r.1 ≡ c.next)) }
     ensures there { IsHonest cache.old → (c : BucketContent) → bucket_in D (pages cache.old number) ≡ Some c
         → IfErr result IsOfDevice }
+    ensures damage { IsHonest cache.old → IfErr result (λ f. IsOfDevice f ⊎ (f ≡ fault.Damaged number)) }
     ensures other_faults { IfErr result (λ f. IsOfDevice f ⊎ IsDamage f) }
 {
     let page = cache.page(number)?;
@@ -99,6 +101,7 @@ pub(crate) fn place_at<const D: usize, B: BlockDevice, A: Allocator + Copy>(
     ensures some { OnOk result (¬ (number ≡ 0)) }
     ensures there { IsHonest cache.old → (c : BucketContent) → bucket_in D (pages cache.old number) ≡ Some c
         → IfErr result IsOfDevice }
+    ensures damage { IsHonest cache.old → IfErr result (λ f. IsOfDevice f ⊎ (f ≡ fault.Damaged number)) }
     ensures other_faults { IfErr result (λ f. IsOfDevice f ⊎ IsDamage f) }
 {
     let page = cache.page(number)?;
@@ -126,6 +129,7 @@ pub(crate) fn room_in<const D: usize, B: BlockDevice, A: Allocator + Copy>(
         → IfOk result (λ room. room ≡ false → BeginsFull chain) }
     ensures there { IsHonest cache.old → (chain : List Linked) → ChainStands D (pages cache.old) first chain
         → IfErr result IsOfDevice }
+    ensures damage { IsHonest cache.old → IfErr result (λ f. IsOfDevice f ⊎ (f ≡ fault.Damaged first)) }
     ensures other_faults { IfErr result (λ f. IsOfDevice f ⊎ IsDamage f) }
 {
     if first == 0 {

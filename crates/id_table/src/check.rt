@@ -12,6 +12,7 @@ ghost use Rattle.page_cache.specs.Cache.{IsHonest, IsPageMap, given, looks_of, n
 ghost use Rattle.page_cache.specs.Calls.{Asks};
 ghost use Rattle.node_page.specs.Checked.{named_pages};
 ghost use Rattle.id_table.specs.Checked.{AddsBucket, AddsChain, AddsChains, AddsObjects, IsCheckedTable};
+ghost use Rattle.id_table.specs.Checked.{ComesAlong, ComesFrom, ComesInTable};
 ghost use Rattle.id_table.specs.Checked.{MayFollow, MayStand, SeesOne, seen_times};
 ghost use Rattle.id_table.specs.Table.{Bucket, ChainStands, IdTable, IdsStand, IsFilled, bucket_in, class_of};
 ghost use Rattle.id_table.specs.Table.{occurs_in_chain, times_in};
@@ -37,9 +38,10 @@ pub struct TableFacts<const D: usize, H: Allocator> {
 
 /// Checks the table with its directory at a page, and answers what it holds.
 ///
-/// On an honest device it answers so only where a table stands there; else it is `Damaged` with the number of a page.
-/// Where a table stands, a refusal is `Memory` or `Device`. It makes no more looks than page numbers were given out,
-/// whatever the pages are. Map and gate stay, also after a refusal.
+/// On an honest device it answers so only where a table stands there; else it is `Damaged` with the number of a page:
+/// that of the directory, or one that a walk along a chain comes to. Where a table stands, a refusal is `Memory` or
+/// `Device`. It makes no more looks than page numbers were given out, whatever the pages are. Map and gate stay, also
+/// after a refusal.
 pub fn check_table<const D: usize, B: BlockDevice, A: Allocator + Copy, H: Allocator + Copy>(
     alloc: H,
     cache: &mut PageCache<B, A>,
@@ -54,6 +56,8 @@ pub fn check_table<const D: usize, B: BlockDevice, A: Allocator + Copy, H: Alloc
     ensures stands { IsHonest cache.old → (t : IdTable) → t.page ≡ directory → IdsStand D (pages cache.old) t
         → IfErr result IsOfDevice }
     ensures looks { looks_of cache.new ≤ looks_of cache.old + next_of cache.old }
+    ensures damage { IsHonest cache.old
+        → IfErr result (λ f. (n : ℕ) → f ≡ fault.Damaged n → ComesInTable D (given cache.old) directory n) }
     ensures other_faults { IfErr result (λ f. IsOfDevice f ⊎ IsDamage f) }
 {
     let mut visits = Visits::new(alloc, cache.next_number())?;
@@ -102,6 +106,8 @@ fn add_chains<const D: usize, B: BlockDevice, A: Allocator + Copy, H: Allocator 
     ensures numbers { length visits.new.marks.items ≡ length visits.old.marks.items }
     ensures looks { looks_of cache.new + length visits.old.pages.items
         ≤ looks_of cache.old + length visits.new.pages.items }
+    ensures damage { IsHonest cache.old
+        → IfErr result (λ f. (n : ℕ) → f ≡ fault.Damaged n → ComesFrom D (given cache.old) directory.now n) }
     ensures other_faults { IfErr result (λ f. IsOfDevice f ⊎ IsDamage f) }
 {
     for class in 0..1000 {
@@ -137,6 +143,8 @@ fn add_chain<const D: usize, B: BlockDevice, A: Allocator + Copy, H: Allocator +
     ensures numbers { length visits.new.marks.items ≡ length visits.old.marks.items }
     ensures looks { looks_of cache.new + length visits.old.pages.items
         ≤ looks_of cache.old + length visits.new.pages.items }
+    ensures damage { IsHonest cache.old
+        → IfErr result (λ f. (n : ℕ) → f ≡ fault.Damaged n → ComesAlong D (given cache.old) first n) }
     ensures other_faults { IfErr result (λ f. IsOfDevice f ⊎ IsDamage f) }
 {
     let mut seen = BTreeSet::new(alloc);
@@ -180,6 +188,7 @@ fn add_bucket<const D: usize, B: BlockDevice, A: Allocator + Copy, H: Allocator 
     ensures numbers { length visits.new.marks.items ≡ length visits.old.marks.items }
     ensures looks { looks_of cache.new + length visits.old.pages.items
         ≤ looks_of cache.old + length visits.new.pages.items }
+    ensures damage { IsHonest cache.old → IfErr result (λ f. IsOfDevice f ⊎ (f ≡ fault.Damaged number)) }
     ensures other_faults { IfErr result (λ f. IsOfDevice f ⊎ IsDamage f) }
 {
     come_to(number, visits)?;

@@ -4,6 +4,7 @@ ghost use Rattle.std.specs.Prelude.{◌≡◌, ◌<◌, ◌≤◌, ◌+◌, ◌�
 ghost use Rattle.box_math.specs.Bounds.{IsDims};
 ghost use Rattle.page_file.specs.Fault.{IsDamage, IsOfDevice};
 ghost use Rattle.page_file.specs.Pages.{SameBut};
+ghost use Rattle.page_file.specs.declared.fault.Fault.TheVariants as fault;
 ghost use Rattle.page_file.specs.declared.gate.Gate.TheVariants.{Open};
 ghost use Rattle.page_cache.specs.Cache.{Grows, IsHonest, IsLive, IsPageMap, gate_of, given, looks_of, next_of, pages};
 ghost use Rattle.page_cache.specs.Calls.{Asks, Changes};
@@ -70,6 +71,7 @@ pub(crate) fn read_link<const D: usize, B: BlockDevice, A: Allocator + Copy>(
         → IfOk result (λ first. first ≡ link_at class page) }
     ensures there { IsHonest cache.old → (page : List ℕ) → pages cache.old directory ≡ Some page → IsDirectory D page
         → IfErr result IsOfDevice }
+    ensures damage { IsHonest cache.old → IfErr result (λ f. IsOfDevice f ⊎ (f ≡ fault.Damaged directory)) }
     ensures other_faults { IfErr result (λ f. IsOfDevice f ⊎ IsDamage f) }
 {
     let page = cache.page(directory)?;
@@ -92,6 +94,7 @@ pub(crate) fn copy_page<B: BlockDevice, A: Allocator + Copy>(
     ensures given_faults { IsHonest cache.old → 2 ≤ number → number < next_of cache.old → IfErr result IsOfDevice }
     ensures looks { looks_of cache.new ≤ looks_of cache.old + 1 }
     ensures faults { IsHonest cache.old → IsLive cache.old number → IfErr result IsOfDevice }
+    ensures damage { IsHonest cache.old → IfErr result (λ f. IsOfDevice f ⊎ (f ≡ fault.Damaged number)) }
     ensures other_faults { IfErr result (λ f. IsOfDevice f ⊎ IsDamage f) }
 {
     Ok(*cache.page(number)?)

@@ -1,6 +1,6 @@
 //! Many objects added.
 
-ghost use Rattle.std.specs.Prelude.{◌≡◌, ◌⊎◌, ◌+◌, ◌/◌, false, length, IfErr, OnOk};
+ghost use Rattle.std.specs.Prelude.{◌≡◌, ◌⊎◌, ◌+◌, ◌/◌, true, false, length, IfErr, OnOk};
 ghost use Rattle.std.specs.List.Sorted.{IsNonDecreasingBy};
 ghost use Rattle.box_math.specs.Bounds.{IsDims};
 ghost use Rattle.page_file.specs.Fault.{IsDamage};
@@ -62,6 +62,7 @@ pub fn fill<const D: usize, B: BlockDevice, A: Allocator + Copy>(
 fn broken_after(begun: bool, broken: Broken) -> Broken
     ensures cause { result.cause ≡ broken.cause }
     ensures untouched { result.touched ≡ false → (begun ≡ false) × (broken.touched ≡ false) }
+    ensures touched { result.touched ≡ true → (begun ≡ true) ⊎ (broken.touched ≡ true) }
 {
     if begun {
         return Broken::midway(broken.cause);

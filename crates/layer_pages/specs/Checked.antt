@@ -1,5 +1,5 @@
 -- What a check of the pages of a layer finds (our rule, docs/FORMAT.md, "Trees of pages" and "Identifier tables").
-use Rattle.std.specs.Prelude.{◌≡◌, ℕ, List, ◌++◌, All, IsPermutation, length}
+use Rattle.std.specs.Prelude.{◌≡◌, ℕ, List, ◌++◌, ◌==◌, All, IsPermutation, if◌then◌else◌, length}
 use Rattle.std.specs.FinMap.{len}
 use Rattle.box_math.specs.Bounds.{IsBox}
 use Rattle.tree_node.specs.declared.node.Root.{Root}
@@ -16,6 +16,11 @@ pub record IsCheckedLayer (dims most : ℕ) (pages : PageMap) (root : Root) (dir
   pub stands : IsLayerAt dims most pages root directory layer objects
   pub count_is : len objects ≡ count
   pub pages_are : (n : ℕ) → named_pages list n ≡ part_of_layer layer n
+
+-- the page of a tree of these objects and a table that are no layer of so many: that of the catalog, and where the tree
+-- has so many, that of the directory
+abbrev pub odd_page : ℕ → ℕ → List Object → ℕ
+odd_page directory count held = if length held == count then directory else 2
 
 -- ---- its steps
 

@@ -7,7 +7,7 @@ ghost use Rattle.page_file.specs.Fault.{IsDamage, IsOfDevice};
 ghost use Rattle.page_file.specs.declared.fault.Fault.TheVariants as fault;
 ghost use Rattle.page_cache.specs.Cache.{IsHonest, IsPageMap, given, looks_of, next_of, pages};
 ghost use Rattle.page_cache.specs.Calls.{Asks};
-ghost use Rattle.layer_pages.specs.Checked.{AreOfOneLayer, IsCheckedLayer};
+ghost use Rattle.layer_pages.specs.Checked.{AreOfOneLayer, IsCheckedLayer, odd_page};
 ghost use Rattle.layer_pages.specs.Layers.{IsLayerAt, LayerPages, Objects};
 
 use block_device::BlockDevice;
@@ -67,6 +67,8 @@ fn pages_of_both<'a, const D: usize, H: Allocator>(
     ensures stands { (objects : Objects) → map.len objects ≡ count
         → IsPermutation tree.entry.pairs.items (map.entries objects)
         → IsPermutation table.entry.pairs.items (map.entries objects) → IfErr result (λ f. f ≡ fault.Memory) }
+    ensures damage { IfErr result (λ f. (f ≡ fault.Memory)
+        ⊎ (f ≡ fault.Damaged (odd_page directory count tree.entry.pairs.items))) }
     ensures faults { IfErr result (λ f. (f ≡ fault.Memory) ⊎ IsDamage f) }
 {
     let mut held = tree.pairs;

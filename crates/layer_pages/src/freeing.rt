@@ -1,8 +1,8 @@
 //! Layers given up.
 
-ghost use Rattle.std.specs.Prelude.{◌≡◌, ℕ, IfErr, OnOk};
+ghost use Rattle.std.specs.Prelude.{◌≡◌, ◌⊎◌, ℕ, IfErr, OnOk};
 ghost use Rattle.box_math.specs.Bounds.{IsDims};
-ghost use Rattle.page_file.specs.Fault.{IsOfDevice};
+ghost use Rattle.page_file.specs.Fault.{IsDamage, IsOfDevice};
 ghost use Rattle.page_file.specs.declared.gate.Gate.TheVariants.{Open};
 ghost use Rattle.page_cache.specs.Cache.{Grows, IsPageMap, gate_of, pages};
 ghost use Rattle.node_page.specs.Broken.{Alters};
@@ -37,6 +37,7 @@ pub fn free<const D: usize, B: BlockDevice, A: Allocator + Copy>(
     ensures grows { Grows 0 cache.old cache.new }
     ensures faults { IsPageMap cache.old → (l : LayerPages) (most : ℕ) (objects : Objects)
         → IsLayerAt D most (pages cache.old) root directory l objects → IfErr result (λ b. IsOfDevice b.cause) }
+    ensures other_faults { IfErr result (λ b. IsOfDevice b.cause ⊎ IsDamage b.cause) }
 {
     free_tree::<D, B, A>(cache, root)?;
     match free_all::<D, B, A>(cache, directory) {

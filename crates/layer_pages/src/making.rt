@@ -9,7 +9,7 @@ ghost use Rattle.page_cache.specs.Cache.{Grows, IsPageMap, gate_of, next_of, pag
 ghost use Rattle.node_page.specs.Broken.{Alters};
 ghost use Rattle.node_page.specs.Parts.{no_page};
 ghost use Rattle.node_page.specs.Standing.{node_in};
-ghost use Rattle.node_page.specs.Faults.{IsNoDamage};
+ghost use Rattle.node_page.specs.Faults.{IsChangeFault, IsNoDamage};
 ghost use Rattle.layer_pages.specs.Changes.{BecomesLayer, IsEmptyLeaf};
 ghost use Rattle.layer_pages.specs.Layers.{CanBeRoot};
 
@@ -36,6 +36,7 @@ pub fn make<const D: usize, B: BlockDevice, A: Allocator + Copy>(
         BecomesLayer D most (pages cache.old) (pages cache.new) no_page made.0 made.1 map.empty IsEmptyLeaf) }
     ensures grows { Grows 2 cache.old cache.new }
     ensures faults { IsPageMap cache.old → IfErr result (λ b. IsNoDamage cache.new b.cause) }
+    ensures other_faults { IfErr result (λ b. IsChangeFault b.cause) }
 {
     let page = match make_leaf::<D, B, A>(cache) {
         Ok(page) => page,
@@ -62,6 +63,7 @@ fn make_leaf<const D: usize, B: BlockDevice, A: Allocator + Copy>(
     ensures others { IsPageMap cache.old → IfOk result (λ page. SameBut page (pages cache.old) (pages cache.new)) }
     ensures grows { Grows 1 cache.old cache.new }
     ensures faults { IsPageMap cache.old → IfErr result (λ b. IsNoDamage cache.new b.cause) }
+    ensures other_faults { IfErr result (λ b. IsChangeFault b.cause) }
 {
     let leaf: Node<D> = Node {
         level: 0,

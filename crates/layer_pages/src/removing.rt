@@ -6,7 +6,7 @@ ghost use Rattle.box_math.specs.Bounds.{IsDims};
 ghost use Rattle.page_file.specs.declared.gate.Gate.TheVariants.{Open};
 ghost use Rattle.page_cache.specs.Cache.{Grows, IsPageMap, gate_of, pages};
 ghost use Rattle.node_page.specs.Broken.{Alters};
-ghost use Rattle.node_page.specs.Faults.{IsNoDamage};
+ghost use Rattle.node_page.specs.Faults.{IsChangeFault, IsNoDamage};
 ghost use Rattle.condense.specs.Removed.{IsRefused, most_removal_pages};
 ghost use Rattle.layer_pages.specs.Changes.{BecomesLayer, HasRemoved};
 ghost use Rattle.layer_pages.specs.Layers.{CanBeRoot, IsLayerAt, LayerPages, Objects, part_of_layer};
@@ -57,6 +57,7 @@ pub fn remove<const D: usize, B: BlockDevice, A: Allocator + Copy>(
     ensures faults { IsPageMap cache.old → (l : LayerPages) (objects : Objects)
         → IsLayerAt D m_max (pages cache.old) root directory l objects → map.get objects id ≡ Some bounds.now
         → IfErr result (λ b. IsNoDamage cache.new b.cause) }
+    ensures other_faults { IfErr result (λ b. IsChangeFault b.cause) }
 {
     let after = remove_with(cache, root, id, bounds, usize::from(m_max), waiting, kept)?;
     match id_table::remove::<D, B, A>(cache, directory, id) {

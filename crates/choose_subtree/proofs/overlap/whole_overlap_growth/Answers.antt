@@ -2,7 +2,7 @@ use Rattle.std.proofs.Common.{arith, rules}
 use Rattle.std.proofs.lemmas.List.{length-map}
 use Rattle.box_math.proofs.BoxLaws.{join_of-encloses}
 use Rattle.tree_node.specs.Nodes.{item_of, items_of}
-use Rattle.choose_subtree.proofs.OverlapLaws.{overlap_more, overlap_more-same, overlap_growth-is}
+use Rattle.choose_subtree.proofs.OverlapLaws.{overlap_more, overlap_more-same, overlap_growth-is, overlap_growth-none}
 use Rattle.choose_subtree.proofs.overlap.whole_overlap_growth.Goals as goal
 use Rattle.choose_subtree.proofs.overlap.whole_overlap_growth.Goals.{then-i-k, else-i-k}
 
@@ -28,3 +28,7 @@ loop-i-preserved g c =
 
 pub returns-clause-value : goal.returns-clause-value
 returns-clause-value g c = overlap_growth-is g.row.D (items_of c.args.entries.now) c.args.new.now c.args.k c.loop-i.i c.loop-i.sum (omega (arith, length-map c.args.entries.now item_of)) c.loop-i.invariant.value
+
+pub returns-then-encloses-clause-value : goal.returns-then-encloses-clause-value
+returns-then-encloses-clause-value g c =
+    overlap_growth-none g.row.D (items_of c.args.entries.now) c.args.new.now c.args.k c.box_of-before.result c.box_of-before.ensures.value c.box_of-before.ensures.is_box (c.encloses.ensures.encloses.0 c.if-encloses.true)

@@ -23,7 +23,7 @@ loop-object-preserved g c =
       room = λ none. absurd (omega (arith, none));
       placed = subst (AreOfClass c.args.class) (sym next) (placed_more c.args.class (take count objects) x so_far.placed of_class);
       pushed = λ b was.
-          c.push_entry.ensures (with_more b (take count objects)) (so_far.pushed b was)
+          c.push_entry.ensures.pushed (with_more b (take count objects)) (so_far.pushed b was)
           ∙ ap (λ (es : List Object). Some (record { next = b.next; entries = es })) (append_assoc b.entries (take count objects) (x ∷ []))
           ∙ ap (λ (es : List Object). Some (with_more b es)) (sym next);
     }

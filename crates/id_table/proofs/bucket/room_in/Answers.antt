@@ -1,10 +1,11 @@
 -- The goals of `room_in` that are proved by hand: a chain that stands begins with a bucket.
-use Rattle.std.proofs.Common.{◌≡◌, ◌∙◌, ap, length, subst, sym}
-use Rattle.page_file.specs.Fault.{IsOfDevice}
-use Rattle.page_cache.specs.Cache.{pages}
-use Rattle.page_cache.specs.Laws.{a_live_page_was_given_out}
+use Rattle.std.proofs.Common.{◌≡◌, ◌∙◌, ◌⊎◌, ap, length, subst, sym}
 use Rattle.bucket_page.proofs.Reading.{no_head}
-use Rattle.node_page.proofs.NodeLemmas.{at_error}
+use Rattle.page_file.specs.declared.fault.Fault.TheVariants as fault
+use Rattle.page_file.specs.Fault.{IsOfDevice}
+use Rattle.page_cache.specs.Cache.{next_of, pages}
+use Rattle.page_cache.specs.Laws.{a_live_page_was_given_out}
+use Rattle.node_page.proofs.NodeLemmas.{at_error, page_refused}
 use Rattle.id_table.specs.Pages.{BeginsFull}
 use Rattle.id_table.proofs.BucketLemmas.{bucket_bytes, page_of_bucket}
 use Rattle.id_table.proofs.WalkLemmas.{begins_at}
@@ -32,3 +33,9 @@ returns-then-count_at-eq100-clause-full g c = λ h chain stands none.
     let is = bucket_bytes g.row.D page _ b.content (c.in_ok-page.ensures.bytes h (page_of_bucket g.row.D page b.content b.there)) b.there in
     let full : length b.bucket.entries ≡ 100 = ap length (sym b.entries) ∙ sym (c.count_at.ensures.of_bucket g.row.D b.content is) ∙ c.if-count_at-eq100.true in
     subst BeginsFull (sym b.is) full
+
+pub returns-in_err-page-clause-damage : goal.returns-in_err-page-clause-damage
+returns-in_err-page-clause-damage g c = λ h.
+    let n = c.args.first in
+    at_error c.from_residual.result c.in_err-page.field-0.0 (λ f. IsOfDevice f ⊎ (f ≡ fault.Damaged n)) c.from_residual.ensures.1
+    (page_refused n (next_of c.args.cache.now) c.in_err-page.field-0.0 (c.in_err-page.ensures.faults h) (λ outside. let is = c.in_err-page.ensures.outside outside in cc))

@@ -1,12 +1,14 @@
 -- The goals of `add_chains` that are proved by hand: a chain more, and one that cannot come next.
 use Rattle.std.proofs.Common.{◌≡◌, ◌∙◌, ◌<◌, ℕ, [], None, arith, get_or, length, refl, subst, sym}
 use Rattle.page_file.specs.Fault.{IsOfDevice}
+use Rattle.page_file.specs.declared.fault.Fault.TheVariants as fault
 use Rattle.page_cache.specs.Cache.{given}
 use Rattle.page_cache.specs.Calls.{asks_and_refuses, asks_in_turn, no_call_asks}
 use Rattle.node_page.proofs.NodeLemmas.{at_error}
-use Rattle.id_table.specs.Checked.{AddsChains}
+use Rattle.id_table.specs.Checked.{AddsChains, ComesAlong, ComesFrom}
 use Rattle.id_table.specs.Table.{ChainStands}
 use Rattle.id_table.proofs.CheckedLemmas.{chain_on, chains_more, chains_none, next_once}
+use Rattle.id_table.proofs.DamageLemmas.{comes_so}
 use Rattle.id_table.proofs.ReplaceLemmas.{chain_stays}
 use Rattle.id_table.proofs.check.add_chains.Goals as goal
 
@@ -54,3 +56,16 @@ returns-clause-found g c = λ h.
     let l = c.loop-class in
     let all : l.class ≡ 1000 = omega (arith, c.loop-class-test.false, c.loop-class.auto) in
     subst (λ (n : ℕ). AddsChains g.row.D (given c.args.cache.now) c.args.directory.now n c.args.pairs.now.items l.pairs.items c.args.visits.now.pages.items l.visits.pages.items) all (l.invariant.found h)
+
+pub returns-in_err-add_chain-clause-damage : goal.returns-in_err-add_chain-clause-damage
+returns-in_err-add_chain-clause-damage g c = λ h.
+    let l = c.loop-class in
+    let inv = l.invariant in
+    let m = given c.args.cache.now in
+    at_error c.from_residual.result c.in_err-add_chain.field-0.0 (λ f. (n : ℕ) → f ≡ fault.Damaged n → ComesFrom g.row.D m c.args.directory.now n) c.from_residual.ensures.1
+    (λ n damaged. (
+      l.class,
+      omega (arith, c.loop-class-test.true),
+      subst (λ (first : ℕ). ComesAlong g.row.D m first n) c.link_of.ensures
+          (comes_so g.row.D m (given l.cache) c.link_of.result n (λ k. inv.asks.map.given_stay h k) (c.in_err-add_chain.ensures.damage (inv.asks.gate.honest.0 h) n damaged)),
+    ))

@@ -1,12 +1,15 @@
 -- The goals of `check_table` that are proved by hand: a directory that is none, and chains that cannot be its.
-use Rattle.std.proofs.Common.{◌∙◌, ◌++◌, ◌∷◌, [], ℕ, List, None, Vec, ap, subst, sym}
+use Rattle.std.proofs.Common.{◌≡◌, ◌∙◌, ◌++◌, ◌∷◌, [], ℕ, List, None, Vec, ap, inl, inr, subst, sym}
 use Rattle.page_file.specs.Fault.{IsOfDevice}
+use Rattle.page_file.specs.declared.fault.Fault.TheVariants as fault
 use Rattle.page_cache.specs.Cache.{given}
 use Rattle.page_cache.specs.Calls.{asks_and_refuses, asks_in_turn, no_call_asks}
 use Rattle.node_page.proofs.CheckLemmas.{quiet_visit, refuses_quietly}
+use Rattle.node_page.proofs.DamageLemmas.{damaged_read, damaged_visit}
 use Rattle.node_page.proofs.NodeLemmas.{at_error}
-use Rattle.id_table.specs.Checked.{IsCheckedTable}
+use Rattle.id_table.specs.Checked.{ComesInTable, IsCheckedTable}
 use Rattle.id_table.proofs.CheckedLemmas.{chains_on, checked_live, is_spelled, live_table_is_given, may_stand, may_stand_on, table_checked}
+use Rattle.id_table.proofs.DamageLemmas.{comes_so}
 use Rattle.id_table.proofs.check.check_table.Goals as goal
 
 pub returns-in_err-come_to-clause-asks : goal.returns-in_err-come_to-clause-asks
@@ -53,3 +56,30 @@ returns-clause-given_table g c = λ h.
 
 pub returns-clause-table : goal.returns-clause-table
 returns-clause-table g c = λ sound. checked_live g.row.D c.args.cache.now c.args.directory c.add_chains.new.pairs.items c.into_pages-pages.result.items sound (returns-clause-given_table g c sound.honest)
+
+pub returns-in_err-come_to-clause-damage : goal.returns-in_err-come_to-clause-damage
+returns-in_err-come_to-clause-damage g c = λ h.
+    at_error c.from_residual-in_err-come_to.result c.in_err-come_to.field-0.0 (λ f. (n : ℕ) → f ≡ fault.Damaged n → ComesInTable g.row.D (given c.args.cache.now) c.args.directory n) c.from_residual-in_err-come_to.ensures.1
+    (λ n damaged. inl (damaged_visit c.in_err-come_to.field-0.0 c.args.directory n c.in_err-come_to.ensures.faults damaged))
+
+pub returns-in_err-bytes-clause-damage : goal.returns-in_err-bytes-clause-damage
+returns-in_err-bytes-clause-damage g c = λ h.
+    at_error c.from_residual-in_err-bytes.result c.in_err-bytes.field-0.0 (λ f. (n : ℕ) → f ≡ fault.Damaged n → ComesInTable g.row.D (given c.args.cache.now) c.args.directory n) c.from_residual-in_err-bytes.ensures.1
+    (λ n damaged. inl (damaged_read c.in_err-bytes.field-0.0 c.args.directory n (c.in_err-bytes.ensures.damage h) damaged))
+
+pub returns-then-not-is_directory-clause-damage : goal.returns-then-not-is_directory-clause-damage
+returns-then-not-is_directory-clause-damage g c = λ h n (damaged : fault.Damaged c.args.directory ≡ fault.Damaged n). inl (cc)
+
+pub returns-in_err-add_chains-clause-damage : goal.returns-in_err-add_chains-clause-damage
+returns-in_err-add_chains-clause-damage g c = λ h.
+    let m = given c.args.cache.now in
+    let a = c.in_ok-bytes.ensures.asks in
+    at_error c.from_residual-in_err-add_chains.result c.in_err-add_chains.field-0.0 (λ f. (n : ℕ) → f ≡ fault.Damaged n → ComesInTable g.row.D m c.args.directory n) c.from_residual-in_err-add_chains.ensures.1
+    (λ n damaged.
+    let from = c.in_err-add_chains.ensures.damage (a.gate.honest.0 h) n damaged in
+    inr (
+      c.in_ok-bytes.bytes,
+      c.in_ok-bytes.ensures.given_bytes h,
+      c.is_directory.ensures.0 c.if-not-is_directory.false,
+      (from.0, from.1, comes_so g.row.D m (given c.copy_page.new.cache) _ n (λ k. a.map.given_stay h k) from.2),
+    ))

@@ -2,7 +2,7 @@
 use Rattle.std.proofs.Common.{None, ◌≤◌, ◌∙◌, sym, arith}
 use Rattle.page_file.specs.Fault.{IsOfDevice}
 use Rattle.page_cache.specs.Cache.{next_of}
-use Rattle.page_cache.specs.Calls.{asks_in_turn}
+use Rattle.page_cache.specs.Calls.{asks_and_refuses, asks_in_turn}
 use Rattle.node_page.proofs.NodeLemmas.{at_error}
 use Rattle.id_table.proofs.GetLemmas.{ends_with, ends_without, goes_on, here_is, never_as_long, there_now}
 use Rattle.id_table.proofs.search.get.Goals as goal
@@ -15,6 +15,11 @@ returns-in_err-bounds-clause-stands g c = λ h t at stands.
     let so_far = c.loop-walked.invariant in
     at_error c.from_residual-in_err-bounds.result c.in_err-bounds.field-0.0 IsOfDevice c.from_residual-in_err-bounds.ensures.1
     (c.in_err-bounds.ensures.there (so_far.asks.gate.honest.0 h) (here_is so_far c.if-number-eq0.false h t at stands).content (there_now so_far c.if-number-eq0.false h t at stands))
+
+pub returns-in_err-bounds-clause-asks : goal.returns-in_err-bounds-clause-asks
+returns-in_err-bounds-clause-asks g c =
+    asks_and_refuses c.args.cache.now c.loop-walked.cache c.look.new.cache c.in_err-bounds.field-0.0 c.from_residual-in_err-bounds.result c.from_residual-in_err-bounds.ensures.1
+    c.loop-walked.invariant.asks c.in_err-bounds.ensures.asks
 
 pub returns-then-is_some-clause-asks : goal.returns-then-is_some-clause-asks
 returns-then-is_some-clause-asks g c = asks_in_turn c.args.cache.now c.loop-walked.cache c.look.new.cache None c.loop-walked.invariant.asks c.in_ok-bounds.ensures.asks

@@ -1,8 +1,11 @@
 -- The objects are compared, and the pages are put together.
-use Rattle.std.proofs.Common.{◌∙◌, ◌++◌, ℕ, List, All, ap, sym, subst, arith}
+use Rattle.std.proofs.Common.{◌≡◌, ◌∙◌, ◌++◌, ℕ, List, All, ap, inr, sym, subst, arith, length}
 use Rattle.std.specs.FinMap.{entries, len-entries}
 use Rattle.std.specs.Prelude.{IsPermutation}
+use Rattle.std.proofs.lemmas.Bool.Decides.{nat_tests}
 use Rattle.std.proofs.lemmas.List.Sorted.{length_permutation}
+use Rattle.page_file.specs.declared.fault.Fault.TheVariants as fault
+use Rattle.layer_pages.specs.Checked.{odd_page}
 use Rattle.box_math.specs.Bounds.{IsBox}
 use Rattle.id_table.specs.Table.{Object}
 use Rattle.layer_pages.proofs.checking.pages_of_both.Goals as goal
@@ -17,6 +20,18 @@ returns-then-not-have_same-clause-stands g c = λ objects count_is held_are list
     (subst (λ (os : List Object). IsPermutation os (entries objects)) (sym c.as_mut_slice.ensures.value) held_are)
     (subst (λ (os : List Object). IsPermutation os (entries objects)) (sym c.as_mut_slice-2.ensures.value) listed_are) in
     absurd (cc)
+
+pub returns-then-len-count-clause-damage : goal.returns-then-len-count-clause-damage
+returns-then-len-count-clause-damage g c =
+    let other : ¬ (length c.args.tree.pairs.items ≡ c.args.count) = λ same. c.if-len-count.true (omega (arith, c.len.ensures, c.args.tree.pairs.ok.0, same)) in
+    let odd : 2 ≡ odd_page c.args.directory c.args.count c.args.tree.pairs.items = grind (arith, nat_tests) in
+    inr (ap fault.Damaged odd)
+
+pub returns-then-not-have_same-clause-damage : goal.returns-then-not-have_same-clause-damage
+returns-then-not-have_same-clause-damage g c =
+    let same : length c.args.tree.pairs.items ≡ c.args.count = sym c.args.tree.pairs.ok.0 ∙ sym c.len.ensures ∙ c.if-len-count.false in
+    let odd : c.args.directory ≡ odd_page c.args.directory c.args.count c.args.tree.pairs.items = grind (arith, nat_tests) in
+    inr (ap fault.Damaged odd)
 
 pub returns-clause-joined : goal.returns-clause-joined
 returns-clause-joined g c =

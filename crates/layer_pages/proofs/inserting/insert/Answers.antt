@@ -1,5 +1,5 @@
 -- An object more in the tree, and then in the table.
-use Rattle.std.proofs.Common.{ℕ, None, sym, subst, arith}
+use Rattle.std.proofs.Common.{ℕ, None, ⊎_elim, inl, inr, sym, subst, arith}
 use Rattle.std.specs.FinMap as map
 use Rattle.page_cache.specs.Cache.{pages}
 use Rattle.page_cache.specs.Calls.{changes_in_turn}
@@ -7,7 +7,7 @@ use Rattle.node_page.specs.Broken.{alters_and_breaks, made_alters}
 use Rattle.node_page.specs.declared.broken.Broken.{Broken}
 use Rattle.node_page.proofs.RootedLemmas.{loose}
 use Rattle.id_table.specs.Table.{part_of}
-use Rattle.node_page.specs.Faults.{IsNoDamage}
+use Rattle.node_page.specs.Faults.{IsChangeFault, IsNoDamage}
 use Rattle.reinsert.proofs.BrokenLemmas.{at_broken}
 use Rattle.layer_pages.specs.Changes.{BecomesLayer, HasInserted}
 use Rattle.layer_pages.specs.Layers.{IsLayerAt, part_of_layer}
@@ -74,3 +74,7 @@ returns-in-Err-clause-faults g c = λ sound l objects at.
     let stand = ids_meanwhile D c.from.result m c.args.root c.args.directory l objects is id bounds (pages c.insert_with.new.cache) c.in_ok-after.after to.1 in
     subst (λ (b : Broken). IsNoDamage c.add.new.cache b.cause) (sym c.midway.ensures)
     (c.in-Err.ensures.faults to.0 l.ids is.directory_is stand)
+
+pub returns-in-Err-clause-other_faults : goal.returns-in-Err-clause-other_faults
+returns-in-Err-clause-other_faults g c =
+    subst (λ (b : Broken). IsChangeFault b.cause) (sym c.midway.ensures) (⊎_elim (λ quiet. ⊎_elim inl (λ full. inr (inl full.0)) quiet) (λ damaged. inr (inr damaged)) c.in-Err.ensures.other_faults)

@@ -9,7 +9,8 @@ use Rattle.page_cache.specs.Calls.{changes_in_turn}
 use Rattle.node_page.specs.Broken.{alters_and_breaks, made_alters}
 use Rattle.node_page.specs.declared.broken.Broken.{Broken}
 use Rattle.id_table.specs.Table.{part_of}
-use Rattle.node_page.specs.Faults.{IsNoDamage}
+use Rattle.node_page.specs.Faults.{IsChangeFault, IsNoDamage}
+use Rattle.reinsert.proofs.FaultLemmas.{one_more}
 use Rattle.reinsert.proofs.BrokenLemmas.{at_broken}
 use Rattle.condense.proofs.RemoveLemmas.{refused_so}
 use Rattle.layer_pages.specs.Changes.{BecomesLayer, HasRemoved}
@@ -94,3 +95,6 @@ returns-in-Err-clause-faults g c = λ sound l objects at there.
     subst (λ (b : Broken). IsNoDamage c.remove.new.cache b.cause) (sym c.midway.ensures)
     (inl
     (c.in-Err.ensures.faults to.0 l.ids is.directory_is stand (in_table D c.from.result m c.args.root c.args.directory l objects is id bounds there)))
+
+pub returns-in-Err-clause-other_faults : goal.returns-in-Err-clause-other_faults
+returns-in-Err-clause-other_faults g c = subst (λ (b : Broken). IsChangeFault b.cause) (sym c.midway.ensures) (one_more _ _ _ c.in-Err.ensures.other_faults)

@@ -8,7 +8,7 @@ use Rattle.page_cache.specs.Cache.{pages}
 use Rattle.page_cache.specs.Calls.{changes_in_turn}
 use Rattle.node_page.specs.Broken.{alters_and_breaks, made_alters}
 use Rattle.node_page.specs.declared.broken.Broken.{Broken}
-use Rattle.node_page.specs.Faults.{IsNoDamage}
+use Rattle.node_page.specs.Faults.{IsChangeFault, IsNoDamage}
 use Rattle.reinsert.proofs.BrokenLemmas.{at_broken}
 use Rattle.condense.proofs.RemoveLemmas.{refused_so}
 use Rattle.layer_pages.proofs.ObjectLemmas.{gone}
@@ -54,3 +54,6 @@ returns-in-Err-clause-faults g c = λ sound l objects at there.
     let to = c.in_ok-between.ensures.removed sound l objects at there in
     subst (λ (b : Broken). IsNoDamage c.insert.new.cache b.cause) (sym c.midway.ensures)
     (c.in-Err.ensures.faults (c.in_ok-between.ensures.sound sound l objects at) to.layer (map.remove objects c.args.id) to.stands)
+
+pub returns-in-Err-clause-other_faults : goal.returns-in-Err-clause-other_faults
+returns-in-Err-clause-other_faults g c = subst (λ (b : Broken). IsChangeFault b.cause) (sym c.midway.ensures) c.in-Err.ensures.other_faults

@@ -1,14 +1,18 @@
 -- The goals of `add_leaves` that are proved by hand.
-use Rattle.std.proofs.Common.{◌∙◌, map, ap, sym, arith}
+use Rattle.std.proofs.Common.{◌≡◌, ◌∙◌, ◌<◌, ℕ, [], length, map, ap, sym, arith}
 use Rattle.std.proofs.lemmas.List.{length-map}
 use Rattle.page_file.specs.Fault.{IsOfDevice}
+use Rattle.page_file.specs.declared.fault.Fault.TheVariants as fault
 use Rattle.page_cache.specs.Cache.{given, looks_of}
 use Rattle.page_cache.specs.Calls.{asks_and_refuses}
 use Rattle.tree_node.specs.Nodes.{content_of, item_of}
+use Rattle.tree_node.proofs.RowLemmas.{entry_item}
+use Rattle.node_page.specs.Checked.{ComesTo}
 use Rattle.node_page.specs.Lists.{lists_of}
 use Rattle.node_page.specs.Standing.{PageMap}
+use Rattle.node_page.proofs.DamageLemmas.{comes_below_so, comes_on, damaged_read, entry_names}
 use Rattle.node_page.proofs.LeafLemmas.{below_here, child_page, entries_there, found_all, found_none, leaf_found, one_more_read}
-use Rattle.node_page.proofs.NodeLemmas.{at_error, on_ok}
+use Rattle.node_page.proofs.NodeLemmas.{at_error, if_error, on_ok}
 use Rattle.node_page.proofs.leaves.+add_leaves.Goals as goal
 
 pub returns-then-root-eq0-clause-found : goal.returns-then-root-eq0-clause-found
@@ -48,3 +52,32 @@ returns-clause-found g t c = λ h.
     found_all g.row.D (given c.args.cache.now) c.args.root.level (map item_of c.as_slice-entry-items.result.now) (lists_of c.args.lists.now) (looks_of c.args.cache.now) c.args.root.page c.loop-entry.entry-index
     (content_of c.in_ok-node.node) (lists_of c.loop-entry.lists) (looks_of c.loop-entry.cache) (omega (arith, c.loop-entry-test.false, length-map c.as_slice-entry-items.result.now item_of)) (c.in_ok-node.ensures.given_node h)
     c.in_ok-node.ensures.level (ap (map item_of) (sym c.as_slice-entry-items.ensures.value)) (c.loop-entry.invariant.found h)
+
+pub returns-in_err-node-clause-damage : goal.returns-in_err-node-clause-damage
+returns-in_err-node-clause-damage g t c = λ h.
+    at_error c.from_residual.result c.in_err-node.field-0.0 (λ f. (n : ℕ) → f ≡ fault.Damaged n → ComesTo g.row.D (given c.args.cache.now) c.args.root.page n) c.from_residual.ensures.1
+    (λ n damaged. ([], damaged_read c.in_err-node.field-0.0 c.args.root.page n (c.in_err-node.ensures.faults h) damaged))
+
+pub returns-then-root-eq0-clause-damage : goal.returns-then-root-eq0-clause-damage
+returns-then-root-eq0-clause-damage g t c = λ h.
+    if_error c.add_leaf.result
+    (λ f. f ≡ fault.Memory)
+    (λ f. (n : ℕ) → f ≡ fault.Damaged n → ComesTo g.row.D (given c.args.cache.now) c.args.root.page n)
+    (λ f (memory : f ≡ fault.Memory) n (damaged : f ≡ fault.Damaged n). absurd (cc))
+    c.add_leaf.ensures.memory
+
+pub returns-in_err-add_leaves-clause-damage : goal.returns-in_err-add_leaves-clause-damage
+returns-in_err-add_leaves-clause-damage g t c = λ h.
+    let m = given c.args.cache.now in
+    let now = given c.loop-entry.cache in
+    let content = content_of c.in_ok-node.node in
+    let entry = c.entry-item.result in
+    let items = map item_of c.as_slice-entry-items.result.now in
+    let same = ap (map item_of) (sym c.as_slice-entry-items.ensures.value) in
+    let within : c.loop-entry.entry-index < length items = omega (arith, length-map c.as_slice-entry-items.result.now item_of, c.loop-entry-test.true) in
+    let here = entry_item c.as_slice-entry-items.result.now c.loop-entry.entry-index entry (omega (arith, c.loop-entry-test.true)) c.entry-item.is in
+    let names = entry_names content items c.loop-entry.entry-index (item_of entry) same (omega (arith, c.in_ok-node.ensures.level, c.if-root-eq0.false)) within here in
+    let asks = c.loop-entry.invariant.asks in
+    at_error c.from_residual-in_err-add_leaves.result c.in_err-add_leaves.field-0.0 (λ f. (n : ℕ) → f ≡ fault.Damaged n → ComesTo g.row.D m c.args.root.page n) c.from_residual-in_err-add_leaves.ensures.1
+    (λ n damaged. comes_on g.row.D m c.args.root.page content n (c.in_ok-node.ensures.given_node h)
+    (comes_below_so g.row.D m now content n (λ k. asks.map.given_stay h k) (entry.reference, names, c.in_err-add_leaves.ensures.damage (asks.gate.honest.0 h) n damaged)))
