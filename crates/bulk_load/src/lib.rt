@@ -5,8 +5,6 @@ pub mod laws;
 mod nodes;
 mod packing;
 mod sorting;
-#[cfg(test)]
-mod tests;
 mod tiling;
 
 pub use packing::load;

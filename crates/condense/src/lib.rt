@@ -12,8 +12,6 @@ mod lower;
 mod put;
 mod removal;
 mod take;
-#[cfg(test)]
-mod tests;
 
 pub use free::free_tree;
 pub use kept::Kept;

@@ -12,8 +12,6 @@ mod freeing;
 mod making;
 mod removing;
 mod search;
-#[cfg(test)]
-mod tests;
 
 pub use adding::add;
 pub use check::{TableFacts, check_table};

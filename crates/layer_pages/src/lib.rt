@@ -10,8 +10,6 @@ mod loading;
 mod making;
 mod removing;
 mod replacing;
-#[cfg(test)]
-mod tests;
 
 pub use checking::check;
 pub use freeing::free;

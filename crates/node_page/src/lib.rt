@@ -4,8 +4,6 @@
 
 mod broken;
 mod check;
-#[cfg(test)]
-mod check_tests;
 mod columns;
 mod entries;
 mod head;
@@ -15,13 +13,7 @@ mod lending;
 mod masks;
 mod nodes;
 mod page;
-#[cfg(test)]
-mod tests;
-#[cfg(test)]
-mod tree_tests;
 mod view;
-#[cfg(test)]
-mod view_tests;
 mod visits;
 
 pub use broken::Broken;

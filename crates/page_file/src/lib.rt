@@ -10,8 +10,6 @@ mod header;
 pub mod laws;
 mod layout;
 mod opening;
-#[cfg(test)]
-mod tests;
 
 pub use fault::Fault;
 pub use file::{PageFile, create_pages, open_pages};

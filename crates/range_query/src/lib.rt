@@ -6,7 +6,5 @@ mod arranging;
 mod descent;
 mod query;
 mod range;
-#[cfg(test)]
-mod tests;
 
 pub use range::{around, inside, point, window};

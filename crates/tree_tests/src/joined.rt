@@ -1,0 +1,187 @@
+//! Tests of joins of small trees, of refused memory and devices that fail, and of pages that stand for no tree.
+
+use block_device::{BlockDevice, FuseDevice, FuseMode, MemoryDevice};
+use node_page::Root;
+use page_cache::PageCache;
+use page_file::{Fault, create_pages, open_pages};
+use refusing::Refusing;
+use spatial_join::join;
+use std::alloc::{Allocator, Global};
+use std::test::Fail;
+
+/// The objects (0,0) to (1,1) and (1,1) to (2,2), as 1 and 2.
+const TOUCHING: Root = Root { page: 3, level: 0 };
+
+/// The points (0,0), (1,0), (2,0), (3,0), (10,0), as 1 to 5, in two leaves.
+const TALL: Root = Root { page: 6, level: 1 };
+
+const EMPTY: Root = Root { page: 7, level: 0 };
+
+/// A root that refers to itself.
+const HOSTILE: Root = Root { page: 8, level: 1 };
+
+type Entry = (u64, [i32; 2], [i32; 2]);
+
+// The page of a node.
+fn page_of(level: u8, entries: &[Entry]) -> [u8; 4096] {
+    let mut page = [0; 4096];
+    page[..2].copy_from_slice(&[2, 2]);
+    page[4] = level;
+    let mut count: u8 = 0;
+    for (reference, low, high) in entries {
+        if count < 100 {
+            let place = usize::from(count);
+            for axis in 0..2 {
+                let at = 16 + 800 * axis + 4 * place;
+                page[at..at + 4].copy_from_slice(&low[axis].to_be_bytes());
+                page[at + 400..at + 404].copy_from_slice(&high[axis].to_be_bytes());
+            }
+            let at = 1616 + 8 * place;
+            page[at..at + 8].copy_from_slice(&reference.to_be_bytes());
+            count += 1;
+        }
+    }
+    page[3] = count;
+    page
+}
+
+// A device on which the trees stand in pages 3 to 8.
+fn scene(alloc: Global) -> Result<MemoryDevice, Fault> {
+    let file = create_pages(MemoryDevice::new(alloc)).map_err(|(fault, _)| fault)?;
+    let mut cache = PageCache::over(alloc, file, 8).map_err(|(fault, _)| fault)?;
+    cache.begin_change()?;
+    cache.allocate()?;
+    cache.allocate()?;
+    cache.allocate()?;
+    cache.allocate()?;
+    cache.allocate()?;
+    cache.allocate()?;
+    cache.put(3, &page_of(0, &[(2, [1, 1], [2, 2]), (1, [0, 0], [1, 1])]))?;
+    cache.put(4, &page_of(0, &[(1, [0, 0], [0, 0]), (2, [1, 0], [1, 0])]))?;
+    cache.put(
+        5,
+        &page_of(
+            0,
+            &[
+                (3, [2, 0], [2, 0]),
+                (4, [3, 0], [3, 0]),
+                (5, [10, 0], [10, 0]),
+            ],
+        ),
+    )?;
+    cache.put(6, &page_of(1, &[(4, [0, 0], [1, 0]), (5, [2, 0], [10, 0])]))?;
+    cache.put(7, &page_of(0, &[]))?;
+    cache.put(8, &page_of(1, &[(8, [0, 0], [1, 1])]))?;
+    cache.close().map_err(|(fault, _)| fault)
+}
+
+// A cache over the pages of a device.
+fn cache_over<B: BlockDevice + Drop, A: Allocator + Copy>(
+    alloc: A,
+    device: B,
+) -> Result<PageCache<B, A>, Fault> {
+    let file = open_pages(device).map_err(|(fault, _)| fault)?;
+    PageCache::over(alloc, file, 8).map_err(|(fault, _)| fault)
+}
+
+// The pairs of a join, of which there are few, and how many pages were looked at.
+fn joined(alloc: Global, a: Root, b: Root) -> Result<(Vec<(u64, u64)>, u64), Fault> {
+    let mut cache = cache_over(alloc, scene(alloc)?)?;
+    let pairs = join::<2, _, _, _>(alloc, &mut cache, a, b)?;
+    Ok((pairs, cache.looks()))
+}
+
+#[test]
+fn touching_boxes_are_joined(rt: HostRuntime) -> Result<(), Fail> {
+    let (pairs, looks) = joined(rt.alloc(), TOUCHING, TOUCHING)?;
+    assert_eq!(rt;
+        pairs.as_slice(),
+        [(1, 1), (1, 2), (2, 1), (2, 2)].as_slice()
+    );
+    assert_eq!(rt; looks, 2);
+    Ok(())
+}
+
+#[test]
+fn trees_of_different_heights_are_joined(rt: HostRuntime) -> Result<(), Fail> {
+    let (pairs, looks) = joined(rt.alloc(), TALL, TOUCHING)?;
+    assert_eq!(rt; pairs.as_slice(), [(1, 1), (2, 1)].as_slice());
+    // the roots, and each leaf beside the other root, whose box meets both of theirs
+    assert!(rt; looks <= 6);
+    let (pairs, looks) = joined(rt.alloc(), TOUCHING, TALL)?;
+    assert_eq!(rt; pairs.as_slice(), [(1, 1), (1, 2)].as_slice());
+    assert!(rt; looks <= 6);
+    Ok(())
+}
+
+#[test]
+fn a_tree_is_joined_with_itself(rt: HostRuntime) -> Result<(), Fail> {
+    let (pairs, looks) = joined(rt.alloc(), TALL, TALL)?;
+    assert_eq!(rt;
+        pairs.as_slice(),
+        [(1, 1), (2, 2), (3, 3), (4, 4), (5, 5)].as_slice()
+    );
+    // the roots, and each leaf with itself
+    assert_eq!(rt; looks, 6);
+    Ok(())
+}
+
+#[test]
+fn an_empty_root_meets_nothing(rt: HostRuntime) -> Result<(), Fail> {
+    for (a, b) in [(TALL, EMPTY), (EMPTY, TALL), (EMPTY, EMPTY)] {
+        let (pairs, looks) = joined(rt.alloc(), a, b)?;
+        assert!(rt; pairs.is_empty());
+        assert!(rt; looks <= 2);
+    }
+    Ok(())
+}
+
+#[test]
+fn pages_of_no_tree_are_damaged(rt: HostRuntime) -> Result<(), Fail> {
+    for (a, b) in [(HOSTILE, TALL), (TOUCHING, HOSTILE), (HOSTILE, HOSTILE)] {
+        assert!(rt; joined(rt.alloc(), a, b).err() == Some(Fault::Damaged(8)));
+    }
+    Ok(())
+}
+
+#[test]
+fn each_growth_is_refused_in_turn(rt: HostRuntime) -> Result<(), Fail> {
+    let heap = Refusing::new(rt.alloc());
+    for k in 0..64 {
+        let mut cache = cache_over(&heap, scene(rt.alloc())?)?;
+        heap.refuse_once(k);
+        let answer = join::<2, _, _, _>(&heap, &mut cache, TALL, TOUCHING);
+        if !heap.relent() {
+            assert_eq!(rt; answer?.len(), 2);
+            assert!(rt; k > 1);
+            return Ok(());
+        }
+        assert!(rt; answer.err() == Some(Fault::Memory), "{k}");
+        // nothing is kept of the refusal
+        assert_eq!(rt;
+            join::<2, _, _, _>(&heap, &mut cache, TALL, TOUCHING)?.len(),
+            2
+        );
+    }
+    Err(Fail::from("each time some growth was refused"))
+}
+
+#[test]
+fn each_call_of_the_device_fails_in_turn(rt: HostRuntime) -> Result<(), Fail> {
+    // A sync and two reads open the file.
+    for k in 0..9 {
+        let fuse = FuseDevice::new(scene(rt.alloc())?, 3 + k, FuseMode::Once);
+        let mut cache = cache_over(rt.alloc(), fuse)?;
+        let answer = join::<2, _, _, _>(rt.alloc(), &mut cache, TALL, TOUCHING);
+        // Both roots and two leaves are read.
+        assert!(rt;
+            answer.err() == (if k < 4 { Some(Fault::Device) } else { None }),
+            "{k}"
+        );
+        assert_eq!(rt;
+            join::<2, _, _, _>(rt.alloc(), &mut cache, TALL, TOUCHING)?.len(),
+            2
+        );
+    }
+    Ok(())
+}
