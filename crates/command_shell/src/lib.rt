@@ -14,8 +14,6 @@ mod replies;
 mod reply_line;
 mod rows;
 mod session;
-#[cfg(test)]
-mod tests;
 mod words;
 
 pub use in_memory::answers_to;

@@ -1,9 +1,9 @@
 //! Runs of the program: what it says of their end, and that the store is closed, however they ended.
 
-use super::fakes::{FailsOnce, Parts, Short, Unflushed};
-use super::new_store;
-use crate::{RunEnd, answers_to, run, run_and_close, tell_refusal};
+use crate::fakes::{FailsOnce, Parts, Short, Unflushed};
+use crate::stores::new_store;
 use block_device::{BlockDevice, FuseDevice, FuseMode, MemoryDevice};
+use command_shell::{RunEnd, answers_to, run, run_and_close, tell_refusal};
 use layer_store::{Refusal, create_store, open_store};
 use std::alloc::Global;
 use std::cell::Cell;

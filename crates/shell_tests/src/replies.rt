@@ -1,8 +1,8 @@
 //! The texts of replies.
 
-use crate::{Reply, write_reply};
 use arrayvec::ArrayVec;
 use box_math::BBox;
+use command_shell::{Reply, write_reply};
 use layer_store::{AnyBox, Refusal};
 use plain_table::{DumpRow, LayerInfo, LayerName};
 use std::alloc::Global;

@@ -1,8 +1,8 @@
 //! Runs over readers and writers that are slow or fail, with lines that ask nothing of the store.
 
-use super::fakes::{FailsOnce, Parts, Short, Slow, Unflushed, Waits};
-use super::new_store;
-use crate::{MAX_LINE, RunEnd, run};
+use crate::fakes::{FailsOnce, Parts, Short, Slow, Unflushed, Waits};
+use crate::stores::new_store;
+use command_shell::{MAX_LINE, RunEnd, run};
 use std::cell::Cell;
 use std::io::ErrorKind;
 use std::test::Fail;

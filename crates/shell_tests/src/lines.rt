@@ -1,6 +1,6 @@
 //! What lines mean.
 
-use crate::{Line, MAX_LINE, parse_entry, parse_line};
+use command_shell::{Line, MAX_LINE, parse_entry, parse_line};
 use layer_store::{RawBox, RawPoint, RawQuery};
 use std::test::Fail;
 

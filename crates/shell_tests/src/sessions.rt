@@ -1,9 +1,9 @@
 //! Sessions with a store: lines with their replies, a layer too many, and growths that are refused.
 
-use super::fakes::{Short, Slow};
-use super::new_store;
-use crate::{RunEnd, run};
+use crate::fakes::{Short, Slow};
+use crate::stores::new_store;
 use block_device::MemoryDevice;
+use command_shell::{RunEnd, run};
 use layer_store::Store;
 use refusing::Refusing;
 use std::alloc::Global;
