@@ -23,8 +23,6 @@ mod noting;
 mod open;
 mod questions;
 mod reopening;
-#[cfg(test)]
-mod tests;
 
 use arrayvec::ArrayVec;
 use block_device::BlockDevice;

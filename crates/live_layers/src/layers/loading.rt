@@ -12,8 +12,6 @@ ghost use Rattle.live_layers.specs.Staying.{KeepsTrees};
 
 mod checking;
 mod load_boxes;
-#[cfg(test)]
-mod tests;
 
 use crate::layers::Layers;
 use crate::objects::{objects_in_plane, objects_in_space};

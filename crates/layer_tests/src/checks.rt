@@ -1,31 +1,39 @@
-//! Tests of listings, dumps and checks: what they answer, damage that a check finds, and each growth and each call of
-//! the device refused in turn.
+//! Listings, dumps and checks: what they answer, damage that a check finds, and each growth and each call of the device
+//! refused in turn.
 
 ghost use Rattle.std.specs.Prelude.{◌<◌};
 
-use crate::layers::tests::{create, open, point};
-use crate::names::name_of;
-use crate::{Layers, Unmade};
-use block_bytes::write_u64;
-use block_device::{BlockDevice, FuseDevice, FuseMode, MemoryDevice};
+use crate::scene::{
+    CATALOG, FIRST, MemoryLayers, SECOND, create, open, open_cache, point, put_catalog,
+    read_catalog,
+};
+use block_bytes::{read_u32, write_u64};
+use block_device::{BlockDevice, FuseDevice, FuseMode};
 use box_math::BBox;
-use page_file::Fault;
-use plain_table::{AnyBox, DumpRow, RawBox, Refusal};
+use live_layers::Layers;
+use plain_table::{AnyBox, DumpRow, LayerName, RawBox, Refusal};
 use refusing::Refusing;
 use std::alloc::{Allocator, Global};
 use std::test::Fail;
 
 // Layers that were settled: three points in one, and a box of three axes in the other.
-fn two_layers(alloc: Global) -> Result<Layers<MemoryDevice, Global>, Unmade> {
-    let mut layers = create(alloc).map_err(Unmade::Broken)?;
+fn two_layers(alloc: Global) -> Result<MemoryLayers, Fail> {
+    let mut layers = create(alloc)?;
     layers.create(b"towns", 2, 4)?;
     layers.create(b"parks", 3, 100)?;
     for id in [7, 5, 6] {
         layers.insert(b"towns", id, point(3))?;
     }
     layers.insert(b"parks", 1, RawBox::Three([0; 3], [9; 3]))?;
-    layers.settle().map_err(Unmade::Broken)?;
+    layers.settle()?;
     Ok(layers)
+}
+
+// A name as listings have it.
+fn named(bytes: &[u8]) -> LayerName {
+    let mut name = LayerName::new();
+    let _ = name.try_extend_from_slice(bytes);
+    name
 }
 
 // The box of a town, as a dump has it.
@@ -46,63 +54,57 @@ fn layers_are_listed_and_dumped(rt: HostRuntime) -> Result<(), Fail> {
     assert_eq!(rt; (towns.dims, towns.fanout, towns.count), (2, 4, 3));
     let rows = layers.dump()?;
     assert_eq!(rt; rows.len(), 6);
-    assert_eq!(rt; rows[0], DumpRow::Create(name_of(b"parks"), 3, 100));
+    assert_eq!(rt; rows[0], DumpRow::Create(named(b"parks"), 3, 100));
     let park = BBox::try_new([0; 3], [9; 3]).unwrap_or_default();
     assert_eq!(rt;
         rows[1],
-        DumpRow::Insert(name_of(b"parks"), 1, AnyBox::Three(park))
+        DumpRow::Insert(named(b"parks"), 1, AnyBox::Three(park))
     );
-    assert_eq!(rt; rows[2], DumpRow::Create(name_of(b"towns"), 2, 4));
-    assert_eq!(rt; rows[3], DumpRow::Insert(name_of(b"towns"), 5, town()));
-    assert_eq!(rt; rows[5], DumpRow::Insert(name_of(b"towns"), 7, town()));
+    assert_eq!(rt; rows[2], DumpRow::Create(named(b"towns"), 2, 4));
+    assert_eq!(rt; rows[3], DumpRow::Insert(named(b"towns"), 5, town()));
+    assert_eq!(rt; rows[5], DumpRow::Insert(named(b"towns"), 7, town()));
     Ok(())
-}
-
-// Writes another page of the catalog.
-fn put_catalog(layers: &mut Layers<MemoryDevice, Global>, page: &[u8; 4096]) -> Result<(), Fault> {
-    layers.cache.begin_change()?;
-    layers.cache.put(2, page)?;
-    layers.cache.settle()
 }
 
 #[test]
 fn catalogs_that_say_something_else_are_found(rt: HostRuntime) -> Result<(), Fail> {
     let mut layers = two_layers(rt.alloc())?;
     assert_eq!(rt; layers.check(), Ok(()));
-    let page = *layers.cache.page(2)?;
+    let (page, device) = read_catalog(rt.alloc(), layers.abandon())?;
     // the first layer has another count of objects
     let mut other = page;
-    write_u64(&mut other, 256 + 36, 9);
-    put_catalog(&mut layers, &other)?;
-    assert_eq!(rt; layers.check(), Err(Refusal::Damaged(2)));
-    let mut again = open(rt.alloc(), layers.cache.abandon())?;
-    assert_eq!(rt; again.check(), Err(Refusal::Damaged(2)));
+    write_u64(&mut other, FIRST + 36, 9);
+    let device = put_catalog(rt.alloc(), device, &other)?;
+    let mut layers = open(rt.alloc(), device)?;
+    assert_eq!(rt; layers.check(), Err(Refusal::Damaged(CATALOG)));
     // the second layer has the pages of the first, and its own root is in no place
-    let Some(towns) = again.records.get(1) else {
-        return Err(Fail::from("no second layer"));
-    };
-    let lost = towns.root;
+    let lost = read_u32(&page, SECOND + 28);
     let mut other = page;
     for k in 25..44 {
-        other[320 + k] = page[256 + k];
+        other[SECOND + k] = page[FIRST + k];
     }
-    put_catalog(&mut again, &other)?;
-    let mut again = open(rt.alloc(), again.cache.abandon())?;
-    assert_eq!(rt; again.check(), Err(Refusal::Damaged(lost)));
-    put_catalog(&mut again, &page)?;
-    let mut again = open(rt.alloc(), again.cache.abandon())?;
-    assert_eq!(rt; again.check(), Ok(()));
+    let device = put_catalog(rt.alloc(), layers.abandon(), &other)?;
+    let mut layers = open(rt.alloc(), device)?;
+    assert_eq!(rt; layers.check(), Err(Refusal::Damaged(lost)));
+    let device = put_catalog(rt.alloc(), layers.abandon(), &page)?;
+    let mut layers = open(rt.alloc(), device)?;
+    assert_eq!(rt; layers.check(), Ok(()));
     Ok(())
 }
 
 #[test]
 fn a_page_in_no_place_is_found(rt: HostRuntime) -> Result<(), Fail> {
-    let mut layers = two_layers(rt.alloc())?;
-    layers.cache.begin_change()?;
-    let page = layers.cache.allocate()?;
+    let mut cache = open_cache(rt.alloc(), two_layers(rt.alloc())?.abandon())?;
+    cache.begin_change()?;
+    let page = cache.allocate()?;
+    cache.settle()?;
+    let mut layers = open(rt.alloc(), cache.abandon())?;
     assert_eq!(rt; layers.check(), Err(Refusal::Damaged(page)));
-    layers.cache.begin_change()?;
-    layers.cache.free(page)?;
+    let mut cache = open_cache(rt.alloc(), layers.abandon())?;
+    cache.begin_change()?;
+    cache.free(page)?;
+    cache.settle()?;
+    let mut layers = open(rt.alloc(), cache.abandon())?;
     assert_eq!(rt; layers.check(), Ok(()));
     Ok(())
 }
@@ -130,8 +132,7 @@ fn ask<B: BlockDevice, A: Allocator + Copy>(
 
 // Asks with growth number k refused, and each later one; answers whether one was.
 fn grows(alloc: Global, heap: &Refusing<Global>, question: Question, k: u32) -> Result<bool, Fail> {
-    let device = two_layers(alloc)?.cache.abandon();
-    let mut layers = open(heap, device)?;
+    let mut layers = open(heap, two_layers(alloc)?.abandon())?;
     heap.refuse_from(k);
     let answer = ask(&mut layers, question);
     let refused = heap.relent();
@@ -164,8 +165,8 @@ fn each_growth_of_a_question_is_refused(rt: HostRuntime) -> Result<(), Fail> {
 fn passes(alloc: Global, question: Question, passes: u64) -> Result<bool, Fail>
     requires { passes < 1000 }
 {
-    let device = two_layers(alloc)?.cache.abandon();
-    let Ok(mut layers) = open(alloc, FuseDevice::new(device, passes, FuseMode::Once)) else {
+    let fuse = FuseDevice::new(two_layers(alloc)?.abandon(), passes, FuseMode::Once);
+    let Ok(mut layers) = open(alloc, fuse) else {
         return Ok(false);
     };
     match ask(&mut layers, question) {
