@@ -1,7 +1,7 @@
 //! Tests that calls succeed, of what is lent after each change, of the calls of the device, of the count of
 //! looks, and of refused memory and failed calls.
-ghost use Rattle.std.specs.Prelude.{◌≡◌, IfOk};
-ghost use Rattle.page_file.specs.declared.gate.Gate.TheVariants.{Shut};
+ghost use Rattle.std.specs.Prelude.{◌≡◌, IfOk, OnOk};
+ghost use Rattle.page_file.specs.declared.gate.Gate.TheVariants.{Open, Shut};
 ghost use Rattle.page_cache.specs.Cache.{gate_of};
 
 mod bounded;
@@ -45,28 +45,53 @@ fn lends<D: BlockDevice>(cache: &mut PageCache<D, Global>, n: u32, byte: u8) -> 
     Ok(*page == [byte; 4096])
 }
 
+// Puts page n with this byte throughout.
+fn put<D: BlockDevice>(cache: &mut PageCache<D, Global>, n: u32, byte: u8) -> Result<(), Fault>
+    requires { gate_of cache.old ≡ Open }
+    ensures { gate_of cache.new ≡ Open }
+{
+    cache.put(n, &[byte; 4096])
+}
+
+// Opens the gate, and puts page n with this byte throughout.
+fn put_first<D: BlockDevice>(
+    cache: &mut PageCache<D, Global>,
+    n: u32,
+    byte: u8,
+) -> Result<(), Fault>
+    ensures { OnOk result (gate_of cache.new ≡ Open) }
+{
+    cache.begin_change()?;
+    put(cache, n, byte)
+}
+
 #[test]
 fn pages_are_put_and_lent(rt: HostRuntime) -> Result<(), Fail> {
     let mut cache = cache_on(rt.alloc(), scene(rt.alloc())?)?;
     assert!(rt; lends(&mut cache, 3, 7)?);
-    assert!(rt; lends(&mut cache, 4, 8)?);
-    assert!(rt; lends(&mut cache, 4, 8)?);
-    assert_eq!(rt; cache.next_number(), 5);
-    cache.begin_change()?;
-    cache.put(3, &[1; 4096])?;
+    put_first(&mut cache, 3, 1)?;
     assert!(rt; lends(&mut cache, 3, 1)?);
-    cache.put(3, &[2; 4096])?;
+    put(&mut cache, 3, 2)?;
     assert!(rt; lends(&mut cache, 4, 8)?);
     assert!(rt; lends(&mut cache, 3, 2)?);
     // A page is put while another is held, and then that one.
-    cache.put(4, &[3; 4096])?;
+    put(&mut cache, 4, 3)?;
     assert!(rt; lends(&mut cache, 3, 2)?);
     assert!(rt; lends(&mut cache, 4, 3)?);
+    assert_eq!(rt; cache.looks(), 6);
+    Ok(())
+}
+
+#[test]
+fn a_page_given_out_has_zeros(rt: HostRuntime) -> Result<(), Fail> {
+    let mut cache = cache_on(rt.alloc(), scene(rt.alloc())?)?;
+    assert_eq!(rt; cache.next_number(), 5);
+    cache.begin_change()?;
     assert_eq!(rt; cache.allocate(), Ok(5));
     assert!(rt; lends(&mut cache, 5, 0)?);
     cache.flush()?;
     assert!(rt; lends(&mut cache, 5, 0)?);
-    assert_eq!(rt; cache.looks(), 10);
+    assert_eq!(rt; cache.looks(), 2);
     Ok(())
 }
 
@@ -117,8 +142,7 @@ fn a_page_whose_write_is_refused_stays_held(rt: HostRuntime) -> Result<(), Fail>
     let fuse = FuseDevice::new(scene(rt.alloc())?, 6, FuseMode::Once);
     let mut cache = cache_on(rt.alloc(), fuse)?;
     assert!(rt; lends(&mut cache, 3, 7)?);
-    cache.begin_change()?;
-    cache.put(3, &[1; 4096])?;
+    put_first(&mut cache, 3, 1)?;
     assert_eq!(rt; cache.flush(), Err(Fault::Device));
     assert!(rt; lends(&mut cache, 3, 1)?);
     cache.settle()?;
@@ -156,6 +180,14 @@ fn change<D: BlockDevice>(cache: &mut PageCache<D, Global>) -> Result<(), Fault>
     Ok(())
 }
 
+// Whether the file on the device has page 3 as it was, also where it is checked again.
+fn lends_again(alloc: Global, device: MemoryDevice) -> Result<bool, Fault> {
+    let mut cache = cache_on(alloc, device)?;
+    let lent = lends(&mut cache, 3, 7)?;
+    cache.check_again()?;
+    Ok(lent && lends(&mut cache, 3, 7)? && cache.looks() == 2)
+}
+
 #[test]
 fn each_call_of_the_device_fails_in_turn(rt: HostRuntime) -> Result<(), Fail> {
     let mut refused = 0;
@@ -172,11 +204,7 @@ fn each_call_of_the_device_fails_in_turn(rt: HostRuntime) -> Result<(), Fail> {
         let Ok(device) = cache.close() else {
             return Err(Fail::from("close"));
         };
-        let mut again = cache_on(rt.alloc(), device.into_inner())?;
-        assert!(rt; lends(&mut again, 3, 7)?);
-        again.check_again()?;
-        assert!(rt; lends(&mut again, 3, 7)?);
-        assert_eq!(rt; again.looks(), 2);
+        assert!(rt; lends_again(rt.alloc(), device.into_inner())?);
     }
     // Most of the calls of the device are made, whatever is held.
     assert!(rt; refused > 12);

@@ -1,6 +1,8 @@
 //! Tests of what no clause says: that calls succeed, the bytes of the format, each check of opening, and
 //! a stop after each call of the device.
-ghost use Rattle.std.specs.Prelude.{◌≡◌, length};
+ghost use Rattle.std.specs.Prelude.{◌≡◌, IfOk, OnOk};
+ghost use Rattle.page_file.specs.File.{gate_of};
+ghost use Rattle.page_file.specs.declared.gate.Gate.TheVariants.{Open};
 
 use block_device::{BlockDevice, FuseDevice, FuseMode, Left, MemoryDevice};
 use page_file::{Fault, PageFile, create_pages, open_pages};
@@ -56,46 +58,94 @@ fn refusal(device: MemoryDevice) -> Option<Fault> {
     open_pages(device).err().map(|(fault, _)| fault)
 }
 
-#[test]
-fn a_page_lives_and_is_freed(rt: HostRuntime) -> Result<(), Fail> {
-    let Ok(mut file) = create_pages(MemoryDevice::new(rt.alloc())) else {
-        return Err(Fail::from("create"));
-    };
-    let mut into = [9; 4096];
-    file.read(2, &mut into)?;
-    assert_eq!(rt; into[0], 1);
-    assert!(rt; into[1..] == [0; 4095]);
-    assert_eq!(rt; file.next_number(), 3);
+// The same of a file with these bytes at a place of a block.
+fn refusal_of(alloc: Global, i: u32, at: usize, bytes: &[u8]) -> Result<Option<Fault>, Fault> {
+    let mut device = scene(alloc, false)?;
+    patch(&mut device, i, at, bytes)?;
+    Ok(refusal(device))
+}
+
+// A new file, its gate open.
+fn new_file(alloc: Global) -> Result<PageFile<MemoryDevice>, Fault>
+    ensures { IfOk result (λ file. gate_of file ≡ Open) }
+{
+    let mut file = create_pages(MemoryDevice::new(alloc)).map_err(|(fault, _)| fault)?;
     file.begin_change()?;
+    Ok(file)
+}
+
+// Gives out a page, fills it with sevens, and answers its number.
+fn filled(file: &mut PageFile<MemoryDevice>) -> Result<u32, Fault>
+    requires { gate_of file.old ≡ Open }
+    ensures { OnOk result (gate_of file.new ≡ Open) }
+{
     let n = file.allocate()?;
-    assert_eq!(rt; n, 3);
-    file.read(n, &mut into)?;
-    assert!(rt; into == [0; 4096]);
     file.write(n, &[7; 4096])?;
-    file.read(n, &mut into)?;
-    assert!(rt; into == [7; 4096]);
+    Ok(n)
+}
+
+// Whether page n is read with this byte throughout.
+fn reads(file: &mut PageFile<MemoryDevice>, n: u32, byte: u8) -> Result<bool, Fault>
+    ensures { gate_of file.new ≡ gate_of file.old }
+{
+    let mut page = [!byte; 4096];
+    file.read(n, &mut page)?;
+    Ok(page == [byte; 4096])
+}
+
+#[test]
+fn a_new_file_has_an_empty_catalog(rt: HostRuntime) -> Result<(), Fail> {
+    let mut file = new_file(rt.alloc())?;
+    let mut catalog = [9; 4096];
+    file.read(2, &mut catalog)?;
+    assert_eq!(rt; catalog[0], 1);
+    assert!(rt; catalog[1..] == [0; 4095]);
+    assert_eq!(rt; file.next_number(), 3);
+    Ok(())
+}
+
+#[test]
+fn a_page_is_given_out_and_filled(rt: HostRuntime) -> Result<(), Fail> {
+    let mut file = new_file(rt.alloc())?;
+    assert_eq!(rt; file.allocate(), Ok(3));
+    assert!(rt; reads(&mut file, 3, 0)?);
+    assert_eq!(rt; filled(&mut file), Ok(4));
+    assert!(rt; reads(&mut file, 4, 7)?);
+    assert_eq!(rt; reads(&mut file, 1, 0), Err(Fault::Damaged(1)));
+    assert_eq!(rt; reads(&mut file, 5, 0), Err(Fault::Damaged(5)));
+    assert_eq!(rt; Fault::NoPages.number(), 25);
+    Ok(())
+}
+
+#[test]
+fn a_freed_page_is_given_out_first(rt: HostRuntime) -> Result<(), Fail> {
+    let mut file = new_file(rt.alloc())?;
+    let n = filled(&mut file)?;
+    file.free(n)?;
+    assert!(rt; *file.free_pages(rt.alloc())?.as_slice() == *[n].as_slice());
+    // It has zeros, and comes before a new number.
+    assert_eq!(rt; file.allocate(), Ok(n));
+    assert!(rt; reads(&mut file, n, 0)?);
+    assert_eq!(rt; file.allocate(), Ok(4));
+    Ok(())
+}
+
+#[test]
+fn a_settled_file_is_closed_and_opened_again(rt: HostRuntime) -> Result<(), Fail> {
+    let mut file = new_file(rt.alloc())?;
+    filled(&mut file)?;
     file.flush()?;
     file.settle()?;
     file.settle()?;
     file.check_again()?;
-    file.begin_change()?;
-    assert_eq!(rt; file.allocate(), Ok(4));
-    assert_eq!(rt; file.free(3), Ok(()));
-    assert_eq!(rt; file.read(1, &mut into), Err(Fault::Damaged(1)));
-    assert_eq!(rt; file.read(5, &mut into), Err(Fault::Damaged(5)));
-    // The freed page is given out again, with zeros, before a new number.
-    assert_eq!(rt; file.allocate(), Ok(3));
-    file.read(3, &mut into)?;
-    assert!(rt; into == [0; 4096]);
     let Ok(device) = file.close() else {
         return Err(Fail::from("close"));
     };
-    let Ok(file) = open_pages(device) else {
+    let Ok(again) = open_pages(device) else {
         return Err(Fail::from("open"));
     };
-    assert_eq!(rt; file.next_number(), 5);
-    assert_eq!(rt; file.abandon().blocks(), 5);
-    assert_eq!(rt; Fault::NoPages.number(), 25);
+    assert_eq!(rt; again.next_number(), 4);
+    assert_eq!(rt; again.abandon().blocks(), 4);
     Ok(())
 }
 
@@ -174,9 +224,11 @@ fn opening_answers_the_first_check_that_fails(rt: HostRuntime) -> Result<(), Fai
         (1, 16, b"\x00\x00\x00\x04\x00\x00\x00\x02", None),
     ];
     for (i, at, bytes, want) in table {
-        let mut device = scene(rt.alloc(), false)?;
-        patch(&mut device, i, at, bytes)?;
-        assert_eq!(rt; refusal(device), want, "block {i} at {at}");
+        assert_eq!(rt;
+            refusal_of(rt.alloc(), i, at, bytes)?,
+            want,
+            "block {i} at {at}"
+        );
     }
     // the gate is looked at before the version
     let mut device = scene(rt.alloc(), false)?;

@@ -5,7 +5,7 @@ ghost use Rattle.page_cache.specs.Cache.{gate_of};
 
 use block_device::{BlockDevice, MemoryDevice};
 use page_cache::PageCache;
-use page_file::{Fault, create_pages, open_pages};
+use page_file::{Fault, PageFile, create_pages, open_pages};
 use refusing::Refusing;
 use std::alloc::{Allocator, Global};
 use std::test::Fail;
@@ -157,15 +157,25 @@ fn each_growth_of_a_call_is_refused(rt: HostRuntime) -> Result<(), Fail> {
     Ok(())
 }
 
+// The file of such a cache, settled and opened again.
+fn file_of_scene(alloc: Global) -> Result<PageFile<MemoryDevice>, Fault> {
+    let mut cache = scene(alloc, false)?;
+    cache.settle()?;
+    open_pages(cache.abandon()).map_err(|(fault, _)| fault)
+}
+
+// Whether the file on the device has pages 3 to 11 as they were.
+fn is_whole(heap: &Refusing<Global>, device: MemoryDevice) -> Result<bool, Fault> {
+    let file = open_pages(device).map_err(|(fault, _)| fault)?;
+    let mut cache = PageCache::over(heap, file, 9).map_err(|(fault, _)| fault)?;
+    Ok(first_other(&mut cache, 3)? == 12)
+}
+
 #[test]
 fn each_growth_of_a_new_cache_is_refused(rt: HostRuntime) -> Result<(), Fail> {
     for k in 0..20 {
         let heap = Refusing::new(rt.alloc());
-        let mut before = scene(rt.alloc(), false)?;
-        before.settle()?;
-        let Ok(file) = open_pages(before.abandon()) else {
-            return Err(Fail::from("open"));
-        };
+        let file = file_of_scene(rt.alloc())?;
         heap.refuse_from(k);
         let Err((fault, device)) = PageCache::over(&heap, file, 9) else {
             assert!(rt; k > 0 && !heap.relent());
@@ -173,13 +183,7 @@ fn each_growth_of_a_new_cache_is_refused(rt: HostRuntime) -> Result<(), Fail> {
         };
         assert_eq!(rt; fault, Fault::Memory);
         assert!(rt; heap.relent());
-        let Ok(file) = open_pages(device) else {
-            return Err(Fail::from("open again"));
-        };
-        let Ok(mut cache) = PageCache::over(&heap, file, 9) else {
-            return Err(Fail::from("over again"));
-        };
-        assert_eq!(rt; first_other(&mut cache, 3)?, 12);
+        assert!(rt; is_whole(&heap, device)?);
     }
     Err(Fail::from("no cache was made"))
 }

@@ -3,6 +3,7 @@ ghost use Rattle.std.specs.Prelude.{◌≡◌, IfOk, OnOk};
 ghost use Rattle.page_file.specs.declared.gate.Gate.TheVariants.{Open};
 ghost use Rattle.page_cache.specs.Cache.{gate_of};
 
+use super::lends;
 use block_device::{BlockDevice, MemoryDevice};
 use page_cache::PageCache;
 use page_file::{Fault, create_pages, open_pages};
@@ -25,48 +26,46 @@ fn new_cache<A: Allocator + Copy>(
     Ok(cache)
 }
 
-#[test]
-fn a_page_lives_and_is_freed(rt: HostRuntime) -> Result<(), Fail> {
-    let Ok(mut file) = create_pages(MemoryDevice::new(rt.alloc())) else {
-        return Err(Fail::from("create"));
-    };
-    file.begin_change()?;
-    let n = file.allocate()?;
-    file.write(n, &[7; 4096])?;
-    let mut page = [0; 4096];
-    file.read(n, &mut page)?;
-    assert!(rt; page == [7; 4096]);
-    file.free(n)?;
-    assert!(rt; *file.free_pages(rt.alloc())?.as_slice() == *[n].as_slice());
-    file.settle()?;
-    let Ok(device) = file.close() else {
-        return Err(Fail::from("close"));
-    };
-    let Ok(mut again) = open_pages(device) else {
-        return Err(Fail::from("open"));
-    };
-    assert!(rt; *again.free_pages(rt.alloc())?.as_slice() == *[n].as_slice());
-    Ok(())
+// Gives out a page and fills it, and answers its number.
+fn filled(cache: &mut PageCache<MemoryDevice, Global>) -> Result<u32, Fault>
+    requires { gate_of cache.old ≡ Open }
+    ensures { gate_of cache.new ≡ Open }
+{
+    let n = cache.allocate()?;
+    cache.put(n, &[7; 4096])?;
+    Ok(n)
+}
+
+// Frees the page, and answers whether it is the only free one.
+fn is_freed(
+    alloc: Global,
+    cache: &mut PageCache<MemoryDevice, Global>,
+    n: u32,
+) -> Result<bool, Fault>
+    requires { gate_of cache.old ≡ Open }
+{
+    cache.free(n)?;
+    Ok(*cache.free_pages(alloc)?.as_slice() == *[n].as_slice())
 }
 
 #[test]
 fn a_cached_page_lives_and_is_freed(rt: HostRuntime) -> Result<(), Fail> {
     let mut cache = new_cache(rt.alloc(), rt.alloc(), 8)?;
-    let n = cache.allocate()?;
-    cache.put(n, &[7; 4096])?;
-    assert!(rt; *cache.page(n)? == [7; 4096]);
+    let n = filled(&mut cache)?;
+    assert!(rt; lends(&mut cache, n, 7)?);
     cache.flush()?;
-    assert!(rt; *cache.page(n)? == [7; 4096]);
+    assert!(rt; lends(&mut cache, n, 7)?);
     assert_eq!(rt; cache.looks(), 2);
-    cache.free(n)?;
-    assert!(rt; *cache.free_pages(rt.alloc())?.as_slice() == *[n].as_slice());
+    assert!(rt; is_freed(rt.alloc(), &mut cache, n)?);
     assert_eq!(rt; cache.looks(), 2);
-    cache.settle()?;
-    let Ok(device) = cache.close() else {
-        return Err(Fail::from("close"));
-    };
-    assert!(rt; open_pages(device).is_ok());
+    assert!(rt; settled(cache).is_ok());
     Ok(())
+}
+
+// The device of the cache, settled and closed.
+fn settled(mut cache: PageCache<MemoryDevice, Global>) -> Result<MemoryDevice, Fault> {
+    cache.settle()?;
+    cache.close().map_err(|(fault, _)| fault)
 }
 
 // How many blocks there are once a page was given out and freed so often.
