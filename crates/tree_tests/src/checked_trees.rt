@@ -4,12 +4,13 @@ ghost use Rattle.std.specs.Prelude.{◌≡◌, IfOk};
 ghost use Rattle.page_cache.specs.Cache.{gate_of};
 ghost use Rattle.page_file.specs.declared.gate.Gate.TheVariants.{Open};
 
+use crate::small_trees::cache_of;
 use block_bytes::{NODE_KIND, write_head, write_i32, write_u8, write_u64};
 use block_device::MemoryDevice;
 use box_math::BBox;
 use node_page::{Root, check_tree, view_node};
 use page_cache::PageCache;
-use page_file::{Fault, create_pages};
+use page_file::Fault;
 use refusing::Refusing;
 use std::alloc::Global;
 use std::test::Fail;
@@ -47,17 +48,8 @@ const ROOT: [([i32; 4], u64); 2] = [([0, 0, 3, 3], 3), ([10, 0, 13, 5], 4)];
 fn scene(alloc: Global) -> Result<Cache, Fault>
     ensures { IfOk result (λ cache. gate_of cache ≡ Open) }
 {
-    let file = create_pages(MemoryDevice::new(alloc)).map_err(|(fault, _)| fault)?;
-    let mut cache = PageCache::over(alloc, file, 8).map_err(|(fault, _)| fault)?;
-    cache.begin_change()?;
-    // pages 3 to 5
-    cache.allocate()?;
-    cache.allocate()?;
-    cache.allocate()?;
-    cache.put(3, &page_of(0, &FIRST))?;
-    cache.put(4, &page_of(0, &SECOND))?;
-    cache.put(5, &page_of(1, &ROOT))?;
-    Ok(cache)
+    let pages = [page_of(0, &FIRST), page_of(0, &SECOND), page_of(1, &ROOT)];
+    cache_of(alloc, MemoryDevice::new(alloc), pages.as_slice())
 }
 
 // Why the tree at a root is refused, where nodes have at most four entries, and a page has these bytes.

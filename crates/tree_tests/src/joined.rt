@@ -1,9 +1,10 @@
 //! Tests of joins of small trees, of refused memory and devices that fail, and of pages that stand for no tree.
 
+use crate::small_trees::{cache_of, page_of};
 use block_device::{BlockDevice, FuseDevice, FuseMode, MemoryDevice};
 use node_page::Root;
 use page_cache::PageCache;
-use page_file::{Fault, create_pages, open_pages};
+use page_file::{Fault, open_pages};
 use refusing::Refusing;
 use spatial_join::join;
 use std::alloc::{Allocator, Global};
@@ -20,47 +21,12 @@ const EMPTY: Root = Root { page: 7, level: 0 };
 /// A root that refers to itself.
 const HOSTILE: Root = Root { page: 8, level: 1 };
 
-type Entry = (u64, [i32; 2], [i32; 2]);
-
-// The page of a node.
-fn page_of(level: u8, entries: &[Entry]) -> [u8; 4096] {
-    let mut page = [0; 4096];
-    page[..2].copy_from_slice(&[2, 2]);
-    page[4] = level;
-    let mut count: u8 = 0;
-    for (reference, low, high) in entries {
-        if count < 100 {
-            let place = usize::from(count);
-            for axis in 0..2 {
-                let at = 16 + 800 * axis + 4 * place;
-                page[at..at + 4].copy_from_slice(&low[axis].to_be_bytes());
-                page[at + 400..at + 404].copy_from_slice(&high[axis].to_be_bytes());
-            }
-            let at = 1616 + 8 * place;
-            page[at..at + 8].copy_from_slice(&reference.to_be_bytes());
-            count += 1;
-        }
-    }
-    page[3] = count;
-    page
-}
-
 // A device on which the trees stand in pages 3 to 8.
 fn scene(alloc: Global) -> Result<MemoryDevice, Fault> {
-    let file = create_pages(MemoryDevice::new(alloc)).map_err(|(fault, _)| fault)?;
-    let mut cache = PageCache::over(alloc, file, 8).map_err(|(fault, _)| fault)?;
-    cache.begin_change()?;
-    cache.allocate()?;
-    cache.allocate()?;
-    cache.allocate()?;
-    cache.allocate()?;
-    cache.allocate()?;
-    cache.allocate()?;
-    cache.put(3, &page_of(0, &[(2, [1, 1], [2, 2]), (1, [0, 0], [1, 1])]))?;
-    cache.put(4, &page_of(0, &[(1, [0, 0], [0, 0]), (2, [1, 0], [1, 0])]))?;
-    cache.put(
-        5,
-        &page_of(
+    let pages = [
+        page_of(0, &[(2, [1, 1], [2, 2]), (1, [0, 0], [1, 1])]),
+        page_of(0, &[(1, [0, 0], [0, 0]), (2, [1, 0], [1, 0])]),
+        page_of(
             0,
             &[
                 (3, [2, 0], [2, 0]),
@@ -68,10 +34,11 @@ fn scene(alloc: Global) -> Result<MemoryDevice, Fault> {
                 (5, [10, 0], [10, 0]),
             ],
         ),
-    )?;
-    cache.put(6, &page_of(1, &[(4, [0, 0], [1, 0]), (5, [2, 0], [10, 0])]))?;
-    cache.put(7, &page_of(0, &[]))?;
-    cache.put(8, &page_of(1, &[(8, [0, 0], [1, 1])]))?;
+        page_of(1, &[(4, [0, 0], [1, 0]), (5, [2, 0], [10, 0])]),
+        page_of(0, &[]),
+        page_of(1, &[(8, [0, 0], [1, 1])]),
+    ];
+    let cache = cache_of(alloc, MemoryDevice::new(alloc), pages.as_slice())?;
     cache.close().map_err(|(fault, _)| fault)
 }
 

@@ -36,6 +36,8 @@ mod scene;
 #[cfg(test)]
 mod searches;
 #[cfg(test)]
+mod small_trees;
+#[cfg(test)]
 mod tables;
 #[cfg(test)]
 mod trees_in_pages;

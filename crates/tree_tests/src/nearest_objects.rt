@@ -1,66 +1,27 @@
 //! Tests of the nearest objects of small trees, of refused memory, and of pages that stand for no tree.
 
+use crate::small_trees::{ROOT, Row, two_leaves};
 use block_device::MemoryDevice;
 use nearest::nearest;
 use node_page::Root;
 use page_cache::PageCache;
-use page_file::{Fault, create_pages};
+use page_file::Fault;
 use refusing::Refusing;
 use std::alloc::Global;
 use std::test::Fail;
 
 type Cache = PageCache<MemoryDevice, Global>;
 
-type Entry = (u64, [i32; 2], [i32; 2]);
-
-// The page of a node of points, or of children whose boxes are from one point to another.
-fn page_of(level: u8, entries: &[Entry]) -> [u8; 4096] {
-    let mut page = [0; 4096];
-    page[0] = 2;
-    page[1] = 2;
-    page[4] = level;
-    let mut count: u8 = 0;
-    for (reference, low, high) in entries {
-        if count < 100 {
-            let place = usize::from(count);
-            for axis in 0..2 {
-                let at = 16 + 800 * axis + 4 * place;
-                page[at..at + 4].copy_from_slice(&low[axis].to_be_bytes());
-                page[at + 400..at + 404].copy_from_slice(&high[axis].to_be_bytes());
-            }
-            let at = 1616 + 8 * place;
-            page[at..at + 8].copy_from_slice(&reference.to_be_bytes());
-            count += 1;
-        }
-    }
-    page[3] = count;
-    page
-}
-
-fn at(id: u64, x: i32, y: i32) -> Entry {
+// The row of an object at a point.
+fn at(id: u64, x: i32, y: i32) -> Row {
     (id, [x, y], [x, y])
 }
 
-// A cache of pages 2 to 5: the catalog, two leaves, and their root.
-fn scene(alloc: Global, left: &[Entry], right: &[Entry], root: &[Entry]) -> Result<Cache, Fault> {
-    let file = create_pages(MemoryDevice::new(alloc)).map_err(|(fault, _)| fault)?;
-    let mut cache = PageCache::over(alloc, file, 8).map_err(|(fault, _)| fault)?;
-    cache.begin_change()?;
-    cache.allocate()?;
-    cache.allocate()?;
-    cache.allocate()?;
-    cache.put(3, &page_of(0, left))?;
-    cache.put(4, &page_of(0, right))?;
-    cache.put(5, &page_of(1, root))?;
-    Ok(cache)
-}
-
-const ROOT: Root = Root { page: 5, level: 1 };
-
 #[test]
 fn equal_distances_go_by_identifier(rt: HostRuntime) -> Result<(), Fail> {
-    let mut cache = scene(
+    let mut cache = two_leaves(
         rt.alloc(),
+        MemoryDevice::new(rt.alloc()),
         &[at(2, 0, -5), at(7, -5, 0)],
         &[at(9, 5, 0), at(5, 3, 4), at(4, 0, 5)],
         &[(3, [-5, -5], [0, 0]), (4, [0, 0], [5, 5])],
@@ -73,8 +34,9 @@ fn equal_distances_go_by_identifier(rt: HostRuntime) -> Result<(), Fail> {
 
 #[test]
 fn a_node_as_far_as_the_last_answer_is_looked_at(rt: HostRuntime) -> Result<(), Fail> {
-    let mut cache = scene(
+    let mut cache = two_leaves(
         rt.alloc(),
+        MemoryDevice::new(rt.alloc()),
         &[at(9, -6, 0), at(8, -5, 0)],
         &[at(1, 5, 0), at(2, 6, 0), at(3, 7, 0)],
         &[(3, [-6, 0], [-5, 0]), (4, [5, 0], [7, 0])],
@@ -90,8 +52,9 @@ fn a_node_as_far_as_the_last_answer_is_looked_at(rt: HostRuntime) -> Result<(), 
 
 #[test]
 fn fewer_objects_are_all_answered(rt: HostRuntime) -> Result<(), Fail> {
-    let mut cache = scene(
+    let mut cache = two_leaves(
         rt.alloc(),
+        MemoryDevice::new(rt.alloc()),
         &[at(3, i32::MIN, i32::MIN)],
         &[at(1, i32::MAX, i32::MAX)],
         &[
@@ -111,8 +74,9 @@ fn fewer_objects_are_all_answered(rt: HostRuntime) -> Result<(), Fail> {
 
 #[test]
 fn pages_of_no_tree_are_damaged(rt: HostRuntime) -> Result<(), Fail> {
-    let mut cache = scene(
+    let mut cache = two_leaves(
         rt.alloc(),
+        MemoryDevice::new(rt.alloc()),
         &[],
         &[],
         &[(3, [0, 0], [1, 1]), (4, [0, 0], [1, 1])],
@@ -120,7 +84,13 @@ fn pages_of_no_tree_are_damaged(rt: HostRuntime) -> Result<(), Fail> {
     let high = Root { page: 5, level: 2 };
     let answer = nearest::<2, _, _, _>(rt.alloc(), &mut cache, high, &[0, 0], 1);
     assert!(rt; answer.err() == Some(Fault::Damaged(5)));
-    let mut cache = scene(rt.alloc(), &[], &[], &[(5, [0, 0], [1, 1])])?;
+    let mut cache = two_leaves(
+        rt.alloc(),
+        MemoryDevice::new(rt.alloc()),
+        &[],
+        &[],
+        &[(5, [0, 0], [1, 1])],
+    )?;
     let answer = nearest::<2, _, _, _>(rt.alloc(), &mut cache, ROOT, &[0, 0], 1);
     assert!(rt; answer.err() == Some(Fault::Damaged(5)));
     Ok(())
@@ -128,8 +98,9 @@ fn pages_of_no_tree_are_damaged(rt: HostRuntime) -> Result<(), Fail> {
 
 #[test]
 fn refused_memory_is_answered(rt: HostRuntime) -> Result<(), Fail> {
-    let mut cache = scene(
+    let mut cache = two_leaves(
         rt.alloc(),
+        MemoryDevice::new(rt.alloc()),
         &[at(2, 0, -5), at(7, -5, 0)],
         &[at(9, 5, 0), at(5, 3, 4), at(4, 0, 5)],
         &[(3, [-5, -5], [0, 0]), (4, [0, 0], [5, 5])],

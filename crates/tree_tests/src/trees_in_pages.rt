@@ -4,12 +4,13 @@ ghost use Rattle.std.specs.Prelude.{◌≡◌, IfOk};
 ghost use Rattle.page_cache.specs.Cache.{gate_of};
 ghost use Rattle.page_file.specs.declared.gate.Gate.TheVariants.{Open};
 
+use crate::small_trees::cache_of;
 use arrayvec::ArrayVec;
 use block_device::MemoryDevice;
 use box_math::BBox;
 use node_page::{Entry, Node, Root, leaf_lists, read_node, write_node};
 use page_cache::PageCache;
-use page_file::{Fault, create_pages};
+use page_file::Fault;
 use refusing::Refusing;
 use std::alloc::Global;
 use std::test::Fail;
@@ -62,17 +63,10 @@ fn page_of_two(level: u8) -> [u8; 4096] {
 fn scene(alloc: Global) -> Result<Cache, Fault>
     ensures { IfOk result (λ cache. gate_of cache ≡ Open) }
 {
-    let file = create_pages(MemoryDevice::new(alloc)).map_err(|(fault, _)| fault)?;
-    let mut cache = PageCache::over(alloc, file, 8).map_err(|(fault, _)| fault)?;
-    cache.begin_change()?;
-    // pages 3 to 6
-    cache.allocate()?;
-    cache.allocate()?;
-    cache.allocate()?;
-    cache.allocate()?;
+    let mut cache = cache_of(alloc, MemoryDevice::new(alloc), [[0; 4096]; 4].as_slice())?;
+    cache.put(5, &page_of_two(1))?;
     write_leaf(&mut cache, 3, &[7, 5])?;
     write_leaf(&mut cache, 4, &[u64::MAX, 0, 6])?;
-    cache.put(5, &page_of_two(1))?;
     write_leaf(&mut cache, 6, &[])?;
     Ok(cache)
 }

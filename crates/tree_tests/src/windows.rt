@@ -1,10 +1,12 @@
 //! Tests of range queries over small trees, over pages that stand for no tree, and with memory and device refused.
 
+use crate::scene::Asked;
+use crate::small_trees::{ROOT, two_leaves};
 use block_device::{BlockDevice, FuseDevice, FuseMode, MemoryDevice};
 use box_math::BBox;
 use node_page::Root;
 use page_cache::PageCache;
-use page_file::{Fault, create_pages};
+use page_file::Fault;
 use range_query::{around, inside, point, window};
 use refusing::Refusing;
 use std::alloc::Global;
@@ -12,62 +14,9 @@ use std::test::Fail;
 
 type Cache = PageCache<MemoryDevice, Global>;
 
-// A reference, a low and a high corner.
-type Entry = (u64, [i32; 2], [i32; 2]);
-
-// The page of a node, at most 100 of the entries in it.
-fn page_of(level: u8, entries: &[Entry]) -> [u8; 4096] {
-    let mut page = [0; 4096];
-    page[0] = 2;
-    page[1] = 2;
-    page[4] = level;
-    let mut count: u8 = 0;
-    for (reference, low, high) in entries {
-        if count < 100 {
-            let place = usize::from(count);
-            for axis in 0..2 {
-                let at = 16 + 800 * axis + 4 * place;
-                page[at..at + 4].copy_from_slice(&low[axis].to_be_bytes());
-                page[at + 400..at + 404].copy_from_slice(&high[axis].to_be_bytes());
-            }
-            let at = 1616 + 8 * place;
-            page[at..at + 8].copy_from_slice(&reference.to_be_bytes());
-            count += 1;
-        }
-    }
-    page[3] = count;
-    page
-}
-
-// A cache of pages 2 to 5 over a new device: the catalog, two leaves, and their root.
-fn scene<B: BlockDevice + Drop>(
-    alloc: Global,
-    device: B,
-    left: &[Entry],
-    right: &[Entry],
-    root: &[Entry],
-) -> Result<PageCache<B, Global>, Fault> {
-    if device.blocks() != 0 {
-        return Err(Fault::Memory);
-    }
-    let file = create_pages(device).map_err(|(fault, _)| fault)?;
-    let mut cache = PageCache::over(alloc, file, 8).map_err(|(fault, _)| fault)?;
-    cache.begin_change()?;
-    cache.allocate()?;
-    cache.allocate()?;
-    cache.allocate()?;
-    cache.put(3, &page_of(0, left))?;
-    cache.put(4, &page_of(0, right))?;
-    cache.put(5, &page_of(1, root))?;
-    cache.settle()?;
-    Ok(cache)
-}
-
-const ROOT: Root = Root { page: 5, level: 1 };
-
 // Leaves of the points (1,0) and (0,0), and of (10,0), (3,0) and (2,0), by identifier 2, 1, 5, 4 and 3.
 fn points<B: BlockDevice + Drop>(alloc: Global, device: B) -> Result<PageCache<B, Global>, Fault> {
-    scene(
+    two_leaves(
         alloc,
         device,
         &[(2, [1, 0], [1, 0]), (1, [0, 0], [0, 0])],
@@ -95,22 +44,40 @@ fn bounds(low: [i32; 2], high: [i32; 2]) -> Result<BBox<2>, Fault> {
     BBox::try_new(low, high).ok_or(Fault::Damaged(0))
 }
 
+// The identifiers of the answer to a question of the tree at a root, at most five of them, and how many nodes were
+// looked at so far.
+fn ask(
+    alloc: Global,
+    cache: &mut Cache,
+    root: Root,
+    asked: &Asked<2>,
+) -> Result<([u64; 5], u64), Fault> {
+    let rows = match asked {
+        Asked::All => return Err(Fault::Memory),
+        Asked::Window(query) => window(alloc, cache, root, query)?,
+        Asked::Inside(query) => inside(alloc, cache, root, query)?,
+        Asked::Around(query) => around(alloc, cache, root, query)?,
+        Asked::Point(query) => point(alloc, cache, root, query)?,
+    };
+    Ok((ids(rows.as_slice()), cache.looks()))
+}
+
 #[test]
 fn boxes_that_touch_meet(rt: HostRuntime) -> Result<(), Fail> {
     let leaf = Root { page: 3, level: 0 };
     let (first, second) = (bounds([0, 0], [1, 1])?, bounds([1, 1], [2, 2])?);
     let device = MemoryDevice::new(rt.alloc());
     let entries = [(2, [1, 1], [2, 2]), (1, [0, 0], [1, 1])];
-    let mut cache = scene(rt.alloc(), device, &entries, &[], &[])?;
+    let mut cache = two_leaves(rt.alloc(), device, &entries, &[], &[])?;
     let rows = window::<2, _, _, _>(rt.alloc(), &mut cache, leaf, &bounds([1, 1], [1, 1])?)?;
     assert_eq!(rt; rows.as_slice(), [(1, first), (2, second)].as_slice());
-    let rows = point::<2, _, _, _>(rt.alloc(), &mut cache, leaf, &[1, 1])?;
-    assert_eq!(rt; rows.as_slice(), [(1, first), (2, second)].as_slice());
-    let rows = inside::<2, _, _, _>(rt.alloc(), &mut cache, leaf, &first)?;
-    assert_eq!(rt; rows.as_slice(), [(1, first)].as_slice());
-    let rows = around::<2, _, _, _>(rt.alloc(), &mut cache, leaf, &second)?;
-    assert_eq!(rt; rows.as_slice(), [(2, second)].as_slice());
-    assert_eq!(rt; cache.looks(), 4);
+    for (asked, want) in [
+        (Asked::Point([1, 1]), ([1, 2, 0, 0, 0], 2)),
+        (Asked::Inside(first), ([1, 0, 0, 0, 0], 3)),
+        (Asked::Around(second), ([2, 0, 0, 0, 0], 4)),
+    ] {
+        assert_eq!(rt; ask(rt.alloc(), &mut cache, leaf, &asked)?, want);
+    }
     Ok(())
 }
 
@@ -118,21 +85,18 @@ fn boxes_that_touch_meet(rt: HostRuntime) -> Result<(), Fail> {
 fn only_admitted_nodes_are_looked_at(rt: HostRuntime) -> Result<(), Fail> {
     let mut cache = points(rt.alloc(), MemoryDevice::new(rt.alloc()))?;
     let one = bounds([10, 0], [10, 0])?;
-    let rows = window::<2, _, _, _>(rt.alloc(), &mut cache, ROOT, &one)?;
-    assert_eq!(rt; rows.as_slice(), [(5, one)].as_slice());
-    assert_eq!(rt; cache.looks(), 2);
-    let rows = window::<2, _, _, _>(rt.alloc(), &mut cache, ROOT, &bounds([0, 0], [10, 0])?)?;
-    assert_eq!(rt; ids(rows.as_slice()), [1, 2, 3, 4, 5]);
-    assert_eq!(rt; cache.looks(), 5);
-    let rows = inside::<2, _, _, _>(rt.alloc(), &mut cache, ROOT, &bounds([1, 0], [2, 0])?)?;
-    assert_eq!(rt; ids(rows.as_slice()), [2, 3, 0, 0, 0]);
-    assert_eq!(rt; cache.looks(), 8);
-    let rows = around::<2, _, _, _>(rt.alloc(), &mut cache, ROOT, &one)?;
-    assert_eq!(rt; ids(rows.as_slice()), [5, 0, 0, 0, 0]);
-    assert_eq!(rt; cache.looks(), 10);
-    let rows = point::<2, _, _, _>(rt.alloc(), &mut cache, ROOT, &[0, 1])?;
-    assert!(rt; rows.is_empty());
-    assert_eq!(rt; cache.looks(), 11);
+    for (asked, want) in [
+        (Asked::Window(one), ([5, 0, 0, 0, 0], 2)),
+        (
+            Asked::Window(bounds([0, 0], [10, 0])?),
+            ([1, 2, 3, 4, 5], 5),
+        ),
+        (Asked::Inside(bounds([1, 0], [2, 0])?), ([2, 3, 0, 0, 0], 8)),
+        (Asked::Around(one), ([5, 0, 0, 0, 0], 10)),
+        (Asked::Point([0, 1]), ([0; 5], 11)),
+    ] {
+        assert_eq!(rt; ask(rt.alloc(), &mut cache, ROOT, &asked)?, want);
+    }
     Ok(())
 }
 
@@ -140,7 +104,7 @@ fn only_admitted_nodes_are_looked_at(rt: HostRuntime) -> Result<(), Fail> {
 fn pages_of_no_tree_are_damaged(rt: HostRuntime) -> Result<(), Fail> {
     let device = MemoryDevice::new(rt.alloc());
     let root = [(5, [0, 0], [1, 1]), (4, [7, 7], [8, 8])];
-    let mut cache: Cache = scene(rt.alloc(), device, &[], &[], &root)?;
+    let mut cache: Cache = two_leaves(rt.alloc(), device, &[], &[], &root)?;
     let answer = window::<2, _, _, _>(rt.alloc(), &mut cache, ROOT, &bounds([0, 0], [1, 1])?);
     assert!(rt; answer.err() == Some(Fault::Damaged(5)));
     let rows = window::<2, _, _, _>(rt.alloc(), &mut cache, ROOT, &bounds([2, 2], [3, 3])?)?;
