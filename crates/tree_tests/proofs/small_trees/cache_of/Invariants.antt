@@ -5,4 +5,4 @@ use Rattle.page_cache.specs.Cache.{gate_of}
 use Rattle.tree_tests.proofs.small_trees.cache_of.Given as goal
 
 abbrev pub invariant-loop-page : goal.invariant-loop-page
-invariant-loop-page l = gate_of l.cache ≡ Open
+invariant-loop-page g l = gate_of l.cache ≡ Open
