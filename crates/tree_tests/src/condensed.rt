@@ -88,54 +88,10 @@ fn five_stand<B: BlockDevice, A: Allocator + Copy>(
 
 #[test]
 fn pages_of_a_tree_are_free_the_root_first(rt: HostRuntime) -> Result<(), Fail> {
-    let heap = Refusing::new(rt.alloc());
-    let mut untouched = 0u64;
-    for k in 0..100 {
-        let mut cache = open_cache(&heap, five_points(rt.alloc())?)?;
-        heap.refuse_from(k);
-        let answer = free_tree::<2, _, _>(&mut cache, FIVE);
-        let refused = heap.relent();
-        match answer {
-            Ok(()) => {
-                assert!(rt; !refused && untouched > 0);
-                assert!(rt; cache.free_pages(rt.alloc())?.as_slice() == [5, 4, 3].as_slice());
-                return Ok(());
-            }
-            Err(broken) => {
-                assert!(rt; refused && broken.cause == Fault::Memory);
-                if !broken.touched {
-                    untouched = untouched.wrapping_add(1);
-                    assert!(rt; five_stand(rt.alloc(), &mut cache)?);
-                }
-            }
-        }
-    }
-    Err(Fail::from("each time some growth was refused"))
-}
-
-#[test]
-fn a_failed_call_of_the_device_is_answered(rt: HostRuntime) -> Result<(), Fail> {
-    let mut untouched = 0u64;
-    for passes in 0..100 {
-        let fuse = FuseDevice::new(five_points(rt.alloc())?, passes, FuseMode::Once);
-        let Ok(mut cache) = open_cache(rt.alloc(), fuse) else {
-            continue;
-        };
-        match free_tree::<2, _, _>(&mut cache, FIVE) {
-            Ok(()) => {
-                assert!(rt; untouched > 0);
-                return Ok(());
-            }
-            Err(broken) => {
-                assert!(rt; broken.cause == Fault::Device);
-                if !broken.touched {
-                    untouched = untouched.wrapping_add(1);
-                    assert!(rt; five_stand(rt.alloc(), &mut cache)?);
-                }
-            }
-        }
-    }
-    Err(Fail::from("each time some call failed"))
+    let mut cache = open_cache(rt.alloc(), five_points(rt.alloc())?)?;
+    assert!(rt; free_tree::<2, _, _>(&mut cache, FIVE).is_ok());
+    assert!(rt; cache.free_pages(rt.alloc())?.as_slice() == [5, 4, 3].as_slice());
+    Ok(())
 }
 
 // The box of a point on the line.
@@ -191,53 +147,82 @@ fn the_room_serves_one_removal_after_the_other(rt: HostRuntime) -> Result<(), Fa
     Ok(())
 }
 
-#[test]
-fn a_refused_growth_of_a_removal_is_answered(rt: HostRuntime) -> Result<(), Fail> {
-    let heap = Refusing::new(rt.alloc());
+// A call on the tree of the five points.
+#[derive(Clone, Copy)]
+enum Call {
+    FreeTree,
+    Remove,
+}
+
+// Makes the call.
+fn make<B: BlockDevice, A: Allocator + Copy>(
+    alloc: A,
+    cache: &mut PageCache<B, A>,
+    call: Call,
+) -> Result<(), Broken>
+    requires { gate_of cache.old ≡ Open }
+{
+    match call {
+        Call::FreeTree => free_tree::<2, _, _>(cache, FIVE),
+        Call::Remove => remove(alloc, cache, FIVE, 1, &at(0), 4).map(|_| ()),
+    }
+}
+
+// Whether a refusal has this cause, and left the tree as it was where it says that no page was touched.
+fn is_told<B: BlockDevice, A: Allocator + Copy>(
+    alloc: Global,
+    cache: &mut PageCache<B, A>,
+    broken: &Broken,
+    cause: Fault,
+) -> Result<bool, Fault> {
+    Ok(broken.cause == cause && (broken.touched || five_stand(alloc, cache)?))
+}
+
+// How many refusals touched no page until the call was made, where all growths from the first on are refused, then all
+// from the second on, and so on. A refusal that is not as it must be is answered as `Damaged`.
+fn refused_growths(alloc: Global, call: Call) -> Result<u64, Fault> {
+    let heap = Refusing::new(alloc);
     let mut untouched = 0u64;
     for k in 0..100 {
-        let mut cache = open_cache(&heap, five_points(rt.alloc())?)?;
+        let mut cache = open_cache(&heap, five_points(alloc)?)?;
         heap.refuse_from(k);
-        let answer = remove(&heap, &mut cache, FIVE, 1, &at(0), 4);
+        let answer = make(&heap, &mut cache, call);
         let refused = heap.relent();
-        match answer {
-            Ok(after) => {
-                assert!(rt; !refused && untouched > 1 && after.level == 0);
-                return Ok(());
-            }
-            Err(broken) => {
-                assert!(rt; refused && broken.cause == Fault::Memory);
-                if !broken.touched {
-                    untouched = untouched.wrapping_add(1);
-                    assert!(rt; five_stand(rt.alloc(), &mut cache)?);
-                }
-            }
+        let Err(broken) = answer else {
+            return Ok(untouched);
+        };
+        if !refused || !is_told(alloc, &mut cache, &broken, Fault::Memory)? {
+            return Err(Fault::Damaged(k));
         }
+        untouched = untouched.wrapping_add(u64::from(!broken.touched));
     }
-    Err(Fail::from("each time some growth was refused"))
+    Err(Fault::Damaged(100))
+}
+
+// The same where one call of the device fails.
+fn failed_calls(alloc: Global, call: Call) -> Result<u64, Fault> {
+    let mut untouched = 0u64;
+    for k in 0..100 {
+        let fuse = FuseDevice::new(five_points(alloc)?, u64::from(k), FuseMode::Once);
+        let Ok(mut cache) = open_cache(alloc, fuse) else {
+            continue;
+        };
+        let Err(broken) = make(alloc, &mut cache, call) else {
+            return Ok(untouched);
+        };
+        if !is_told(alloc, &mut cache, &broken, Fault::Device)? {
+            return Err(Fault::Damaged(k));
+        }
+        untouched = untouched.wrapping_add(u64::from(!broken.touched));
+    }
+    Err(Fault::Damaged(100))
 }
 
 #[test]
-fn a_failed_call_of_the_device_in_a_removal_is_answered(rt: HostRuntime) -> Result<(), Fail> {
-    let mut untouched = 0u64;
-    for passes in 0..100 {
-        let fuse = FuseDevice::new(five_points(rt.alloc())?, passes, FuseMode::Once);
-        let Ok(mut cache) = open_cache(rt.alloc(), fuse) else {
-            continue;
-        };
-        match remove(rt.alloc(), &mut cache, FIVE, 1, &at(0), 4) {
-            Ok(after) => {
-                assert!(rt; untouched > 0 && after.level == 0);
-                return Ok(());
-            }
-            Err(broken) => {
-                assert!(rt; broken.cause == Fault::Device);
-                if !broken.touched {
-                    untouched = untouched.wrapping_add(1);
-                    assert!(rt; five_stand(rt.alloc(), &mut cache)?);
-                }
-            }
-        }
-    }
-    Err(Fail::from("each time some call failed"))
+fn refused_growths_and_failed_calls_are_told(rt: HostRuntime) -> Result<(), Fail> {
+    assert!(rt; refused_growths(rt.alloc(), Call::FreeTree)? > 0);
+    assert!(rt; refused_growths(rt.alloc(), Call::Remove)? > 1);
+    assert!(rt; failed_calls(rt.alloc(), Call::FreeTree)? > 0);
+    assert!(rt; failed_calls(rt.alloc(), Call::Remove)? > 0);
+    Ok(())
 }

@@ -18,39 +18,6 @@ fn at(id: u64, x: i32, y: i32) -> Row {
 }
 
 #[test]
-fn equal_distances_go_by_identifier(rt: HostRuntime) -> Result<(), Fail> {
-    let mut cache = two_leaves(
-        rt.alloc(),
-        MemoryDevice::new(rt.alloc()),
-        &[at(2, 0, -5), at(7, -5, 0)],
-        &[at(9, 5, 0), at(5, 3, 4), at(4, 0, 5)],
-        &[(3, [-5, -5], [0, 0]), (4, [0, 0], [5, 5])],
-    )?;
-    let rows = nearest::<2, _, _, _>(rt.alloc(), &mut cache, ROOT, &[0, 0], 3)?;
-    assert_eq!(rt; rows.as_slice(), [(2, 25), (4, 25), (5, 25)].as_slice());
-    assert_eq!(rt; cache.looks(), 3);
-    Ok(())
-}
-
-#[test]
-fn a_node_as_far_as_the_last_answer_is_looked_at(rt: HostRuntime) -> Result<(), Fail> {
-    let mut cache = two_leaves(
-        rt.alloc(),
-        MemoryDevice::new(rt.alloc()),
-        &[at(9, -6, 0), at(8, -5, 0)],
-        &[at(1, 5, 0), at(2, 6, 0), at(3, 7, 0)],
-        &[(3, [-6, 0], [-5, 0]), (4, [5, 0], [7, 0])],
-    )?;
-    let rows = nearest::<2, _, _, _>(rt.alloc(), &mut cache, ROOT, &[0, 0], 1)?;
-    assert_eq!(rt; rows.as_slice(), [(1, 25)].as_slice());
-    assert_eq!(rt; cache.looks(), 3);
-    let rows = nearest::<2, _, _, _>(rt.alloc(), &mut cache, ROOT, &[-7, 0], 1)?;
-    assert_eq!(rt; rows.as_slice(), [(9, 1)].as_slice());
-    assert_eq!(rt; cache.looks(), 5);
-    Ok(())
-}
-
-#[test]
 fn fewer_objects_are_all_answered(rt: HostRuntime) -> Result<(), Fail> {
     let mut cache = two_leaves(
         rt.alloc(),

@@ -63,25 +63,6 @@ fn ask(
 }
 
 #[test]
-fn boxes_that_touch_meet(rt: HostRuntime) -> Result<(), Fail> {
-    let leaf = Root { page: 3, level: 0 };
-    let (first, second) = (bounds([0, 0], [1, 1])?, bounds([1, 1], [2, 2])?);
-    let device = MemoryDevice::new(rt.alloc());
-    let entries = [(2, [1, 1], [2, 2]), (1, [0, 0], [1, 1])];
-    let mut cache = two_leaves(rt.alloc(), device, &entries, &[], &[])?;
-    let rows = window::<2, _, _, _>(rt.alloc(), &mut cache, leaf, &bounds([1, 1], [1, 1])?)?;
-    assert_eq!(rt; rows.as_slice(), [(1, first), (2, second)].as_slice());
-    for (asked, want) in [
-        (Asked::Point([1, 1]), ([1, 2, 0, 0, 0], 2)),
-        (Asked::Inside(first), ([1, 0, 0, 0, 0], 3)),
-        (Asked::Around(second), ([2, 0, 0, 0, 0], 4)),
-    ] {
-        assert_eq!(rt; ask(rt.alloc(), &mut cache, leaf, &asked)?, want);
-    }
-    Ok(())
-}
-
-#[test]
 fn only_admitted_nodes_are_looked_at(rt: HostRuntime) -> Result<(), Fail> {
     let mut cache = points(rt.alloc(), MemoryDevice::new(rt.alloc()))?;
     let one = bounds([10, 0], [10, 0])?;

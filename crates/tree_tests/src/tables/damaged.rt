@@ -4,10 +4,12 @@ ghost use Rattle.std.specs.Prelude.{◌≡◌, IfOk};
 ghost use Rattle.page_file.specs.declared.gate.Gate.TheVariants.{Open};
 ghost use Rattle.page_cache.specs.Cache.{gate_of};
 
-use super::{Cache, scene};
+use crate::scene::Cache;
+use crate::small_trees::cache_of;
 use block_bytes::{
     BUCKET_KIND, DIRECTORY_KIND, NODE_KIND, write_head, write_i32, write_u32, write_u64,
 };
+use block_device::MemoryDevice;
 use id_table::check_table;
 use page_file::Fault;
 use std::alloc::Global;
@@ -54,16 +56,15 @@ fn with_head(mut page: [u8; 4096], kind: u8, dims: u8, count: u16) -> [u8; 4096]
 fn checked_scene(alloc: Global) -> Result<Cache, Fault>
     ensures { IfOk result (λ cache. gate_of cache ≡ Open) }
 {
-    let mut cache = scene(alloc)?;
-    for _ in 3..9 {
-        cache.allocate()?;
-    }
-    cache.put(3, &directory([5, 6, 0]))?;
-    cache.put(4, &bucket(0, 7, 100))?;
-    cache.put(5, &bucket(7, 200_007, 2))?;
-    cache.put(6, &bucket(0, 8, 1))?;
-    cache.put(7, &bucket(4, 100_007, 100))?;
-    Ok(cache)
+    let pages = [
+        directory([5, 6, 0]),
+        bucket(0, 7, 100),
+        bucket(7, 200_007, 2),
+        bucket(0, 8, 1),
+        bucket(4, 100_007, 100),
+        [0; 4096],
+    ];
+    cache_of(alloc, MemoryDevice::new(alloc), pages.as_slice())
 }
 
 // Why the table is refused where a page has these bytes.

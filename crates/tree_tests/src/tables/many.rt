@@ -4,8 +4,9 @@ ghost use Rattle.std.specs.Prelude.{◌≡◌, ◌<◌};
 ghost use Rattle.page_file.specs.declared.gate.Gate.TheVariants.{Open};
 ghost use Rattle.page_cache.specs.Cache.{gate_of};
 
-use super::{Cache, point, scene_of};
-use id_table::{add, check_table, get, make, remove};
+use super::{new_table, point};
+use crate::scene::{Cache, bare};
+use id_table::{add, check_table, get, remove};
 use page_file::Fault;
 use std::alloc::Global;
 use std::collections::BTreeMap;
@@ -128,10 +129,8 @@ fn count_checked(
 
 #[test]
 fn a_hundred_thousand_objects_come_and_go(rt: HostRuntime) -> Result<(), Fail> {
-    let mut cache = scene_of(rt.alloc(), 4096)?;
-    let Ok(table) = make::<2, _, _>(&mut cache) else {
-        return Err(Fail::from("make"));
-    };
+    let mut cache = bare(rt.alloc())?;
+    let table = new_table::<2>(&mut cache)?;
     let mut plain = BTreeMap::new(rt.alloc());
     let mut ids = add_all(rt.alloc(), &mut cache, table, &mut plain, 100_000)?;
     assert_eq!(rt; ids.len(), 100_000);
