@@ -242,6 +242,25 @@ fn load_rows() -> [Row; 20] {
     ]
 }
 
+// All of these rows. Each row is asked what the rows before it left.
+fn all_rows(alloc: Global) -> Result<Vec<Row>, Fail> {
+    let mut rows = Vec::new(alloc);
+    for part in [
+        first_rows().as_slice(),
+        extreme_rows().as_slice(),
+        nearest_rows().as_slice(),
+        touching_rows().as_slice(),
+        object_rows().as_slice(),
+        layer_rows().as_slice(),
+        listing_rows().as_slice(),
+        change_rows().as_slice(),
+        load_rows().as_slice(),
+    ] {
+        rows.extend_from_slice(part)?;
+    }
+    Ok(rows)
+}
+
 // Whether the store answers each line so.
 fn answers(alloc: Global, store: &mut Store<MemoryDevice>, rows: &[Row]) -> bool {
     for row in rows {
@@ -259,15 +278,8 @@ fn answers(alloc: Global, store: &mut Store<MemoryDevice>, rows: &[Row]) -> bool
 #[test]
 fn answers_the_worked_rows(rt: HostRuntime) -> Result<(), Fail> {
     let mut store = new_store(rt.alloc())?;
-    assert!(rt; answers(rt.alloc(), &mut store, &first_rows()));
-    assert!(rt; answers(rt.alloc(), &mut store, &extreme_rows()));
-    assert!(rt; answers(rt.alloc(), &mut store, &nearest_rows()));
-    assert!(rt; answers(rt.alloc(), &mut store, &touching_rows()));
-    assert!(rt; answers(rt.alloc(), &mut store, &object_rows()));
-    assert!(rt; answers(rt.alloc(), &mut store, &layer_rows()));
-    assert!(rt; answers(rt.alloc(), &mut store, &listing_rows()));
-    assert!(rt; answers(rt.alloc(), &mut store, &change_rows()));
-    assert!(rt; answers(rt.alloc(), &mut store, &load_rows()));
+    let rows = all_rows(rt.alloc())?;
+    assert!(rt; answers(rt.alloc(), &mut store, rows.as_slice()));
     Ok(())
 }
 
@@ -299,15 +311,7 @@ fn breaks_off(alloc: Global, text: &[u8], replies: &[u8], room: usize) -> Result
 fn answers_the_worked_rows_as_one_text(rt: HostRuntime) -> Result<(), Fail> {
     let mut text = Vec::new(rt.alloc());
     let mut replies = Vec::new(rt.alloc());
-    add(&first_rows(), &mut text, &mut replies)?;
-    add(&extreme_rows(), &mut text, &mut replies)?;
-    add(&nearest_rows(), &mut text, &mut replies)?;
-    add(&touching_rows(), &mut text, &mut replies)?;
-    add(&object_rows(), &mut text, &mut replies)?;
-    add(&layer_rows(), &mut text, &mut replies)?;
-    add(&listing_rows(), &mut text, &mut replies)?;
-    add(&change_rows(), &mut text, &mut replies)?;
-    add(&load_rows(), &mut text, &mut replies)?;
+    add(all_rows(rt.alloc())?.as_slice(), &mut text, &mut replies)?;
     let mut store = new_store(rt.alloc())?;
     let mut input = Slow {
         rest: &text,

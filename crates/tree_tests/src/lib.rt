@@ -1,4 +1,4 @@
-//! Tests of nodes, trees, identifier tables and layers in pages, by their public calls: worked rows, many boxes beside
+//! Tests of nodes, trees and identifier tables in pages, by their public calls: worked rows, many boxes beside
 //! plain scans of a list, damaged pages, and growths and calls of the device refused in turn. They stand here, and not
 //! in the crates below, so that no crate is proved once more with its tests.
 #![tactic(auto)]
@@ -11,8 +11,6 @@ mod condensed;
 mod inserted;
 #[cfg(test)]
 mod joined;
-#[cfg(test)]
-mod layers;
 #[cfg(test)]
 mod loaded;
 #[cfg(test)]
