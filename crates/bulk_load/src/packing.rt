@@ -1,7 +1,7 @@
 //! Packed trees, written level by level into pages that were not live.
 
 ghost use Rattle.std.specs.Prelude.{◌≡◌, ◌+◌, ◌*◌, ◌/◌, ◌^◌, ◌<◌, ◌≤◌, ℕ, All, IfErr, IfOk, IsPermutation, List, []};
-ghost use Rattle.std.specs.Prelude.{length, map};
+ghost use Rattle.std.specs.Prelude.{length, map, vec_capacity};
 ghost use Rattle.box_math.specs.Bounds.{IsDims};
 ghost use Rattle.page_file.specs.declared.fault.Fault.TheVariants as fault;
 ghost use Rattle.page_file.specs.declared.gate.Gate.TheVariants.{Open};
@@ -129,6 +129,7 @@ fn pack_level<const D: usize, B: BlockDevice, A: Allocator + Copy, H: Allocator 
 // A list with room for so many entries, before a page is touched.
 fn room_for<const D: usize, H: Allocator>(alloc: H, count: usize) -> Result<Vec<Entry<D>, H>, Fault>
     ensures empty { IfOk result (λ list. list.items ≡ []) }
+    ensures room { IfOk result (λ list. count ≤ vec_capacity list) }
     ensures memory { IfErr result (λ f. f ≡ fault.Memory) }
 {
     Ok(Vec::with_capacity(alloc, count)?)
