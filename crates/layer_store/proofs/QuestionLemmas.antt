@@ -26,11 +26,11 @@ use Rattle.layer_store.proofs.StoreLemmas.{blames_none, is_dead, is_settled, no_
 
 module _ {D A : Type 0} {m : _} where
   -- what a question keeps of its store
-  pub keeps_asked : {T : Type 0} {result : Result T Refusal} (old : Store D A m) (mid : Layers D A m) → KeepsInQuestion old.layers mid result → KeepsStore old (record { layers = mid; failed = old.failed })
+  pub keeps_asked : {T : Type 0} {result : Result T Refusal} (old : Store D A m) (mid : Layers D A m) → KeepsInQuestion old.layers mid result → KeepsStore old (record old { layers = mid })
   keeps_asked old mid keeps = record {
     gate = keeps.gate;
     map = keeps.trees.map;
-    settled = λ was. let settled = is_settled old was in settled_so (record { layers = mid; failed = old.failed }) (keeps.gate.gate ∙ settled.0, keeps.trees.written settled.1);
+    settled = λ was. let settled = is_settled old was in settled_so (record old { layers = mid }) (keeps.gate.gate ∙ settled.0, keeps.trees.written settled.1);
   }
 
   -- nothing was asked
@@ -67,10 +67,10 @@ module _ {D A : Type 0} {m : _} where
 
     -- one of the layers of a live store
     pub asked_answers : {old : Store D A m} {mid : Layers D A m} {result : Result T Refusal} → old.failed ≡ false → (IsHonest (cache_in old) → OnlyNow (cache_in old)) → ((t : Table) → changes t c ≡ false) → ((t : Table) (stops : Stops) → after_command t stops c (answer result) ≡ stops)
-        → MayGiveUp c → m.faults (device_in old) < 2 ^ 64 → ((t : Table) → IsSound old.layers t → IsAnswered old.layers mid t c (answer result)) → KeepsInQuestion old.layers mid result → Answers old (record { layers = mid; failed = old.failed }) c answer result
+        → MayGiveUp c → m.faults (device_in old) < 2 ^ 64 → ((t : Table) → IsSound old.layers t → IsAnswered old.layers mid t c (answer result)) → KeepsInQuestion old.layers mid result → Answers old (record old { layers = mid }) c answer result
     asked_answers {old = old} {mid = mid} {result = result} going now unchanged quiet may fits answered keeps =
         let kept = keeps_asked old mid keeps in
-        let new : Store D A m = record { layers = mid; failed = old.failed } in
+        let new : Store D A m = record old { layers = mid } in
         record {
           step = takes_question old new c (answer result) going going may (λ t. no_change_leaves_the_table t c (unchanged t)) quiet answered
               (λ t stops sound was. leaves_kept old.layers.cache mid.cache stops sound.map.honest keeps.gate was)

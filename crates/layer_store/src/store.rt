@@ -8,7 +8,7 @@ mod start;
 mod whole;
 
 use block_device::BlockDevice;
-use live_layers::Layers;
+use live_layers::{Layers, Rooms};
 use plain_table::Refusal;
 pub use start::{create_store, open_store};
 use std::alloc::{Allocator, Global};
@@ -26,5 +26,6 @@ const FAILED: Refusal = Refusal::StoreFailed(19);
 #[derive(Drop)]
 pub struct Store<D: BlockDevice, A: Allocator = Global> {
     layers: Layers<D, A>,
+    rooms: Rooms<A>,
     failed: bool,
 }

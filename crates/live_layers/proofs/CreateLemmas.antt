@@ -16,15 +16,13 @@ use Rattle.catalog_page.specs.declared.layer_record.LayerRecord.{LayerRecord}
 use Rattle.layer_pages.specs.Changes.{BecomesLayer, IsEmptyLeaf}
 use Rattle.layer_pages.specs.Layers.{CanBeRoot}
 use Rattle.node_page.specs.Parts.{no_page}
-use Rattle.node_page.specs.Rooted.{IsTreeAt}
-use Rattle.node_page.proofs.StandingLemmas.{equal_pages_stand, one_tree_stands}
 use Rattle.page_cache.specs.Cache.{IsPageMap, next_of, pages}
 use Rattle.page_cache.specs.Laws.{a_live_page_was_given_out}
 use Rattle.plain_table.specs.Commands.Command.{Create}
 use Rattle.plain_table.specs.Step.{after, changed, kept_or, refusal_of}
 use Rattle.plain_table.specs.Table.{Layer, Table, is_dims, is_fanout, is_layer_name, most_objects, object_count}
 use Rattle.plain_table.specs.declared.refusal.Refusal.TheVariants as refusal
-use Rattle.tree_node.specs.Trees.{Tree, occurs_in}
+use Rattle.tree_node.specs.Trees.{Tree}
 use Rattle.tree_node.specs.declared.node.Root.{Root}
 use Rattle.live_layers.specs.Catalog.{AreLayers, is_layer, is_layer_record}
 use Rattle.live_layers.specs.Creating.{BringsTree, MayBeLayer, new_layer}
@@ -32,9 +30,7 @@ use Rattle.live_layers.specs.Keeping.{Belongs, IsSound}
 use Rattle.live_layers.specs.Layers.{Holds, IsTreeOf, LayerStands, Reading, entry_of, of_layers, root_of, row_of}
 use Rattle.live_layers.specs.declared.layers.Layers.{Layers}
 use Rattle.live_layers.proofs.CatalogGood.{All-insert, a_page, from_parts}
-use Rattle.live_layers.proofs.FindLemmas.{no_reading}
-use Rattle.live_layers.proofs.HoldLemmas.{all_stay, holds_more, map-insert}
-use Rattle.live_layers.proofs.LayerLemmas.{layer_at_stands, one_and_others}
+use Rattle.live_layers.proofs.HoldLemmas.{all_stay, holds_more, map-insert, trees_stay}
 use Rattle.live_layers.proofs.ReplaceLemmas.{same_tree_of}
 use Rattle.live_layers.proofs.TableLemmas.{entries_more}
 
@@ -134,21 +130,8 @@ module _ {D A : Type 0} {m : _} (kept new : Layers D A m) (t : Table) (name : Li
       (is_layer_made name dims fanout root directory may) can.level few
 
   -- and so do their trees
-  tree_stays : (r : Record) (s : Tree) → Contains (records_of kept.records) r → IsTreeAt r.dims r.fanout (pages kept.cache) (root_of r) s → IsTreeAt r.dims r.fanout (pages new.cache) (root_of r) s
-  tree_stays r s (k, lt, is) there =
-      let h = sound.holds in
-      let hk : Reading = get_or h.layers k no_reading in
-      let within : k < length h.layers = omega (arith, lt, ap length h.rows, length-map h.layers row_of) in
-      let row : r ≡ hk.row = sym is ∙ ap (λ (rs : List Record). get_or rs k r) (sym h.rows) ∙ get_or-map row_of h.layers k no_reading r within in
-      let its : IsTreeAt r.dims r.fanout (pages kept.cache) (root_of r) hk.pages.tree =
-      subst (λ (x : Record). IsTreeAt x.dims x.fanout (pages kept.cache) (root_of x) hk.pages.tree) (sym row) (layer_at_stands (pages kept.cache) h.layers k no_reading within h.stand).at.tree in
-      let same : s ≡ hk.pages.tree = one_tree_stands r.dims (pages kept.cache) s hk.pages.tree (there.page_is ∙ sym its.page_is) there.stands its.stands in
-      record {
-        page_is = there.page_is;
-        level_is = there.level_is;
-        stands = equal_pages_stand r.dims (pages kept.cache) (pages new.cache) s (λ n p. theirs_stay n (omega (arith, p, ap (λ (x : Tree). occurs_in n x) same, one_and_others h.layers k n no_reading within))) there.stands;
-        shape = there.shape;
-      }
+  their_trees_stay : (other : List ℕ) (s : Tree) → IsTreeOf (pages kept.cache) (records_of kept.records) other s → IsTreeOf (pages new.cache) (records_of kept.records) other s
+  their_trees_stay = trees_stay (pages kept.cache) (next_of kept.cache) (records_of kept.records) t sound.holds (pages new.cache) theirs_stay
 
   place_within : place ≤ length (records_of kept.records)
   place_within = omega (arith, belongs.within, ap length sound.holds.table, length-map sound.holds.layers entry_of, ap length sound.holds.rows, length-map sound.holds.layers row_of)
@@ -168,8 +151,10 @@ module _ {D A : Type 0} {m : _} (kept new : Layers D A m) (t : Table) (name : Li
           tree = became.stands.tree;
         });
         is_so = became.tree_is;
-        others = λ other s there. subst (λ (rs : List Record). IsTreeOf (pages new.cache) rs other s) (sym records)
-            (record { row = there.row; among = contains_more K place row there.row place_within there.among; named = there.named; tree = tree_stays there.row s there.among there.tree });
+        others = λ other s was.
+            let there = their_trees_stay other s was in
+            subst (λ (rs : List Record). IsTreeOf (pages new.cache) rs other s) (sym records)
+            (record { row = there.row; among = contains_more K place row there.row place_within there.among; named = there.named; tree = there.tree });
       }
 
 -- a tree that came in, said of the layers before, whose pages and records are the same

@@ -90,6 +90,42 @@ module _ (pages : PageMap) (next : ℕ) (records : List Record) (t : Table) (h :
   pub rows_good : All (λ (r : Record). is_layer_record next r ≡ true) (map row_of h.layers)
   rows_good = subst (λ (rs : List Record). All (λ (r : Record). is_layer_record next r ≡ true) rs) (sym h.rows) (each_good next records h.good)
 
+  reading_within : (k : ℕ) → k < length records → k < length h.layers
+  reading_within k lt = omega (arith, lt, ap length h.rows, length-map h.layers row_of)
+
+  -- the tree of a record stays where the pages of its layer do
+  pub tree_at_stays : (new : PageMap) (r : Record) (k : ℕ) (s : Tree) → k < length records → get_or records k r ≡ r → ((n : ℕ) → 0 < of_layer (get_or h.layers k no_reading) n → new n ≡ pages n)
+      → IsTreeAt r.dims r.fanout pages (root_of r) s → IsTreeAt r.dims r.fanout new (root_of r) s
+  tree_at_stays new r k s lt is stay there =
+      let hk : Reading = get_or h.layers k no_reading in
+      let within = reading_within k lt in
+      let row : r ≡ hk.row = sym is ∙ ap (λ (rs : List Record). get_or rs k r) (sym h.rows) ∙ get_or-map row_of h.layers k no_reading r within in
+      let stands_k = layer_at_stands pages h.layers k no_reading within h.stand in
+      let its : IsTreeAt r.dims r.fanout pages (root_of r) hk.pages.tree = subst (λ (x : Record). IsTreeAt x.dims x.fanout pages (root_of x) hk.pages.tree) (sym row) stands_k.at.tree in
+      let same : s ≡ hk.pages.tree = one_tree_stands r.dims pages s hk.pages.tree (there.page_is ∙ sym its.page_is) there.stands its.stands in
+      record {
+        page_is = there.page_is;
+        level_is = there.level_is;
+        stands = equal_pages_stand r.dims pages new s (λ n p. stay n (omega (arith, p, ap (λ (x : Tree). occurs_in n x) same))) there.stands;
+        shape = there.shape;
+      }
+
+  -- where the pages of all layers stay, so do their trees
+  pub trees_stay : (new : PageMap) → ((n : ℕ) → 0 < of_layers h.layers n → new n ≡ pages n) → (name : List ℕ) (s : Tree) → IsTreeOf pages records name s → IsTreeOf new records name s
+  trees_stay new stay name s there =
+      let k = there.among.0 in
+      let lt = there.among.1 in
+      record {
+        row = there.row;
+        among = there.among;
+        named = there.named;
+        tree = tree_at_stays new there.row k s lt there.among.2 (λ n p. stay n (omega (arith, p, one_and_others h.layers k n no_reading (reading_within k lt)))) there.tree;
+      }
+
+  -- none of them is the page of the catalog
+  pub apart_from_catalog : (n : ℕ) → 0 < of_layers h.layers n → ¬ (n ≡ 2)
+  apart_from_catalog n p = not_the_catalog n (omega (arith, h.used.once n, p))
+
   module _ (name : List ℕ) (place : ℕ) (finds : Finds t name place) where
     -- what is read of it
     abbrev pub here : Reading
@@ -135,18 +171,7 @@ module _ (pages : PageMap) (next : ℕ) (records : List Record) (t : Table) (h :
     pub other_stays : (new : PageMap) → ((n : ℕ) → 0 < of_others h.layers place n → new n ≡ pages n) → (r : Record) (k : ℕ) (s : Tree) → k < length records → get_or records k r ≡ r → ¬ (k ≡ place)
         → IsTreeAt r.dims r.fanout pages (root_of r) s → IsTreeAt r.dims r.fanout new (root_of r) s
     other_stays new stay r k s lt is ne there =
-        let hk : Reading = get_or h.layers k no_reading in
-        let within : k < length h.layers = omega (arith, lt, ap length h.rows, length-map h.layers row_of) in
-        let row : r ≡ hk.row = sym is ∙ ap (λ (rs : List Record). get_or rs k r) (sym h.rows) ∙ get_or-map row_of h.layers k no_reading r within in
-        let stands_k = layer_at_stands pages h.layers k no_reading within h.stand in
-        let its : IsTreeAt r.dims r.fanout pages (root_of r) hk.pages.tree = subst (λ (x : Record). IsTreeAt x.dims x.fanout pages (root_of x) hk.pages.tree) (sym row) stands_k.at.tree in
-        let same : s ≡ hk.pages.tree = one_tree_stands r.dims pages s hk.pages.tree (there.page_is ∙ sym its.page_is) there.stands its.stands in
-        record {
-          page_is = there.page_is;
-          level_is = there.level_is;
-          stands = equal_pages_stand r.dims pages new s (λ n p. stay n (omega (arith, p, ap (λ (x : Tree). occurs_in n x) same, other_part h.layers place k n no_reading within ne))) there.stands;
-          shape = there.shape;
-        }
+        tree_at_stays new r k s lt is (λ n p. stay n (omega (arith, p, other_part h.layers place k n no_reading (reading_within k lt) ne))) there
 
 -- ---- a layer replaced
 

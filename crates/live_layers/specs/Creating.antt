@@ -1,11 +1,10 @@
 -- Layers that are made.
 use Rattle.std.specs.Prelude.{ℕ, ◌≡◌, true, List}
 use Rattle.std.specs.FinMap as map
-use Rattle.page_cache.specs.Cache.{pages}
 use Rattle.plain_table.specs.Table.{Layer, is_dims, is_fanout, is_layer_name}
 use Rattle.tree_node.specs.Trees.{Tree}
-use Rattle.live_layers.specs.Keeping.{cache_of, records_in}
-use Rattle.live_layers.specs.Layers.{IsTreeOf}
+use Rattle.live_layers.specs.Keeping.{HasTree}
+use Rattle.live_layers.specs.Staying.{KeepsEachTree}
 use Rattle.live_layers.specs.declared.layers.Layers.{Layers}
 
 -- a layer may have this name, dimension and fanout
@@ -21,7 +20,6 @@ new_layer dims fanout = record { dims = dims; fanout = fanout; objects = map.emp
 -- a layer of this name came in with a tree of which this holds, and the trees of the layers that were there stay
 pub record BringsTree {D A : Type 0} {m : _} (old new : Layers D A m) (name : List ℕ) (IsSo : Tree → Type 0) : Type 0 where
   pub now : Tree
-  pub after : IsTreeOf (pages (cache_of new)) (records_in new) name now
+  pub after : HasTree new name now
   pub is_so : IsSo now
-  pub others : (other : List ℕ) (t : Tree) → IsTreeOf (pages (cache_of old)) (records_in old) other t
-      → IsTreeOf (pages (cache_of new)) (records_in new) other t
+  pub others : KeepsEachTree old new

@@ -12,7 +12,8 @@ use Rattle.plain_table.specs.Table.{Table}
 use Rattle.store_law.specs.Stops.{AfterStop}
 use Rattle.store_law.specs.Stops.AfterStop.{Surely, Perhaps}
 use Rattle.live_layers.specs.Catalog.{is_good_catalog}
-use Rattle.live_layers.specs.Layers.{Holds, catalog_in}
+use Rattle.tree_node.specs.Trees.{Tree}
+use Rattle.live_layers.specs.Layers.{Holds, IsTreeOf, catalog_in}
 
 -- Blocks are an image of the table: their gate is shut, gate and header pass the checks of opening, the free pages are a
 -- chain, and the live ones are the catalog and the pages of the layers that it names, which hold the table.
@@ -22,6 +23,12 @@ pub record IsImage (blocks : Blocks) (t : Table) : Type 0 where
   pub records : List Record
   pub spelled : catalog_in (pages_in blocks) ≡ Some records
   pub holds : Holds (pages_in blocks) (next_in blocks) records t
+
+-- the layer of this name that the catalog names has this tree
+pub record IsTreeIn (blocks : Blocks) (name : List ℕ) (t : Tree) : Type 0 where
+  pub records : List Record
+  pub spelled : catalog_in (pages_in blocks) ≡ Some records
+  pub tree : IsTreeOf (pages_in blocks) records name t
 
 -- ---- what a stop may leave
 

@@ -76,18 +76,21 @@ pub record Leaves {D A : Type 0} {m : _} (cache : PageCache D A m) (stops : Stop
   pub so_far : (c : Blocks) → m.left_since (device_of cache) stops.since c → IsRefusedOrImageOf stops.so_far c
   pub among : (t : Table) → Contains (tables_left stops.now) t → Contains stops.so_far t
 
+-- the layer of this name has this tree
+abbrev pub HasTree : {D A : Type 0} {m : _} → Layers D A m → List ℕ → Tree → Type 0
+HasTree kept name t = IsTreeOf (pages (cache_of kept)) (records_in kept) name t
+
 -- the looks rose by what is counted of the tree of the layer of this name
 pub record LooksAtTree {D A : Type 0} {m : _} (old new : Layers D A m) (name : List ℕ) (count : Tree → ℕ) : Type 0 where
   pub tree : Tree
-  pub is_tree : IsTreeOf (pages old.cache) (records_in old) name tree
+  pub is_tree : HasTree old name tree
   pub looks : looks_of new.cache ≡ counted (looks_of old.cache) (count tree)
 
 -- the tree of the layer of this name became another one by this rule, and those of all other layers stay
 pub record ChangesTree {D A : Type 0} {m : _} (old new : Layers D A m) (name : List ℕ) (Rule : Tree → Tree → Type 0) : Type 0 where
   pub was : Tree
   pub now : Tree
-  pub before : IsTreeOf (pages old.cache) (records_in old) name was
-  pub after : IsTreeOf (pages new.cache) (records_in new) name now
+  pub before : HasTree old name was
+  pub after : HasTree new name now
   pub rule : Rule was now
-  pub others : (other : List ℕ) (t : Tree) → ¬ (other ≡ name) → IsTreeOf (pages old.cache) (records_in old) other t
-      → IsTreeOf (pages new.cache) (records_in new) other t
+  pub others : (other : List ℕ) (t : Tree) → ¬ (other ≡ name) → HasTree old other t → HasTree new other t

@@ -4,8 +4,8 @@ use Rattle.catalog_page.specs.Layout.{Record}
 use Rattle.layer_pages.specs.Layers.{IsLayerAt, LayerPages}
 use Rattle.page_cache.specs.Cache.{pages}
 use Rattle.plain_table.specs.Table.{Table, layer_at}
-use Rattle.live_layers.specs.Keeping.{cache_of, records_in}
-use Rattle.live_layers.specs.Layers.{IsTreeOf, root_of}
+use Rattle.live_layers.specs.Keeping.{HasTree, cache_of}
+use Rattle.live_layers.specs.Layers.{root_of}
 use Rattle.live_layers.specs.declared.layers.Layers.{Layers}
 use Rattle.live_layers.specs.declared.located.Located.{Located}
 
@@ -15,7 +15,7 @@ pub record IsLocated {D A : Type 0} {m : _} (kept : Layers D A m) (t : Table) (n
   pub dims : (layer_at t name).dims ≡ located.dims
   pub fanout : (layer_at t name).fanout ≡ located.fanout
   pub stands : IsLayerAt located.dims located.fanout (pages (cache_of kept)) located.root located.directory layer (layer_at t name).objects
-  pub its_tree : IsTreeOf (pages (cache_of kept)) (records_in kept) name layer.tree
+  pub its_tree : HasTree kept name layer.tree
 
 -- where the layer of a record stands, as the record says
 abbrev pub located_by : Record → Located

@@ -10,9 +10,11 @@ mod located;
 mod names;
 mod objects;
 mod repeats;
+mod rooms;
 mod search;
 mod unmade;
 
 pub use faults::as_refusal;
 pub use layers::Layers;
+pub use rooms::Rooms;
 pub use unmade::Unmade;

@@ -4,6 +4,7 @@ ghost use Rattle.std.specs.Prelude.{◌≡◌, ◌⊎◌, ◌∷◌, Ok, Err, Is
 ghost use Rattle.block_device.specs.Device.{LeavesOnly, Only};
 ghost use Rattle.live_layers.specs.Faults.{faults_after_refusal};
 ghost use Rattle.live_layers.specs.Image.{IsImage, IsRefusedOrImageOf};
+ghost use Rattle.live_layers.specs.Staying.{KeepsEachTree, LeavesTreesIn};
 ghost use Rattle.plain_table.specs.Answers.{done_answer};
 ghost use Rattle.plain_table.specs.Commands.Command.{Reopen};
 ghost use Rattle.plain_table.specs.Table.{Table};
@@ -14,7 +15,7 @@ ghost use Rattle.store_law.specs.Stops.{tables_left};
 ghost use Rattle.layer_store.specs.Commands.{CountsFaults, StaysDead, TakesStep};
 ghost use Rattle.layer_store.specs.Faults.{IsMemoryOrDevice};
 ghost use Rattle.layer_store.specs.Representation.{HasFailed, IsInState, IsSettled, Represents, RepresentsTable};
-ghost use Rattle.layer_store.specs.Representation.{StopsLeave, blocks_in, device_in};
+ghost use Rattle.layer_store.specs.Representation.{StopsLeave, blocks_in, device_in, layers_in};
 
 use crate::store::changes::tell;
 use crate::store::{FAILED, Store};
@@ -25,7 +26,7 @@ use std::alloc::Allocator;
 
 impl<D: BlockDevice, A: Allocator + Copy> Store<D, A> {
     /// Closes the table into the file, forgets what is held of it, and reads gate, header and catalog again. The blocks
-    /// are then an image of the table.
+    /// are then an image of the table, and each tree stays.
     ///
     /// Refused while closing it answers `Memory` or `Device`, and the store goes on. Refused afterwards it answers
     /// `StoreFailed` with the number of the fault, the store has failed, and the blocks are an image of its table.
@@ -33,6 +34,8 @@ impl<D: BlockDevice, A: Allocator + Copy> Store<D, A> {
         ensures step { TakesStep self.old self.new Reopen (done_answer result) }
         ensures closed { (t : Table) → RepresentsTable self.old t → IsOk result ⊎ HasFailed self.new →
             IsImage (blocks_in self.new) t }
+        ensures trees { (t : Table) → RepresentsTable self.old t →
+            KeepsEachTree (layers_in self.old) (layers_in self.new) }
 
         // A stop leaves what one before the call leaves, or an image of the table; and after a closing that is finished
         // nothing but what is read.
@@ -60,11 +63,13 @@ impl<D: BlockDevice, A: Allocator + Copy> Store<D, A> {
 
     /// Closes the table into the file, and hands the device back.
     ///
-    /// Closed, its blocks are an image of the table. Refused it answers `Memory` or `Device`, and the device comes
-    /// back: then a stop leaves of it blocks that opening refuses, or an image of a table that was closed before, or of
-    /// this one. A store that failed answers `StoreFailed(19)`, and the device comes back as it is.
+    /// Closed, its blocks are an image of the table, and have each tree. Refused it answers `Memory` or `Device`, and
+    /// the device comes back: then a stop leaves of it blocks that opening refuses, or an image of a table that was
+    /// closed before, or of this one. A store that failed answers `StoreFailed(19)`, and the device comes back as it is.
     pub fn close(self) -> Result<D, (Refusal, D)>
         ensures closed { (t : Table) → RepresentsTable self t → IfOk result (λ device. IsImage (D.shown device) t) }
+        ensures trees { (t : Table) → RepresentsTable self t →
+            IfOk result (λ device. LeavesTreesIn (layers_in self) (D.shown device)) }
 
         // A stop leaves what one before the call leaves, or an image of the table; and after a closing that is finished
         // nothing but what is read.
@@ -88,10 +93,16 @@ impl<D: BlockDevice, A: Allocator + Copy> Store<D, A> {
         ensures honest { IfOk result (λ device. D.honest (device_in self) → D.honest device) }
         ensures refused_honest { IfErr result (λ e. D.honest (device_in self) → D.honest e.1) }
     {
-        if self.failed {
-            return Err((FAILED, self.layers.abandon()));
+        let Store {
+            layers,
+            rooms,
+            failed,
+        } = self;
+        drop(rooms);
+        if failed {
+            return Err((FAILED, layers.abandon()));
         }
-        match self.layers.close() {
+        match layers.close() {
             Ok(device) => Ok(device),
             Err((fault, device)) => Err((as_refusal(fault), device)),
         }

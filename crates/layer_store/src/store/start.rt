@@ -5,6 +5,7 @@ ghost use Rattle.std.specs.FinMap.{empty};
 ghost use Rattle.block_device.specs.Device.{Blocks, LeavesOnly, Only};
 ghost use Rattle.live_layers.specs.Faults.{faults_after_refusal};
 ghost use Rattle.live_layers.specs.Image.{HasNoCatalog, IsImage, OpeningRefuses};
+ghost use Rattle.live_layers.specs.Staying.{FindsTreesIn};
 ghost use Rattle.page_file.specs.File.{IsHonest, LiesIn, blocks_of, device_of, gate_of, next_of, pages};
 ghost use Rattle.page_file.specs.Opening.{IsRefused};
 ghost use Rattle.page_file.specs.Stops.{AddsOnly, StopSince};
@@ -14,12 +15,12 @@ ghost use Rattle.plain_table.specs.Table.{Table};
 ghost use Rattle.plain_table.specs.declared.refusal.Refusal.TheVariants as refusal;
 ghost use Rattle.store_law.specs.States.StoreState.{Alive};
 ghost use Rattle.layer_store.specs.Faults.{IsMemoryOrDevice};
-ghost use Rattle.layer_store.specs.Representation.{BeginsWith, IsInState, IsSettled, blocks_in, device_in};
+ghost use Rattle.layer_store.specs.Representation.{BeginsWith, IsInState, IsSettled, blocks_in, device_in, layers_in};
 ghost use Rattle.layer_store.specs.Starting.{OpeningRefusesAs, is_cache};
 
 use crate::store::Store;
 use block_device::BlockDevice;
-use live_layers::{Layers, as_refusal};
+use live_layers::{Layers, Rooms, as_refusal};
 use page_cache::PageCache;
 use page_file::{Fault, PageFile, create_pages, open_pages};
 use plain_table::Refusal;
@@ -75,8 +76,8 @@ pub fn create_store<D: BlockDevice, A: Allocator + Copy>(
 /// other page is read, and nothing is written. The store takes its memory from this allocator and holds at most so many
 /// pages in memory (8 to 4096).
 ///
-/// On an honest device an image of a table is opened as a store of that table, but for `Memory` and `Device`; and
-/// blocks are opened only where no check refuses them.
+/// On an honest device an image of a table is opened as a store of that table and of its trees, but for `Memory` and
+/// `Device`; and blocks are opened only where no check refuses them.
 ///
 /// Refused by `BadCache`, before any call of the device. On an honest device any other refusal is `Memory`, `Device`,
 /// or that of the first check that fails. The device comes back, with its blocks as they were.
@@ -88,6 +89,7 @@ pub fn open_store<D: BlockDevice, A: Allocator + Copy>(
     ensures bad_cache { is_cache cache ≡ false → result ≡ Err (refusal.BadCache, device) }
     ensures image { (t : Table) → D.honest device → IsImage (D.shown device) t →
         IfOk result (λ store. BeginsWith store (D.moment (device_in store)) t) }
+    ensures trees { IfOk result (λ store. D.honest device → FindsTreesIn (layers_in store) (D.shown device)) }
     ensures opened { IfOk result (λ store. D.honest device → (f : Fault) → OpeningRefuses (D.shown device) f → ⊥) }
     ensures refused { is_cache cache ≡ true →
         IfErr result (λ e. D.honest device → IsMemoryOrDevice e.0 ⊎ OpeningRefusesAs (D.shown device) e.0) }
@@ -129,6 +131,8 @@ fn begin<D: BlockDevice, A: Allocator + Copy>(
         IfOk result (λ store. IsInState store (Alive t)) }
     ensures not_refused { (t : Table) (blocks : Blocks) → IsHonest file → LiesIn file blocks → IsImage blocks t →
         IfErr result (λ e. IsMemoryOrDevice e.0) }
+    ensures trees { (blocks : Blocks) → IsHonest file → LiesIn file blocks →
+        IfOk result (λ store. FindsTreesIn (layers_in store) blocks) }
     ensures opened { IfOk result (λ _. IsHonest file → HasNoCatalog (pages file) (next_of file) → ⊥) }
     ensures refused { IfErr result (λ e. IsHonest file → IsMemoryOrDevice e.0 ⊎
         ((e.0 ≡ refusal.Damaged 2) × HasNoCatalog (pages file) (next_of file))) }
@@ -151,6 +155,7 @@ fn begin<D: BlockDevice, A: Allocator + Copy>(
     match Layers::open(alloc, cache) {
         Ok(layers) => Ok(Store {
             layers,
+            rooms: Rooms::new(),
             failed: false,
         }),
         Err((fault, device)) => Err((as_refusal(fault), device)),

@@ -41,7 +41,7 @@ impl<B: BlockDevice, A: Allocator + Copy> Layers<B, A> {
     /// Checks all pages: on an honest device it answers so only where the layers are sound with some table, and else
     /// `Damaged` with the number of a page. Layers that are sound are refused by `Memory` or `Device` alone.
     ///
-    /// It makes at most two looks for each layer and page number given out, and one at the catalog.
+    /// It makes at most two looks for each layer and number below the next one, and one at the catalog.
     pub fn check(&mut self) -> Result<(), Refusal>
         ensures answered { (t : Table) → IsSound self.old t →
             IsAnswered self.old self.new t Check (done_answer result) }

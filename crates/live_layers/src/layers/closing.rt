@@ -8,6 +8,7 @@ ghost use Rattle.page_cache.specs.Cache.{IsHonest, IsPageMap, IsUnchanged, block
 ghost use Rattle.plain_table.specs.Table.{Table};
 ghost use Rattle.live_layers.specs.Image.{IsImage, IsRefusedOrImageOf};
 ghost use Rattle.live_layers.specs.Keeping.{IsSettled, IsSound, IsWritten, RestLeavesOneOf, cache_of};
+ghost use Rattle.live_layers.specs.Staying.{KeepsEachTree, LeavesTreesIn};
 
 use crate::layers::{CATALOG, Layers};
 use block_bytes::zero_block;
@@ -27,6 +28,7 @@ impl<B: BlockDevice, A: Allocator + Copy> Layers<B, A> {
             RestLeavesOneOf (cache_of self.new) ts }
 
         ensures sound { (t : Table) → IsSound self.old t → IsSound self.new t }
+        ensures trees { (t : Table) → IsSound self.old t → KeepsEachTree self.old self.new }
         ensures written { OnOk result (IsWritten self.new) }
         ensures was_written { IsWritten self.old → (self.new ≡ self.old) × IsOk result }
         ensures refused { OnErr result (¬ (gate_of (cache_of self.new) ≡ Shut)) }
@@ -49,7 +51,7 @@ impl<B: BlockDevice, A: Allocator + Copy> Layers<B, A> {
     }
 
     /// Writes the records into the page of the catalog, if it does not spell them, and shuts the gate after all pages.
-    /// The table stays, and the blocks are an image of it then.
+    /// The table stays with its trees, and the blocks are an image of it then, and have them.
     ///
     /// On an honest device with a sound store it is refused by `Memory` or `Device`.
     pub fn settle(&mut self) -> Result<(), Fault>
@@ -65,6 +67,9 @@ impl<B: BlockDevice, A: Allocator + Copy> Layers<B, A> {
         ensures was_settled { IsSettled self.old → IsUnchanged (cache_of self.old) (cache_of self.new) × IsOk result }
 
         ensures sound { (t : Table) → IsSound self.old t → IsSound self.new t }
+        ensures trees { (t : Table) → IsSound self.old t → KeepsEachTree self.old self.new }
+        ensures left { (t : Table) → IsSound self.old t →
+            OnOk result (LeavesTreesIn self.old (blocks_of (cache_of self.new))) }
         ensures shut { OnOk result (gate_of (cache_of self.new) ≡ Shut) }
         ensures refused { OnErr result (¬ (gate_of (cache_of self.new) ≡ Shut)) }
         ensures written { OnOk result (IsWritten self.new) }
@@ -79,12 +84,13 @@ impl<B: BlockDevice, A: Allocator + Copy> Layers<B, A> {
         self.cache.settle()
     }
 
-    /// Settles the layers, and hands the device back. Its blocks are then an image of the table.
+    /// Settles the layers, and hands the device back. Its blocks are then an image of the table, and have each tree.
     ///
     /// Refused, which on an honest device with sound layers is by `Memory` or `Device`, the device comes back: a stop
     /// leaves of it what one at rest left, or an image of the table.
     pub fn close(self) -> Result<B, (Fault, B)>
         ensures closed { (t : Table) → IsSound self t → IfOk result (λ device. IsImage (B.shown device) t) }
+        ensures trees { (t : Table) → IsSound self t → IfOk result (λ device. LeavesTreesIn self (B.shown device)) }
         ensures durable { (t : Table) → IsSound self t →
             IfOk result (λ device. Only (B.shown device) (B.may_leave device)) }
         ensures stops { (ts : List Table) (t : Table) → IsSound self t → RestLeavesOneOf (cache_of self) ts →

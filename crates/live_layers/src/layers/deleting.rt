@@ -11,6 +11,7 @@ mod delete_at;
 mod taking;
 
 use crate::layers::Layers;
+use crate::rooms::Rooms;
 use crate::unmade::Unmade;
 use block_device::BlockDevice;
 use std::alloc::Allocator;
@@ -20,7 +21,7 @@ impl<B: BlockDevice, A: Allocator + Copy> Layers<B, A> {
     /// identifier table.
     ///
     /// Refused, in this order, by BadName, NoLayer and NoObject.
-    pub fn delete(&mut self, name: &[u8], id: u64) -> Result<(), Unmade>
+    pub fn delete(&mut self, name: &[u8], id: u64, rooms: &mut Rooms<A>) -> Result<(), Unmade>
         ensures change { IsChangeBy self.old self.new (Delete name.now id) result }
         ensures tree { (t : Table) → IsSound self.old t → OnOk result
             (ChangesTree self.old self.new name.now (HasLost (layer_at t name.now) id)) }
@@ -31,9 +32,21 @@ impl<B: BlockDevice, A: Allocator + Copy> Layers<B, A> {
         };
         let located = self.locate(place);
         if located.dims == 2 {
-            self.delete_at::<2>(place, &located, id)
+            self.delete_at::<2>(
+                place,
+                &located,
+                id,
+                &mut rooms.waiting_two,
+                &mut rooms.kept_two,
+            )
         } else {
-            self.delete_at::<3>(place, &located, id)
+            self.delete_at::<3>(
+                place,
+                &located,
+                id,
+                &mut rooms.waiting_three,
+                &mut rooms.kept_three,
+            )
         }
     }
 }

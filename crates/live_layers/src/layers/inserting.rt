@@ -13,6 +13,7 @@ mod checking;
 mod insert_box;
 
 use crate::layers::Layers;
+use crate::rooms::Rooms;
 use crate::unmade::Unmade;
 use block_device::BlockDevice;
 use plain_table::{RawBox, Refusal, is_layer_name};
@@ -23,7 +24,13 @@ impl<B: BlockDevice, A: Allocator + Copy> Layers<B, A> {
     /// identifier table.
     ///
     /// Refused, in this order, by BadName, NoLayer, WrongDims, BadBox, Duplicate and TooManyObjects.
-    pub fn insert(&mut self, name: &[u8], id: u64, bounds: RawBox) -> Result<(), Unmade>
+    pub fn insert(
+        &mut self,
+        name: &[u8],
+        id: u64,
+        bounds: RawBox,
+        rooms: &mut Rooms<A>,
+    ) -> Result<(), Unmade>
         ensures change { IsChangeBy self.old self.new (Insert name.now id bounds) result }
         ensures tree { (t : Table) → IsSound self.old t → OnOk result (ChangesTree self.old self.new name.now
             (HasGained (layer_at t name.now) id (given_bounds bounds))) }
@@ -35,8 +42,16 @@ impl<B: BlockDevice, A: Allocator + Copy> Layers<B, A> {
             return Err(Unmade::Refused(Refusal::NoLayer));
         };
         match bounds {
-            RawBox::Two(low, high) => self.insert_box::<2>(place, id, low, high),
-            RawBox::Three(low, high) => self.insert_box::<3>(place, id, low, high),
+            RawBox::Two(low, high) => self.insert_box::<2>(
+                place,
+                id,
+                low,
+                high,
+                &mut rooms.waiting_two,
+            ),
+            RawBox::Three(low, high) => {
+                self.insert_box::<3>(place, id, low, high, &mut rooms.waiting_three)
+            }
         }
     }
 }

@@ -15,6 +15,7 @@ mod move_box;
 mod replacing;
 
 use crate::layers::Layers;
+use crate::rooms::Rooms;
 use crate::unmade::Unmade;
 use block_device::BlockDevice;
 use plain_table::RawBox;
@@ -25,7 +26,13 @@ impl<B: BlockDevice, A: Allocator + Copy> Layers<B, A> {
     /// the box that it has changes nothing.
     ///
     /// Refused, in this order, by BadName, NoLayer, WrongDims, BadBox and NoObject.
-    pub fn move_object(&mut self, name: &[u8], id: u64, bounds: RawBox) -> Result<(), Unmade>
+    pub fn move_object(
+        &mut self,
+        name: &[u8],
+        id: u64,
+        bounds: RawBox,
+        rooms: &mut Rooms<A>,
+    ) -> Result<(), Unmade>
         ensures change { IsChangeBy self.old self.new (Move name.now id bounds) result }
         ensures tree { (t : Table) → IsSound self.old t → changes t (Move name.now id bounds) ≡ true →
             OnOk result (ChangesTree self.old self.new name.now
@@ -38,8 +45,24 @@ impl<B: BlockDevice, A: Allocator + Copy> Layers<B, A> {
             Err(refusal) => return Err(Unmade::Refused(refusal)),
         };
         match bounds {
-            RawBox::Two(low, high) => self.move_box::<2>(place, id, low, high),
-            RawBox::Three(low, high) => self.move_box::<3>(place, id, low, high),
+            RawBox::Two(low, high) => self.move_box::<2>(
+                place,
+                id,
+                low,
+                high,
+                &mut rooms.waiting_two,
+                &mut rooms.kept_two,
+            ),
+            RawBox::Three(low, high) => {
+                self.move_box::<3>(
+                    place,
+                    id,
+                    low,
+                    high,
+                    &mut rooms.waiting_three,
+                    &mut rooms.kept_three,
+                )
+            }
         }
     }
 }

@@ -14,6 +14,7 @@ ghost use Rattle.live_layers.specs.Catalog.{is_good_catalog, objects_named};
 ghost use Rattle.live_layers.specs.Image.{HasNoCatalog, IsImage};
 ghost use Rattle.live_layers.specs.Keeping.{IsSound, IsWritten, cache_of, records_in};
 ghost use Rattle.live_layers.specs.Layers.{catalog_in};
+ghost use Rattle.live_layers.specs.Staying.{FindsTreesIn};
 
 use crate::catalog::is_good_catalog;
 use crate::layers::{CATALOG, Layers};
@@ -29,12 +30,14 @@ impl<B: BlockDevice, A: Allocator + Copy> Layers<B, A> {
     /// number where it holds no good catalog.
     ///
     /// On an honest device any other refusal is `Memory` or `Device`, and an image of a table is opened as layers that
-    /// are sound with it. The device comes back, with its blocks as they were.
+    /// are sound with it, and have its trees. The device comes back, with its blocks as they were.
     pub fn open(alloc: A, cache: PageCache<B, A>) -> Result<Layers<B, A>, (Fault, B)>
         ensures image { (t : Table) (blocks : Blocks) → IsHonest cache → LiesIn cache blocks → IsImage blocks t →
             IfOk result (λ layers. IsSound layers t) }
         ensures not_refused { (t : Table) (blocks : Blocks) → IsHonest cache → LiesIn cache blocks → IsImage blocks t →
             IfErr result (λ e. IsOfDevice e.0) }
+        ensures trees { (blocks : Blocks) → IsHonest cache → LiesIn cache blocks →
+            IfOk result (λ layers. FindsTreesIn layers blocks) }
         ensures catalog { IfOk result (λ layers. IsHonest cache →
             catalog_in (pages cache) ≡ Some (records_in layers)) }
         ensures good { IfOk result (λ layers.

@@ -11,6 +11,7 @@ ghost use Rattle.live_layers.specs.Changes.{IsBegun, IsChanged};
 ghost use Rattle.live_layers.specs.Closings.{ClosingLeaves};
 ghost use Rattle.live_layers.specs.Keeping.{IsSettled, IsSound, IsWritten, cache_of};
 ghost use Rattle.live_layers.specs.Faults.{HasUnmadeCause};
+ghost use Rattle.live_layers.specs.Staying.{KeepsEachTree};
 
 use crate::faults::as_refusal;
 use crate::layers::Layers;
@@ -22,13 +23,14 @@ use std::alloc::Allocator;
 
 impl<B: BlockDevice, A: Allocator + Copy> Layers<B, A> {
     /// Settles the layers, forgets what is held of their pages, and reads gate, header and catalog again: the table
-    /// stays.
+    /// stays, and each tree.
     ///
     /// Refused while settling, on an honest device with sound layers by `Memory` or `Device`, they go on. A fault met
     /// afterwards breaks it off: the blocks are then an image of the table.
     pub fn reopen(&mut self) -> Result<(), Unmade>
         ensures changed { (t : Table) → IsSound self.old t → IsChanged self.old self.new t Reopen result }
         ensures leaves { (t : Table) → IsSound self.old t → ClosingLeaves self.old self.new t result }
+        ensures trees { (t : Table) → IsSound self.old t → KeepsEachTree self.old self.new }
         ensures settled { IsOk result → IsSettled self.new }
 
         // Where it was not finished the gate is not shut.
@@ -54,6 +56,7 @@ impl<B: BlockDevice, A: Allocator + Copy> Layers<B, A> {
         requires { gate_of (cache_of self.old) ≡ Shut }
         ensures gate { KeepsGate (cache_of self.old) (cache_of self.new) }
         ensures sound { (t : Table) → IsSound self.old t → IsWritten self.old → IsSound self.new t }
+        ensures trees { (t : Table) → IsSound self.old t → IsWritten self.old → KeepsEachTree self.old self.new }
         ensures written { IsWritten self.old → IsWritten self.new }
         ensures next { IsHonest (cache_of self.old) →
             next_of (cache_of self.new) ≡ next_of (cache_of self.old) }

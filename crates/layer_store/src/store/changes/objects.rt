@@ -30,7 +30,7 @@ impl<D: BlockDevice, A: Allocator + Copy> Store<D, A> {
         if self.failed {
             return Err(FAILED);
         }
-        let made = self.layers.insert(layer, id, bounds);
+        let made = self.layers.insert(layer, id, bounds, &mut self.rooms);
         tell(&mut self.failed, made)
     }
 
@@ -49,7 +49,7 @@ impl<D: BlockDevice, A: Allocator + Copy> Store<D, A> {
         if self.failed {
             return Err(FAILED);
         }
-        let made = self.layers.move_object(layer, id, bounds);
+        let made = self.layers.move_object(layer, id, bounds, &mut self.rooms);
         tell(&mut self.failed, made)
     }
 
@@ -65,7 +65,7 @@ impl<D: BlockDevice, A: Allocator + Copy> Store<D, A> {
         if self.failed {
             return Err(FAILED);
         }
-        let made = self.layers.delete(layer, id);
+        let made = self.layers.delete(layer, id, &mut self.rooms);
         tell(&mut self.failed, made)
     }
 }

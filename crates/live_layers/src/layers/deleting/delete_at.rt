@@ -12,8 +12,11 @@ ghost use Rattle.live_layers.specs.Rules.{HasLost};
 use crate::faults::change_of;
 use crate::layers::Layers;
 use crate::located::Located;
+use crate::rooms::Room;
 use crate::unmade::Unmade;
 use block_device::BlockDevice;
+use condense::Kept;
+use reinsert::Waiting;
 use std::alloc::Allocator;
 
 impl<B: BlockDevice, A: Allocator + Copy> Layers<B, A> {
@@ -23,6 +26,8 @@ impl<B: BlockDevice, A: Allocator + Copy> Layers<B, A> {
         place: usize,
         located: &Located,
         id: u64,
+        waiting_room: &mut Room<Waiting<D>, A>,
+        kept_room: &mut Room<Kept<D>, A>,
     ) -> Result<(), Unmade>
         requires dims { IsDims D }
         requires axes { located.now.dims ≡ D }
@@ -35,7 +40,7 @@ impl<B: BlockDevice, A: Allocator + Copy> Layers<B, A> {
         ensures keeps { KeepsInChange self.old self.new result }
     {
         match self.box_of::<D>(located, id) {
-            Ok(bounds) => change_of(self.take_object(place, id, &bounds)),
+            Ok(bounds) => change_of(self.take_object(place, id, &bounds, waiting_room, kept_room)),
             Err(refusal) => Err(Unmade::Refused(refusal)),
         }
     }

@@ -10,6 +10,7 @@ ghost use Rattle.live_layers.specs.Keeping.{ChangesTree, Finds, IsSound, cache_o
 ghost use Rattle.live_layers.specs.Rules.{HasLost};
 
 use crate::layers::Layers;
+use crate::rooms::{Room, take_kept, take_waiting};
 use block_device::BlockDevice;
 use box_math::BBox;
 use condense::Kept;
@@ -26,6 +27,8 @@ impl<B: BlockDevice, A: Allocator + Copy> Layers<B, A> {
         place: usize,
         id: u64,
         bounds: &BBox<D>,
+        waiting_room: &mut Room<Waiting<D>, A>,
+        kept_room: &mut Room<Kept<D>, A>,
     ) -> Result<(), Broken>
         requires dims { IsDims D }
         requires within { place < length (records_in self.old) }
@@ -40,8 +43,8 @@ impl<B: BlockDevice, A: Allocator + Copy> Layers<B, A> {
             IfErr result (λ b. IsOfDevice b.cause) }
         ensures begins { BeginsChange self.old self.new result }
     {
-        let mut waiting = Waiting::make(self.alloc)?;
-        let mut kept = Kept::make(self.alloc)?;
+        let mut waiting = take_waiting(waiting_room, self.alloc)?;
+        let mut kept = take_kept(kept_room, self.alloc)?;
         self.begin()?;
         let located = self.locate(place);
         let root = remove(
@@ -57,6 +60,8 @@ impl<B: BlockDevice, A: Allocator + Copy> Layers<B, A> {
         let count = self.count_at(place).saturating_sub(1);
         self.note(place, root, count);
         self.object_count = self.object_count.saturating_sub(1);
+        *waiting_room = Some(waiting);
+        *kept_room = Some(kept);
         Ok(())
     }
 }

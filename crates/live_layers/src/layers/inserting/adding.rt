@@ -10,6 +10,7 @@ ghost use Rattle.live_layers.specs.Keeping.{ChangesTree, Finds, IsSound, cache_o
 ghost use Rattle.live_layers.specs.Rules.{HasGained};
 
 use crate::layers::Layers;
+use crate::rooms::{Room, take_waiting};
 use block_device::BlockDevice;
 use box_math::BBox;
 use layer_pages::insert;
@@ -25,6 +26,7 @@ impl<B: BlockDevice, A: Allocator + Copy> Layers<B, A> {
         place: usize,
         id: u64,
         bounds: &BBox<D>,
+        waiting_room: &mut Room<Waiting<D>, A>,
     ) -> Result<(), Broken>
         requires dims { IsDims D }
         requires within { place < length (records_in self.old) }
@@ -39,7 +41,7 @@ impl<B: BlockDevice, A: Allocator + Copy> Layers<B, A> {
             (layer_at t name).dims ≡ D → IfErr result (λ b. IsOfDevice b.cause) }
         ensures begins { BeginsChange self.old self.new result }
     {
-        let mut waiting = Waiting::make(self.alloc)?;
+        let mut waiting = take_waiting(waiting_room, self.alloc)?;
         self.begin()?;
         let located = self.locate(place);
         let object = Entry {
@@ -57,6 +59,7 @@ impl<B: BlockDevice, A: Allocator + Copy> Layers<B, A> {
         let count = self.count_at(place).saturating_add(1);
         self.note(place, root, count);
         self.object_count += 1;
+        *waiting_room = Some(waiting);
         Ok(())
     }
 }

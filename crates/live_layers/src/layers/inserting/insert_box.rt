@@ -13,8 +13,10 @@ ghost use Rattle.live_layers.specs.Rules.{HasGained};
 
 use crate::faults::change_of;
 use crate::layers::Layers;
+use crate::rooms::Room;
 use crate::unmade::Unmade;
 use block_device::BlockDevice;
+use reinsert::Waiting;
 use std::alloc::Allocator;
 
 impl<B: BlockDevice, A: Allocator + Copy> Layers<B, A> {
@@ -25,6 +27,7 @@ impl<B: BlockDevice, A: Allocator + Copy> Layers<B, A> {
         id: u64,
         low: [i32; D],
         high: [i32; D],
+        waiting_room: &mut Room<Waiting<D>, A>,
     ) -> Result<(), Unmade>
         requires dims { IsDims D }
         requires within { place < length (records_in self.old) }
@@ -38,7 +41,7 @@ impl<B: BlockDevice, A: Allocator + Copy> Layers<B, A> {
     {
         let located = self.locate(place);
         match self.check_object(&located, id, low, high) {
-            Ok(bounds) => change_of(self.add_object(place, id, &bounds)),
+            Ok(bounds) => change_of(self.add_object(place, id, &bounds, waiting_room)),
             Err(refusal) => Err(Unmade::Refused(refusal)),
         }
     }

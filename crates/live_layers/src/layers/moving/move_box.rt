@@ -15,8 +15,11 @@ ghost use Rattle.live_layers.specs.Staying.{KeepsTrees};
 
 use crate::faults::change_of;
 use crate::layers::Layers;
+use crate::rooms::Room;
 use crate::unmade::Unmade;
 use block_device::BlockDevice;
+use condense::Kept;
+use reinsert::Waiting;
 use std::alloc::Allocator;
 
 impl<B: BlockDevice, A: Allocator + Copy> Layers<B, A> {
@@ -27,6 +30,8 @@ impl<B: BlockDevice, A: Allocator + Copy> Layers<B, A> {
         id: u64,
         low: [i32; D],
         high: [i32; D],
+        waiting_room: &mut Room<Waiting<D>, A>,
+        kept_room: &mut Room<Kept<D>, A>,
     ) -> Result<(), Unmade>
         requires dims { IsDims D }
         requires within { place < length (records_in self.old) }
@@ -50,6 +55,6 @@ impl<B: BlockDevice, A: Allocator + Copy> Layers<B, A> {
         if known == bounds {
             return Ok(());
         }
-        change_of(self.replace_box(place, id, &known, &bounds))
+        change_of(self.replace_box(place, id, &known, &bounds, waiting_room, kept_room))
     }
 }

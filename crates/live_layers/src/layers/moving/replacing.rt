@@ -10,6 +10,7 @@ ghost use Rattle.live_layers.specs.Keeping.{ChangesTree, Finds, IsSound, cache_o
 ghost use Rattle.live_layers.specs.Rules.{HasMoved};
 
 use crate::layers::Layers;
+use crate::rooms::{Room, take_kept, take_waiting};
 use block_device::BlockDevice;
 use box_math::BBox;
 use condense::Kept;
@@ -27,6 +28,8 @@ impl<B: BlockDevice, A: Allocator + Copy> Layers<B, A> {
         id: u64,
         known: &BBox<D>,
         bounds: &BBox<D>,
+        waiting_room: &mut Room<Waiting<D>, A>,
+        kept_room: &mut Room<Kept<D>, A>,
     ) -> Result<(), Broken>
         requires dims { IsDims D }
         requires within { place < length (records_in self.old) }
@@ -41,8 +44,8 @@ impl<B: BlockDevice, A: Allocator + Copy> Layers<B, A> {
             IfErr result (λ b. IsOfDevice b.cause) }
         ensures begins { BeginsChange self.old self.new result }
     {
-        let mut waiting = Waiting::make(self.alloc)?;
-        let mut kept = Kept::make(self.alloc)?;
+        let mut waiting = take_waiting(waiting_room, self.alloc)?;
+        let mut kept = take_kept(kept_room, self.alloc)?;
         self.begin()?;
         let located = self.locate(place);
         let root = replace(
@@ -58,6 +61,8 @@ impl<B: BlockDevice, A: Allocator + Copy> Layers<B, A> {
         )?;
         let count = self.count_at(place);
         self.note(place, root, count);
+        *waiting_room = Some(waiting);
+        *kept_room = Some(kept);
         Ok(())
     }
 }

@@ -20,11 +20,11 @@ returns-clause-answers g c =
 
 pub returns-clause-sound : goal.returns-clause-sound
 returns-clause-sound g c = λ honest.
-    on_ok c.check.result (λ found. (found.0, alive_so (record { layers = c.check.new.self; failed = c.args.self.now.failed }) found.0 c.if-self.false found.1)) (c.check.ensures.sound honest)
+    on_ok c.check.result (λ found. (found.0, alive_so (record c.args.self.now { layers = c.check.new.self }) found.0 c.if-self.false found.1)) (c.check.ensures.sound honest)
 
 pub returns-clause-begins : goal.returns-clause-begins
 returns-clause-begins g c = λ honest settled.
-    let new : Store _ _ _ = record { layers = c.check.new.self; failed = c.args.self.now.failed } in
+    let new : Store _ _ _ = record c.args.self.now { layers = c.check.new.self } in
     let kept = keeps_asked c.args.self.now c.check.new.self c.check.ensures.keeps in
     on_ok c.check.result (λ found. (found.0, settled_begins new found.0 (λ honest b left. g.met.D.BlockDevice.only_now (device_in new) b honest left) (kept.settled settled) c.if-self.false found.1)) (c.check.ensures.sound honest)
 

@@ -7,17 +7,20 @@ use Rattle.layer_store.proofs.ClosingLemmas.{memory_or_device, rests_of_store}
 use Rattle.layer_store.proofs.StoreLemmas.{alive_in, alive_with, failed_so, is_dead, is_settled, not_both}
 use Rattle.layer_store.proofs.store.Store.close.Goals as goal
 
-pub returns-then-self-clause-refused : goal.returns-then-self-clause-refused
-returns-then-self-clause-refused g c = λ t represents. absurd (not_both _ c.if-self.true (alive_with c.args.self t represents).0)
+pub returns-then-failed-clause-refused : goal.returns-then-failed-clause-refused
+returns-then-failed-clause-refused g c = λ t represents. absurd (not_both _ c.if-failed.true (alive_with c.args.self t represents).0)
 
-pub returns-then-self-clause-refused_stops : goal.returns-then-self-clause-refused_stops
-returns-then-self-clause-refused_stops g c = λ s t represents alive. absurd (not_both _ c.if-self.true (alive_in c.args.self s t represents alive).0)
+pub returns-then-failed-clause-refused_stops : goal.returns-then-failed-clause-refused_stops
+returns-then-failed-clause-refused_stops g c = λ s t represents alive. absurd (not_both _ c.if-failed.true (alive_in c.args.self s t represents alive).0)
 
-pub returns-then-self-clause-quiet : goal.returns-then-self-clause-quiet
-returns-then-self-clause-quiet g c = λ t represents settled. absurd (not_both _ c.if-self.true (alive_with c.args.self t represents).0)
+pub returns-then-failed-clause-quiet : goal.returns-then-failed-clause-quiet
+returns-then-failed-clause-quiet g c = λ t represents settled. absurd (not_both _ c.if-failed.true (alive_with c.args.self t represents).0)
 
 pub returns-in-Ok-clause-closed : goal.returns-in-Ok-clause-closed
 returns-in-Ok-clause-closed g c = λ t represents. c.in-Ok.ensures.closed t (alive_with c.args.self t represents).1
+
+pub returns-in-Ok-clause-trees : goal.returns-in-Ok-clause-trees
+returns-in-Ok-clause-trees g c = λ t represents. c.in-Ok.ensures.trees t (alive_with c.args.self t represents).1
 
 pub returns-in-Ok-clause-stops : goal.returns-in-Ok-clause-stops
 returns-in-Ok-clause-stops g c = λ s t represents alive. c.in-Ok.ensures.stops (tables_left s.stops.now) t (alive_in c.args.self s t represents alive).1 (rests_of_store c.args.self s represents)
@@ -26,10 +29,10 @@ pub returns-in-Ok-clause-durable : goal.returns-in-Ok-clause-durable
 returns-in-Ok-clause-durable g c = λ t represents. c.in-Ok.ensures.durable t (alive_with c.args.self t represents).1
 
 pub returns-in-Ok-clause-dead : goal.returns-in-Ok-clause-dead
-returns-in-Ok-clause-dead g c = λ dead. absurd (not_both _ (is_dead c.args.self dead) c.if-self.false)
+returns-in-Ok-clause-dead g c = λ dead. absurd (not_both _ (is_dead c.args.self dead) c.if-failed.false)
 
 pub returns-in-Ok-clause-failed : goal.returns-in-Ok-clause-failed
-returns-in-Ok-clause-failed g c = λ failed. absurd (not_both _ (failed_so c.args.self failed) c.if-self.false)
+returns-in-Ok-clause-failed g c = λ failed. absurd (not_both _ (failed_so c.args.self failed) c.if-failed.false)
 
 pub returns-in-Err-clause-refused_stops : goal.returns-in-Err-clause-refused_stops
 returns-in-Err-clause-refused_stops g c = λ s t represents alive. c.in-Err.ensures.refused_stops (tables_left s.stops.now) t (alive_in c.args.self s t represents alive).1 (rests_of_store c.args.self s represents)
@@ -39,10 +42,10 @@ returns-in-Err-clause-refused g c = λ t represents.
     subst IsMemoryOrDevice (sym c.as_refusal.ensures) (memory_or_device c.in-Err.fault (c.in-Err.ensures.faults t (alive_with c.args.self t represents).1))
 
 pub returns-in-Err-clause-dead : goal.returns-in-Err-clause-dead
-returns-in-Err-clause-dead g c = λ dead. absurd (not_both _ (is_dead c.args.self dead) c.if-self.false)
+returns-in-Err-clause-dead g c = λ dead. absurd (not_both _ (is_dead c.args.self dead) c.if-failed.false)
 
 pub returns-in-Err-clause-failed : goal.returns-in-Err-clause-failed
-returns-in-Err-clause-failed g c = λ failed. absurd (not_both _ (failed_so c.args.self failed) c.if-self.false)
+returns-in-Err-clause-failed g c = λ failed. absurd (not_both _ (failed_so c.args.self failed) c.if-failed.false)
 
 -- of a closing that was answered, as another type of refusal has it
 other_ok : {T E F : Type 0} (a b : T) → ◌≡◌ {A = Result T E} (Ok a) (Ok b) → ◌≡◌ {A = Result T F} (Ok a) (Ok b)

@@ -30,7 +30,7 @@ pub returns-then-self-clause-stops : goal.returns-then-self-clause-stops
 returns-then-self-clause-stops g c = λ s t represents alive. absurd (not_both _ c.if-self.true (alive_in c.args.self.now s t represents alive).0)
 
 pub returns-clause-stops : goal.returns-clause-stops
-returns-clause-stops g c = stops_closed _ _ c.if-self.false c.tell.ensures c.reopen-closed.ensures.leaves
+returns-clause-stops g c = stops_closed c.args.self.now (record c.args.self.now { layers = c.reopen-closed.new.self; failed = c.tell.new.failed }) c.if-self.false c.tell.ensures c.reopen-closed.ensures.leaves
 
 pub returns-then-self-clause-durable : goal.returns-then-self-clause-durable
 returns-then-self-clause-durable g c = λ t represents end. absurd (not_both _ c.if-self.true (alive_with c.args.self.now t represents).0)
@@ -45,7 +45,7 @@ pub returns-then-self-clause-quiet : goal.returns-then-self-clause-quiet
 returns-then-self-clause-quiet g c = λ t represents settled. absurd (not_both _ c.if-self.true (alive_with c.args.self.now t represents).0)
 
 pub returns-clause-quiet : goal.returns-clause-quiet
-returns-clause-quiet g c = quiet_closed _ _ c.if-self.false c.tell.ensures c.reopen-closed.ensures.leaves (λ honest b left. g.met.D.BlockDevice.only_now (device_in c.args.self.now) b honest left)
+returns-clause-quiet g c = quiet_closed c.args.self.now (record c.args.self.now { layers = c.reopen-closed.new.self; failed = c.tell.new.failed }) c.if-self.false c.tell.ensures c.reopen-closed.ensures.leaves (λ honest b left. g.met.D.BlockDevice.only_now (device_in c.args.self.now) b honest left)
 
 pub returns-clause-dead : goal.returns-clause-dead
 returns-clause-dead g c = λ dead. absurd (not_both _ (is_dead c.args.self.now dead) c.if-self.false)
@@ -58,3 +58,9 @@ returns-then-self-clause-ends g c = λ settled. dead_so c.args.self.now c.if-sel
 
 pub returns-clause-ends : goal.returns-clause-ends
 returns-clause-ends g c = ends_closed c.args.self.now _ c.if-self.false c.tell.ensures c.reopen-closed.ensures.refused
+
+pub returns-then-self-clause-trees : goal.returns-then-self-clause-trees
+returns-then-self-clause-trees g c = λ t represents. absurd (not_both _ c.if-self.true (alive_with c.args.self.now t represents).0)
+
+pub returns-clause-trees : goal.returns-clause-trees
+returns-clause-trees g c = λ t represents. c.reopen-closed.ensures.trees t (alive_with c.args.self.now t represents).1

@@ -10,7 +10,7 @@ use Rattle.layer_store.proofs.store.start.begin.Goals as goal
 pub returns-in-Ok-open-clause-image : goal.returns-in-Ok-open-clause-image
 returns-in-Ok-open-clause-image g c = λ t blocks honest lies image.
     let over = c.in-Ok.ensures in
-    alive_so (record { layers = c.in-Ok-open.layers; failed = false }) t refl (c.in-Ok-open.ensures.image t blocks (subst g.D.BlockDevice.honest (sym over.device) honest) ((over.lies blocks).1 lies) image)
+    alive_so (record { layers = c.in-Ok-open.layers; rooms = c.new.result; failed = false }) t refl (c.in-Ok-open.ensures.image t blocks (subst g.D.BlockDevice.honest (sym over.device) honest) ((over.lies blocks).1 lies) image)
 
 pub returns-in-Ok-open-clause-opened : goal.returns-in-Ok-open-clause-opened
 returns-in-Ok-open-clause-opened g c = λ honest none.
@@ -23,4 +23,8 @@ returns-in-Ok-open-clause-opened g c = λ honest none.
 pub returns-in-Ok-open-clause-settled : goal.returns-in-Ok-open-clause-settled
 returns-in-Ok-open-clause-settled g c =
     let opened = c.in-Ok-open.ensures in
-    settled_so (record { layers = c.in-Ok-open.layers; failed = false }) (opened.asks.gate.gate ∙ c.in-Ok.ensures.gate ∙ c.requires.shut, opened.written)
+    settled_so (record { layers = c.in-Ok-open.layers; rooms = c.new.result; failed = false }) (opened.asks.gate.gate ∙ c.in-Ok.ensures.gate ∙ c.requires.shut, opened.written)
+
+pub returns-in-Ok-open-clause-trees : goal.returns-in-Ok-open-clause-trees
+returns-in-Ok-open-clause-trees g c = λ blocks honest lies.
+    let over = c.in-Ok.ensures in c.in-Ok-open.ensures.trees blocks (subst g.D.BlockDevice.honest (sym over.device) honest) ((over.lies blocks).1 lies)

@@ -57,3 +57,7 @@ returns-in-Ok-clause-refused_stops g c = λ cache. err_case c.begin.result (λ e
 pub returns-in-Ok-clause-durable : goal.returns-in-Ok-clause-durable
 returns-in-Ok-clause-durable g c = ok_case c.begin.result (λ store is honest.
     shut_store store (at_ok _ c.begin.result store is c.begin.ensures.settled) (at_ok _ c.begin.result store is c.begin.ensures.honest (c.in-Ok.ensures.honest.0 honest)))
+
+pub returns-in-Ok-clause-trees : goal.returns-in-Ok-clause-trees
+returns-in-Ok-clause-trees g c = ok_case c.begin.result (λ store is honest.
+    let opened = c.in-Ok.ensures in at_ok _ c.begin.result store is (c.begin.ensures.trees (g.D.BlockDevice.shown c.args.device) (opened.honest.0 honest) (opened.lies honest)))

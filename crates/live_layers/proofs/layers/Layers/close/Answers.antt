@@ -3,6 +3,7 @@ use Rattle.std.proofs.Common.{◌∷◌, subst, sym}
 use Rattle.block_device.specs.Device.{LeavesOnly, Only}
 use Rattle.page_cache.specs.Cache.{device_of}
 use Rattle.live_layers.specs.Image.{IsImage, IsRefusedOrImageOf}
+use Rattle.live_layers.specs.Staying.{LeavesTreesIn}
 use Rattle.live_layers.proofs.StopLemmas.{shut_is_durable}
 use Rattle.live_layers.proofs.layers.Layers.close.Goals as goal
 
@@ -27,3 +28,8 @@ pub returns-in-Err-clause-refused_stops : goal.returns-in-Err-clause-refused_sto
 returns-in-Err-clause-refused_stops g c = λ ts t sound rests.
     let d = g.B.BlockDevice in
     subst (λ (device : g.row.B.Denot). LeavesOnly d.moment d.left_since (device_of c.args.self.cache) device (IsRefusedOrImageOf (t ∷ ts))) (sym c.abandon-device.ensures) (c.in-Err.ensures.stops ts t sound rests)
+
+pub returns-in-Ok-clause-trees : goal.returns-in-Ok-clause-trees
+returns-in-Ok-clause-trees g c = λ t sound.
+    let d = g.B.BlockDevice in
+    subst (λ (device : g.row.B.Denot). LeavesTreesIn c.args.self (d.shown device)) (sym c.abandon-device.ensures) (c.in-Ok.ensures.left t sound)

@@ -6,6 +6,7 @@ use Rattle.page_cache.specs.Cache.{next_of}
 use Rattle.page_cache.specs.Laws.{numbers_are_few}
 use Rattle.live_layers.specs.Catalog.{objects_named}
 use Rattle.live_layers.proofs.CatalogGood.{layers_may_be}
+use Rattle.live_layers.proofs.ClosingLemmas.{trees_found}
 use Rattle.live_layers.proofs.OpenLemmas.{no_damage, opened_sound}
 use Rattle.live_layers.proofs.layers.Layers.open.Goals as goal
 
@@ -19,3 +20,7 @@ returns-in-Ok-clause-image g c = λ t blocks honest lies image.
 
 pub returns-in-Err-clause-not_refused : goal.returns-in-Err-clause-not_refused
 returns-in-Err-clause-not_refused g c = λ t blocks honest lies image. no_damage c.args.cache blocks t lies image c.in-Err.fault (c.in-Err.ensures.damaged honest)
+
+pub returns-in-Ok-clause-trees : goal.returns-in-Ok-clause-trees
+returns-in-Ok-clause-trees g c = λ blocks honest lies.
+    trees_found c.args.cache c.read_catalog.new.cache (records_of c.in-Ok.records) blocks honest lies c.in-Ok.ensures.asks.map (c.in-Ok.ensures.catalog honest)

@@ -6,7 +6,7 @@ use Rattle.page_cache.specs.Cache.{next_of}
 use Rattle.page_cache.specs.Laws.{numbers_are_few, the_map_is_kept_in_turn}
 use Rattle.live_layers.specs.Catalog.{objects_named}
 use Rattle.live_layers.proofs.CatalogGood.{layers_may_be}
-use Rattle.live_layers.proofs.ClosingLemmas.{catalog_before, read_sound}
+use Rattle.live_layers.proofs.ClosingLemmas.{catalog_before, read_sound, trees_kept, trees_read_again}
 use Rattle.live_layers.proofs.KeepLemmas.{sound_kept}
 use Rattle.live_layers.proofs.layers.Layers.read_again.Goals as goal
 
@@ -31,3 +31,25 @@ returns-clause-sound g c = λ t sound written.
     read_sound old _ t sound written keeps
     (catalog_before old.cache mid (records_of c.in_ok-records.records) sound.map.honest checked (c.in_ok-records.ensures.catalog (c.check_again.ensures.gate.honest.0 sound.map.honest)))
     (c.count_of-self.ensures ∙ ap (λ (xs : List LayerRecord). objects_named (map record_of xs)) c.deref.ensures.0)
+
+pub returns-in_err-check_again-clause-trees : goal.returns-in_err-check_again-clause-trees
+returns-in_err-check_again-clause-trees g c = λ t sound written.
+    let old = c.args.self.now in
+    let rs = records_of old.records in
+    trees_kept old.cache c.check_again.new.self rs rs sound.map.honest (c.check_again.ensures.map sound.map.honest) refl
+
+pub returns-in_err-records-clause-trees : goal.returns-in_err-records-clause-trees
+returns-in_err-records-clause-trees g c = λ t sound written.
+    let old = c.args.self.now in
+    let rs = records_of old.records in
+    trees_kept old.cache c.read_catalog.new.cache rs rs sound.map.honest
+    (the_map_is_kept_in_turn old.cache c.check_again.new.self c.read_catalog.new.cache c.check_again.ensures.gate.honest.0 (c.check_again.ensures.map sound.map.honest) c.read_catalog.ensures.asks.map) refl
+
+pub returns-clause-trees : goal.returns-clause-trees
+returns-clause-trees g c = λ t sound written.
+    let old = c.args.self.now in
+    let mid = c.check_again.new.self in
+    let rs = records_of c.in_ok-records.records in
+    let checked = c.check_again.ensures.map sound.map.honest in
+    let keeps = the_map_is_kept_in_turn old.cache mid c.read_catalog.new.cache c.check_again.ensures.gate.honest.0 checked c.read_catalog.ensures.asks.map in
+    trees_read_again old c.read_catalog.new.cache rs t sound written keeps (catalog_before old.cache mid rs sound.map.honest checked (c.in_ok-records.ensures.catalog (c.check_again.ensures.gate.honest.0 sound.map.honest)))

@@ -45,3 +45,11 @@ returns-in-Err-read_again-clause-leaves g c = λ t sound.
       closed = λ begun. (gate.gate ∙ settled.shut, there);
       quiet = λ was. the_gate_is_kept_in_turn old.cache mid.cache new.cache (unchanged_keeps_gate old.cache mid.cache (settled.was_settled was).0) gate;
     }
+
+pub returns-in-Ok-clause-trees : goal.returns-in-Ok-clause-trees
+returns-in-Ok-clause-trees g c = λ t sound name s there.
+    let settled = c.in_default.ensures in c.in-Ok.ensures.trees t (settled.sound t sound) settled.written name s (settled.trees t sound name s there)
+
+pub returns-in-Err-read_again-clause-trees : goal.returns-in-Err-read_again-clause-trees
+returns-in-Err-read_again-clause-trees g c = λ t sound name s there.
+    let settled = c.in_default.ensures in c.in-Err-read_again.ensures.trees t (settled.sound t sound) settled.written name s (settled.trees t sound name s there)

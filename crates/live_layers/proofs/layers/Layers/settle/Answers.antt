@@ -6,7 +6,7 @@ use Rattle.page_cache.specs.Cache.{blocks_of, device_of}
 use Rattle.page_file.specs.Stops.{SameButGate}
 use Rattle.live_layers.specs.Image.{IsRefusedOrImageOf}
 use Rattle.live_layers.proofs.KeepLemmas.{kept_catalog, kept_table, sound_kept}
-use Rattle.live_layers.proofs.ClosingLemmas.{not_shut, rests_on_more}
+use Rattle.live_layers.proofs.ClosingLemmas.{not_shut, rests_on_more, trees_in_blocks, trees_kept}
 use Rattle.live_layers.proofs.StopLemmas.{image_of, or_this, rests_on_table, table_closed}
 use Rattle.live_layers.proofs.Results.{on_any_err, on_err, on_ok}
 use Rattle.live_layers.proofs.layers.Layers.settle.Goals as goal
@@ -56,3 +56,19 @@ returns-in_err-write-clause-refused g c = on_any_err c.from_residual.result _ c.
 
 pub returns-clause-refused : goal.returns-clause-refused
 returns-clause-refused g c = on_err c.settle.result (not_shut _) c.settle.ensures.refused
+
+pub returns-clause-trees : goal.returns-clause-trees
+returns-clause-trees g c = λ t sound name s there.
+    let mid = c.write.new.self in
+    let rs = records_of mid.records in
+    trees_kept mid.cache c.settle.new.self rs rs (c.write.ensures.sound t sound).map.honest c.settle.ensures.map refl name s (c.write.ensures.trees t sound name s there)
+
+pub returns-clause-left : goal.returns-clause-left
+returns-clause-left g c = λ t sound.
+    let mid = c.write.new.self in
+    let new = c.settle.new.self in
+    let rs = records_of mid.records in
+    let before = c.write.ensures.sound t sound in
+    let keeps = c.settle.ensures.map in
+    let spelled = kept_catalog mid.cache new rs before.map.honest keeps (before.catalog c.in_ok-write.ensures.written) in
+    on_ok c.settle.result (λ lies name s there. trees_in_blocks mid.cache new rs (blocks_of new) before.map.honest keeps lies spelled name s (c.write.ensures.trees t sound name s there)) (c.settle.ensures.lies before.map.honest)

@@ -1,12 +1,12 @@
 -- The catalog is written behind an open gate, and nothing else.
 use Rattle.std.proofs.Common.{◌≡◌, ◌∙◌, true, false, refl, ap, arith}
 use Rattle.std.specs.Prelude.{option_and_then}
-use Rattle.catalog_page.specs.Layout.{records_at}
+use Rattle.catalog_page.specs.Layout.{records_at, records_of}
 use Rattle.page_cache.specs.Cache.{device_of}
 use Rattle.page_file.specs.Fault.{IsOfDevice}
 use Rattle.page_cache.specs.Laws.{numbers_are_few, the_catalog_is_live}
 use Rattle.live_layers.proofs.KeepLemmas.{sound_kept, sound_written}
-use Rattle.live_layers.proofs.ClosingLemmas.{open_is_not_shut, unsure_is_not_shut}
+use Rattle.live_layers.proofs.ClosingLemmas.{open_is_not_shut, trees_beside_catalog, trees_kept, unsure_is_not_shut}
 use Rattle.live_layers.proofs.StopLemmas.{gate_opened, none_made, pages_written}
 use Rattle.live_layers.proofs.Results.{on_any_err, the_err}
 use Rattle.live_layers.proofs.layers.Layers.write.Goals as goal
@@ -81,3 +81,19 @@ returns-in_err-begin_change-clause-refused g c = on_any_err c.from_residual.resu
 
 pub returns-in_err-put-clause-refused : goal.returns-in_err-put-clause-refused
 returns-in_err-put-clause-refused g c = on_any_err c.from_residual-in_err-put.result _ (open_is_not_shut _ (c.put.ensures.changes.gate.gate ∙ c.in_ok-begin_change.ensures.open))
+
+pub returns-in_err-begin_change-clause-trees : goal.returns-in_err-begin_change-clause-trees
+returns-in_err-begin_change-clause-trees g c = λ t sound.
+    let rs = records_of c.args.self.now.records in trees_kept c.args.self.now.cache c.begin_change.new.self rs rs sound.map.honest c.begin_change.ensures.map refl
+
+pub returns-in_err-put-clause-trees : goal.returns-in_err-put-clause-trees
+returns-in_err-put-clause-trees g c = λ t sound.
+    let begun = c.begin_change.new.self in
+    let keeps = c.begin_change.ensures.map in
+    trees_beside_catalog c.args.self.now begun c.put.new.self t sound keeps (c.put.ensures.others (keeps.sound.0 sound.map).honest (the_catalog_is_live begun))
+
+pub returns-clause-trees : goal.returns-clause-trees
+returns-clause-trees g c = λ t sound.
+    let begun = c.begin_change.new.self in
+    let keeps = c.begin_change.ensures.map in
+    trees_beside_catalog c.args.self.now begun c.put.new.self t sound keeps (c.put.ensures.others (keeps.sound.0 sound.map).honest (the_catalog_is_live begun))

@@ -1,0 +1,60 @@
+//! Memory that changes of trees work in, kept from one change to the next.
+
+ghost use Rattle.std.specs.Prelude.{◌≡◌, IfErr};
+ghost use Rattle.page_file.specs.declared.fault.Fault.TheVariants as fault;
+
+use condense::Kept;
+use page_file::Fault;
+use reinsert::Waiting;
+use std::alloc::Allocator;
+
+// Memory for one of these, where it was taken and is not in use.
+pub(crate) type Room<T, A> = Option<Box<T, A>>;
+
+/// The memory that changes of trees work in, by the axes of their boxes. The first change that wants it takes it, and
+/// the next ones work in it; nothing of a change is left in it.
+#[derive(Drop)]
+pub struct Rooms<A: Allocator> {
+    pub(crate) waiting_two: Room<Waiting<2>, A>,
+    pub(crate) waiting_three: Room<Waiting<3>, A>,
+    pub(crate) kept_two: Room<Kept<2>, A>,
+    pub(crate) kept_three: Room<Kept<3>, A>,
+}
+
+impl<A: Allocator> Rooms<A> {
+    /// Rooms for which no memory is taken yet.
+    pub fn new() -> Rooms<A> {
+        Rooms {
+            waiting_two: None,
+            waiting_three: None,
+            kept_two: None,
+            kept_three: None,
+        }
+    }
+}
+
+// Takes the room for what waits in an insertion, which is made where there is none. A refusal is `Memory`.
+pub(crate) fn take_waiting<const D: usize, A: Allocator>(
+    room: &mut Room<Waiting<D>, A>,
+    alloc: A,
+) -> Result<Box<Waiting<D>, A>, Fault>
+    ensures { IfErr result (λ f. f ≡ fault.Memory) }
+{
+    match room.take() {
+        Some(waiting) => Ok(waiting),
+        None => Waiting::make(alloc),
+    }
+}
+
+// Takes the room for what a removal keeps, which is made where there is none. A refusal is `Memory`.
+pub(crate) fn take_kept<const D: usize, A: Allocator>(
+    room: &mut Room<Kept<D>, A>,
+    alloc: A,
+) -> Result<Box<Kept<D>, A>, Fault>
+    ensures { IfErr result (λ f. f ≡ fault.Memory) }
+{
+    match room.take() {
+        Some(kept) => Ok(kept),
+        None => Kept::make(alloc),
+    }
+}
