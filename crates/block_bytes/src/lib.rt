@@ -5,8 +5,6 @@
 mod kinds;
 pub mod laws;
 mod reading;
-#[cfg(test)]
-mod tests;
 mod writing;
 
 pub use kinds::{BUCKET_KIND, CATALOG_KIND, DIRECTORY_KIND, FREE_KIND, NODE_KIND, write_head};

@@ -10,8 +10,6 @@ mod left;
 mod log;
 mod memory;
 mod past;
-#[cfg(test)]
-mod tests;
 
 pub use device::{BlockDevice, DeviceError};
 pub use fuse::{FuseDevice, FuseMode};

@@ -5,8 +5,6 @@
 mod boxes;
 mod corners;
 pub mod laws;
-#[cfg(test)]
-mod tests;
 
 pub use boxes::{read_box, write_box};
 pub use corners::{read_corner, write_corner};

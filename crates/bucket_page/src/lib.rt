@@ -7,8 +7,6 @@ mod entries;
 mod head;
 pub mod laws;
 mod page;
-#[cfg(test)]
-mod tests;
 
 pub use bucket::Bucket;
 pub use edits::{pop_entry, push_entry, set_entry};

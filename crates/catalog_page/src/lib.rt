@@ -6,8 +6,6 @@ mod layer_record;
 mod names;
 mod page;
 mod records;
-#[cfg(test)]
-mod tests;
 
 pub use layer_record::LayerRecord;
 pub use page::{decode, encode};

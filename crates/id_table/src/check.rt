@@ -40,7 +40,7 @@ pub struct TableFacts<const D: usize, H: Allocator> {
 ///
 /// On an honest device it answers so only where a table stands there; else it is `Damaged` with the number of a page:
 /// that of the directory, or one that a walk along a chain comes to. Where a table stands, a refusal is `Memory` or
-/// `Device`. It makes no more looks than page numbers were given out, whatever the pages are. Map and gate stay, also
+/// `Device`. It makes no more looks than the file's next number, whatever the pages are. Map and gate stay, also
 /// after a refusal.
 pub fn check_table<const D: usize, B: BlockDevice, A: Allocator + Copy, H: Allocator + Copy>(
     alloc: H,

@@ -27,7 +27,7 @@ const CATALOG: u32 = 2;
 /// On an honest device it answers so only where such a layer stands there; else it is `Damaged` with the number of a
 /// page: that of the catalog where there is another count of objects, and that of the directory where the table has
 /// others than the tree. Where such a layer stands, a refusal is `Memory` or `Device`. It makes no more than two looks
-/// for each page number that was given out, whatever the pages are. Map and gate stay, also after a refusal.
+/// for each number below the next one, whatever the pages are. Map and gate stay, also after a refusal.
 pub fn check<'a, const D: usize, B: BlockDevice, A: Allocator + Copy, H: Allocator>(
     alloc: &'a H,
     cache: &mut PageCache<B, A>,

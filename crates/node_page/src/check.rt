@@ -37,7 +37,7 @@ pub struct TreeFacts<const D: usize, H: Allocator> {
 ///
 /// On an honest device it answers so only where a tree of that shape stands at the root, no page of it twice; else it
 /// is `Damaged` with the number of a page that a walk down the nodes comes to. Where such a tree stands, a refusal is
-/// `Memory` or `Device`. It makes no more looks than page numbers were given out, whatever the pages are. Map and gate
+/// `Memory` or `Device`. It makes no more looks than the file's next number, whatever the pages are. Map and gate
 /// stay, also after a refusal.
 pub fn check_tree<const D: usize, B: BlockDevice, A: Allocator + Copy, H: Allocator + Copy>(
     alloc: H,

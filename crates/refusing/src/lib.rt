@@ -3,9 +3,6 @@
 //! A growth is a call of `allocate`: `grow` and `shrink` make one each, so each growth of a collection counts once.
 #![tactic(auto)]
 
-#[cfg(test)]
-mod tests;
-
 use std::alloc::{AllocError, Allocator};
 use std::cell::Cell;
 

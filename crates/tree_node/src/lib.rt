@@ -7,8 +7,6 @@ mod entries;
 pub mod laws;
 mod node;
 mod orders;
-#[cfg(test)]
-mod tests;
 
 pub use entries::{box_of, least, picked, reference_of, see_boxes};
 pub use node::{Entry, Node, Root};

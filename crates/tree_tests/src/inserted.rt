@@ -2,12 +2,13 @@
 
 ghost use Rattle.std.specs.Prelude.{◌≤◌};
 
-use crate::scene::{Asked, Dice, Spread, add_tree, are_rows, bare, boxes, insert_all, is_whole};
+use crate::scene::{Asked, Dice, Spread, add_tree, are_rows, boxes, insert_all, is_whole};
 use range_query::window;
 use reinsert::Waiting;
 use std::alloc::Global;
 use std::process::Abort;
 use std::test::Fail;
+use test_caches::bare;
 
 // How many boxes are inserted between two checks of the tree.
 const PART: usize = 1_000;

@@ -1,17 +1,10 @@
 //! Worked examples of runs and of packed trees.
 
-ghost use Rattle.std.specs.Prelude.{◌≡◌, IfOk};
-ghost use Rattle.page_cache.specs.Cache.{gate_of};
-ghost use Rattle.page_file.specs.declared.gate.Gate.TheVariants.{Open};
-
-use block_device::{BlockDevice, FuseDevice, FuseMode, MemoryDevice};
+use block_device::MemoryDevice;
 use box_math::BBox;
 use bulk_load::{load, tile};
 use node_page::{Entry, Root, leaf_lists, read_node};
-use page_cache::PageCache;
-use page_file::{Fault, create_pages};
-use refusing::Refusing;
-use std::alloc::Global;
+use test_caches::new_cache;
 
 // The point (x, y) with an identifier.
 fn point(x: i32, y: i32, reference: u64) -> Entry<2> {
@@ -25,22 +18,6 @@ fn nine_points() -> [Entry<2>; 9] {
         entries[usize::from(k)] = point(i32::from(k / 3), i32::from(k % 3), u64::from(k) + 1);
     }
     entries
-}
-
-// An empty file of pages, with an open gate.
-fn open_pages<B: BlockDevice + Drop>(
-    alloc: Global,
-    device: B,
-) -> Result<PageCache<B, Global>, Fault>
-    ensures { IfOk result (λ cache. gate_of cache ≡ Open) }
-{
-    if device.blocks() != 0 {
-        return Err(Fault::Memory);
-    }
-    let file = create_pages(device).map_err(|(fault, _)| fault)?;
-    let mut cache = PageCache::over(alloc, file, 8).map_err(|(fault, _)| fault)?;
-    cache.begin_change()?;
-    Ok(cache)
 }
 
 #[test]
@@ -75,7 +52,7 @@ fn entries_of_one_centre_and_reference_go_by_position(rt: HostRuntime) {
 
 #[test]
 fn nine_points_make_a_root_over_three_leaves(rt: HostRuntime) {
-    let mut cache = open_pages(rt.alloc(), MemoryDevice::new(rt.alloc())).expect(&rt, "memory");
+    let mut cache = new_cache(rt.alloc(), MemoryDevice::new(rt.alloc()), 8).expect(&rt, "memory");
     let mut entries = nine_points();
     let root = load(rt.alloc(), &mut cache, &mut entries, 4).expect(&rt, "room");
     assert!(rt; root == Root { page: 6, level: 1 });
@@ -93,7 +70,7 @@ fn nine_points_make_a_root_over_three_leaves(rt: HostRuntime) {
 
 #[test]
 fn five_points_make_leaves_of_three_and_two(rt: HostRuntime) {
-    let mut cache = open_pages(rt.alloc(), MemoryDevice::new(rt.alloc())).expect(&rt, "memory");
+    let mut cache = new_cache(rt.alloc(), MemoryDevice::new(rt.alloc()), 8).expect(&rt, "memory");
     let mut entries = [
         point(0, 0, 1),
         point(1, 0, 2),
@@ -110,7 +87,7 @@ fn five_points_make_leaves_of_three_and_two(rt: HostRuntime) {
 
 #[test]
 fn no_objects_make_an_empty_leaf(rt: HostRuntime) {
-    let mut cache = open_pages(rt.alloc(), MemoryDevice::new(rt.alloc())).expect(&rt, "memory");
+    let mut cache = new_cache(rt.alloc(), MemoryDevice::new(rt.alloc()), 8).expect(&rt, "memory");
     let mut entries: [Entry<3>; 0] = [];
     let root = load(rt.alloc(), &mut cache, &mut entries, 4).expect(&rt, "room");
     assert!(rt; root == Root { page: 3, level: 0 });
@@ -120,7 +97,7 @@ fn no_objects_make_an_empty_leaf(rt: HostRuntime) {
 
 #[test]
 fn a_hundred_objects_in_one_point_make_four_levels(rt: HostRuntime) {
-    let mut cache = open_pages(rt.alloc(), MemoryDevice::new(rt.alloc())).expect(&rt, "memory");
+    let mut cache = new_cache(rt.alloc(), MemoryDevice::new(rt.alloc()), 8).expect(&rt, "memory");
     let mut entries = [Entry::<2>::default(); 100];
     for k in 0..100u8 {
         entries[usize::from(k)].reference = u64::from(k);
@@ -129,46 +106,4 @@ fn a_hundred_objects_in_one_point_make_four_levels(rt: HostRuntime) {
     assert_eq!(rt; root.level, 3);
     let lists = leaf_lists::<2, _, _, _>(rt.alloc(), &mut cache, root).expect(&rt, "a tree");
     assert_eq!(rt; lists.len(), 25);
-}
-
-#[test]
-fn each_growth_that_is_refused_is_memory(rt: HostRuntime) {
-    let heap = Refusing::new(rt.alloc());
-    let mut refused = 0u32;
-    for k in 0..100 {
-        let device = MemoryDevice::new(rt.alloc());
-        let mut cache = open_pages(rt.alloc(), device).expect(&rt, "memory");
-        heap.refuse_from(k);
-        let answer = load(&heap, &mut cache, &mut nine_points(), 4);
-        if !heap.relent() {
-            assert!(rt; answer.is_ok());
-            break;
-        }
-        assert!(rt;
-            answer.is_err_and(|broken| broken.cause == Fault::Memory),
-            "{k}"
-        );
-        refused = refused.saturating_add(1);
-    }
-    assert!(rt; refused > 4 && refused < 100);
-}
-
-#[test]
-fn each_device_call_that_fails_is_device(rt: HostRuntime) {
-    let mut failed = 0u32;
-    for k in 0..200 {
-        let fuse = FuseDevice::new(MemoryDevice::new(rt.alloc()), k, FuseMode::Once);
-        if let Ok(mut cache) = open_pages(rt.alloc(), fuse) {
-            let answer = load(rt.alloc(), &mut cache, &mut nine_points(), 4);
-            if answer.is_ok() {
-                break;
-            }
-            assert!(rt;
-                answer.is_err_and(|broken| broken.cause == Fault::Device && broken.touched),
-                "{k}"
-            );
-            failed = failed.saturating_add(1);
-        }
-    }
-    assert!(rt; failed > 0 && failed < 200);
 }

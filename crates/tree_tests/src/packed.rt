@@ -2,7 +2,7 @@
 
 ghost use Rattle.std.specs.Prelude.{◌≤◌};
 
-use crate::scene::{Asked, Cache, Dice, Spread, are_rows, bare, boxes, is_whole, load_boxes};
+use crate::scene::{Asked, Dice, Spread, are_rows, boxes, is_whole, load_boxes};
 use box_math::BBox;
 use node_page::{Entry, Root};
 use page_file::Fault;
@@ -10,6 +10,7 @@ use range_query::{around, inside, point, window};
 use std::alloc::Global;
 use std::process::Abort;
 use std::test::Fail;
+use test_caches::{Cache, bare};
 
 // A window, a box to lie in, a box to be around, or a point, by turns. The last two are a box of the list and its
 // lowest point.

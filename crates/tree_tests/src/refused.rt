@@ -5,7 +5,7 @@ ghost use Rattle.std.specs.Prelude.{◌≡◌, IfOk};
 ghost use Rattle.page_cache.specs.Cache.{gate_of};
 ghost use Rattle.page_file.specs.declared.gate.Gate.TheVariants.{Open};
 
-use crate::scene::{Cache, Spread, bare, boxes, insert_tree, is_whole};
+use crate::scene::{Spread, boxes, insert_tree, is_whole};
 use block_device::{BlockDevice, FuseDevice, FuseMode, MemoryDevice};
 use bulk_load::load;
 use nearest::nearest;
@@ -17,6 +17,7 @@ use spatial_join::join;
 use std::alloc::{Allocator, Global};
 use std::process::Abort;
 use std::test::Fail;
+use test_caches::{Cache, bare};
 
 // A tree of forty boxes, which is inserted first, and what its root is at last.
 fn inserted(alloc: Global) -> Result<(MemoryDevice, Root, Vec<Entry<2>>), Fault> {

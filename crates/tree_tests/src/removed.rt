@@ -4,7 +4,7 @@ ghost use Rattle.std.specs.Prelude.{◌≡◌, ◌^◌, ◌<◌, ◌≤◌};
 ghost use Rattle.page_cache.specs.Cache.{gate_of};
 ghost use Rattle.page_file.specs.declared.gate.Gate.TheVariants.{Open};
 
-use crate::scene::{Cache, Dice, Spread, add_tree, bare, is_whole};
+use crate::scene::{Dice, Spread, add_tree, is_whole};
 use condense::{Kept, remove_with};
 use node_page::{Broken, Entry, Root};
 use page_file::Fault;
@@ -12,6 +12,7 @@ use reinsert::{Waiting, insert_with};
 use std::alloc::Global;
 use std::process::Abort;
 use std::test::Fail;
+use test_caches::{Cache, bare};
 
 // How many changes are made between two checks of the tree.
 const PART: u64 = 1_000;

@@ -3,7 +3,7 @@
 ghost use Rattle.std.specs.Prelude.{◌≡◌, ◌≤◌};
 ghost use Rattle.page_cache.specs.Cache.{gate_of};
 
-use crate::scene::{Cache, bare, insert_tree, is_whole, leaves_are, new_cache, object, point};
+use crate::scene::{insert_tree, is_whole, leaves_are, object, point};
 use block_device::MemoryDevice;
 use box_math::BBox;
 use bulk_load::load;
@@ -15,6 +15,7 @@ use range_query::{around, inside, window};
 use spatial_join::join;
 use std::alloc::Global;
 use std::test::Fail;
+use test_caches::{Cache, bare, new_cache};
 
 // The identifiers that meet the window from (x, y) to (u, v), and how many pages were looked at.
 fn meeting(

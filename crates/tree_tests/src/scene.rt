@@ -1,48 +1,22 @@
-//! Caches over devices in memory, trees in them, and boxes that look random.
+//! Trees in caches over devices in memory, and boxes that look random.
 
 ghost use Rattle.std.specs.Prelude.{◌≡◌, ◌^◌, ◌<◌, ◌≤◌, IfOk};
 ghost use Rattle.page_cache.specs.Cache.{gate_of};
 ghost use Rattle.page_file.specs.declared.gate.Gate.TheVariants.{Open};
 
 use arrayvec::ArrayVec;
-use block_device::{BlockDevice, MemoryDevice};
+use block_device::BlockDevice;
 use box_math::BBox;
 use bulk_load::load;
 use node_page::{Broken, Entry, Node, Root, check_tree, leaf_lists, write_node};
 use page_cache::PageCache;
-use page_file::{Fault, create_pages};
+use page_file::Fault;
 use reinsert::{Waiting, insert_with};
 use std::alloc::{Allocator, Global};
-
-pub type Cache = PageCache<MemoryDevice, Global>;
+use test_caches::Cache;
 
 /// Where the root of the first tree stands at first, before it has an object.
 pub const EMPTY: Root = Root { page: 3, level: 0 };
-
-/// A new file of pages with an open gate. No device of these tests has a block at first.
-pub fn new_cache<B: BlockDevice + Drop>(
-    alloc: Global,
-    device: B,
-    capacity: u32,
-) -> Result<PageCache<B, Global>, Fault>
-    requires { (8 ≤ capacity) × (capacity ≤ 4096) }
-    ensures { IfOk result (λ cache. gate_of cache ≡ Open) }
-{
-    if device.blocks() != 0 {
-        return Err(Fault::Device);
-    }
-    let file = create_pages(device).map_err(|(fault, _)| fault)?;
-    let mut cache = PageCache::over(alloc, file, capacity).map_err(|(fault, _)| fault)?;
-    cache.begin_change()?;
-    Ok(cache)
-}
-
-/// A cache of 4096 pages in memory, without a tree.
-pub fn bare(alloc: Global) -> Result<Cache, Fault>
-    ensures { IfOk result (λ cache. gate_of cache ≡ Open) }
-{
-    new_cache(alloc, MemoryDevice::new(alloc), 4096)
-}
 
 /// Adds a tree without objects.
 pub fn add_tree<const D: usize>(cache: &mut Cache) -> Result<Root, Fault>

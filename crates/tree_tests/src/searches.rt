@@ -1,12 +1,13 @@
 //! The nearest objects and the joins of 20,000 boxes, beside a plain sort and a plain double loop.
 
-use crate::scene::{Dice, Spread, bare, boxes, insert_tree, load_boxes};
+use crate::scene::{Dice, Spread, boxes, insert_tree, load_boxes};
 use nearest::nearest;
 use node_page::Entry;
 use page_file::Fault;
 use spatial_join::join;
 use std::alloc::Global;
 use std::test::Fail;
+use test_caches::bare;
 
 const MANY: u64 = 20_000;
 

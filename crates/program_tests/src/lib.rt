@@ -1,0 +1,6 @@
+//! Tests of runs of the program: its words, its file, what it says, and its status. They stand apart from
+//! `command_line`, so that it is not proved once more with them.
+#![tactic(auto)]
+
+#[cfg(test)]
+mod runs;

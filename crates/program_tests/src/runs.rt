@@ -1,0 +1,272 @@
+//! Runs of the program: its words, its file, its texts and its status.
+
+use command_line::{greet, serve};
+use std::io::{ErrorKind, Read, Write};
+use std::test::Fail;
+use std::{fs, io};
+
+const FIRST: &str = "# first run\ncreate a 2 4\ninsert a 1 0 0 10 10\ninsert a 2 20 20 30 30\n\
+window a 5 5 25 25\nwindow a 11 11 19 19\n";
+
+const SAID: &str = "ok\nok\nok\nok 2\n1 0 0 10 10\n2 20 20 30 30\nok 0\n";
+
+// The status of a run with these words and this text, and whether it wrote these replies and said this.
+fn runs(
+    rt: &HostRuntime,
+    words: &[&str],
+    text: &str,
+    replies: &str,
+    said: &str,
+) -> Result<Option<u8>, Fail> {
+    let mut input = text.as_bytes();
+    let mut output = Vec::new(rt.alloc());
+    let mut errors = Vec::new(rt.alloc());
+    let status = serve(rt, words, &mut input, &mut output, &mut errors);
+    if output.as_slice() == replies.as_bytes() && errors.as_slice() == said.as_bytes() {
+        Ok(Some(status))
+    } else {
+        println!(rt;
+            "{status} {} {}",
+            std::str::from_utf8(output.as_slice())?,
+            std::str::from_utf8(errors.as_slice())?
+        )?;
+        Ok(None)
+    }
+}
+
+// The same of a run that writes no reply.
+fn says(rt: &HostRuntime, words: &[&str], said: &str) -> Result<Option<u8>, Fail> {
+    runs(rt, words, "", "", said)
+}
+
+const UNOPENED: &str = "rstore: cannot open the file\n";
+
+// Where the gate says that the file was closed (docs/FORMAT.md).
+const GATE_BYTE: usize = 8;
+
+const NOT_EMPTY: &str = "rstore: the file is not empty\n";
+
+#[test]
+fn in_memory(rt: HostRuntime) -> Result<(), Fail> {
+    for words in [
+        ["rstore"].as_slice(),
+        ["rstore", "--create"].as_slice(),
+        ["rstore", "--create", "--cache", "8"].as_slice(),
+        ["rstore", "--cache=4096"].as_slice(),
+    ] {
+        assert_eq!(rt; runs(&rt, words, FIRST, SAID, "")?, Some(0));
+    }
+    Ok(())
+}
+
+#[test]
+fn in_a_file(rt: HostRuntime) -> Result<(), Fail> {
+    let file = "command_line_a";
+    let _ = fs::remove_file(&rt, file);
+    assert_eq!(rt; says(&rt, &["rstore", file], UNOPENED)?, Some(1));
+    assert!(rt; fs::metadata(&rt, file).is_err());
+    assert_eq!(rt;
+        runs(&rt, &["rstore", "--create", file], FIRST, SAID, "")?,
+        Some(0)
+    );
+    let rows = "ok 2\n1 0 0 10 10\n2 20 20 30 30\n";
+    assert_eq!(rt;
+        runs(&rt, &["rstore", file], "window a 5 5 25 25", rows, "")?,
+        Some(0)
+    );
+    fs::remove_file(&rt, file)?;
+    Ok(())
+}
+
+// Each file that is refused is then as it was.
+#[test]
+fn files_that_are_refused(rt: HostRuntime) -> Result<(), Fail> {
+    let file = "command_line_b";
+    let _ = fs::remove_file(&rt, file);
+    assert_eq!(rt;
+        runs(&rt, &["rstore", "--create", file], FIRST, SAID, "")?,
+        Some(0)
+    );
+    let store = fs::read(&rt, file)?;
+    let mut open = store.clone()?;
+    if let Some(byte) = open.get_mut(GATE_BYTE) {
+        *byte = 0;
+    }
+    let mut cut = store.clone()?;
+    cut.truncate(store.len().saturating_sub(4000));
+    for (bytes, create, said) in [
+        (b"".as_slice(), false, "rstore: fail 21 NotAStore\n"),
+        (
+            b"some bytes".as_slice(),
+            false,
+            "rstore: fail 21 NotAStore\n",
+        ),
+        (open.as_slice(), false, "rstore: fail 20 NotClosed\n"),
+        (b"some bytes".as_slice(), true, NOT_EMPTY),
+        (store.as_slice(), true, NOT_EMPTY),
+        (open.as_slice(), true, NOT_EMPTY),
+    ] {
+        fs::write(&rt, file, bytes)?;
+        let status = if create {
+            says(&rt, &["rstore", "--create", file], said)?
+        } else {
+            says(&rt, &["rstore", file], said)?
+        };
+        assert_eq!(rt; status, Some(1));
+        assert!(rt; fs::read(&rt, file)?.as_slice() == bytes);
+    }
+    // Cut after its last object: the missing bytes of the last block read as zero. Cut by a block: a page is missing.
+    let rows = "ok 2\n1 0 0 10 10\n2 20 20 30 30\n";
+    fs::write(&rt, file, cut.as_slice())?;
+    assert_eq!(rt;
+        runs(&rt, &["rstore", file], "window a 5 5 25 25", rows, "")?,
+        Some(0)
+    );
+    cut.truncate(cut.len().saturating_sub(97));
+    fs::write(&rt, file, cut.as_slice())?;
+    assert_eq!(rt;
+        says(&rt, &["rstore", file], "rstore: fail 18 Damaged 1\n")?,
+        Some(1)
+    );
+    fs::remove_file(&rt, file)?;
+    for path in [".", "/dev/null", "command_line_none/a"] {
+        assert_eq!(rt; says(&rt, &["rstore", path], UNOPENED)?, Some(1));
+        assert_eq!(rt;
+            says(&rt, &["rstore", "--create", path], UNOPENED)?,
+            Some(1)
+        );
+    }
+    Ok(())
+}
+
+// An empty file may be made a store, and the words may stand in either order.
+#[test]
+fn an_empty_file_is_made_a_store(rt: HostRuntime) -> Result<(), Fail> {
+    let file = "command_line_c";
+    fs::write(&rt, file, b"".as_slice())?;
+    assert_eq!(rt;
+        runs(&rt, &["rstore", file, "--create"], FIRST, SAID, "")?,
+        Some(0)
+    );
+    fs::remove_file(&rt, file)?;
+    Ok(())
+}
+
+/// A reader that fails, and a writer.
+#[derive(Drop)]
+struct Fails;
+
+impl Read for Fails {
+    fn read(&mut self, _: &mut [u8]) -> io::Result<usize> {
+        Err(io::Error::from(ErrorKind::Other))
+    }
+}
+
+impl Write for Fails {
+    fn write(&mut self, _: &[u8]) -> io::Result<usize> {
+        Err(io::Error::from(ErrorKind::Other))
+    }
+
+    fn flush(&mut self) -> io::Result<()> {
+        Ok(())
+    }
+}
+
+// The store is closed all the same: what was made before the fault is there.
+#[test]
+fn input_or_output_fails(rt: HostRuntime) -> Result<(), Fail> {
+    let file = "command_line_d";
+    let _ = fs::remove_file(&rt, file);
+    let fault = b"rstore: input or output failed\n".as_slice();
+    let mut errors = Vec::new(rt.alloc());
+    let mut replies = Vec::new(rt.alloc());
+    let mut input = b"create a 2 4\n".chain(Fails);
+    let status = serve(
+        &rt,
+        &["rstore", "--create", file],
+        &mut input,
+        &mut replies,
+        &mut errors,
+    );
+    assert_eq!(rt; status, 1);
+    assert!(rt; errors.as_slice() == fault && replies.as_slice() == b"ok\n".as_slice());
+    errors.clear();
+    let mut input = b"insert a 1 0 0 10 10\n".as_slice();
+    assert_eq!(rt;
+        serve(&rt, &["rstore", file], &mut input, &mut Fails, &mut errors),
+        1
+    );
+    assert!(rt; errors.as_slice() == fault);
+    errors.clear();
+    let mut input = b"".as_slice();
+    assert_eq!(rt;
+        serve(
+            &rt,
+            &["rstore", "--help"],
+            &mut input,
+            &mut Fails,
+            &mut errors
+        ),
+        1
+    );
+    assert!(rt; errors.as_slice() == fault);
+    let rows = "ok 1\n1 0 0 10 10\n";
+    assert_eq!(rt;
+        runs(&rt, &["rstore", file], "window a 0 0 1 1", rows, "")?,
+        Some(0)
+    );
+    fs::remove_file(&rt, file)?;
+    Ok(())
+}
+
+// Whether the run prints something that is not fixed, on the output alone or among the errors alone.
+fn prints(rt: &HostRuntime, words: &[&str], on_output: bool) -> Option<u8> {
+    let mut input = b"create a 2 4".as_slice();
+    let mut output = Vec::new(rt.alloc());
+    let mut errors = Vec::new(rt.alloc());
+    let status = serve(rt, words, &mut input, &mut output, &mut errors);
+    if output.is_empty() != on_output && errors.is_empty() == on_output {
+        Some(status)
+    } else {
+        None
+    }
+}
+
+#[test]
+fn words_are_refused_or_told(rt: HostRuntime) {
+    for words in [
+        ["rstore", "--help"],
+        ["rstore", "-h"],
+        ["rstore", "--version"],
+    ] {
+        assert_eq!(rt; prints(&rt, words.as_slice(), true), Some(0));
+    }
+    for words in [
+        ["rstore", "--cache", "7"].as_slice(),
+        ["rstore", "--cache", "4097"].as_slice(),
+        ["rstore", "--cache", "x"].as_slice(),
+        ["rstore", "--cache", "-8"].as_slice(),
+        ["rstore", "--cache", "64", "--cache", "64"].as_slice(),
+        ["rstore", "--cache"].as_slice(),
+        ["rstore", "a", "b"].as_slice(),
+        ["rstore", "--other"].as_slice(),
+    ] {
+        assert_eq!(rt; prints(&rt, words, false), Some(2), "{words:?}");
+    }
+}
+
+#[test]
+fn a_person_is_told_where_the_store_is(rt: HostRuntime) -> Result<(), Fail> {
+    let mut said = Vec::new(rt.alloc());
+    greet(rt.alloc(), &["rstore", "a.store"], &mut said);
+    let text = std::str::from_utf8(said.as_slice())?;
+    assert!(rt; text.contains("a.store") && text.contains("`reopen`") && text.ends_with('\n'));
+    said.clear();
+    greet(rt.alloc(), &["rstore"], &mut said);
+    let text = std::str::from_utf8(said.as_slice())?;
+    assert!(rt; text.contains("in memory") && text.ends_with('\n'));
+    said.clear();
+    greet(rt.alloc(), &["rstore", "--help"], &mut said);
+    assert!(rt; said.is_empty());
+    Ok(())
+}

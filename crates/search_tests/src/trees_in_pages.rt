@@ -1,0 +1,140 @@
+//! Tests of nodes at the pages of a cache, and of the leaves of a tree.
+
+ghost use Rattle.std.specs.Prelude.{◌≡◌, IfOk};
+ghost use Rattle.page_cache.specs.Cache.{gate_of};
+ghost use Rattle.page_file.specs.declared.gate.Gate.TheVariants.{Open};
+
+use arrayvec::ArrayVec;
+use block_device::MemoryDevice;
+use box_math::BBox;
+use node_page::{Entry, Node, Root, leaf_lists, read_node, write_node};
+use page_file::Fault;
+use refusing::Refusing;
+use std::alloc::Global;
+use std::test::Fail;
+use test_caches::{Cache, cache_of};
+
+// A leaf of objects with these identifiers, all at the same point.
+fn leaf_of(ids: &[u64]) -> Node<2> {
+    let mut entries = ArrayVec::new();
+    for &id in ids {
+        match BBox::try_new([-1, 2], [-1, 2]) {
+            Some(bounds) if !entries.is_full() => entries.push(Entry {
+                bounds,
+                reference: id,
+            }),
+            _ => break,
+        }
+    }
+    Node { level: 0, entries }
+}
+
+// Writes a leaf into a page.
+#[tactic(auto, using(node_page::proofs::NodeLemmas::leaf_spellable))]
+fn write_leaf(cache: &mut Cache, page: u32, ids: &[u64]) -> Result<(), Fault>
+    requires { gate_of cache.old ≡ Open }
+    ensures { gate_of cache.new ≡ Open }
+{
+    let leaf = leaf_of(ids);
+    if leaf.level == 0 && leaf.entries.len() <= 100 {
+        return write_node(cache, page, &leaf);
+    }
+    Err(Fault::Damaged(page))
+}
+
+// The page of a node on this level that refers to pages 3 and 4, with boxes (0,0) to (0,1) and (2,2) to (3,2).
+fn page_of_two(level: u8) -> [u8; 4096] {
+    let mut page = [0; 4096];
+    page[..5].copy_from_slice(&[2, 2, 0, 2, level]);
+    page[23] = 2;
+    page[423] = 3;
+    page[823] = 2;
+    page[1219] = 1;
+    page[1223] = 2;
+    page[1623] = 3;
+    page[1631] = 4;
+    page
+}
+
+// A cache of pages 2 to 6: the catalog, leaves of two objects and of three, their root, and a leaf of none.
+fn scene(alloc: Global) -> Result<Cache, Fault>
+    ensures { IfOk result (λ cache. gate_of cache ≡ Open) }
+{
+    let mut cache = cache_of(alloc, MemoryDevice::new(alloc), [[0; 4096]; 4].as_slice())?;
+    cache.put(5, &page_of_two(1))?;
+    write_leaf(&mut cache, 3, &[7, 5])?;
+    write_leaf(&mut cache, 4, &[u64::MAX, 0, 6])?;
+    write_leaf(&mut cache, 6, &[])?;
+    Ok(cache)
+}
+
+#[test]
+fn a_node_is_written_and_read(rt: HostRuntime) -> Result<(), Fail> {
+    let mut cache = scene(rt.alloc())?;
+    assert!(rt; read_node::<2, _, _>(&mut cache, 3, 0)? == leaf_of(&[7, 5]));
+    assert!(rt; read_node::<2, _, _>(&mut cache, 6, 0)? == leaf_of(&[]));
+    let root = read_node::<2, _, _>(&mut cache, 5, 1)?;
+    assert_eq!(rt; root.entries.len(), 2);
+    assert_eq!(rt; root.entries[1].reference, 4);
+    assert!(rt; Some(root.entries[1].bounds) == BBox::try_new([2, 2], [3, 2]));
+    assert_eq!(rt; cache.looks(), 3);
+    Ok(())
+}
+
+#[test]
+fn a_page_that_is_no_such_node_is_damaged(rt: HostRuntime) -> Result<(), Fail> {
+    let mut cache = scene(rt.alloc())?;
+    assert_eq!(rt; write_leaf(&mut cache, 7, &[1]), Err(Fault::Damaged(7)));
+    for (page, level) in [(3, 1), (5, 0), (5, 2), (2, 0), (7, 0), (1, 0)] {
+        assert!(rt;
+            read_node::<2, _, _>(&mut cache, page, level) == Err(Fault::Damaged(page)),
+            "{page}"
+        );
+    }
+    assert!(rt; read_node::<3, _, _>(&mut cache, 3, 0) == Err(Fault::Damaged(3)));
+    Ok(())
+}
+
+#[test]
+fn leaves_are_listed_from_left_to_right(rt: HostRuntime) -> Result<(), Fail> {
+    let mut cache = scene(rt.alloc())?;
+    let lists = leaf_lists::<2, _, _, _>(rt.alloc(), &mut cache, Root { page: 5, level: 1 })?;
+    assert_eq!(rt; lists.len(), 2);
+    assert_eq!(rt; lists[0].as_slice(), [7, 5].as_slice());
+    assert_eq!(rt; lists[1].as_slice(), [u64::MAX, 0, 6].as_slice());
+    assert_eq!(rt; cache.looks(), 3);
+    let one = leaf_lists::<2, _, _, _>(rt.alloc(), &mut cache, Root { page: 4, level: 0 })?;
+    assert_eq!(rt; one.len(), 1);
+    assert_eq!(rt; one[0].as_slice(), [u64::MAX, 0, 6].as_slice());
+    let none = leaf_lists::<2, _, _, _>(rt.alloc(), &mut cache, Root { page: 6, level: 0 })?;
+    assert_eq!(rt; none.len(), 1);
+    assert!(rt; none[0].is_empty());
+    Ok(())
+}
+
+#[test]
+fn leaves_of_no_tree_are_damaged(rt: HostRuntime) -> Result<(), Fail> {
+    let mut cache = scene(rt.alloc())?;
+    cache.put(5, &page_of_two(2))?;
+    let root = Root { page: 5, level: 2 };
+    let answer = leaf_lists::<2, _, _, _>(rt.alloc(), &mut cache, root);
+    assert!(rt; answer.err() == Some(Fault::Damaged(3)));
+    Ok(())
+}
+
+#[test]
+fn leaves_refused_memory_answer_that(rt: HostRuntime) -> Result<(), Fail> {
+    let mut cache = scene(rt.alloc())?;
+    let heap = Refusing::new(rt.alloc());
+    for k in 0..100 {
+        heap.refuse_from(k);
+        let root = Root { page: 5, level: 1 };
+        let answer = leaf_lists::<2, _, _, _>(&heap, &mut cache, root);
+        if !heap.relent() {
+            assert!(rt; answer.is_ok() && k >= 3);
+            return Ok(());
+        }
+        assert!(rt; answer.err() == Some(Fault::Memory), "{k}");
+    }
+    Err(Fail::from("each time some growth was refused"))
+}
