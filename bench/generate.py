@@ -4,9 +4,10 @@
 usage: generate.py windows [N]    N windows (a million) on an empty layer, to standard output
        generate.py rows [N]       a thousand objects, and windows that show N rows (a million), to standard output
        generate.py mixed WORD..   some thousand commands on small layers, those of WORDs among them, to standard output
-       generate.py scene FOLDER BOXES [SHAPE [AXES]]
+       generate.py scene FOLDER BOXES [SHAPE [AXES [FANOUT]]]
            files in FOLDER, each of one operation on a layer of so many boxes (`scene` says which), and the file `counts`:
-           a line for each, its name and how many commands it has. SHAPE is `uniform` or `clustered`, AXES 2 or 3
+           a line for each, its name and how many commands it has. SHAPE is `uniform` or `clustered`, AXES 2 or 3, and a node
+           of the layer has at most FANOUT entries (100)
 
 A box of a scene has sides that are uniform from 0 to a length with which a point is held by a tenth of a box.
 """
@@ -60,7 +61,7 @@ def shuffled(count):
     return places
 
 
-def scene(folder, boxes, shape="uniform", axes="2"):
+def scene(folder, boxes, shape="uniform", axes="2", fanout="100"):
     """Each operation's commands, but for how a layer is made and that changes are kept."""
     boxes, axes = int(boxes), int(axes)
     at = Scene(boxes, shape, axes)
@@ -76,7 +77,7 @@ def scene(folder, boxes, shape="uniform", axes="2"):
         "load": (boxes, (text(place, at.box()) for place in shuffled(boxes))),
         "join": (boxes, ["join a b"]),
     }
-    before = {"insert": f"create a {axes} 100", "load": f"create b {axes} 100\nload b {boxes}"}
+    before = {"insert": f"create a {axes} {fanout}", "load": f"create b {axes} {fanout}\nload b {boxes}"}
     with open(f"{folder}/counts", "w") as counts:
         for name, (count, lines) in operations.items():
             with open(f"{folder}/{name}", "w") as file:

@@ -5,7 +5,8 @@
 #
 #   bench/growth.sh            10,000, 100,000 and 1,000,000 boxes
 #   bench/growth.sh BOXES..    these numbers of boxes, as 10000 100000 1000000 10000000
-#   ROUNDS=N bench/growth.sh   the least of N rounds, and of three where it is not said
+#   ROUNDS=N FANOUT=M bench/growth.sh
+#                              the least of N rounds, and of three where it is not said; at most M entries a node, or 100
 set -eu
 here=$(cd "$(dirname "$0")" && pwd)
 work=$(mktemp -d)
@@ -21,7 +22,7 @@ for line in 'load a 0' 'delete a 1'; do
 done
 
 for boxes; do
-    python3 "$here/generate.py" scene "$work" "$boxes"
+    python3 "$here/generate.py" scene "$work" "$boxes" uniform 2 "${FANOUT:-100}"
     grep -Evx "($left)	.*" "$work/counts" >"$work/chosen"
     mapfile -t phases < <(cut -f 1 "$work/chosen" | sed "s|^|$work/|")
     rm -f "$work/times"

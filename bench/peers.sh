@@ -6,7 +6,8 @@
 #   bench/peers.sh                              100,000 uniform boxes of two axes in memory
 #   bench/peers.sh BOXES [SHAPE [AXES [PLACE]]] each may be a list, as '100000 1000000' 'uniform clustered' '2 3' 'memory file'
 #   bench/peers.sh all                          these four lists
-#   ROUNDS=N bench/peers.sh ..                  N rounds, and three where it is not said
+#   ROUNDS=N FANOUT=M bench/peers.sh ..         N rounds, and three where it is not said; at most M entries a node of
+#                                               the program's trees, and 100 where it is not said
 #
 # Each peer as it is best: all sort their rows as the program does; a reopening keeps the changes since the last one.
 # SQLite: rtree_i32, each statement prepared once, one transaction, no journal (the store has none), as many cached pages
@@ -100,7 +101,7 @@ for peer in sqlite spatialindex boost; do
 done
 
 for size in $sizes; do for shape in $shapes; do for dims in $axes; do
-    python3 "$here/generate.py" scene "$work" "$size" "$shape" "$dims"
+    python3 "$here/generate.py" scene "$work" "$size" "$shape" "$dims" "${FANOUT:-100}"
     grep -Ev "^($left)" "$work/counts" >"$work/chosen"
     mapfile -t phases < <(cut -f 1 "$work/chosen" | sed "s|^|$work/|")
     for place in $places; do table "$size" "$shape" "$dims" "$place"; done
