@@ -1,11 +1,11 @@
 -- Sums of overlaps: how they grow with a box, and what a sum over the first entries says of the whole.
-use Rattle.std.proofs.Common.{◌≡◌, ◌≢◌, ℕ, zero, suc, ◌+◌, ◌<◌, ◌≤◌, true, false, List, length, arith, subst, ◌∙◌, eqb, add-one, inl, inr}
+use Rattle.std.proofs.Common.{◌≡◌, ◌≢◌, ℕ, zero, suc, ◌+◌, ◌<◌, ◌≤◌, true, false, List, length, arith, subst, sym, ◌∙◌, eqb, add-one, inl, inr}
 use Rattle.std.proofs.lemmas.Bool.{cases_eq}
 use Rattle.std.proofs.lemmas.Bool.Decides.{nat_tests}
 use Rattle.box_math.specs.Bounds.{Bounds, IsBox, Within, join_of}
 use Rattle.box_math.specs.Measures.{sum_over, overlap_of}
 use Rattle.box_math.proofs.BoxLaws.{join_of-commutes, join_of-encloses, join_of-enclosing}
-use Rattle.box_math.proofs.Growth.{overlap_of-grows}
+use Rattle.box_math.proofs.Growth.{sum_over-le, overlap_of-grows}
 use Rattle.tree_node.specs.Nodes.{Item}
 use Rattle.tree_node.specs.Boxes.{box_at}
 use Rattle.choose_subtree.specs.Choice.{overlap_with, overlap_at, overlap_growth}
@@ -21,6 +21,16 @@ sum_over-gain_le f g i (suc n) s h le e =
     elim (cases_eq i (suc n)) [
       | inl z ↦ let u : s + sum_over (suc n) g ≡ sum_over (suc n) f = subst (λ k. s + sum_over k g ≡ sum_over k f) z e in omega (arith, u)
       | inr o ↦ omega (arith, le n (omega arith), sum_over-gain_le f g i n s (omega arith) (λ k l. le k (omega arith)) e)
+    ]
+
+-- where no term falls, one of them grows by no more than the sum
+sum_over-part : (f g : ℕ → ℕ) (i n : ℕ) → i < n → ((k : ℕ) → k < n → g k ≤ f k) → f i + sum_over n g ≤ g i + sum_over n f
+sum_over-part f g i zero l le = absurd (omega arith)
+sum_over-part f g i (suc n) l le =
+    let before : (k : ℕ) → k < n → g k ≤ f k = λ k h. le k (omega arith) in
+    elim (cases_eq i n) [
+      | inl e ↦ let all = sum_over-le n g f before in subst (λ j. f j + sum_over (suc n) g ≤ g j + sum_over (suc n) f) (sym e) (omega (arith, all))
+      | inr o ↦ omega (arith, le n (omega arith), sum_over-part f g i n (omega arith) before)
     ]
 
 overlap_with-same : (dims : ℕ) (items : List Item) (k : ℕ) (b : Bounds) (i : ℕ) → i ≡ k → overlap_with dims items k b i ≡ 0
@@ -54,6 +64,18 @@ overlap_growth-le dims items new k n s le boxes within h =
     let g = overlap_with dims items k (box_at items k) in
     let u : s + sum_over (length items) g ≤ sum_over (length items) f = sum_over-gain_le f g n (length items) s le (λ i l. overlap_with-grows dims items k _ _ i (boxes k within) (boxes i l) (join_of-encloses dims (box_at items k) new).0) h in
     omega (arith, u)
+
+-- one other entry's part is no greater than the whole
+pub overlap_growth-part : (dims : ℕ) (items : List Item) (new : Bounds) (k i t : ℕ) (before after third : Bounds) → before ≡ box_at items k → after ≡ join_of dims before new → third ≡ box_at items i → i ≢ k → i < length items
+    → ((j : ℕ) → j < length items → IsBox dims (box_at items j)) → k < length items → t + overlap_of dims before third ≡ overlap_of dims after third → t ≤ overlap_growth dims items new k
+unfolding overlap_at
+overlap_growth-part dims items new k i t before after third eb ea et ne within boxes at v =
+    let joined = join_of dims (box_at items k) new in
+    let f = overlap_with dims items k joined in
+    let g = overlap_with dims items k (box_at items k) in
+    let part = sum_over-part f g i (length items) within (λ j l. overlap_with-grows dims items k _ _ j (boxes k at) (boxes j l) (join_of-encloses dims (box_at items k) new).0) in
+    let one : t + g i ≡ f i = rw (overlap_with-other dims items k (box_at items k) i ne, overlap_with-other dims items k joined i ne, ← eb, ← et, ← ea) v in
+    omega (arith, part, one)
 
 -- one more entry that is not k
 pub overlap_more : (dims : ℕ) (items : List Item) (new : Bounds) (k i s t : ℕ) (before after third : Bounds) → before ≡ box_at items k → after ≡ join_of dims before new → third ≡ box_at items i → i ≢ k → GrewBy dims items new k i s

@@ -26,23 +26,28 @@ fn overlap_gain<const D: usize>(before: &BBox<D>, after: &BBox<D>, third: &BBox<
     wide - before.overlap(third)
 }
 
-/// The growth, if it is at most the limit: a sum that is past it is left off.
+/// The growth, if it is at most the limit: a sum that is past it is left off, at once where one other entry's part is.
 pub(crate) fn overlap_growth_up_to<const D: usize>(
     entries: &[Entry<D>],
     new: &BBox<D>,
     k: usize,
+    other: usize,
     limit: u128,
 ) -> Option<u128>
     requires dims { IsDims D }
     requires few { length entries.now ≤ 101 }
     requires boxes { (i : ℕ) → i < length entries.now → IsBox D (box_at (items_of entries.now) i) }
     requires within { k < length entries.now }
+    requires other { other < length entries.now }
     ensures value { IfSome result (λ growth. growth ≡ overlap_growth D (items_of entries.now) new.now k) }
     ensures small { IfSome result (λ growth. growth ≤ limit) }
     ensures large { IsNone result → limit < overlap_growth D (items_of entries.now) new.now k }
 {
     let before = box_of(entries, k);
     let after = before.join(new);
+    if other != k && limit < overlap_gain(&before, &after, &box_of(entries, other)) {
+        return None;
+    }
     let mut sum = 0u128;
     for i in 0..entries.len() {
         if i != k {

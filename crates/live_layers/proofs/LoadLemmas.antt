@@ -19,7 +19,7 @@ use Rattle.plain_table.specs.declared.refusal.Refusal.TheVariants as refusal
 use Rattle.store_law.specs.Lawful.{IsFault}
 use Rattle.live_layers.specs.Keeping.{Finds, IsSound}
 use Rattle.live_layers.specs.Loading.{ReachesObjects, boxes_refusals, times_in}
-use Rattle.live_layers.specs.Staying.{KeepsTrees}
+use Rattle.live_layers.specs.Staying.{KeepsPagesAndRecords}
 use Rattle.live_layers.specs.declared.layers.Layers.{Layers}
 use Rattle.live_layers.proofs.AskLemmas.{named_there}
 use Rattle.live_layers.proofs.FillLemmas.{AreApart, entries_made}
@@ -218,5 +218,5 @@ module _ {D A : Type 0} {m : _} (kept : Layers D A m) (t : Table) (name : List �
       let row : Record = (reading kept t name place sound finds).row in
       len-entries (layer_at t name).objects ∙ sym (count_there kept t name place sound finds) ∙ sym (by row ∙ ap (λ (r : Record). r.count) (row_there kept t name place sound finds row))
 
-pub nothing_moved : {D A : Type 0} {m : _} (kept : Layers D A m) → KeepsTrees kept kept
+pub nothing_moved : {D A : Type 0} {m : _} (kept : Layers D A m) → KeepsPagesAndRecords kept kept
 nothing_moved kept = record { map = no_call_keeps_the_map kept.cache; records = refl; written = λ w. w }

@@ -15,7 +15,7 @@ use Rattle.store_law.specs.Lawful.{IsFault, MayWrite, RefusedBy}
 use Rattle.live_layers.specs.Faults.{HasRefusalCause, HasUnmadeCause}
 use Rattle.live_layers.specs.Image.{IsRefusedOrImageOf}
 use Rattle.live_layers.specs.Keeping.{IsSound, IsWritten, RestLeavesOneOf}
-use Rattle.live_layers.specs.Staying.{KeepsTrees}
+use Rattle.live_layers.specs.Staying.{KeepsPagesAndRecords}
 use Rattle.live_layers.specs.declared.layers.Layers.{Layers}
 use Rattle.live_layers.specs.declared.unmade.Unmade.{Unmade}
 use Rattle.live_layers.specs.declared.unmade.Unmade.TheVariants as unmade
@@ -78,7 +78,7 @@ IsAnswered old new t c a =
 -- What a question keeps of any layers: their trees, each table that they are sound with, and the gate; and the count of the
 -- device's faults rises by one with a refusal that says so, and with nothing else.
 pub record KeepsInQuestion {D A : Type 0} {m : _} {T : Type 0} (old new : Layers D A m) (result : Result T Refusal) : Type 0 where
-  pub trees : KeepsTrees old new
+  pub trees : KeepsPagesAndRecords old new
   pub sound : (t : Table) → IsSound old t → IsSound new t
   pub gate : KeepsGate old.cache new.cache
   pub cause : HasRefusalCause (m.faults (device_of old.cache)) (m.faults (device_of new.cache)) result

@@ -2,7 +2,7 @@
 -- 1984; Beckmann, Kriegel, Schneider and Seeger 1990; of a join: Brinkhoff, Kriegel and Seeger 1993).
 use Rattle.std.specs.Prelude.{ℕ, ◌≡◌, ◌+◌, ◌≤◌, ◌⊎◌, Bool, List, [], ◌∷◌, Option, Some, Result, Ok, Err, Vec}
 use Rattle.box_math.specs.Bounds.{Bounds, holds_test, meets_test, within_test}
-use Rattle.page_cache.specs.Cache.{looks_of, pages}
+use Rattle.page_cache.specs.Cache.{looks_of}
 use Rattle.plain_table.specs.Queries.{given_query}
 use Rattle.plain_table.specs.Step.{Answer, first_refusal, layer_refusals, refused_or}
 use Rattle.plain_table.specs.Step.Answer.{Boxes, Refused}
@@ -13,8 +13,7 @@ use Rattle.plain_table.specs.declared.queries.RawQuery.{RawQuery}
 use Rattle.plain_table.specs.declared.refusal.Refusal.{Refusal}
 use Rattle.store_law.specs.Lawful.{IsFault, RefusedBy}
 use Rattle.tree_node.specs.Trees.{Tree}
-use Rattle.live_layers.specs.Keeping.{records_in}
-use Rattle.live_layers.specs.Layers.{IsTreeOf}
+use Rattle.live_layers.specs.Keeping.{HasTree}
 use Rattle.live_layers.specs.declared.layers.Layers.{Layers}
 
 -- ---- names
@@ -61,6 +60,6 @@ IsReply rose why answer a = (a ≡ refused_or why answer) ⊎ RefusedBy (IsFault
 pub record LooksAtTrees {D A : Type 0} {m : _} (old new : Layers D A m) (first second : List ℕ) (count : Tree → Tree → ℕ) : Type 0 where
   pub tree : Tree
   pub other : Tree
-  pub is_tree : IsTreeOf (pages old.cache) (records_in old) first tree
-  pub is_other : IsTreeOf (pages old.cache) (records_in old) second other
+  pub is_tree : HasTree old first tree
+  pub is_other : HasTree old second other
   pub looks : looks_of new.cache ≤ looks_of old.cache + count tree other

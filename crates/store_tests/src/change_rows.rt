@@ -1,13 +1,12 @@
 //! Worked rows of loads, moves, removals, joins and listings: small scenes, with the answers to questions, and how many
 //! nodes these look at.
 
-use crate::commands::{Command, answer};
-use crate::fixture::{device_of, new_store, opened};
 use crate::rows::{Scene, ask_thrice};
 use block_device::{BlockDevice, MemoryDevice};
 use layer_store::{RawBox, RawPoint, Refusal, Store};
 use std::alloc::Global;
 use std::test::Fail;
+use store_commands::{Command, answer, device_of, new_store, opened};
 
 /// Two boxes that touch in a point.
 pub const TWO: [Command; 3] = [

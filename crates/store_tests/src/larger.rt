@@ -1,10 +1,9 @@
 //! Stores with many objects, and with many layers.
 
-use crate::commands::{Command, PLANE};
-use crate::fixture::new_store;
 use crate::rows::{Row, ask_thrice};
 use layer_store::{RawBox, RawPoint, Refusal};
 use std::test::Fail;
+use store_commands::{Command, PLANE, new_store};
 
 // Of a thousand objects, object i with the box from (i,2i) to (i+1,2i+1).
 const THOUSAND: [Row; 6] = [

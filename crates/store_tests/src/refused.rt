@@ -2,8 +2,6 @@
 //! store fails; and what is left is opened as the table that was closed last, or refused.
 
 use crate::change_rows::{DELETED, FIVE, JOINED, LOADED, TWO};
-use crate::commands::{Command, PLANE, SPACE, answer, listed, represents};
-use crate::fixture::{closed, opened};
 use crate::rows::{FIRST_OVERFLOW, LINE, Row, Scene, TOUCHING};
 use block_device::{BlockDevice, FuseDevice, FuseMode, MemoryDevice};
 use layer_store::{RawBox, RawPoint, Refusal, Store, create_store, open_store};
@@ -12,6 +10,7 @@ use refusing::Refusing;
 use std::alloc::{AllocError, Global};
 use std::process::Abort;
 use std::test::Fail;
+use store_commands::{Command, PLANE, SPACE, answer, closed, listed, opened, represents};
 
 // More growths, and more calls of the device, than the script makes.
 const MOST: u32 = 10000;

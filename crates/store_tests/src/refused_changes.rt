@@ -2,8 +2,6 @@
 //! is refused before it wrote a page leaves a store that goes on.
 
 use crate::change_rows::{FIVE, TWO};
-use crate::commands::{Command, answer, listed};
-use crate::fixture::{device_of, opened};
 use crate::refused::{Ending, Heap, check_failed, put};
 use block_device::{BlockDevice, FuseDevice, FuseMode, MemoryDevice};
 use layer_store::{RawBox, Refusal, Store, create_store};
@@ -12,6 +10,7 @@ use refusing::Refusing;
 use std::alloc::Global;
 use std::process::Abort;
 use std::test::Fail;
+use store_commands::{Command, answer, device_of, listed, opened};
 
 // More growths, and more calls of the device, than a change makes.
 const MOST: u32 = 1000;

@@ -1,13 +1,12 @@
 //! Worked rows: small scenes with the answers to questions and how many nodes these look at, which stay after a
 //! reopening, and after a closing and an opening.
 
-use crate::commands::{Answer, Command, PLANE, SPACE, answer};
-use crate::fixture::{device_of, new_store, opened};
 use block_device::{BlockDevice, MemoryDevice};
 use layer_store::{RawBox, RawPoint, Refusal, Store};
 use std::alloc::Global;
 use std::process::Abort;
 use std::test::Fail;
+use store_commands::{Answer, Command, PLANE, SPACE, answer, device_of, new_store, opened};
 
 /// A command, its answer, and how many nodes it looks at, where that is told.
 pub type Row = (

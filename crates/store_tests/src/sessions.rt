@@ -2,14 +2,15 @@
 
 ghost use Rattle.std.specs.Prelude.{◌<◌};
 
-use crate::commands::{Command, Object, answer, listed, represents};
-use crate::fixture::{device_of, new_store, opened};
 use block_device::MemoryDevice;
 use layer_store::{RawBox, RawPoint, Store};
 use list_table::ListTable;
 use std::alloc::{AllocError, Global};
 use std::process::Abort;
 use std::test::Fail;
+use store_commands::{
+    Command, Dice, Object, answer, device_of, listed, new_store, opened, represents,
+};
 
 // Names of layers. The last three are none.
 const NAMES: [&[u8]; 8] = [
@@ -34,125 +35,103 @@ fn axes_of(place: usize) -> u64 {
     if place == 0 { 2 } else { 3 }
 }
 
-/// Numbers by chance, after George Marsaglia, "Xorshift RNGs", 2003. The state is not 0.
-#[derive(Drop)]
-pub struct Dice {
-    /// What the numbers come from.
-    pub state: u64,
+// A low and a high near 0, the high seldom below the low.
+fn any_span(dice: &mut Dice) -> (i32, i32) {
+    let low = dice.below(60) as i32 - 30;
+    let size = dice.below(8) as i32;
+    if dice.below(32) > 0 {
+        (low, low + size)
+    } else {
+        (low, low - size)
+    }
 }
 
-impl Dice {
-    /// A number below that one.
-    pub fn below(&mut self, sides: u32) -> u32
-        requires { 0 < sides }
-        ensures { result < sides }
-    {
-        let mut x = self.state;
-        x ^= x << 13;
-        x ^= x >> 7;
-        x ^= x << 17;
-        self.state = x;
-        ((x >> 32) % u64::from(sides)) as u32
+// A box of two or three axes.
+fn any_box(dice: &mut Dice, dims: u32) -> RawBox {
+    let (first, second, third) = (any_span(dice), any_span(dice), any_span(dice));
+    if dims == 2 {
+        RawBox::Two([first.0, second.0], [first.1, second.1])
+    } else {
+        RawBox::Three([first.0, second.0, third.0], [first.1, second.1, third.1])
     }
+}
 
-    // A low and a high near 0, the high seldom below the low.
-    fn span(&mut self) -> (i32, i32) {
-        let low = self.below(60) as i32 - 30;
-        let size = self.below(8) as i32;
-        if self.below(32) > 0 {
-            (low, low + size)
-        } else {
-            (low, low - size)
-        }
+// The place of a name, in three of four cases of one of the first two.
+fn any_place(dice: &mut Dice) -> usize
+    ensures { result < 8 }
+{
+    if dice.below(4) > 0 {
+        dice.below(2) as usize
+    } else {
+        dice.below(8) as usize
     }
+}
 
-    // A box of two or three axes.
-    fn bounds(&mut self, dims: u32) -> RawBox {
-        let (first, second, third) = (self.span(), self.span(), self.span());
-        if dims == 2 {
-            RawBox::Two([first.0, second.0], [first.1, second.1])
-        } else {
-            RawBox::Three([first.0, second.0, third.0], [first.1, second.1, third.1])
-        }
+// The objects of a load of a layer of that place. Seldom an identifier stands twice, or a box does not fit.
+fn any_objects(dice: &mut Dice, alloc: Global, place: usize) -> Result<Vec<Object>, AllocError> {
+    let mut objects = Vec::new(alloc);
+    let fits = dice.below(8) > 0;
+    let dims = if place == 0 || !fits && dice.below(8) == 0 {
+        2
+    } else {
+        3
+    };
+    let mut id = 0;
+    for _ in 0..dice.below(80) {
+        let step = u64::from(dice.below(4)) + u64::from(fits);
+        id = step.saturating_add(id);
+        let span = any_box(dice, dims);
+        let bounds = if fits { ordered(span) } else { span };
+        objects.push((id, bounds))?;
     }
+    Ok(objects)
+}
 
-    // The place of a name, in three of four cases of one of the first two.
-    fn place(&mut self) -> usize
-        ensures { result < 8 }
-    {
-        if self.below(4) > 0 {
-            self.below(2) as usize
-        } else {
-            self.below(8) as usize
-        }
+// A change of one of the layers: `a` has two axes, and the others mostly have three. Seldom a box does not fit.
+fn any_change(dice: &mut Dice, place: usize) -> Command<'static>
+    requires { place < 8 }
+{
+    let name = NAMES[place];
+    let misfits = dice.below(16) == 0;
+    let bounds = any_box(dice, if (place == 0) == misfits { 3 } else { 2 });
+    let id = u64::from(dice.below(IDS));
+    match dice.below(64) {
+        0 => Command::Create(
+            name,
+            u64::from(dice.below(6)),
+            FANOUTS[dice.below(8) as usize],
+        ),
+        1..=3 => Command::Create(name, axes_of(place), 4),
+        4 => Command::Load(name, &[]),
+        5..=20 => Command::Move(name, id, bounds),
+        21..=32 => Command::Delete(name, id),
+        _ => Command::Insert(name, id, bounds),
     }
+}
 
-    // The objects of a load of a layer of that place. Seldom an identifier stands twice, or a box does not fit.
-    fn objects(&mut self, alloc: Global, place: usize) -> Result<Vec<Object>, AllocError> {
-        let mut objects = Vec::new(alloc);
-        let fits = self.below(8) > 0;
-        let dims = if place == 0 || !fits && self.below(8) == 0 {
-            2
-        } else {
-            3
-        };
-        let mut id = 0;
-        for _ in 0..self.below(80) {
-            let step = u64::from(self.below(4)) + u64::from(fits);
-            id = step.saturating_add(id);
-            let span = self.bounds(dims);
-            let bounds = if fits { ordered(span) } else { span };
-            objects.push((id, bounds))?;
-        }
-        Ok(objects)
-    }
-
-    // A change of one of the layers: `a` has two axes, and the others mostly have three. Seldom a box does not fit.
-    fn change(&mut self, place: usize) -> Command<'static>
-        requires { place < 8 }
-    {
-        let name = NAMES[place];
-        let misfits = self.below(16) == 0;
-        let bounds = self.bounds(if (place == 0) == misfits { 3 } else { 2 });
-        let id = u64::from(self.below(IDS));
-        match self.below(64) {
-            0 => Command::Create(
-                name,
-                u64::from(self.below(6)),
-                FANOUTS[self.below(8) as usize],
-            ),
-            1..=3 => Command::Create(name, axes_of(place), 4),
-            4 => Command::Load(name, &[]),
-            5..=20 => Command::Move(name, id, bounds),
-            21..=32 => Command::Delete(name, id),
-            _ => Command::Insert(name, id, bounds),
-        }
-    }
-
-    // A question.
-    fn question(&mut self, place: usize) -> Command<'static>
-        requires { place < 8 }
-    {
-        let name = NAMES[place];
-        let misfits = self.below(16) == 0;
-        let bounds = self.bounds(if (place == 0) == misfits { 3 } else { 2 });
-        let point = match bounds {
-            RawBox::Two(low, _) => RawPoint::Two(low),
-            RawBox::Three(low, _) => RawPoint::Three(low),
-        };
-        match self.below(16) {
-            0..=2 => Command::Get(name, u64::from(self.below(IDS))),
-            3 => Command::Count(name),
-            4 | 5 => Command::Inside(name, bounds),
-            6 => Command::Around(name, bounds),
-            7 | 8 => Command::Point(name, point),
-            9 | 10 => Command::Nearest(name, u64::from(self.below(12)), point),
-            11 => Command::Join(name, NAMES[self.place()]),
-            12 if self.below(4) == 0 => Command::Dump,
-            12 if self.below(2) == 0 => Command::Check,
-            12 => Command::Layers,
-            _ => Command::Window(name, bounds),
-        }
+// A question.
+fn any_question(dice: &mut Dice, place: usize) -> Command<'static>
+    requires { place < 8 }
+{
+    let name = NAMES[place];
+    let misfits = dice.below(16) == 0;
+    let bounds = any_box(dice, if (place == 0) == misfits { 3 } else { 2 });
+    let point = match bounds {
+        RawBox::Two(low, _) => RawPoint::Two(low),
+        RawBox::Three(low, _) => RawPoint::Three(low),
+    };
+    match dice.below(16) {
+        0..=2 => Command::Get(name, u64::from(dice.below(IDS))),
+        3 => Command::Count(name),
+        4 | 5 => Command::Inside(name, bounds),
+        6 => Command::Around(name, bounds),
+        7 | 8 => Command::Point(name, point),
+        9 | 10 => Command::Nearest(name, u64::from(dice.below(12)), point),
+        11 => Command::Join(name, NAMES[any_place(dice)]),
+        12 if dice.below(4) == 0 => Command::Dump,
+        12 if dice.below(2) == 0 => Command::Check,
+        12 => Command::Layers,
+        _ => Command::Window(name, bounds),
     }
 }
 
@@ -199,14 +178,14 @@ fn put_load(
     table: &mut ListTable<Global>,
     dice: &mut Dice,
 ) -> Result<(), AllocError> {
-    let place = dice.place();
+    let place = any_place(dice);
     let name = NAMES[place];
     if dice.below(4) > 0 {
         put(rt, alloc, store, table, Command::Drop(name));
         let create = Command::Create(name, axes_of(place), 4);
         put(rt, alloc, store, table, create);
     }
-    let objects = dice.objects(alloc, place)?;
+    let objects = any_objects(dice, alloc, place)?;
     put(rt, alloc, store, table, Command::Load(name, &objects));
     Ok(())
 }
@@ -219,13 +198,25 @@ fn sessions_answer_as_the_plain_list_does(rt: HostRuntime) -> Result<(), Fail> {
         let mut store = new_store(alloc, 8)?;
         let mut table = ListTable::new(alloc);
         for _ in 0..2000 {
-            let place = dice.place();
+            let place = any_place(&mut dice);
             match dice.below(128) {
                 0 => store = opened(alloc, device_of(store)?, 8 + dice.below(60))?,
                 1 => store.reopen()?,
                 2 => put_load(&rt, alloc, &mut store, &mut table, &mut dice)?,
-                3..=90 => put(&rt, alloc, &mut store, &mut table, dice.change(place)),
-                _ => put(&rt, alloc, &mut store, &mut table, dice.question(place)),
+                3..=90 => put(
+                    &rt,
+                    alloc,
+                    &mut store,
+                    &mut table,
+                    any_change(&mut dice, place),
+                ),
+                _ => put(
+                    &rt,
+                    alloc,
+                    &mut store,
+                    &mut table,
+                    any_question(&mut dice, place),
+                ),
             }
         }
         assert!(rt;

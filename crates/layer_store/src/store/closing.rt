@@ -65,7 +65,7 @@ impl<D: BlockDevice, A: Allocator + Copy> Store<D, A> {
     ///
     /// Closed, its blocks are an image of the table, and have each tree. Refused it answers `Memory` or `Device`, and
     /// the device comes back: then a stop leaves of it blocks that opening refuses, or an image of a table that was
-    /// closed before, or of this one. A store that failed answers `StoreFailed(19)`, and the device comes back as it is.
+    /// closed before, or of this one. A store that failed answers `StoreFailed(19)`, with the device as it is.
     pub fn close(self) -> Result<D, (Refusal, D)>
         ensures closed { (t : Table) → RepresentsTable self t → IfOk result (λ device. IsImage (D.shown device) t) }
         ensures trees { (t : Table) → RepresentsTable self t →

@@ -17,7 +17,7 @@ ghost use Rattle.live_layers.specs.Changes.{IsAnswered, KeepsInQuestion};
 ghost use Rattle.live_layers.specs.Checked.{FindsLayers, IsCheckRefusal, IsFoundSound};
 ghost use Rattle.live_layers.specs.Keeping.{IsSound, cache_of, records_in};
 ghost use Rattle.live_layers.specs.Layers.{LayersStand, Reading, in_use, row_of};
-ghost use Rattle.live_layers.specs.Staying.{KeepsTrees};
+ghost use Rattle.live_layers.specs.Staying.{KeepsPagesAndRecords};
 
 mod lists;
 mod once;
@@ -65,7 +65,7 @@ impl<B: BlockDevice, A: Allocator + Copy> Layers<B, A> {
         ensures sound { (t : Table) → IsSound self.old t → IsSound self.new t }
         ensures looks { looks_of (cache_of self.new) ≤ looks_of (cache_of self.old) +
             (1 + 2 * (length (records_in self.old) * next_of (cache_of self.old))) }
-        ensures trees { KeepsTrees self.old self.new }
+        ensures trees { KeepsPagesAndRecords self.old self.new }
         ensures faults { IfErr result (λ f. IsOfDevice f ⊎ IsDamage f) }
     {
         if !are_good(&self.records, self.cache.next_number(), self.object_count) {

@@ -8,7 +8,7 @@ ghost use Rattle.plain_table.specs.Table.{Table, layer_at};
 ghost use Rattle.live_layers.specs.Changes.{IsChangeBy};
 ghost use Rattle.live_layers.specs.Keeping.{ChangesTree, IsSound};
 ghost use Rattle.live_layers.specs.Rules.{HasFilled};
-ghost use Rattle.live_layers.specs.Staying.{KeepsTrees};
+ghost use Rattle.live_layers.specs.Staying.{KeepsPagesAndRecords};
 
 mod checking;
 mod load_boxes;
@@ -31,7 +31,7 @@ impl<B: BlockDevice, A: Allocator + Copy> Layers<B, A> {
             OnOk result (ChangesTree self.old self.new name.now
             (HasFilled (layer_at t name.now) (map given_object objects.now))) }
         ensures same { (t : Table) → IsSound self.old t → changes t (Load name.now objects.now) ≡ false →
-            KeepsTrees self.old self.new }
+            KeepsPagesAndRecords self.old self.new }
     {
         if !is_layer_name(name) {
             return Err(Unmade::Refused(Refusal::BadName));

@@ -8,7 +8,7 @@ ghost use Rattle.plain_table.specs.Table.{Table, layer_at};
 ghost use Rattle.live_layers.specs.Changes.{IsChangeBy};
 ghost use Rattle.live_layers.specs.Keeping.{ChangesTree, IsSound};
 ghost use Rattle.live_layers.specs.Rules.{HasMoved};
-ghost use Rattle.live_layers.specs.Staying.{KeepsTrees};
+ghost use Rattle.live_layers.specs.Staying.{KeepsPagesAndRecords};
 
 mod check_move;
 mod move_box;
@@ -38,7 +38,7 @@ impl<B: BlockDevice, A: Allocator + Copy> Layers<B, A> {
             OnOk result (ChangesTree self.old self.new name.now
             (HasMoved (layer_at t name.now) id (given_bounds bounds))) }
         ensures same { (t : Table) → IsSound self.old t → changes t (Move name.now id bounds) ≡ false →
-            KeepsTrees self.old self.new }
+            KeepsPagesAndRecords self.old self.new }
     {
         let place = match self.named(name) {
             Ok(place) => place,

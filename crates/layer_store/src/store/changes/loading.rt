@@ -3,7 +3,7 @@
 ghost use Rattle.std.specs.Prelude.{◌≡◌, true, false, map, OnOk};
 ghost use Rattle.live_layers.specs.Keeping.{ChangesTree};
 ghost use Rattle.live_layers.specs.Rules.{HasFilled};
-ghost use Rattle.live_layers.specs.Staying.{KeepsTrees};
+ghost use Rattle.live_layers.specs.Staying.{KeepsPagesAndRecords};
 ghost use Rattle.plain_table.specs.Commands.Command.{Load};
 ghost use Rattle.plain_table.specs.Loads.{given_object};
 ghost use Rattle.plain_table.specs.Step.{changes};
@@ -28,7 +28,7 @@ impl<D: BlockDevice, A: Allocator + Copy> Store<D, A> {
             OnOk result (ChangesTree (layers_in self.old) (layers_in self.new) layer.now
             (HasFilled (layer_at t layer.now) (map given_object objects.now))) }
         ensures same { (t : Table) → RepresentsTable self.old t → changes t (Load layer.now objects.now) ≡ false →
-            KeepsTrees (layers_in self.old) (layers_in self.new) }
+            KeepsPagesAndRecords (layers_in self.old) (layers_in self.new) }
     {
         if self.failed {
             return Err(FAILED);

@@ -3,7 +3,7 @@
 ghost use Rattle.std.specs.Prelude.{◌≡◌, true, false, OnOk};
 ghost use Rattle.live_layers.specs.Keeping.{ChangesTree};
 ghost use Rattle.live_layers.specs.Rules.{HasGained, HasLost, HasMoved};
-ghost use Rattle.live_layers.specs.Staying.{KeepsTrees};
+ghost use Rattle.live_layers.specs.Staying.{KeepsPagesAndRecords};
 ghost use Rattle.plain_table.specs.Boxes.{given_bounds};
 ghost use Rattle.plain_table.specs.Commands.Command.{Delete, Insert, Move};
 ghost use Rattle.plain_table.specs.Step.{changes};
@@ -44,7 +44,7 @@ impl<D: BlockDevice, A: Allocator + Copy> Store<D, A> {
             OnOk result (ChangesTree (layers_in self.old) (layers_in self.new) layer.now
             (HasMoved (layer_at t layer.now) id (given_bounds bounds))) }
         ensures same { (t : Table) → RepresentsTable self.old t → changes t (Move layer.now id bounds) ≡ false →
-            KeepsTrees (layers_in self.old) (layers_in self.new) }
+            KeepsPagesAndRecords (layers_in self.old) (layers_in self.new) }
     {
         if self.failed {
             return Err(FAILED);

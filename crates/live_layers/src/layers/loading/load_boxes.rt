@@ -10,7 +10,7 @@ ghost use Rattle.live_layers.specs.Changes.{IsChange, KeepsInChange};
 ghost use Rattle.live_layers.specs.Keeping.{ChangesTree, IsSound, records_in};
 ghost use Rattle.live_layers.specs.Loading.{ReachesObjects};
 ghost use Rattle.live_layers.specs.Rules.{HasFilled};
-ghost use Rattle.live_layers.specs.Staying.{KeepsTrees};
+ghost use Rattle.live_layers.specs.Staying.{KeepsPagesAndRecords};
 
 use crate::faults::change_of;
 use crate::layers::Layers;
@@ -35,7 +35,7 @@ impl<B: BlockDevice, A: Allocator + Copy> Layers<B, A> {
             OnOk result (ChangesTree self.old self.new name (HasFilled (layer_at t name) objects.old)) }
         ensures same { (t : Table) (name : List ℕ) (given : GivenObjects) → IsSound self.old t →
             ReachesObjects t name place given D objects.old → changes t (Load name given) ≡ false →
-            KeepsTrees self.old self.new }
+            KeepsPagesAndRecords self.old self.new }
         ensures keeps { KeepsInChange self.old self.new result }
     {
         if let Err(refusal) = self.check_load(place, objects) {

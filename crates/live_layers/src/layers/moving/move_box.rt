@@ -11,7 +11,7 @@ ghost use Rattle.live_layers.specs.Changes.{IsChange, KeepsInChange};
 ghost use Rattle.live_layers.specs.Inserting.{ReachesBox};
 ghost use Rattle.live_layers.specs.Keeping.{ChangesTree, IsSound, records_in};
 ghost use Rattle.live_layers.specs.Rules.{HasMoved};
-ghost use Rattle.live_layers.specs.Staying.{KeepsTrees};
+ghost use Rattle.live_layers.specs.Staying.{KeepsPagesAndRecords};
 
 use crate::faults::change_of;
 use crate::layers::Layers;
@@ -44,7 +44,7 @@ impl<B: BlockDevice, A: Allocator + Copy> Layers<B, A> {
             OnOk result (ChangesTree self.old self.new name (HasMoved (layer_at t name) id (given_bounds box))) }
         ensures same { (t : Table) (name : List ℕ) (box : GivenBox) → IsSound self.old t →
             ReachesBox t name place box D (record { low = low.entry; high = high.entry }) →
-            changes t (Move name id box) ≡ false → KeepsTrees self.old self.new }
+            changes t (Move name id box) ≡ false → KeepsPagesAndRecords self.old self.new }
         ensures keeps { KeepsInChange self.old self.new result }
     {
         let located = self.locate(place);

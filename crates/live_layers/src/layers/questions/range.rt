@@ -20,7 +20,7 @@ ghost use Rattle.live_layers.specs.Changes.{KeepsInQuestion, Rose};
 ghost use Rattle.live_layers.specs.Keeping.{IsSound, LooksAtTree, cache_of};
 ghost use Rattle.live_layers.specs.Located.{IsLocated};
 ghost use Rattle.live_layers.specs.Questions.{IsReply, admits, is_admitted};
-ghost use Rattle.live_layers.specs.Staying.{KeepsTrees};
+ghost use Rattle.live_layers.specs.Staying.{KeepsPagesAndRecords};
 
 use crate::faults::as_refusal;
 use crate::layers::Layers;
@@ -114,7 +114,7 @@ impl<B: BlockDevice, A: Allocator + Copy> Layers<B, A> {
         ensures stands { IsHonest (cache_of self.old) → (t : Tree) (most : ℕ) →
             IsTreeAt D most (pages (cache_of self.old)) root t → IfErr result IsOfDevice }
         ensures sound { (t : Table) → IsSound self.old t → IsSound self.new t }
-        ensures trees { KeepsTrees self.old self.new }
+        ensures trees { KeepsPagesAndRecords self.old self.new }
     {
         match query {
             Query::Window(bounds) => window(self.alloc, &mut self.cache, root, bounds),

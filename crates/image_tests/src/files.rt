@@ -1,12 +1,12 @@
 //! Files written by hand, byte for byte as docs/FORMAT.md says: they are opened, or refused for what is damaged. And
 //! the blocks of a new store.
 
-use crate::commands::{Command, PLANE, answer};
-use crate::fixture::{block_of, device_of, new_store, opened, patch, put, set};
+use crate::blocks::{block_of, patch, put, set};
 use block_device::{BlockDevice, DeviceError, MemoryDevice};
 use layer_store::{RawBox, Refusal};
 use std::alloc::Global;
 use std::test::Fail;
+use store_commands::{Command, PLANE, answer, device_of, new_store, opened};
 
 // The numbers of a file's blocks: block, place, count of bytes, number.
 const NUMBERS: [(u32, usize, usize, u64); 36] = [

@@ -1,14 +1,13 @@
 //! A stop at each call of the device: what is left is opened as the table that was closed last, or whose closing was in
 //! progress, or is refused; and it is not refused where nothing was changed since a closing.
 
-use crate::commands::{Command, answer, listed, represents};
-use crate::fixture::{closed, device_of, opened};
 use block_device::{BlockDevice, FuseDevice, FuseMode, Left, MemoryDevice};
 use layer_store::{RawBox, Refusal, Store, create_store};
 use list_table::ListTable;
 use std::alloc::{AllocError, Global};
 use std::process::Abort;
 use std::test::Fail;
+use store_commands::{Command, answer, closed, device_of, listed, opened, represents};
 
 // More calls of the device than the script makes.
 const MOST: u32 = 1000;

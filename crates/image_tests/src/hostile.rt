@@ -1,14 +1,14 @@
 //! Files written by hand with one thing wrong in their trees, tables or free pages: each command returns, those that
 //! meet the damage name its page, and a check finds it.
 
-use crate::commands::{Answer, Command, PLANE, answer};
-use crate::fixture::{closed, device_of, opened, patch, put as put_block, set};
+use crate::blocks::{patch, put as put_block, set};
 use crate::language::may_answer;
 use block_device::{BlockDevice, DeviceError, MemoryDevice};
 use layer_store::{RawBox, RawPoint, Refusal};
 use std::alloc::Global;
 use std::process::Abort;
 use std::test::Fail;
+use store_commands::{Answer, Command, PLANE, answer, closed, device_of, opened};
 
 // An identifier or a page, and a box.
 type Entry = (u64, [u32; 2], [u32; 2]);

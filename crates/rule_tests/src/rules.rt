@@ -84,6 +84,22 @@ fn chooses_the_first_of_equal_children(rt: HostRuntime) {
 }
 
 #[test]
+fn a_flat_child_takes_in_a_box_and_stays_flat(rt: HostRuntime) {
+    let mut entries = ArrayVec::new();
+    entries.push(Entry {
+        bounds: plane([0, 0], [10, 10]),
+        reference: 10,
+    });
+    entries.push(Entry {
+        bounds: plane([5, 0], [5, 3]),
+        reference: 11,
+    });
+    let node = Node { level: 2, entries };
+    assert_eq!(rt; choose(&node, &plane([5, 5], [5, 5])), 1);
+    assert_eq!(rt; choose(&node, &plane([6, 5], [6, 5])), 0);
+}
+
+#[test]
 fn chooses_between_two_leaves(rt: HostRuntime) {
     let near = plane([0, 0], [2, 2]);
     let grown = plane([0, 0], [42, 42]);

@@ -1,7 +1,7 @@
 //! What a store may answer on a file of any bytes.
 
-use crate::commands::{Answer, Command};
 use layer_store::Refusal;
+use store_commands::{Answer, Command};
 
 // Whether the command may meet a page that is damaged. A closing meets none that opening did not.
 fn reads_pages(command: Command<'_>) -> bool {

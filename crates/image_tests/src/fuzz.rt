@@ -1,17 +1,18 @@
 //! Files that are damaged by chance: each command returns with an answer or a refusal that it may have, and where a
 //! check finds nothing wrong the store answers as the plain list that its dump makes again.
 
-use crate::commands::{Answer, Command, PLANE, SPACE, answer, listed};
-use crate::fixture::{block_of, closed, device_of, new_store, opened, patch, put};
+use crate::blocks::{block_of, patch, put};
 use crate::language::may_answer;
-use crate::listing::given;
-use crate::sessions::Dice;
 use block_device::{BlockDevice, DeviceError, MemoryDevice};
 use layer_store::{DumpRow, RawBox, RawPoint, Refusal, Store};
 use list_table::ListTable;
 use std::alloc::Global;
 use std::process::Abort;
 use std::test::Fail;
+use store_commands::{
+    Answer, Command, Dice, PLANE, SPACE, answer, closed, device_of, given, listed, new_store,
+    opened,
+};
 
 // How many files are damaged.
 const FILES: u32 = 1000;

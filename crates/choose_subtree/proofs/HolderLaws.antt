@@ -1,0 +1,111 @@
+-- An entry with an area grows where it does not hold the new box already; and the least of those that hold it.
+use Rattle.std.proofs.Common.{IfNone, IfSome, List, ◌≡◌, ◌≢◌, ℕ, zero, suc, ◌+◌, ◌*◌, ◌<◌, ◌≤◌, ◌⊎◌, ◌∷◌, [], ℤ, ◌-ℤ◌, ◌≤ℤ◌, unsigned_abs, Option, None, Some, arith, below_more, subst, sym, refl, ap, ◌∙◌, inl, inr}
+use Rattle.std.proofs.lemmas.Int.{ints}
+use Rattle.std.proofs.lemmas.Nat.{mul-le}
+use Rattle.std.proofs.Math.Nat.{mul-le-mul_left, mul-le-mul_right, le_of_mul-le-mul_left, le_of_mul-le-mul_right}
+use Rattle.box_math.specs.Bounds.{Bounds, IsBox, Within, join_of}
+use Rattle.box_math.specs.Measures.{product_over, side_of, volume_of}
+use Rattle.box_math.proofs.BoxLaws.{join_of-encloses, join_of-commutes, join_of-enclosing}
+use Rattle.tree_node.specs.Nodes.{Item}
+use Rattle.tree_node.specs.Boxes.{box_at}
+use Rattle.tree_node.specs.Keys.{AtMost}
+use Rattle.tree_node.proofs.KeyLemmas.{AtMost-itself}
+use Rattle.choose_subtree.specs.declared.key.Key.{Key}
+use Rattle.choose_subtree.specs.Choice.{growth_of, numbers_of, numbers_with}
+use Rattle.choose_subtree.proofs.ChoiceLaws.{IsBest, best_keeps, best_takes}
+
+-- a product of factors that are no less, but is not greater and not 0, has the same factors
+factors_same : (a b c d : ℕ) → a ≤ c → b ≤ d → 0 < a * b → c * d ≤ a * b → (c ≤ a) × (d ≤ b) × (0 < a)
+factors_same zero b c d p q r s = absurd (omega (arith, r))
+factors_same (suc a) zero c d p q r s = absurd (omega (arith, r))
+factors_same (suc a) (suc b) c d p q r s =
+    let left = mul-le-mul_left {m = suc b} {n = d} (suc a) q in
+    let right = mul-le-mul_right {m = suc a} {n = c} (suc b) p in
+    (le_of_mul-le-mul_right {m = c} {n = suc a} {k = d} (omega (arith, s, left)) (omega arith), le_of_mul-le-mul_left {m = d} {n = suc b} {k = c} (omega (arith, s, right)) (omega arith), omega arith)
+
+-- no product falls where its factors grow, and one that is not 0 stays only with all of them
+product_over-stays : (n : ℕ) (f g : ℕ → ℕ) → ((k : ℕ) → k < n → f k ≤ g k)
+    → (product_over n f ≤ product_over n g) × (0 < product_over n f → product_over n g ≤ product_over n f → (k : ℕ) → k < n → g k ≤ f k)
+product_over-stays zero f g le = (omega arith, λ _ _ k h. absurd (omega arith))
+product_over-stays (suc n) f g le =
+    let before = product_over-stays n f g (λ k h. le k (omega arith)) in
+    let last = le n (omega arith) in (
+      mul-le _ _ _ _ before.0 last,
+      λ some same.
+          let each = factors_same (product_over n f) (f n) (product_over n g) (g n) before.0 last some same in
+          λ k h. below_more (λ j. g j ≤ f j) n (before.1 each.2 each.0) each.1 k (omega arith),
+    )
+
+-- a side of a box that encloses another is as long only where it is the same
+side_same : (a b c d : ℤ) → a ≤ℤ b → c ≤ℤ a → b ≤ℤ d → unsigned_abs (d -ℤ c) ≤ unsigned_abs (b -ℤ a) → (a ≤ℤ c) × (d ≤ℤ b)
+side_same a b c d p q r s = (omega (arith, ints, s), omega (arith, ints, s))
+
+-- a box with a volume has a lesser one than each other box that encloses it
+enclosing_stays : (dims : ℕ) (a b : Bounds) → IsBox dims a → Within dims a b → 0 < volume_of dims a → volume_of dims b ≤ volume_of dims a → Within dims b a
+enclosing_stays dims a b box inside some same =
+    λ axis h.
+    let w = inside axis h in
+    let p = product_over-stays dims (side_of a) (side_of b) (λ k l. let v = inside k l in let s = (box.spans k l).ordered in omega (arith, ints, v.0, v.1, s)) in
+    side_same _ _ _ _ (box.spans axis h).ordered w.0 w.1 (p.1 some same axis h)
+
+-- an entry with an area that does not hold the new box grows
+pub grows_or_holds : (dims : ℕ) (a new : Bounds) → IsBox dims a → (volume_of dims a ≢ 0) → (Within dims new a → ⊥) → 0 < growth_of dims a new
+grows_or_holds dims a new box some out =
+    let joined = join_of-encloses dims a new in
+    let grown : (volume_of dims (join_of dims a new) ≤ volume_of dims a) → ⊥ = λ same. out (λ axis h. let back = enclosing_stays dims a (join_of dims a new) box joined.0 (omega (arith, some)) same axis h in let w = joined.1 axis h in (omega (arith, ints, back.0, w.0), omega (arith, ints, back.1, w.1))) in
+    omega (arith, grown)
+
+-- one that holds it does not
+pub holder_stays : (dims : ℕ) (a new : Bounds) → IsBox dims a → Within dims new a → growth_of dims a new ≡ 0
+holder_stays dims a new box inside =
+    let stays : join_of dims a new ≡ a = join_of-commutes dims a new ∙ join_of-enclosing dims new a box inside in
+    rw stays (omega arith)
+
+-- of the first n entries this is the least of those that do not grow, if there are some
+abbrev pub IsLeastHolder : ℕ → List Item → Bounds → ℕ → ℕ → Option Key → Type 0
+IsLeastHolder dims items new count n None = (j : ℕ) → j < n → 0 < growth_of dims (box_at items j) new
+IsLeastHolder dims items new count n (Some key) = IsBest (numbers_with 0 dims items new) count n (numbers_of key) key.position × (key.overlap ≡ 0) × (key.growth ≡ 0)
+
+-- one more entry, which grows
+pub holder_passes : (dims : ℕ) (items : List Item) (new : Bounds) (count n : ℕ) (least : Option Key) → 0 < growth_of dims (box_at items n) new
+    → IsLeastHolder dims items new count n least → IsLeastHolder dims items new count (n + 1) least
+holder_passes dims items new count n None grows h = below_more (λ j. 0 < growth_of dims (box_at items j) new) n h grows
+holder_passes dims items new count n (Some key) grows h =
+    (best_keeps (numbers_with 0 dims items new) count n (numbers_of key) key.position h.0 (omega (arith, h.1), λ _. (omega (arith, h.2), λ e. absurd (omega (arith, h.2, e, grows)))), h.1, h.2)
+
+-- the key of the code for an entry that does not grow
+abbrev held : ℕ → ℕ → Key
+held area n = record { overlap = 0; growth = 0; area = area; position = n }
+
+-- one more entry, which does not grow
+pub holder_takes : (dims : ℕ) (items : List Item) (new : Bounds) (count n area : ℕ) (least : Option Key) (lesser : Key) → n < count
+    → area ≡ volume_of dims (box_at items n) → growth_of dims (box_at items n) new ≡ 0
+    → IfNone least (lesser ≡ held area n)
+    → IfSome least (λ best. ((lesser ≡ best) × AtMost (numbers_of best) (numbers_of (held area n))) ⊎ ((lesser ≡ held area n) × (AtMost (numbers_of best) (numbers_of (held area n)) → ⊥)))
+    → IsLeastHolder dims items new count n least → IsLeastHolder dims items new count (n + 1) (Some lesser)
+holder_takes dims items new count n area least lesser within is stays = go least
+  where
+    key : ℕ → List ℕ
+    key = numbers_with 0 dims items new
+
+    same : numbers_of (held area n) ≡ key n
+    same = ap (λ x. 0 ∷ x ∷ area ∷ n ∷ []) (sym stays) ∙ ap (λ x. 0 ∷ growth_of dims (box_at items n) new ∷ x ∷ n ∷ []) is
+
+    Holds : Key → Type 0
+    Holds k = IsBest key count (n + 1) (numbers_of k) k.position × (k.overlap ≡ 0) × (k.growth ≡ 0)
+
+    go : (least : Option Key) → IfNone least (lesser ≡ held area n)
+        → IfSome least (λ best. ((lesser ≡ best) × AtMost (numbers_of best) (numbers_of (held area n))) ⊎ ((lesser ≡ held area n) × (AtMost (numbers_of best) (numbers_of (held area n)) → ⊥)))
+        → IsLeastHolder dims items new count n least → Holds lesser
+    go None alone both h =
+        let first : IsBest key count (n + 1) (numbers_of (held area n)) n = record {
+          within = within;
+          is = same;
+          least = below_more (λ j. AtMost (numbers_of (held area n)) (key j)) n (λ j l. (omega arith, λ _. (omega arith, λ e. absurd (omega (arith, e, h j l))))) (subst (AtMost (numbers_of (held area n))) same (AtMost-itself (numbers_of (held area n))));
+        } in
+        subst Holds (sym alone) (first, refl, refl)
+    go (Some best) alone both h =
+        elim both [
+          | inl b ↦ subst Holds (sym b.0) (best_keeps key count n (numbers_of best) best.position h.0 (subst (AtMost (numbers_of best)) same b.1), h.1, h.2)
+          | inr b ↦ subst Holds (sym b.0) (best_takes key count n (numbers_of best) best.position (numbers_of (held area n)) h.0 within same refl b.1, refl, refl)
+        ]

@@ -1,0 +1,12 @@
+//! Commands as plain data, put to a store and to the plain list, for the tests of the store.
+#![tactic(auto)]
+
+mod commands;
+mod dice;
+mod listing;
+mod stores;
+
+pub use commands::{Answer, Command, Object, PLANE, SPACE, answer, listed, represents};
+pub use dice::Dice;
+pub use listing::given;
+pub use stores::{closed, device_of, new_store, opened};
