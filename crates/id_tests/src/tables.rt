@@ -103,22 +103,39 @@ fn add_sevens(cache: &mut Cache, table: u32) -> Result<(), Fault>
     ensures { gate_of cache.new ≡ Open }
 {
     for k in 0..250u16 {
-        put::<3>(cache, table, 1000 * u64::from(k) + 7, i32::from(k))?;
+        let id = 1000 * u64::from(k) + 7;
+        put::<3>(cache, table, id, i32::from(k))?;
     }
     Ok(())
+}
+
+// A new table of two objects in one bucket.
+fn table_of_two(cache: &mut Cache) -> Result<u32, Fault>
+    requires { gate_of cache.old ≡ Open }
+    ensures { gate_of cache.new ≡ Open }
+{
+    let table = new_table::<2>(cache)?;
+    put::<2>(cache, table, 7, 1)?;
+    put::<2>(cache, table, 1007, 2)?;
+    Ok(table)
 }
 
 #[test]
 fn seven_and_a_thousand_and_seven_share_a_bucket(rt: HostRuntime) -> Result<(), Fail> {
     let mut cache = scene(rt.alloc())?;
-    let table = new_table::<2>(&mut cache)?;
+    let table = table_of_two(&mut cache)?;
     assert_eq!(rt; table, 3);
-    put::<2>(&mut cache, table, 7, 1)?;
-    put::<2>(&mut cache, table, 1007, 2)?;
     assert_eq!(rt; head(&mut cache, 4)?, (2, 0));
     assert!(rt; is_at::<2>(&mut cache, table, 7, 1)?);
     assert!(rt; is_at::<2>(&mut cache, table, 1007, 2)?);
     assert!(rt; is_missing::<2>(&mut cache, table, 2007)?);
+    Ok(())
+}
+
+#[test]
+fn one_of_two_in_a_bucket_is_taken_out(rt: HostRuntime) -> Result<(), Fail> {
+    let mut cache = scene(rt.alloc())?;
+    let table = table_of_two(&mut cache)?;
     take::<2>(&mut cache, table, 7)?;
     assert!(rt; is_missing::<2>(&mut cache, table, 7)?);
     assert!(rt; is_at::<2>(&mut cache, table, 1007, 2)?);
@@ -129,7 +146,8 @@ fn seven_and_a_thousand_and_seven_share_a_bucket(rt: HostRuntime) -> Result<(), 
 fn a_filled_table_has_its_objects(rt: HostRuntime) -> Result<(), Fail> {
     let mut cache = scene(rt.alloc())?;
     let table = new_table::<2>(&mut cache)?;
-    let objects = [(7, point(1)?), (8, point(2)?), (1007, point(3)?)];
+    let (first, second, third) = (point(1)?, point(2)?, point(3)?);
+    let objects = [(7, first), (8, second), (1007, third)];
     fill_in::<2>(&mut cache, table, &objects)?;
     assert_eq!(rt; head(&mut cache, 4)?, (2, 0));
     assert!(rt; is_at::<2>(&mut cache, table, 8, 2)?);
@@ -138,11 +156,14 @@ fn a_filled_table_has_its_objects(rt: HostRuntime) -> Result<(), Fail> {
 }
 
 // 249 objects of one chain, and one of the next, all at the same point.
-fn one_chain() -> Result<[(u64, BBox<2>); 250], Fault> {
-    let mut objects = [(8, point(1)?); 250];
-    for k in 0..249 {
-        objects[k].0 = 1000 * k as u64 + 7;
+fn one_chain(alloc: Global) -> Result<Vec<(u64, BBox<2>)>, Fault> {
+    let at = point(1)?;
+    let mut objects = Vec::new(alloc);
+    for k in 0..249u16 {
+        let id = 1000 * u64::from(k) + 7;
+        objects.push((id, at))?;
     }
+    objects.push((8, at))?;
     Ok(objects)
 }
 
@@ -150,7 +171,7 @@ fn one_chain() -> Result<[(u64, BBox<2>); 250], Fault> {
 fn a_filled_chain_has_full_buckets_behind_its_first(rt: HostRuntime) -> Result<(), Fail> {
     let mut cache = scene(rt.alloc())?;
     let table = new_table::<2>(&mut cache)?;
-    fill_in::<2>(&mut cache, table, &one_chain()?)?;
+    fill_in::<2>(&mut cache, table, &one_chain(rt.alloc())?)?;
     assert_eq!(rt; head(&mut cache, 7)?, (1, 0));
     assert_eq!(rt; head(&mut cache, 6)?, (49, 5));
     assert_eq!(rt; head(&mut cache, 5)?, (100, 4));
@@ -171,7 +192,8 @@ fn a_filled_chain_has_full_buckets_behind_its_first(rt: HostRuntime) -> Result<(
 // Whether the 250 objects of one chain are there.
 fn has_sevens(cache: &mut Cache, table: u32) -> Result<bool, Fault> {
     for k in 0..250u16 {
-        if !is_at::<3>(cache, table, 1000 * u64::from(k) + 7, i32::from(k))? {
+        let id = 1000 * u64::from(k) + 7;
+        if !is_at::<3>(cache, table, id, i32::from(k))? {
             return Ok(false);
         }
     }

@@ -153,7 +153,8 @@ fn a_file_written_by_hand_is_opened(rt: HostRuntime) -> Result<(), Fail> {
         answer(rt.alloc(), &mut store, Command::Get(b"a", 1))?.as_slice(),
         row.as_slice()
     );
-    store.insert(b"b", 1, RawBox::Three([0; 3], [1; 3]))?;
+    let insert = Command::Insert(b"b", 1, RawBox::Three([0; 3], [1; 3]));
+    answer(rt.alloc(), &mut store, insert)?;
     let mut store = opened(rt.alloc(), device_of(store)?, 8)?;
     let row = [1, 0, 0, 0, 1, 1, 1];
     assert_eq!(rt;

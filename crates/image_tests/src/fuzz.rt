@@ -113,7 +113,7 @@ fn add_free_pages(device: &mut MemoryDevice) -> Result<(), DeviceError> {
 fn blocks_with(alloc: Global, layers: &[Layer]) -> Result<Blocks, Fail> {
     let mut store = new_store(alloc, 64)?;
     for &(name, dims, fanout, count) in layers {
-        store.create(name, dims, fanout)?;
+        answer(alloc, &mut store, Command::Create(name, dims, fanout))?;
         for i in 0..count {
             // identifiers of one remainder, or of three
             let id = if count > 100 {
@@ -121,7 +121,8 @@ fn blocks_with(alloc: Global, layers: &[Layer]) -> Result<Blocks, Fail> {
             } else {
                 1000 * u64::from(i / 3) + u64::from(i % 3)
             };
-            store.insert(name, id, bounds_of(dims, i))?;
+            let bounds = bounds_of(dims, i);
+            answer(alloc, &mut store, Command::Insert(name, id, bounds))?;
         }
     }
     let mut device = device_of(store)?;

@@ -65,6 +65,20 @@ fn put_first<D: BlockDevice>(
     put(cache, n, byte)
 }
 
+// Opens the gate, and gives out a page.
+fn give_out_first<D: BlockDevice>(cache: &mut PageCache<D, Global>) -> Result<u32, Fault>
+    ensures { OnOk result (gate_of cache.new ≡ Open) }
+{
+    cache.begin_change()?;
+    cache.allocate()
+}
+
+// Opens the gate, and frees page n.
+fn free_first<D: BlockDevice>(cache: &mut PageCache<D, Global>, n: u32) -> Result<(), Fault> {
+    cache.begin_change()?;
+    cache.free(n)
+}
+
 #[test]
 fn pages_are_put_and_lent(rt: HostRuntime) -> Result<(), Fail> {
     let mut cache = cache_on(rt.alloc(), scene(rt.alloc())?)?;
@@ -86,8 +100,7 @@ fn pages_are_put_and_lent(rt: HostRuntime) -> Result<(), Fail> {
 fn a_page_given_out_has_zeros(rt: HostRuntime) -> Result<(), Fail> {
     let mut cache = cache_on(rt.alloc(), scene(rt.alloc())?)?;
     assert_eq!(rt; cache.next_number(), 5);
-    cache.begin_change()?;
-    assert_eq!(rt; cache.allocate(), Ok(5));
+    assert_eq!(rt; give_out_first(&mut cache)?, 5);
     assert!(rt; lends(&mut cache, 5, 0)?);
     cache.flush()?;
     assert!(rt; lends(&mut cache, 5, 0)?);
@@ -99,8 +112,7 @@ fn a_page_given_out_has_zeros(rt: HostRuntime) -> Result<(), Fail> {
 fn a_freed_page_is_read_anew(rt: HostRuntime) -> Result<(), Fail> {
     let mut cache = cache_on(rt.alloc(), scene(rt.alloc())?)?;
     assert!(rt; lends(&mut cache, 4, 8)?);
-    cache.begin_change()?;
-    cache.free(4)?;
+    free_first(&mut cache, 4)?;
     // The page was given out, so it is lent: its kind is that of free pages.
     assert_eq!(rt; a_page_is_lent_and_comes_back(&mut cache, 4), Ok(5));
     assert_eq!(rt; cache.looks(), 2);

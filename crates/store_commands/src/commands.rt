@@ -90,21 +90,43 @@ pub fn answer<D: BlockDevice, A: Allocator + Copy + Drop>(
     command: Command<'_>,
 ) -> Answer {
     let mut numbers = Vec::new(alloc);
-    match command {
-        Command::Create(name, dims, fanout) => store.create(name, dims, fanout)?,
-        Command::Insert(name, id, bounds) => store.insert(name, id, bounds)?,
-        Command::Load(name, objects) => store.load(name, objects)?,
-        Command::Move(name, id, bounds) => store.move_object(name, id, bounds)?,
-        Command::Delete(name, id) => store.delete(name, id)?,
-        Command::Drop(name) => store.drop_layer(name)?,
-        Command::Check => store.check()?,
-        Command::Reopen => store.reopen()?,
-        _ => ask(&mut numbers, store, command)?,
+    if command.is_change() {
+        change(store, command)?;
+    } else {
+        ask(&mut numbers, store, command)?;
     }
     Ok(numbers)
 }
 
-// Puts a question to a store, and adds the numbers of its answer.
+/// Puts commands to a store, one after the other, up to the first that is refused.
+pub fn answer_all<D: BlockDevice, A: Allocator + Copy + Drop>(
+    alloc: Global,
+    store: &mut Store<D, A>,
+    commands: &[Command<'_>],
+) -> Result<(), Refusal> {
+    for &command in commands {
+        answer(alloc, store, command)?;
+    }
+    Ok(())
+}
+
+// Puts a change to a store.
+fn change<D: BlockDevice, A: Allocator + Copy + Drop>(
+    store: &mut Store<D, A>,
+    change: Command<'_>,
+) -> Result<(), Refusal> {
+    match change {
+        Command::Create(name, dims, fanout) => store.create(name, dims, fanout),
+        Command::Insert(name, id, bounds) => store.insert(name, id, bounds),
+        Command::Load(name, objects) => store.load(name, objects),
+        Command::Move(name, id, bounds) => store.move_object(name, id, bounds),
+        Command::Delete(name, id) => store.delete(name, id),
+        Command::Drop(name) => store.drop_layer(name),
+        _ => Ok(()),
+    }
+}
+
+// Puts a command that is no change to a store, and adds the numbers of its answer.
 fn ask<D: BlockDevice, A: Allocator + Copy + Drop>(
     numbers: &mut Vec<i128>,
     store: &mut Store<D, A>,
@@ -123,6 +145,8 @@ fn ask<D: BlockDevice, A: Allocator + Copy + Drop>(
         Command::Join(first, second) => push_pairs(numbers, &store.join(first, second)?)?,
         Command::Layers => push_infos(numbers, &store.layers()?)?,
         Command::Dump => push_dump(numbers, &store.dump()?)?,
+        Command::Check => store.check()?,
+        Command::Reopen => store.reopen()?,
         _ => {}
     }
     Ok(())

@@ -6,7 +6,7 @@ mod dice;
 mod listing;
 mod stores;
 
-pub use commands::{Answer, Command, Object, PLANE, SPACE, answer, listed, represents};
+pub use commands::{Answer, Command, Object, PLANE, SPACE, answer, answer_all, listed, represents};
 pub use dice::Dice;
 pub use listing::given;
 pub use stores::{closed, device_of, new_store, opened};

@@ -2,11 +2,10 @@
 //! nodes these look at.
 
 use crate::rows::{Scene, ask_thrice};
-use block_device::{BlockDevice, MemoryDevice};
-use layer_store::{RawBox, RawPoint, Refusal, Store};
-use std::alloc::Global;
+use block_device::BlockDevice;
+use layer_store::{RawBox, RawPoint, Refusal};
 use std::test::Fail;
-use store_commands::{Command, answer, device_of, new_store, opened};
+use store_commands::{Command, answer_all, device_of, new_store};
 
 /// Two boxes that touch in a point.
 pub const TWO: [Command; 3] = [
@@ -212,24 +211,13 @@ pub const JOINED: Scene = Scene {
     ],
 };
 
-fn made(
-    alloc: Global,
-    store: &mut Store<MemoryDevice>,
-    commands: &[Command],
-) -> Result<(), Refusal> {
-    for &command in commands {
-        answer(alloc, store, command)?;
-    }
-    Ok(())
-}
-
 #[test]
 fn changes_are_answered_as_worked_out(rt: HostRuntime) -> Result<(), Fail> {
     for scene in [MOVED, DELETED, INSERTED_ANEW, LOADED, JOINED] {
         let mut store = new_store(rt.alloc(), 64)?;
-        made(rt.alloc(), &mut store, &TWO)?;
-        made(rt.alloc(), &mut store, &FIVE)?;
-        made(rt.alloc(), &mut store, scene.made)?;
+        answer_all(rt.alloc(), &mut store, &TWO)?;
+        answer_all(rt.alloc(), &mut store, &FIVE)?;
+        answer_all(rt.alloc(), &mut store, scene.made)?;
         ask_thrice(&rt, rt.alloc(), store, 64, scene.asked)?;
     }
     Ok(())
@@ -239,10 +227,10 @@ fn changes_are_answered_as_worked_out(rt: HostRuntime) -> Result<(), Fail> {
 #[test]
 fn a_join_looks_at_six_nodes_at_most(rt: HostRuntime) -> Result<(), Fail> {
     let mut store = new_store(rt.alloc(), 64)?;
-    made(rt.alloc(), &mut store, &TWO)?;
-    made(rt.alloc(), &mut store, &FIVE)?;
+    answer_all(rt.alloc(), &mut store, &TWO)?;
+    answer_all(rt.alloc(), &mut store, &FIVE)?;
     let before = store.looks();
-    store.join(b"l", b"a")?;
+    answer_all(rt.alloc(), &mut store, &[Command::Join(b"l", b"a")])?;
     let looks = store.looks().wrapping_sub(before);
     assert!(rt; 0 < looks && looks <= 6, "{looks} looks");
     Ok(())
@@ -253,10 +241,11 @@ fn a_move_to_the_same_box_writes_nothing(rt: HostRuntime) -> Result<(), Fail> {
     let mut writes = [0, 1];
     for (moves, count) in writes.iter_mut().enumerate() {
         let mut store = new_store(rt.alloc(), 64)?;
-        made(rt.alloc(), &mut store, &TWO)?;
-        store.reopen()?;
+        answer_all(rt.alloc(), &mut store, &TWO)?;
+        answer_all(rt.alloc(), &mut store, &[Command::Reopen])?;
         for _ in 0..moves {
-            store.move_object(b"a", 1, RawBox::Two([0, 0], [1, 1]))?;
+            let command = Command::Move(b"a", 1, RawBox::Two([0, 0], [1, 1]));
+            answer_all(rt.alloc(), &mut store, &[command])?;
         }
         *count = device_of(store)?.writes();
     }
@@ -264,22 +253,12 @@ fn a_move_to_the_same_box_writes_nothing(rt: HostRuntime) -> Result<(), Fail> {
     Ok(())
 }
 
-// A layer more than there may be, once another is gone.
-#[test]
-fn a_dropped_layer_leaves_room(rt: HostRuntime) -> Result<(), Fail> {
-    let mut store = new_store(rt.alloc(), 64)?;
-    for number in 0..60u8 {
-        store.create(&[b'a', b'0' + number / 10 % 10, b'0' + number % 10], 2, 4)?;
-    }
-    assert_eq!(rt; store.create(b"z", 2, 4), Err(Refusal::TooManyLayers));
-    store.drop_layer(b"a00")?;
-    store.create(b"z", 2, 4)?;
-    assert_eq!(rt; store.count(b"a00"), Err(Refusal::NoLayer));
-    let mut store = opened(rt.alloc(), device_of(store)?, 64)?;
-    assert_eq!(rt; store.layers()?.len(), 60);
-    store.check()?;
-    Ok(())
-}
+// A layer of one object that is made and dropped.
+const MADE_AND_DROPPED: [Command; 3] = [
+    Command::Create(b"d", 2, 4),
+    Command::Insert(b"d", 1, RawBox::Two([0, 0], [1, 1])),
+    Command::Drop(b"d"),
+];
 
 // The pages of a dropped layer are given out again.
 #[test]
@@ -288,11 +267,9 @@ fn drops_leave_as_many_blocks_as_one(rt: HostRuntime) -> Result<(), Fail> {
     for (rounds, count) in [1, 100].into_iter().zip(blocks.iter_mut()) {
         let mut store = new_store(rt.alloc(), 8)?;
         for _ in 0..rounds {
-            store.create(b"d", 2, 4)?;
-            store.insert(b"d", 1, RawBox::Two([0, 0], [1, 1]))?;
-            store.drop_layer(b"d")?;
+            answer_all(rt.alloc(), &mut store, &MADE_AND_DROPPED)?;
         }
-        store.check()?;
+        answer_all(rt.alloc(), &mut store, &[Command::Check])?;
         *count = device_of(store)?.blocks();
     }
     assert_eq!(rt; blocks[0], blocks[1]);

@@ -6,7 +6,9 @@ use layer_store::{RawBox, RawPoint, Refusal, Store};
 use std::alloc::Global;
 use std::process::Abort;
 use std::test::Fail;
-use store_commands::{Answer, Command, PLANE, SPACE, answer, device_of, new_store, opened};
+use store_commands::{
+    Answer, Command, PLANE, SPACE, answer, answer_all, device_of, new_store, opened,
+};
 
 /// A command, its answer, and how many nodes it looks at, where that is told.
 pub type Row = (
@@ -322,13 +324,13 @@ pub fn ask_thrice(
 ) -> Result<(), Refusal> {
     let mut store = store;
     ask(rt, alloc, &mut store, asked);
-    store.reopen()?;
+    answer(alloc, &mut store, Command::Reopen)?;
     ask(rt, alloc, &mut store, asked);
     let device = device_of(store)?;
     let (blocks, writes) = (device.blocks(), device.writes());
     let mut store = opened(alloc, device, cache)?;
     ask(rt, alloc, &mut store, asked);
-    store.reopen()?;
+    answer(alloc, &mut store, Command::Reopen)?;
     let device = device_of(store)?;
     assert_eq!(rt; (device.blocks(), device.writes()), (blocks, writes));
     Ok(())
@@ -347,9 +349,7 @@ fn scenes_are_answered_as_worked_out(rt: HostRuntime) -> Result<(), Fail> {
         FEW,
     ] {
         let mut store = new_store(rt.alloc(), 64)?;
-        for &command in scene.made {
-            answer(rt.alloc(), &mut store, command)?;
-        }
+        answer_all(rt.alloc(), &mut store, scene.made)?;
         ask_thrice(&rt, rt.alloc(), store, 64, scene.asked)?;
     }
     Ok(())

@@ -201,7 +201,7 @@ fn sessions_answer_as_the_plain_list_does(rt: HostRuntime) -> Result<(), Fail> {
             let place = any_place(&mut dice);
             match dice.below(128) {
                 0 => store = opened(alloc, device_of(store)?, 8 + dice.below(60))?,
-                1 => store.reopen()?,
+                1 => put(&rt, alloc, &mut store, &mut table, Command::Reopen),
                 2 => put_load(&rt, alloc, &mut store, &mut table, &mut dice)?,
                 3..=90 => put(
                     &rt,

@@ -4,8 +4,8 @@ ghost use Rattle.std.specs.Prelude.{◌≡◌, ◌<◌};
 ghost use Rattle.page_file.specs.declared.gate.Gate.TheVariants.{Open};
 ghost use Rattle.page_cache.specs.Cache.{gate_of};
 
-use super::{new_table, point};
-use id_table::{add, check_table, get, remove};
+use super::{new_table, point, put, take};
+use id_table::{check_table, get};
 use page_file::Fault;
 use std::alloc::Global;
 use std::collections::BTreeMap;
@@ -56,9 +56,7 @@ fn add_all(
         if plain.contains_key(&id) {
             continue;
         }
-        if let Err(broken) = add(cache, table, id, &point::<2>(at)?) {
-            return Err(broken.cause);
-        }
+        put::<2>(cache, table, id, at)?;
         let _ = plain.insert(id, at).map_err(|_| Fault::Memory)?;
         ids.push(id)?;
     }
@@ -98,9 +96,7 @@ fn remove_all(cache: &mut Cache, table: u32, plain: &mut Plain, ids: &[u64]) -> 
     ensures { gate_of cache.new ≡ Open }
 {
     for id in ids {
-        if let Err(broken) = remove::<2, _, _>(cache, table, *id) {
-            return Err(broken.cause);
-        }
+        take::<2>(cache, table, *id)?;
         let _ = plain.remove(id);
     }
     Ok(())

@@ -106,6 +106,16 @@ fn first_other<D: BlockDevice, A: Allocator + Copy>(
     Ok(12)
 }
 
+// Makes the call in a change.
+fn make_in_change<D: BlockDevice, A: Allocator + Copy>(
+    cache: &mut PageCache<D, A>,
+    alloc: A,
+    call: Call,
+) -> Result<(), Fault> {
+    cache.begin_change()?;
+    make(cache, alloc, call)
+}
+
 // Whether growth number k of the call is made; it is refused, and the pages are then as the call promises.
 fn is_refused(alloc: Global, call: Call, held: bool, k: u32) -> Result<bool, Fault> {
     let heap = Refusing::new(alloc);
@@ -125,8 +135,7 @@ fn is_refused(alloc: Global, call: Call, held: bool, k: u32) -> Result<bool, Fau
     if done != Err(Fault::Memory) || first_other(&mut cache, from)? != 12 {
         return Err(Fault::Damaged(k));
     }
-    cache.begin_change()?;
-    make(&mut cache, &heap, call)?;
+    make_in_change(&mut cache, &heap, call)?;
     Ok(true)
 }
 
