@@ -1,18 +1,21 @@
 -- An entry with an area grows where it does not hold the new box already; and the least of those that hold it.
-use Rattle.std.proofs.Common.{IfNone, IfSome, List, ◌≡◌, ◌≢◌, ℕ, zero, suc, ◌+◌, ◌*◌, ◌<◌, ◌≤◌, ◌⊎◌, ◌∷◌, [], ℤ, ◌-ℤ◌, ◌≤ℤ◌, unsigned_abs, Option, None, Some, arith, below_more, subst, sym, refl, ap, ◌∙◌, inl, inr}
+use Rattle.std.proofs.Common.{IfNone, IfSome, List, ◌≡◌, ◌≢◌, ℕ, zero, suc, ◌+◌, ◌*◌, ◌<◌, ◌≤◌, ◌⊎◌, ◌∷◌, [], ℤ, ◌-ℤ◌, ◌<ℤ◌, ◌≤ℤ◌, length, unsigned_abs, Option, None, Some, arith, below_more, subst, sym, refl, ap, ◌∙◌, inl, inr}
+use Rattle.std.proofs.lemmas.Bool.{cases_Bool, cases_eq}
 use Rattle.std.proofs.lemmas.Int.{ints}
 use Rattle.std.proofs.lemmas.Nat.{mul-le}
-use Rattle.std.proofs.Math.Nat.{mul-le-mul_left, mul-le-mul_right, le_of_mul-le-mul_left, le_of_mul-le-mul_right}
-use Rattle.box_math.specs.Bounds.{Bounds, IsBox, Within, join_of}
+use Rattle.std.proofs.Math.Nat.{le-mul_of_pos_right, mul-le-mul_left, mul-le-mul_right, le_of_mul-le-mul_left, le_of_mul-le-mul_right}
+use Rattle.box_math.specs.Bounds.{Bounds, IsBox, Within, join_of, on_axis, within_test}
 use Rattle.box_math.specs.Measures.{product_over, side_of, volume_of}
+use Rattle.box_math.proofs.TestLaws.{within_test_true}
 use Rattle.box_math.proofs.BoxLaws.{join_of-encloses, join_of-commutes, join_of-enclosing}
 use Rattle.tree_node.specs.Nodes.{Item}
 use Rattle.tree_node.specs.Boxes.{box_at}
-use Rattle.tree_node.specs.Keys.{AtMost}
+use Rattle.tree_node.specs.Keys.{AtMost, IsFirstLeast}
 use Rattle.tree_node.proofs.KeyLemmas.{AtMost-itself}
 use Rattle.choose_subtree.specs.declared.key.Key.{Key}
-use Rattle.choose_subtree.specs.Choice.{growth_of, numbers_of, numbers_with}
-use Rattle.choose_subtree.proofs.ChoiceLaws.{IsBest, best_keeps, best_takes}
+use Rattle.choose_subtree.specs.Choice.{IsChosenChild, area_key, growth_of, numbers_of, numbers_with, overlap_growth}
+use Rattle.choose_subtree.proofs.ChoiceLaws.{IsBest, best_keeps, best_takes, chosen_above, chosen_first, first_least-of_placed_area, first_least-of_zero}
+use Rattle.choose_subtree.proofs.OverlapLaws.{overlap_growth-none}
 
 -- a product of factors that are no less, but is not greater and not 0, has the same factors
 factors_same : (a b c d : ℕ) → a ≤ c → b ≤ d → 0 < a * b → c * d ≤ a * b → (c ≤ a) × (d ≤ b) × (0 < a)
@@ -109,3 +112,39 @@ holder_takes dims items new count n area least lesser within is stays = go least
           | inl b ↦ subst Holds (sym b.0) (best_keeps key count n (numbers_of best) best.position h.0 (subst (AtMost (numbers_of best)) same b.1), h.1, h.2)
           | inr b ↦ subst Holds (sym b.0) (best_takes key count n (numbers_of best) best.position (numbers_of (held area n)) h.0 within same refl b.1, refl, refl)
         ]
+
+-- ---- the child that is chosen
+
+-- a box whose lows are below its highs has a volume
+pub wide_has_volume : (dims : ℕ) (b : Bounds) → ((axis : ℕ) → axis < dims → on_axis b.low axis <ℤ on_axis b.high axis) → volume_of dims b ≢ 0
+wide_has_volume dims b wide = λ none. absurd (omega (arith, none, positive dims (side_of b) (λ axis h. let w = wide axis h in omega (arith, ints, w))))
+  where
+    positive : (n : ℕ) (f : ℕ → ℕ) → ((k : ℕ) → k < n → 0 < f k) → 0 < product_over n f
+    positive zero f each = omega arith
+    positive (suc n) f each = omega (arith, le-mul_of_pos_right {m = f n} (product_over n f) (each n (omega arith)), positive n f (λ k h. each k (omega arith)))
+
+-- Where each box has a volume, the first least of those that hold the new one is chosen: it does not grow, nor does what
+-- it overlaps, and each other one grows.
+pub holder_is_chosen : (dims level : ℕ) (items : List Item) (new : Bounds) (at : ℕ) → at < length items
+    → ((j : ℕ) → j < length items → IsBox dims (box_at items j) × (volume_of dims (box_at items j) ≢ 0))
+    → Within dims new (box_at items at)
+    → ((j : ℕ) → j < length items → Within dims new (box_at items j) → AtMost (volume_of dims (box_at items at) ∷ at ∷ []) (volume_of dims (box_at items j) ∷ j ∷ []))
+    → IsChosenChild dims level items new at
+holder_is_chosen dims level items new at within boxes holds least =
+    let stays = holder_stays dims (box_at items at) new (boxes at within).0 holds in
+    let by_area : IsFirstLeast (length items) (area_key dims items new) at =
+    first_least-of_placed_area (λ k. growth_of dims (box_at items k) new) (λ k. volume_of dims (box_at items k)) (length items) at within
+    (λ j l. (omega arith, λ _. elim (cases_Bool (within_test dims new (box_at items j))) [
+      | inl held ↦
+          let inside = (within_test_true dims new (box_at items j)).0 held in
+          let same = holder_stays dims (box_at items j) new (boxes j l).0 inside in
+          (omega (arith, stays), λ _. least j l inside)
+      | inr apart ↦
+          let grows = grows_or_holds dims (box_at items j) new (boxes j l).0 (boxes j l).1 (λ inside. let t = (within_test_true dims new (box_at items j)).1 inside in absurd (cc)) in
+          (omega (arith, stays), λ same. absurd (omega (arith, same, stays, grows)))
+    ])) in
+    elim (cases_eq level 1) [
+      | inl is ↦ chosen_first dims items new level (length items) at is
+          (first_least-of_zero (overlap_growth dims items new) (area_key dims items new) (length items) at by_area (sym (overlap_growth-none dims items new at (box_at items at) refl (boxes at within).0 holds)))
+      | inr other ↦ chosen_above dims items new level (length items) at other by_area
+    ]

@@ -17,6 +17,7 @@ pub mod StandingExamples
 pub mod NodeLemmas
 pub mod LeafLemmas
 pub mod MaskLemmas
+pub mod LeastLemmas
 pub mod RowEnds
 pub mod GivenLemmas
 pub mod VisitLemmas

@@ -1,11 +1,13 @@
--- Masks of the boxes in a page: by axes, and cut where the places end.
-use Rattle.std.proofs.Common.{◌≡◌, ℕ, zero, suc, ◌+◌, ◌*◌, ◌-◌, ◌^◌, ◌<◌, ◌≤◌, ◌==◌, ℤ, ◌&&◌, nat_lt, int_le, min, Bool, bit_and, List, FitsSigned, w32, map, refl, sym, ◌∙◌, ap, ap₂, subst, inl, inr, of_z, to_z, pow_mono, arith}
+-- Masks of the boxes in a page: by axes, cut where the places end, and from a place on.
+use Rattle.std.proofs.Common.{◌≡◌, ℕ, zero, suc, ◌+◌, ◌*◌, ◌/◌, ◌%◌, ◌-◌, ◌^◌, ◌<◌, ◌≤◌, ◌==◌, ⊎_elim, ℤ, ◌&&◌, nat_lt, int_le, min, Bool, false, bit_and, List, FitsSigned, w32, map, refl, sym, ◌∙◌, ap, ap₂, subst, inl, inr, of_z, to_z, pow_mono, arith}
 use Rattle.std.proofs.lemmas.Bool.{cases_lt, le-ltb, lt-ltb}
 use Rattle.std.proofs.lemmas.Int.{ints, to_z-of_z}
 use Rattle.std.proofs.lemmas.List.FromFn.{length-map-range_with_len}
-use Rattle.std.proofs.lemmas.Nat.Bits.{bit_at_and, bit_at_ones, bit_at_ones_above, bit_at-lt}
+use Rattle.std.proofs.lemmas.Nat.{div-add-mod', pow_pos}
+use Rattle.std.proofs.lemmas.Nat.Bits.{bit_at_and, bit_at_cat_high, bit_at_ones, bit_at_ones_above, bit_at-lt, bit_at-trailing_zeros, bit_at-zero}
 use Rattle.std.proofs.lemmas.Simd.{mask_l-lt}
-use Rattle.std.specs.Int.{bit_at}
+use Rattle.std.proofs.Math.Nat.{mod-lt}
+use Rattle.std.specs.Int.{bit_at, trailing_zeros, w128}
 use Rattle.std.specs.List.{range_with_len}
 use Rattle.block_bytes.specs.Laws.{number_at-lt}
 use Rattle.block_bytes.specs.Numbers.{AreBytes, number_at, signed_at}
@@ -60,3 +62,21 @@ first_bits mask all count k t le each = elim (cases_lt k count) [
   | inr past ↦ ap (λ b. b == 1) (bit_at_and mask (2 ^ count - 1) k ∙ ap (min (bit_at mask k)) (bit_at_ones_above count k past) ∙ none_is_set (bit_at mask k))
       ∙ ap (λ b. b && t k) (sym (le-ltb k count past))
 ]
+
+-- ---- the bits of a mask from a place on
+
+shifted : (mask from k : ℕ) → from ≤ k → bit_at mask k ≡ bit_at (mask / 2 ^ from) (k - from)
+shifted mask from k up =
+    let whole : mask ≡ mask / 2 ^ from * 2 ^ from + mask % 2 ^ from = sym (div-add-mod' mask (2 ^ from)) in
+    ap (λ (n : ℕ). bit_at n k) whole ∙ bit_at_cat_high (mask / 2 ^ from) from (mask % 2 ^ from) k (mod-lt mask (pow_pos from)) up
+
+none_before : (n i : ℕ) → n < 2 ^ 128 → i < trailing_zeros w128 n → bit_at n i ≡ 0
+none_before n i small below = ⊎_elim
+    (λ (some : 0 < n). (bit_at-trailing_zeros w128 n some small).2 i below)
+    (λ (none : n ≤ 0). ap (λ (m : ℕ). bit_at m i) (let e : n ≡ 0 = omega (arith, none) in e) ∙ bit_at-zero i)
+    (cases_lt 0 n)
+
+pub unset_before : (mask from k : ℕ) → mask / 2 ^ from < 2 ^ 128 → from ≤ k → k < from + trailing_zeros w128 (mask / 2 ^ from) → has_bit mask k ≡ false
+unset_before mask from k small up below =
+    let bit : bit_at mask k ≡ 0 = shifted mask from k up ∙ none_before (mask / 2 ^ from) (k - from) small (omega (arith, up, below)) in
+    ap (λ (b : ℕ). b == 1) bit

@@ -20,6 +20,7 @@ pub use broken::Broken;
 pub use check::{TreeFacts, check_tree};
 pub use leaves::leaf_lists;
 pub use lending::view_node;
+pub use masks::next_set;
 pub use nodes::{read_into, read_node, write_node};
 pub use page::{decode, decode_into, encode};
 pub use tree_node::{Entry, Node, Root};

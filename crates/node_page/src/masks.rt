@@ -1,6 +1,7 @@
-//! The boxes of a node page compared with a window, eight at once, in the columns where they stand.
+//! The boxes of a node page compared with a window, eight at once, in the columns where they stand; and the places
+//! whose bits are set.
 
-ghost use Rattle.std.specs.Prelude.{◌≡◌, ℕ, ◌+◌, ◌*◌, ◌<◌, ◌≤◌, ◌&&◌, nat_lt, int_le, map, FitsSigned};
+ghost use Rattle.std.specs.Prelude.{◌≡◌, ℕ, ◌+◌, ◌*◌, ◌<◌, ◌≤◌, ◌&&◌, nat_lt, int_le, map, false, FitsSigned};
 ghost use Rattle.std.specs.Int.{w32};
 ghost use Rattle.std.specs.List.{range_with_len};
 ghost use Rattle.block_bytes.specs.Numbers.{signed_at};
@@ -79,4 +80,15 @@ fn lanes(page: &[u8; 4096], first: usize, at: usize) -> i32x8
         read_i32(page, from + 24),
         read_i32(page, from + 28),
     ])
+}
+
+/// The first place from one on whose bit is set in the mask, or one past all of its bits where none is.
+#[inline]
+pub fn next_set(mask: u128, from: usize) -> usize
+    requires { from < 128 }
+    ensures within { from ≤ result }
+    ensures few { result < 256 }
+    ensures unset { (k : ℕ) → from ≤ k → k < result → has_bit mask k ≡ false }
+{
+    from + (mask >> from).trailing_zeros() as usize
 }

@@ -50,11 +50,7 @@ pub fn decode_into<const D: usize>(page: &[u8; 4096], level: u8, node: &mut Node
     let Some(view) = NodeView::of(page, level) else {
         return false;
     };
-    node.level = level;
-    node.entries.clear();
-    for place in 0..view.len() {
-        node.entries.push(view.entry(place));
-    }
+    view.decode_into(node);
     true
 }
 

@@ -1,19 +1,20 @@
 //! A node read in the page that spells it, without decoding the page.
 
-ghost use Rattle.std.specs.Prelude.{◌≡◌, ◌≢◌, ℕ, ◌<◌, ◌≤◌, Some, IfSome, IfNone, true, false};
+ghost use Rattle.std.specs.Prelude.{◌≡◌, ◌≢◌, ℕ, ◌<◌, ◌≤◌, ◌<ℤ◌, ◌↔◌, Some, IfSome, IfNone, IsTrue, true, false};
 ghost use Rattle.std.specs.Prelude.{All, length, map, slice_get, slice_index_or};
-ghost use Rattle.box_math.specs.Bounds.{IsDims, IsBox, meets_test};
+ghost use Rattle.box_math.specs.Bounds.{IsDims, IsBox, meets_test, on_axis};
 ghost use Rattle.box_math.specs.Masks.{has_bit};
 ghost use Rattle.node_page.specs.Columns.{AreColumns};
-ghost use Rattle.tree_node.specs.Nodes.{Item, NodeContent, item_of};
+ghost use Rattle.tree_node.specs.Boxes.{least_box};
+ghost use Rattle.tree_node.specs.Nodes.{Item, NodeContent, content_of, item_of};
 ghost use Rattle.node_page.specs.Layout.{node_at, IsLaidOut, IsSpellable};
 
-use crate::columns::{has_entries, read_columns};
+use crate::columns::{has_entries, least_in, none_is_flat, read_columns};
 use crate::entries::entry_at;
 use crate::head::{count_at, has_node_head};
 use crate::masks::mask_in;
 use box_math::BBox;
-use tree_node::Entry;
+use tree_node::{Entry, Node};
 
 /// A node that lies in a page: its level and its entries.
 #[derive(Drop)]
@@ -87,5 +88,32 @@ impl<'a, const D: usize> NodeView<'a, D> {
         let lows = read_columns(self.page, 16, self.count);
         let highs = read_columns(self.page, 416, self.count);
         (lows, highs)
+    }
+    /// Whether no entry's box is flat: on each axis its low is below its high.
+    pub fn none_is_flat(&self) -> bool
+        ensures { IsTrue result ↔ ((axis place : ℕ) (item : Item) → axis < D
+            → slice_get (content_in self.now).entries place ≡ Some item
+            → on_axis item.bounds.low axis <ℤ on_axis item.bounds.high axis) }
+    {
+        none_is_flat::<D>(self.page, self.count)
+    }
+
+    /// The least box round the entries, of which there is one.
+    pub fn least(&self) -> BBox<D>
+        requires { 0 < length (content_in self.now).entries }
+        ensures { result ≡ least_box D (content_in self.now).entries }
+    {
+        least_in(self.page, self.count)
+    }
+
+    /// Makes the node the one in the page. Nothing is copied but the entries.
+    pub fn decode_into(&self, node: &mut Node<D>)
+        ensures { content_of node.new ≡ content_in self.now }
+    {
+        node.level = self.level;
+        node.entries.clear();
+        for place in 0..self.len() {
+            node.entries.push(self.entry(place));
+        }
     }
 }

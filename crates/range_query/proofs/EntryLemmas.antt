@@ -1,14 +1,10 @@
 -- What a loop over the entries of a node has taken.
-use Rattle.std.proofs.Common.{◌≡◌, ◌∙◌, ℕ, zero, suc, ◌+◌, ◌-◌, ◌*◌, ◌/◌, ◌%◌, ◌^◌, ◌<◌, ◌≤◌, ◌==◌, ⊎_elim, Bool, true, false, cond, Some, List, [], ◌∷◌, ◌++◌, All, length, take, get_or, map, refl, sym, ap, subst, arith}
+use Rattle.std.proofs.Common.{◌≡◌, ◌∙◌, ℕ, zero, suc, ◌+◌, ◌-◌, ◌<◌, ◌≤◌, ⊎_elim, Bool, true, false, cond, Some, List, [], ◌∷◌, ◌++◌, All, length, take, get_or, map, refl, sym, ap, subst, arith}
 use Rattle.std.specs.Prelude.{slice_get}
-use Rattle.std.specs.Int.{bit_at, trailing_zeros, w128}
 use Rattle.std.proofs.lemmas.Bool.{cases_lt, false≢true}
-use Rattle.std.proofs.lemmas.Nat.Bits.{bit_at-trailing_zeros, bit_at-zero, bit_at_cat_high}
 use Rattle.std.proofs.lemmas.List.{append_assoc, append-nil, get_or_default, map-append, take_all, take_more}
 use Rattle.std.proofs.lemmas.List.Elements.{All-get_or, filter-append}
 use Rattle.std.proofs.lemmas.Option.{slice_get-get_or}
-use Rattle.std.proofs.lemmas.Nat.{div-add-mod', pow_pos}
-use Rattle.std.proofs.Math.Nat.{mod-lt}
 use Rattle.box_math.specs.Bounds.{Bounds, IsBox, meets_test}
 use Rattle.box_math.specs.Masks.{has_bit}
 use Rattle.box_math.proofs.BoxLaws.{Within-refl}
@@ -124,21 +120,3 @@ module _ {X : Type 0} {f : Item → X} {items : List Item} {old now : List X} wh
       → i ≤ j → ((k : ℕ) → i ≤ k → k < j → has_bit mask k ≡ false) → Taken f (is_admitted q) items i old now → Taken f (is_admitted q) items j old now
   admitted_to q window mask i j meets boxes met up unset so_far =
       skip_to f (is_admitted q) items old now mask i j (λ k within no_bit taken. admitted_unset q window mask within meets boxes met no_bit taken) so_far up unset
-
--- ---- the bits of a mask from a place on
-
-shifted : (mask from k : ℕ) → from ≤ k → bit_at mask k ≡ bit_at (mask / 2 ^ from) (k - from)
-shifted mask from k up =
-    let whole : mask ≡ mask / 2 ^ from * 2 ^ from + mask % 2 ^ from = sym (div-add-mod' mask (2 ^ from)) in
-    ap (λ (n : ℕ). bit_at n k) whole ∙ bit_at_cat_high (mask / 2 ^ from) from (mask % 2 ^ from) k (mod-lt mask (pow_pos from)) up
-
-none_before : (n i : ℕ) → n < 2 ^ 128 → i < trailing_zeros w128 n → bit_at n i ≡ 0
-none_before n i small below = ⊎_elim
-    (λ (some : 0 < n). (bit_at-trailing_zeros w128 n some small).2 i below)
-    (λ (none : n ≤ 0). ap (λ (m : ℕ). bit_at m i) (let e : n ≡ 0 = omega (arith, none) in e) ∙ bit_at-zero i)
-    (cases_lt 0 n)
-
-pub unset_before : (mask from k : ℕ) → mask / 2 ^ from < 2 ^ 128 → from ≤ k → k < from + trailing_zeros w128 (mask / 2 ^ from) → has_bit mask k ≡ false
-unset_before mask from k small up below =
-    let bit : bit_at mask k ≡ 0 = shifted mask from k up ∙ none_before (mask / 2 ^ from) (k - from) small (omega (arith, up, below)) in
-    ap (λ (b : ℕ). b == 1) bit

@@ -1,9 +1,8 @@
 //! The descent of a range query into the nodes that it admits.
 
-ghost use Rattle.std.specs.Prelude.{◌≡◌, ◌⊎◌, ℕ, ◌+◌, ◌++◌, ◌<◌, ◌≤◌, Some, false, map, IfErr, IfOk, OnOk};
+ghost use Rattle.std.specs.Prelude.{◌≡◌, ◌⊎◌, ℕ, ◌+◌, ◌++◌, ◌<◌, Some, map, IfErr, IfOk, OnOk};
 ghost use Rattle.block_device.specs.Device.{one_more};
 ghost use Rattle.box_math.specs.Bounds.{IsDims};
-ghost use Rattle.box_math.specs.Masks.{has_bit};
 ghost use Rattle.page_file.specs.Fault.{IsDamage, IsOfDevice};
 ghost use Rattle.page_cache.specs.Cache.{IsHonest, looks_of, pages};
 ghost use Rattle.page_cache.specs.Calls.{Asks};
@@ -18,7 +17,7 @@ use crate::query::Query;
 use arrayvec::ArrayVec;
 use block_device::BlockDevice;
 use box_math::BBox;
-use node_page::{Root, view_node};
+use node_page::{Root, next_set, view_node};
 use page_cache::PageCache;
 use page_file::Fault;
 use std::alloc::Allocator;
@@ -119,15 +118,4 @@ fn admitted_children<const D: usize, B: BlockDevice, A: Allocator + Copy>(
         children.push(entry.reference as u32);
     }
     Ok(children)
-}
-
-// The first place from one on whose bit is set in the mask, or one past all of its bits where none is.
-#[inline]
-fn next_set(mask: u128, from: usize) -> usize
-    requires { from < 128 }
-    ensures within { from ≤ result }
-    ensures few { result < 256 }
-    ensures unset { (k : ℕ) → from ≤ k → k < result → has_bit mask k ≡ false }
-{
-    from + (mask >> from).trailing_zeros() as usize
 }

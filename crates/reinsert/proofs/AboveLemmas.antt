@@ -6,6 +6,7 @@ use Rattle.std.proofs.Math.Seq.{map-set_same}
 use Rattle.std.proofs.lemmas.List.{map-append, append-nil, take_all, length-map, length-append, length-set, get_or-map}
 use Rattle.std.proofs.lemmas.List.Elements.{All-append}
 use Rattle.box_math.specs.Bounds.{Bounds}
+use Rattle.tree_node.specs.Boxes.{box_at}
 use Rattle.tree_node.specs.declared.node.Entry.{Entry}
 use Rattle.tree_node.specs.Nodes.{Item, item_of}
 use Rattle.node_page.specs.Layout.{IsReference}
@@ -30,18 +31,20 @@ set_box-is [] at b e within = absurd (omega (arith, within))
 set_box-is (x ∷ xs) zero b e within = refl
 set_box-is (x ∷ xs) (suc at) b e within = ap (λ (es : List Item). item_of x ∷ es) (set_box-is xs at b e (omega (arith, within)))
 
-nothing_beside : {A : Type 0} (o : Option A) → is_some o ≡ false → o ≡ None
+pub nothing_beside : {A : Type 0} (o : Option A) → is_some o ≡ false → o ≡ None
 nothing_beside None h = refl
 nothing_beside (Some x) h = absurd (cc)
 
+set_box-same : (items : List Item) (at : ℕ) → set_box items at (box_at items at) ≡ items
+set_box-same [] at = refl
+set_box-same (x ∷ xs) zero = refl
+set_box-same (x ∷ xs) (suc at) = ap (λ (es : List Item). x ∷ es) (set_box-same xs at)
+
 -- a child that kept its box, and beside which nothing was split off, leaves the entries as they were
-pub entries_kept : {D : ℕ} (entries : List (Entry D)) (at : ℕ) (lower : Settled D) (e : Entry D) → at < length entries → is_some lower.beside ≡ false → lower.bounds ≡ (get_or entries at e).bounds
-    → map item_of entries ≡ items_after D entries at lower
-entries_kept entries at lower e within none same =
-    let r = (get_or entries at e).reference in
-    sym (map-set_same item_of entries at (record { bounds = lower.bounds; reference = r }) e (ap (λ (b : Bounds). let i : Item = record { bounds = b; reference = r } in i) same))
-    ∙ set_box-is entries at lower.bounds e within ∙ sym (append-nil (set_box (map item_of entries) at lower.bounds))
-    ∙ ap (λ o. set_box (map item_of entries) at lower.bounds ++ items_beside o) (sym (nothing_beside lower.beside none))
+pub items_kept : {D : ℕ} (items : List Item) (at : ℕ) (lower : Settled D) → lower.beside ≡ None → lower.bounds ≡ box_at items at → items_after items at lower ≡ items
+items_kept items at lower none same =
+    ap (λ (b : Bounds). set_box items at b ++ items_beside lower.beside) same ∙ ap (λ o. set_box items at (box_at items at) ++ items_beside o) none
+    ∙ append-nil (set_box items at (box_at items at)) ∙ set_box-same items at
 
 length-set_box : (xs : List Item) (at : ℕ) (b : Bounds) → length (set_box xs at b) ≡ length xs
 length-set_box [] at b = refl
@@ -67,7 +70,7 @@ mapped-All {D} level (x ∷ xs) h k d lt =
 
 -- the node's entries are those with the settled child, and as many, or one more
 pub record Above {D : ℕ} (level : ℕ) (entries : List (Entry D)) (at : ℕ) (lower : Settled D) (new : List (Entry D)) : Type 0 where
-  pub items : map item_of new ≡ items_after D entries at lower
+  pub items : map item_of new ≡ items_after (map item_of entries) at lower
   pub some : 0 < length new
   pub few : length new ≤ length entries + 1
   pub refers : All (λ (e : Entry D). IsReference level e.reference) new
@@ -81,7 +84,7 @@ length-beside None = omega arith
 length-beside (Some e) = omega arith
 
 above_of : {D : ℕ} (level : ℕ) (entries : List (Entry D)) (at : ℕ) (lower : Settled D) (new : List (Entry D)) → at < length entries
-    → All (λ (e : Entry D). IsReference level e.reference) entries → IfSome lower.beside (λ e. IsReference level e.reference) → map item_of new ≡ items_after D entries at lower → Above level entries at lower new
+    → All (λ (e : Entry D). IsReference level e.reference) entries → IfSome lower.beside (λ e. IsReference level e.reference) → map item_of new ≡ items_after (map item_of entries) at lower → Above level entries at lower new
 above_of {D} level entries at lower new within refers beside are =
     let base = set_box (map item_of entries) at lower.bounds in
     let P : Item → Type 0 = λ item. IsReference level item.reference in

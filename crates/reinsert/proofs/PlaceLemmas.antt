@@ -9,7 +9,7 @@ use Rattle.tree_node.specs.Trees.{Row, end, more, Branch, object, child, row_ite
 use Rattle.tree_node.specs.Shape.{RowHasShape}
 use Rattle.tree_node.specs.Rows.{branches_of, row_of, item_in, occurs_on, Waiter, occurs_waiting}
 use Rattle.tree_node.specs.Positions.{total}
-use Rattle.tree_node.specs.Boxes.{least_box}
+use Rattle.tree_node.specs.Boxes.{least_box, no_item, reference_at}
 use Rattle.tree_node.proofs.RowLemmas.{row_of-branches_of, items-branches_of, occurs-row_of, occurs-branches_of, occurs_here}
 use Rattle.tree_node.proofs.PositionLemmas.{total-append}
 use Rattle.choose_subtree.specs.Choice.{IsChosenChild}
@@ -35,6 +35,14 @@ can_place_from dims m m0 page level target row branch same can = record {
   there = node_stays dims m m0 page level row (same page) can.there;
   below = row_stays dims m m0 level row (λ n p. same n) can.below;
   entry = row_stays dims m m0 target (more branch end) (λ n p. same n) can.entry;
+  distinct = can.distinct;
+}
+
+-- and so can the node that has settled
+pub can_settle_from : (dims : ℕ) (m m0 : PageMap) (page level : ℕ) (branches : List Branch) → ((n : ℕ) → m0 n ≡ m n) → CanSettle dims m page level branches → CanSettle dims m0 page level branches
+can_settle_from dims m m0 page level branches same can = record {
+  live = subst IsSome (sym (same page)) can.live;
+  stands = row_stays dims m m0 level (row_of branches) (λ n p. same n) can.stands;
   distinct = can.distinct;
 }
 
@@ -78,17 +86,17 @@ beside_items None = refl
 beside_items (Some e) = refl
 
 -- the entries that the code writes are those of the node with the settled child
-above_items : {D : ℕ} (row : Row) (at : ℕ) (c : Child) (lower : Settled D) (waits waits' : List (Wait D)) (called : List Bool) (down : Outcome) (entries : List (Entry D)) → child_at row at ≡ Some c
-    → Shows D lower waits waits' called down → row_items row ≡ map item_of entries
-    → map item_in (after_child D row at down) ≡ items_after D entries at lower
-above_items {D} row at c lower waits waits' called down entries is shows are =
+above_items : {D : ℕ} (row : Row) (at : ℕ) (c : Child) (lower : Settled D) (waits waits' : List (Wait D)) (called : List Bool) (down : Outcome) (items : List Item) → child_at row at ≡ Some c
+    → Shows D lower waits waits' called down → row_items row ≡ items
+    → map item_in (after_child D row at down) ≡ items_after items at lower
+above_items {D} row at c lower waits waits' called down items is shows are =
     let b = least_box D (row_items down.row) in
     let new = with_child row at b down.row in
-    let here : map item_in (branches_of new) ≡ set_box (map item_of entries) at lower.bounds =
-    items-branches_of new ∙ items-with_child row at c b down.row is ∙ ap (λ (es : List Item). set_box es at b) are ∙ ap (set_box (map item_of entries) at) (sym shows.bounds) in
+    let here : map item_in (branches_of new) ≡ set_box items at lower.bounds =
+    items-branches_of new ∙ items-with_child row at c b down.row is ∙ ap (λ (es : List Item). set_box es at b) are ∙ ap (set_box items at) (sym shows.bounds) in
     let next : map item_in (beside_branches D down.beside) ≡ items_beside lower.beside = beside_shown D down.beside ∙ ap items_of (sym shows.beside) ∙ sym (beside_items lower.beside) in
     map-append item_in (branches_of new) (beside_branches D down.beside) ∙ ap (λ (es : List Item). es ++ map item_in (beside_branches D down.beside)) here
-    ∙ ap (λ (es : List Item). set_box (map item_of entries) at lower.bounds ++ es) next
+    ∙ ap (λ (es : List Item). set_box items at lower.bounds ++ es) next
 
 pub AllWait-append : (dims : ℕ) (m : PageMap) (xs ys : List Waiter) → AllWait dims m xs → AllWait dims m ys → AllWait dims m (xs ++ ys)
 AllWait-append dims m [] ys h k = k
@@ -235,18 +243,18 @@ module _ {D : ℕ} (most top level target at : ℕ) (called called1 : List Bool)
 
 -- the step above, from what the calls ensure
 pub placed_over : {D : ℕ} (X Y : Type 0) (most top level target at reference : ℕ) (called called1 : List Bool) (branch : Branch) (row : Row) (m m1 m' : PageMap) (page : ℕ) (lower settled : Settled D) (waits waits1 waits' : List (Wait D)) (called' : List Bool)
-    (entries : List (Entry D)) (d : Entry D)
-    → CanPlace D m page level target row branch → target < level → row_items row ≡ map item_of entries → IsChosenChild D level (map item_of entries) (item_in branch).bounds at → reference ≡ (get_or (map item_of entries) at (item_of d)).reference
+    (items : List Item)
+    → CanPlace D m page level target row branch → target < level → row_items row ≡ items → IsChosenChild D level items (item_in branch).bounds at → reference ≡ reference_at items at
     → ((below : Row) → CanPlace D m reference (level - 1) target below branch → Y × PlacesTo D most top (level - 1) target called branch below m m1 reference lower waits waits1 called1)
-    → (Y → (branches : List Branch) → map item_in branches ≡ items_after D entries at lower → CanSettle D m1 page level branches → HasNode D m1 page level row → X × SettlesTo D most top level called1 branches m1 m' page settled waits1 waits' called')
+    → (Y → (branches : List Branch) → map item_in branches ≡ items_after items at lower → CanSettle D m1 page level branches → HasNode D m1 page level row → X × SettlesTo D most top level called1 branches m1 m' page settled waits1 waits' called')
     → X × PlacesTo D most top level target called branch row m m' page settled waits waits' called'
-placed_over {D} X Y most top level target at reference called called1 branch row m m1 m' page lower settled waits waits1 waits' called' entries d can above are chosen refers callee finish =
+placed_over {D} X Y most top level target at reference called called1 branch row m m1 m' page lower settled waits waits1 waits' called' items can above are chosen refers callee finish =
     let chosen_here : IsChosenChild D level (row_items row) (item_in branch).bounds at = subst (λ (es : List Item). IsChosenChild D level es (item_in branch).bounds at) (sym are) chosen in
     let h = has_child D m level row at (omega (arith, above)) chosen_here.within can.below in
-    let is : reference ≡ h.from.page = refers ∙ ap (λ (es : List Item). (get_or es at (item_of d)).reference) (sym are) ∙ h.reference (item_of d) in
+    let is : reference ≡ h.from.page = refers ∙ ap (λ (es : List Item). reference_at es at) (sym are) ∙ h.reference no_item in
     let both = callee h.from.row (child_can most top level target at called called1 branch row m m1 page lower waits waits1 can above h reference is) in
     let done = both.1 in
-    let up = finish both.0 (after_child D row at done.outcome) (above_items row at h.from lower waits waits1 called1 done.outcome entries h.there done.shows are)
+    let up = finish both.0 (after_child D row at done.outcome) (above_items row at h.from lower waits waits1 called1 done.outcome items h.there done.shows are)
     (can_settle most top level target at called called1 branch row m m1 page lower waits waits1 can above h reference is done)
     (still_there most top level target at called called1 branch row m m1 page lower waits waits1 can above h reference is done) in
     (up.0, placed_above most top level target at called called1 branch row m m1 page lower waits waits1 can above h reference is done m' settled waits' called' chosen_here up.1)
@@ -264,6 +272,13 @@ places_from most top level target called branch row m m0 m' page settled waits w
   shows = done.shows;
 }
 
+pub settles_from : {D : ℕ} {E : Type 0} (r : Result (Settled D) E) (X : Type 0) (most top level : ℕ) (called : List Bool) (branches : List Branch) (m m0 m' : PageMap) (page : ℕ) (waits waits' : List (Wait D)) (called' : List Bool) → ((n : ℕ) → m0 n ≡ m n)
+    → IfOk r (λ s. X × SettlesTo D most top level called branches m0 m' page s waits waits' called') → IfOk r (λ s. X × SettlesTo D most top level called branches m m' page s waits waits' called')
+settles_from (Ok s) X most top level called branches m m0 m' page waits waits' called' same both =
+    let done = both.1 in
+    (both.0, record { outcome = done.outcome; settles = done.settles; stands = done.stands; moves = moves_from m m0 m' _ _ same done.moves; shows = done.shows })
+settles_from (Err e) X most top level called branches m m0 m' page waits waits' called' same both = tt
+
 pub here_ok : {D : ℕ} {E : Type 0} (r : Result (Settled D) E) (X : Type 0) (most top level target : ℕ) (called : List Bool) (branch : Branch) (row : Row) (m m0 m' : PageMap) (page : ℕ) (waits waits' : List (Wait D)) (called' : List Bool)
     → ((n : ℕ) → m0 n ≡ m n) → CanPlace D m page level target row branch → level ≡ target
     → ((branches : List Branch) → map item_in branches ≡ row_items row ++ item_in branch ∷ [] → CanSettle D m0 page level branches → IfOk r (λ s. X × SettlesTo D most top level called branches m0 m' page s waits waits' called'))
@@ -274,16 +289,16 @@ here_ok (Ok s) X most top level target called branch row m m0 m' page waits wait
 here_ok (Err e) X most top level target called branch row m m0 m' page waits waits' called' same can low callee = tt
 
 pub over_ok : {D : ℕ} {E : Type 0} (r : Result (Settled D) E) (X Y : Type 0) (most top level target at reference : ℕ) (called called1 : List Bool) (branch : Branch) (row : Row) (m m0 m1 m' : PageMap) (page : ℕ) (lower : Settled D)
-    (waits waits1 waits' : List (Wait D)) (called' : List Bool) (entries : List (Entry D)) (d : Entry D)
-    → ((n : ℕ) → m0 n ≡ m n) → CanPlace D m page level target row branch → target < level → row_items row ≡ map item_of entries → IsChosenChild D level (map item_of entries) (item_in branch).bounds at
-    → reference ≡ (get_or (map item_of entries) at (item_of d)).reference
+    (waits waits1 waits' : List (Wait D)) (called' : List Bool) (items : List Item)
+    → ((n : ℕ) → m0 n ≡ m n) → CanPlace D m page level target row branch → target < level → row_items row ≡ items → IsChosenChild D level items (item_in branch).bounds at
+    → reference ≡ reference_at items at
     → ((below : Row) → CanPlace D m0 reference (level - 1) target below branch → Y × PlacesTo D most top (level - 1) target called branch below m0 m1 reference lower waits waits1 called1)
-    → (Y → (branches : List Branch) → map item_in branches ≡ items_after D entries at lower → CanSettle D m1 page level branches → HasNode D m1 page level row → IfOk r (λ s. X × SettlesTo D most top level called1 branches m1 m' page s waits1 waits' called'))
+    → (Y → (branches : List Branch) → map item_in branches ≡ items_after items at lower → CanSettle D m1 page level branches → HasNode D m1 page level row → IfOk r (λ s. X × SettlesTo D most top level called1 branches m1 m' page s waits1 waits' called'))
     → IfOk r (λ s. X × PlacesTo D most top level target called branch row m m' page s waits waits' called')
-over_ok (Ok s) X Y most top level target at reference called called1 branch row m m0 m1 m' page lower waits waits1 waits' called' entries d same can above are chosen refers callee finish =
-    let both = placed_over X Y most top level target at reference called called1 branch row m0 m1 m' page lower s waits waits1 waits' called' entries d (can_place_from _ m m0 page level target row branch same can) above are chosen refers callee finish in
+over_ok (Ok s) X Y most top level target at reference called called1 branch row m m0 m1 m' page lower waits waits1 waits' called' items same can above are chosen refers callee finish =
+    let both = placed_over X Y most top level target at reference called called1 branch row m0 m1 m' page lower s waits waits1 waits' called' items (can_place_from _ m m0 page level target row branch same can) above are chosen refers callee finish in
     (both.0, places_from most top level target called branch row m m0 m' page s waits waits' called' same both.1)
-over_ok (Err e) X Y most top level target at reference called called1 branch row m m0 m1 m' page lower waits waits1 waits' called' entries d same can above are chosen refers callee finish = tt
+over_ok (Err e) X Y most top level target at reference called called1 branch row m m0 m1 m' page lower waits waits1 waits' called' items same can above are chosen refers callee finish = tt
 
 -- the entries that were read are those of the tree that stands
 pub items_read : (dims : ℕ) (m : PageMap) (page level level' : ℕ) (row : Row) (entries : List Item) → HasNode dims m page level row → node_in dims (m page) ≡ Some (record { level = level'; entries = entries }) → row_items row ≡ entries
@@ -309,14 +324,14 @@ few_items dims most row h = omega (arith, h.0, count row)
     count (more (child bounds page below) rest) = omega (arith, count rest)
 
 -- the chosen child can take the entry, and has few entries too
-pub few_can : {D : ℕ} (most level target at reference : ℕ) (branch : Branch) (row : Row) (m m0 : PageMap) (page : ℕ) (entries : List (Entry D)) (d : Entry D)
-    → ((n : ℕ) → m0 n ≡ m n) → CanPlace D m page level target row branch → target < level → row_items row ≡ map item_of entries → at < length (map item_of entries)
-    → reference ≡ (get_or (map item_of entries) at (item_of d)).reference → HasFewEntries D most row
+pub few_can : {D : ℕ} (most level target at reference : ℕ) (branch : Branch) (row : Row) (m m0 : PageMap) (page : ℕ) (items : List Item)
+    → ((n : ℕ) → m0 n ≡ m n) → CanPlace D m page level target row branch → target < level → row_items row ≡ items → at < length items
+    → reference ≡ reference_at items at → HasFewEntries D most row
     → (below : Row) × CanPlace D m0 reference (level - 1) target below branch × HasFewEntries D most below
-few_can {D} most level target at reference branch row m m0 page entries d same before above are within refers few =
+few_can {D} most level target at reference branch row m m0 page items same before above are within refers few =
     let can = can_place_from D m m0 page level target row branch same before in
     let h = has_child D m0 level row at (omega (arith, above)) (omega (arith, within, ap length are)) can.below in
-    let is : reference ≡ h.from.page = refers ∙ ap (λ (es : List Item). (get_or es at (item_of d)).reference) (sym are) ∙ h.reference (item_of d) in (
+    let is : reference ≡ h.from.page = refers ∙ ap (λ (es : List Item). reference_at es at) (sym are) ∙ h.reference no_item in (
       h.from.row,
       record {
         there = subst (λ n. HasNode D m0 n (level - 1) h.from.row) (sym is) h.node;
@@ -327,15 +342,15 @@ few_can {D} most level target at reference branch row m m0 page entries d same b
       few_below D most row at h.from h.there few.1,
     )
 
--- the node's page is still live when its child has settled
-pub live_after : {D : ℕ} (Y : Type 0) (most top level target at reference : ℕ) (called called1 : List Bool) (branch : Branch) (row : Row) (m m0 m1 : PageMap) (page : ℕ) (lower : Settled D) (waits waits1 : List (Wait D)) (entries : List (Entry D)) (d : Entry D)
-    → ((n : ℕ) → m0 n ≡ m n) → CanPlace D m page level target row branch → target < level → row_items row ≡ map item_of entries → at < length (map item_of entries)
-    → reference ≡ (get_or (map item_of entries) at (item_of d)).reference
+-- the node still stands when its child has settled
+pub there_after : {D : ℕ} (Y : Type 0) (most top level target at reference : ℕ) (called called1 : List Bool) (branch : Branch) (row : Row) (m m0 m1 : PageMap) (page : ℕ) (lower : Settled D) (waits waits1 : List (Wait D)) (items : List Item)
+    → ((n : ℕ) → m0 n ≡ m n) → CanPlace D m page level target row branch → target < level → row_items row ≡ items → at < length items
+    → reference ≡ reference_at items at
     → ((below : Row) → CanPlace D m0 reference (level - 1) target below branch → Y × PlacesTo D most top (level - 1) target called branch below m0 m1 reference lower waits waits1 called1)
-    → Y × IsSome (m1 page)
-live_after {D} Y most top level target at reference called called1 branch row m m0 m1 page lower waits waits1 entries d same before above are within refers callee =
+    → Y × HasNode D m1 page level row
+there_after {D} Y most top level target at reference called called1 branch row m m0 m1 page lower waits waits1 items same before above are within refers callee =
     let can = can_place_from D m m0 page level target row branch same before in
     let h = has_child D m0 level row at (omega (arith, above)) (omega (arith, within, ap length are)) can.below in
-    let is : reference ≡ h.from.page = refers ∙ ap (λ (es : List Item). (get_or es at (item_of d)).reference) (sym are) ∙ h.reference (item_of d) in
+    let is : reference ≡ h.from.page = refers ∙ ap (λ (es : List Item). reference_at es at) (sym are) ∙ h.reference no_item in
     let both = callee h.from.row (child_can most top level target at called called1 branch row m0 m1 page lower waits waits1 can above h reference is) in
-    (both.0, (can_settle most top level target at called called1 branch row m0 m1 page lower waits waits1 can above h reference is both.1).live)
+    (both.0, still_there most top level target at called called1 branch row m0 m1 page lower waits waits1 can above h reference is both.1)

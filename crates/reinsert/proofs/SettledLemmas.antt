@@ -182,6 +182,24 @@ held-waiting_on level (x ∷ xs) (e ∷ es) h =
     let held : held_with level e ≡ held_in (record { branch = x; level = level }) = rw first refl in
     cc
 
+-- a node of at most the most entries stands as it is, or is written
+pub items_settled : {D : ℕ} (most top level : ℕ) (called : List Bool) (branches : List Branch) (items : List Item) (m m' : PageMap) (page : ℕ) (settled : Settled D) (waits waits' : List (Wait D)) (called' : List Bool)
+    → map item_in branches ≡ items → CanSettle D m page level branches → length items ≤ most → settled.bounds ≡ least_box D items → settled.beside ≡ None → waits' ≡ waits → called' ≡ called
+    → node_in D (m' page) ≡ Some (record { level = level; entries = items }) → SameBut page m m' → SettlesTo D most top level called branches m m' page settled waits waits' called'
+items_settled {D} most top level called branches items m m' page settled waits waits' called' are can few bounds beside far calls there others =
+    let here : row_items (row_of branches) ≡ items = items-row_of branches ∙ are in
+    let written : HasNode D m' page level (row_of branches) = there ∙ ap (λ (es : List Item). Some (record { level = level; entries = es })) (sym here) in
+    let counts : (n : ℕ) → occurs n (row_of branches) + 0 ≡ occurs n (row_of branches) = λ n. omega arith in
+    let size : length branches ≡ length items = sym (length-map branches item_in) ∙ ap length are in
+    let test : nat_le (length branches) most ≡ true = grind (arith, nat_tests, size, few) in
+    record {
+      outcome = record { row = row_of branches; beside = None; far = []; called = called };
+      settles = rw test refl;
+      stands = written_stands D m m' page level branches can (row_of branches) [] called can.stands tt counts written others;
+      moves = written_moves D m m' page level branches can (row_of branches) [] called can.stands tt counts written others;
+      shows = record { bounds = bounds ∙ ap (least_box D) (sym here); beside = ap (option_map item_of) beside; far = ap (map held_of) far ∙ sym (append-nil (map held_of waits)); calls = calls };
+    }
+
 module _ {D : ℕ} (most top level : ℕ) (called : List Bool) (branches : List Branch) (entries : List (Entry D)) (m m' : PageMap) (page : ℕ) (settled : Settled D) (waits waits' : List (Wait D)) (called' : List Bool)
     (are : map item_in branches ≡ map item_of entries) (can : CanSettle D m page level branches) where
   length_branches : length branches ≡ length entries
@@ -194,17 +212,7 @@ module _ {D : ℕ} (most top level : ℕ) (called : List Bool) (branches : List 
   pub fits_settled : length entries ≤ most → settled.bounds ≡ least_box D (map item_of entries) → settled.beside ≡ None → waits' ≡ waits → called' ≡ called
       → node_in D (m' page) ≡ Some (record { level = level; entries = map item_of entries }) → SameBut page m m' → SettlesTo D most top level called branches m m' page settled waits waits' called'
   fits_settled few bounds beside far calls there others =
-      let here : row_items (row_of branches) ≡ map item_of entries = items-row_of branches ∙ are in
-      let written : HasNode D m' page level (row_of branches) = there ∙ ap (λ (es : List Item). Some (record { level = level; entries = es })) (sym here) in
-      let counts : (n : ℕ) → occurs n (row_of branches) + 0 ≡ occurs n (row_of branches) = λ n. omega arith in
-      let test : nat_le (length branches) most ≡ true = grind (arith, nat_tests, length_branches, few) in
-      record {
-        outcome = record { row = row_of branches; beside = None; far = []; called = called };
-        settles = rw test refl;
-        stands = written_stands D m m' page level branches can (row_of branches) [] called can.stands tt counts written others;
-        moves = written_moves D m m' page level branches can (row_of branches) [] called can.stands tt counts written others;
-        shows = record { bounds = bounds ∙ ap (least_box D) (sym here); beside = ap (option_map item_of) beside; far = ap (map held_of) far ∙ sym (append-nil (map held_of waits)); calls = calls };
-      }
+      items_settled most top level called branches (map item_of entries) m m' page settled waits waits' called' are can (omega (arith, few, length-map entries item_of)) bounds beside far calls there others
 
   pub far_settled : (near far : List (Entry D)) → IsDividedFar D (far_count most) entries near far → length entries ≡ most + 1 → level < top → is_called called level ≡ false
       → settled.bounds ≡ least_box D (map item_of near) → settled.beside ≡ None

@@ -1,19 +1,21 @@
 -- What the code has done where a placing is done below a node: the words of its inner contracts (docs/RULES.md,
 -- "Insertion").
-use Rattle.std.specs.Prelude.{◌≡◌, ℕ, zero, suc, ◌+◌, ◌-◌, ◌≤◌, Bool, List, [], ◌∷◌, ◌++◌, map, reverse, ⊤, ◌*◌, Option, Some, None, IsSome}
+use Rattle.std.specs.Prelude.{◌≡◌, ℕ, zero, suc, ◌+◌, ◌-◌, ◌≤◌, Bool, List, [], ◌∷◌, ◌++◌, length, map, reverse, ⊤, ◌*◌, Option, Some, None, IsSome}
 use Rattle.std.specs.Option.{option_map}
 use Rattle.tree_node.specs.declared.node.Entry.{Entry}
 use Rattle.tree_node.specs.Nodes.{NodeContent, Item, item_of}
 use Rattle.tree_node.specs.Trees.{Row, end, more, Branch, row_items, row_length}
 use Rattle.tree_node.specs.Rows.{row_of, item_in, occurs_on, Waiter, occurs_waiting}
-use Rattle.tree_node.specs.Boxes.{least_box}
+use Rattle.tree_node.specs.Boxes.{box_at, least_box, reference_at}
 use Rattle.tree_node.specs.Shape.{RowHasShape}
 use Rattle.node_page.specs.Changes.{AllWait}
 use Rattle.node_page.specs.Standing.{PageMap, HasNode, RowStands, node_in}
 use Rattle.node_page.specs.Parts.{Moves}
+use Rattle.choose_subtree.specs.Choice.{IsChosenChild}
 use Rattle.reinsert.specs.declared.settled.Settled.{Settled}
 use Rattle.reinsert.specs.declared.waiting.Wait.{Wait}
 use Rattle.reinsert.specs.declared.waiting.Waiting.{Waiting as Room}
+use Rattle.reinsert.specs.declared.way.Way.{Way}
 use Rattle.reinsert.specs.Children.{occurs_at, Child, boxed}
 use Rattle.reinsert.specs.Called.{free_levels}
 use Rattle.reinsert.specs.Placing.{Outcome, Settles, Places}
@@ -143,5 +145,14 @@ items_beside None = []
 items_beside (Some e) = item_of e ∷ []
 
 -- the entries of a node whose child at a place has settled: its box is the new one, and what was split off comes last
-abbrev pub items_after : (D : ℕ) → List (Entry D) → ℕ → Settled D → List Item
-items_after D entries at lower = set_box (map item_of entries) at lower.bounds ++ items_beside lower.beside
+abbrev pub items_after : {D : ℕ} → List Item → ℕ → Settled D → List Item
+items_after items at lower = set_box items at lower.bounds ++ items_beside lower.beside
+
+-- the way down from a node of these entries, which are at most the most: the chosen child, with its page and box, and
+-- the least box round the entries
+pub record IsWay {D : ℕ} (dims most level : ℕ) (items : List Item) (new : Bounds) (way : Way D) : Type 0 where
+  pub few : length items ≤ most
+  pub chosen : IsChosenChild dims level items new way.place
+  pub page : way.page ≡ reference_at items way.place
+  pub bounds : way.bounds ≡ box_at items way.place
+  pub least : way.least ≡ least_box dims items

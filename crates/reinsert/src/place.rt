@@ -1,15 +1,14 @@
 //! An entry placed below a node, and the nodes above settled.
 
-ghost use Rattle.std.specs.Prelude.{◌≡◌, ◌^◌, ◌+◌, ◌<◌, ◌≤◌, ◌++◌, ◌∷◌, [], Some, true, false, ℕ, List, All, length};
+ghost use Rattle.std.specs.Prelude.{◌≡◌, ◌^◌, ◌+◌, ◌<◌, ◌≤◌, ◌++◌, ◌∷◌, [], Some, None, true, ℕ, List, All, length};
 ghost use Rattle.std.specs.Prelude.{map};
-ghost use Rattle.std.specs.Prelude.{◌⊎◌, slice_index_or, IfOk, IfErr, IfSome, IsTrue, OnOk};
+ghost use Rattle.std.specs.Prelude.{◌⊎◌, IfOk, IfErr, IfSome, IsTrue, OnOk};
 ghost use Rattle.arrayvec.specs.ArrayVec.{array_vec_len};
 ghost use Rattle.box_math.specs.Bounds.{IsDims};
 ghost use Rattle.page_file.specs.Fault.{IsDamage, IsOfDevice};
 ghost use Rattle.page_file.specs.declared.gate.Gate.TheVariants.{Open};
 ghost use Rattle.page_cache.specs.Cache.{Grows, IsHonest, IsLive, IsPageMap, gate_of, pages};
 ghost use Rattle.page_cache.specs.Calls.{Asks, Changes};
-ghost use Rattle.choose_subtree.specs.Choice.{IsChosenChild};
 ghost use Rattle.tree_node.specs.Nodes.{Item, NodeContent, content_of, item_of};
 ghost use Rattle.tree_node.specs.Rows.{item_in};
 ghost use Rattle.tree_node.specs.Trees.{Row, Branch};
@@ -20,13 +19,12 @@ ghost use Rattle.node_page.specs.Faults.{IsChangeFault, IsNoDamage};
 ghost use Rattle.reinsert.specs.Placed.{CanPlace, CanSettle, HasFewEntries, PlacesTo, SettlesTo};
 ghost use Rattle.reinsert.specs.Placed.{items_after, measure_of};
 
-use crate::settle::{settle, stay};
+use crate::settle::settle;
 use crate::settled::Settled;
 use crate::waiting::Waiting;
+use crate::way::{Way, way_down};
 use arrayvec::ArrayVec;
 use block_device::BlockDevice;
-use box_math::BBox;
-use choose_subtree::choose;
 use node_page::{Broken, read_into};
 use page_cache::PageCache;
 use page_file::Fault;
@@ -62,30 +60,27 @@ pub(crate) fn place<const D: usize, B: BlockDevice, A: Allocator + Copy>(
         IfErr result (λ b. IsNoDamage cache.new b.cause) }
     ensures other_faults { IfErr result (λ b. IsChangeFault b.cause) }
 {
-    let mut node = Node {
-        level: at.level,
-        entries: ArrayVec::new(),
-    };
-    read_fitting(cache, at, m_max, &mut node)?;
     if at.level == target {
+        let mut node = Node {
+            level: at.level,
+            entries: ArrayVec::new(),
+        };
+        read_fitting(cache, at, m_max, &mut node)?;
         return put_here(cache, at.page, &mut node, entry, top, m_max, waiting);
     }
-    let (place_of_child, page) = child_for(&node, &entry.bounds);
+    let way = way_down(cache, at, &entry.bounds, m_max)?;
     let below = Root {
-        page,
+        page: way.page,
         level: at.level - 1,
     };
     let lower = place(cache, below, entry, target, top, m_max, waiting)?;
-    put_above(
-        cache,
-        at.page,
-        &mut node,
-        place_of_child,
-        lower,
-        top,
-        m_max,
-        waiting,
-    )
+    if keeps_entries(&way, &lower) {
+        return Ok(Settled {
+            bounds: way.least,
+            beside: None,
+        });
+    }
+    put_above(cache, at, way.place, lower, top, m_max, waiting)
 }
 
 // Reads a node of at most the most entries.
@@ -113,20 +108,6 @@ fn read_fitting<const D: usize, B: BlockDevice, A: Allocator + Copy>(
         return Err(Fault::Damaged(at.page));
     }
     Ok(())
-}
-
-// The place of the child that a new box goes to, and the child's page.
-fn child_for<const D: usize>(node: &Node<D>, bounds: &BBox<D>) -> (usize, u32)
-    requires dims { IsDims D }
-    requires above { 0 < node.now.level }
-    requires some { 0 < array_vec_len node.now.entries }
-    requires refers { All (λ e. IsReference node.now.level e.reference) node.now.entries.items }
-    ensures within { result.0 < array_vec_len node.now.entries }
-    ensures chosen { IsChosenChild D node.now.level (map item_of node.now.entries.items) bounds.now result.0 }
-    ensures page { (d : Item) → result.1 ≡ (slice_index_or (map item_of node.now.entries.items) result.0 d).reference }
-{
-    let at = choose(node, bounds);
-    (at, node.entries[at].reference as u32)
 }
 
 // Adds the entry to the node, and writes it.
@@ -167,23 +148,18 @@ fn put_here<const D: usize, B: BlockDevice, A: Allocator + Copy>(
     }
 }
 
-// Whether a node keeps its entries where its child at the place has settled so: the child kept its box, and nothing was
-// split off it.
-fn keeps_entries<const D: usize>(node: &Node<D>, at: usize, lower: &Settled<D>) -> bool
-    requires within { at < array_vec_len node.now.entries }
-    ensures { IsTrue result
-        → map item_of node.now.entries.items ≡ items_after D node.now.entries.items at lower.now }
+// Whether a node keeps its entries where the chosen child has settled so: it kept its box, and nothing was split off it.
+fn keeps_entries<const D: usize>(way: &Way<D>, lower: &Settled<D>) -> bool
+    ensures { IsTrue result → (lower.now.beside ≡ None) × (lower.now.bounds ≡ way.now.bounds) }
 {
-    lower.beside.is_none() && lower.bounds == node.entries[at].bounds
+    lower.beside.is_none() && lower.bounds == way.bounds
 }
 
-// Settles a node whose child at the place has settled, of which pages were written. It is itself written where its
-// entries change.
+// Settles a node whose child at the place has settled, of which pages were written.
 fn put_above<const D: usize, B: BlockDevice, A: Allocator + Copy>(
     cache: &mut PageCache<B, A>,
-    page: u32,
-    node: &mut Node<D>,
-    at: usize,
+    at: Root,
+    place: usize,
     lower: Settled<D>,
     top: u8,
     m_max: usize,
@@ -192,33 +168,71 @@ fn put_above<const D: usize, B: BlockDevice, A: Allocator + Copy>(
     requires dims { IsDims D }
     requires open { gate_of cache.old ≡ Open }
     requires most { (4 ≤ m_max) × (m_max ≤ 100) }
-    requires top { (node.old.level ≤ top) × (top ≤ 40) }
-    requires within { at < array_vec_len node.old.entries }
-    requires few { array_vec_len node.old.entries ≤ m_max }
-    requires refers { All (λ e. IsReference node.old.level e.reference) node.old.entries.items }
-    requires beside { IfSome lower.beside (λ e. IsReference node.old.level e.reference) }
+    requires top { (at.level ≤ top) × (top ≤ 40) }
+    requires beside { IfSome lower.beside (λ e. IsReference at.level e.reference) }
     ensures alters { Alters cache.old cache.new result }
     ensures grows { Grows 1 cache.old cache.new }
     ensures measure { measure_of waiting.new ≤ measure_of waiting.old }
-    ensures beside { IfOk result (λ s. IfSome s.beside (λ e. IsReference (node.old.level + 1) e.reference)) }
-    ensures settled { IsPageMap cache.old → (branches : List Branch)
-        → map item_in branches ≡ items_after D node.old.entries.items at lower.entry
-        → CanSettle D (pages cache.old) page node.old.level branches
-        → node_in D (pages cache.old page) ≡ Some (content_of node.old) →
+    ensures beside { IfOk result (λ s. IfSome s.beside (λ e. IsReference (at.level + 1) e.reference)) }
+    ensures settled { IsPageMap cache.old → (items : List Item) (branches : List Branch)
+        → node_in D (pages cache.old at.page) ≡ Some (record { level = at.level; entries = items })
+        → map item_in branches ≡ items_after items place lower.entry
+        → CanSettle D (pages cache.old) at.page at.level branches →
         IfOk result (λ s. IsPageMap cache.new
-        × SettlesTo D m_max top node.old.level waiting.old.called branches (pages cache.old) (pages cache.new)
-        page s waiting.old.waits.items waiting.new.waits.items waiting.new.called) }
+        × SettlesTo D m_max top at.level waiting.old.called branches (pages cache.old) (pages cache.new)
+        at.page s waiting.old.waits.items waiting.new.waits.items waiting.new.called) }
     ensures touched { IfErr result (λ b. b.touched ≡ true) }
-    ensures faults { IsPageMap cache.old → IsLive cache.old page → IfErr result (λ b. IsNoDamage cache.new b.cause) }
+    ensures faults { IsPageMap cache.old → (items : List Item)
+        → node_in D (pages cache.old at.page) ≡ Some (record { level = at.level; entries = items })
+        → place < length items → length items ≤ m_max → IfErr result (λ b. IsNoDamage cache.new b.cause) }
     ensures other_faults { IfErr result (λ b. IsChangeFault b.cause) }
 {
-    if keeps_entries(node, at, &lower) {
-        return Ok(stay(node));
-    }
-    match settle_above(cache, page, node, at, lower, top, m_max, waiting) {
+    match read_and_settle(cache, at, place, lower, top, m_max, waiting) {
         Ok(settled) => Ok(settled),
         Err(fault) => Err(Broken::midway(fault)),
     }
+}
+
+// Reads a node whose child at the place has settled, and writes it.
+fn read_and_settle<const D: usize, B: BlockDevice, A: Allocator + Copy>(
+    cache: &mut PageCache<B, A>,
+    at: Root,
+    place: usize,
+    lower: Settled<D>,
+    top: u8,
+    m_max: usize,
+    waiting: &mut Waiting<D>,
+) -> Result<Settled<D>, Fault>
+    requires dims { IsDims D }
+    requires open { gate_of cache.old ≡ Open }
+    requires most { (4 ≤ m_max) × (m_max ≤ 100) }
+    requires top { (at.level ≤ top) × (top ≤ 40) }
+    requires beside { IfSome lower.beside (λ e. IsReference at.level e.reference) }
+    ensures changes { Changes cache.old cache.new result }
+    ensures grows { Grows 1 cache.old cache.new }
+    ensures measure { measure_of waiting.new ≤ measure_of waiting.old }
+    ensures beside { IfOk result (λ s. IfSome s.beside (λ e. IsReference (at.level + 1) e.reference)) }
+    ensures settled { IsPageMap cache.old → (items : List Item) (branches : List Branch)
+        → node_in D (pages cache.old at.page) ≡ Some (record { level = at.level; entries = items })
+        → map item_in branches ≡ items_after items place lower.entry
+        → CanSettle D (pages cache.old) at.page at.level branches →
+        IfOk result (λ s. IsPageMap cache.new
+        × SettlesTo D m_max top at.level waiting.old.called branches (pages cache.old) (pages cache.new)
+        at.page s waiting.old.waits.items waiting.new.waits.items waiting.new.called) }
+    ensures faults { IsPageMap cache.old → (items : List Item)
+        → node_in D (pages cache.old at.page) ≡ Some (record { level = at.level; entries = items })
+        → place < length items → length items ≤ m_max → IfErr result (IsNoDamage cache.new) }
+    ensures other_faults { IfErr result IsChangeFault }
+{
+    let mut node = Node {
+        level: at.level,
+        entries: ArrayVec::new(),
+    };
+    read_fitting(cache, at, m_max, &mut node)?;
+    if place >= node.entries.len() {
+        return Err(Fault::Damaged(at.page));
+    }
+    settle_above(cache, at.page, &mut node, place, lower, top, m_max, waiting)
 }
 
 // Writes a node whose child at the place has settled.
@@ -245,7 +259,7 @@ fn settle_above<const D: usize, B: BlockDevice, A: Allocator + Copy>(
     ensures measure { measure_of waiting.new ≤ measure_of waiting.old }
     ensures beside { IfOk result (λ s. IfSome s.beside (λ e. IsReference (node.old.level + 1) e.reference)) }
     ensures settled { IsPageMap cache.old → (branches : List Branch)
-        → map item_in branches ≡ items_after D node.old.entries.items at lower.entry
+        → map item_in branches ≡ items_after (map item_of node.old.entries.items) at lower.entry
         → CanSettle D (pages cache.old) page node.old.level branches →
         IfOk result (λ s. IsPageMap cache.new
         × SettlesTo D m_max top node.old.level waiting.old.called branches (pages cache.old) (pages cache.new)

@@ -76,24 +76,6 @@ pub(crate) fn settle<const D: usize, B: BlockDevice, A: Allocator + Copy>(
     split_off(cache, page, node, m_max, waiting)
 }
 
-// A node of at most the most entries, which its page holds as it is: nothing is written.
-pub(crate) fn stay<const D: usize>(node: &Node<D>) -> Settled<D>
-    requires some { 0 < array_vec_len node.now.entries }
-    ensures alone { result.beside ≡ None }
-    ensures settled { (m : PageMap) (page most top : ℕ) (called : List Bool) (waits : List (Wait D))
-        (branches : List Branch)
-        → array_vec_len node.now.entries ≤ most
-        → map item_in branches ≡ map item_of node.now.entries.items
-        → CanSettle D m page node.now.level branches
-        → node_in D (m page) ≡ Some (content_of node.now) →
-        SettlesTo D most top node.now.level called branches m m page result waits waits called }
-{
-    Settled {
-        bounds: least(node.entries.as_slice()),
-        beside: None,
-    }
-}
-
 // Writes a node of at most the most entries.
 fn write_fitting<const D: usize, B: BlockDevice, A: Allocator + Copy>(
     cache: &mut PageCache<B, A>,

@@ -1,5 +1,5 @@
 -- The goals of `place` that are proved by hand.
-use Rattle.std.proofs.Common.{rules, ◌≡◌, ◌∙◌, ◌+◌, ◌-◌, [], ◌∷◌, ◌++◌, List, map, All, IfOk, IfSome, IsSome, None, Some, inl, false, refl, sym, ap, subst, arith}
+use Rattle.std.proofs.Common.{rules, ◌≡◌, ◌∙◌, ◌+◌, ◌-◌, [], ◌∷◌, ◌++◌, List, map, All, IfOk, IfSome, IsSome, None, Ok, Result, Some, inl, false, refl, sym, ap, subst, arith}
 use Rattle.page_cache.specs.Cache.{IsPageMap, pages}
 use Rattle.page_cache.specs.Calls.{asks_changes, changes_in_turn}
 use Rattle.page_cache.specs.Laws.{the_map_is_kept_in_turn}
@@ -8,7 +8,7 @@ use Rattle.tree_node.specs.Nodes.{Item, item_of}
 use Rattle.tree_node.specs.Trees.{row_items}
 use Rattle.tree_node.specs.Rows.{item_in}
 use Rattle.choose_subtree.specs.Choice.{IsChosenChild}
-use Rattle.node_page.specs.Broken.{alters_so, asks_and_alters, before}
+use Rattle.node_page.specs.Broken.{alters_so, asks_and_alters, before, made_alters}
 use Rattle.node_page.specs.Layout.{IsReference}
 use Rattle.node_page.specs.Standing.{PageMap}
 use Rattle.node_page.specs.declared.broken.Broken.{Broken}
@@ -16,7 +16,10 @@ use Rattle.node_page.proofs.StandingLemmas.{page_of_node}
 use Rattle.node_page.specs.Faults.{IsNoDamage, IsChangeFault}
 use Rattle.reinsert.specs.Placed.{CanSettle, SettlesTo}
 use Rattle.reinsert.proofs.BrokenLemmas.{at_broken, changes_and_alters}
-use Rattle.reinsert.proofs.PlaceLemmas.{few_can, few_items, here_ok, items_read, live_after, over_ok}
+use Rattle.reinsert.proofs.PlaceLemmas.{few_can, few_items, here_ok, items_read, over_ok, there_after}
+use Rattle.reinsert.proofs.AboveLemmas.{items_kept}
+use Rattle.reinsert.proofs.SettledLemmas.{items_settled}
+use Rattle.reinsert.specs.declared.settled.Settled.{Settled}
 use Rattle.reinsert.proofs.FaultLemmas.{one_more}
 use Rattle.reinsert.proofs.place.+place.Goals as goal
 
@@ -70,61 +73,6 @@ returns-then-at-target-clause-placed g t c = λ h row branch item can.
     (are ∙ ap (λ (es : List Item). es ++ item_in branch ∷ []) read ∙ ap (λ (x : Item). map item_of entries ++ x ∷ []) item)
     (subst (λ l. CanSettle D m0 page l branches) (sym level) settle)))
 
-pub put_above-requires : goal.put_above-requires
-put_above-requires g t c =
-    let level = c.in_ok-read_fitting.ensures.level in
-    let refers : All (λ (e : Entry g.row.D). IsReference c.read_fitting.new.node.level e.reference) c.read_fitting.new.node.entries.items =
-    subst (λ l. All (λ (e : Entry g.row.D). IsReference l e.reference) c.read_fitting.new.node.entries.items) (sym level) c.in_ok-read_fitting.ensures.refers in
-    let up : c.args.at.level - 1 + 1 ≡ c.read_fitting.new.node.level = omega (arith, level, c.requires.levels, c.if-at-target.false) in
-    let beside : IfSome c.in_ok-lower.lower.beside (λ (e : Entry g.row.D). IsReference c.read_fitting.new.node.level e.reference) =
-    subst (λ l. IfSome c.in_ok-lower.lower.beside (λ (e : Entry g.row.D). IsReference l e.reference)) up c.in_ok-lower.ensures.beside in (
-      search rules,
-      (
-        search rules,
-        (
-          search rules,
-          (
-            c.requires.dims,
-            (
-              c.in_ok-lower.ensures.alters.changes.gate.gate ∙ c.in_ok-read_fitting.ensures.asks.gate.gate ∙ c.requires.open,
-              (
-                c.requires.most,
-                ((omega (arith, level, c.requires.levels), omega (arith, c.requires.levels)), (c.child_for-place_of_child.ensures.within, (c.in_ok-read_fitting.ensures.few, (refers, beside)))),
-              ),
-            ),
-          ),
-        ),
-      ),
-    )
-
-pub returns-clause-beside : goal.returns-clause-beside
-returns-clause-beside g t c =
-    subst (λ l. IfOk c.put_above.result (λ s. IfSome s.beside (λ (e : Entry g.row.D). IsReference (l + 1) e.reference))) c.in_ok-read_fitting.ensures.level c.put_above.ensures.beside
-
-pub returns-clause-placed : goal.returns-clause-placed
-returns-clause-placed g t c = λ h row branch item can.
-    let D = g.row.D in
-    let m : PageMap = pages c.args.cache.now in
-    let m0 : PageMap = pages c.read_fitting.new.cache in
-    let m1 : PageMap = pages c.place.new.cache in
-    let m' : PageMap = pages c.put_above.new.cache in
-    let level = c.in_ok-read_fitting.ensures.level in
-    let entries = c.read_fitting.new.node.entries.items in
-    let page = c.args.at.page in
-    let at = c.child_for-place_of_child.result.0 in
-    let read = items_read D m page c.args.at.level c.read_fitting.new.node.level row (map item_of entries) can.there (c.in_ok-read_fitting.ensures.node h.honest (page_of_node D (m page) _ can.there)) in
-    let chosen : IsChosenChild D c.args.at.level (map item_of entries) (item_in branch).bounds at =
-    subst (λ (x : Item). IsChosenChild D c.args.at.level (map item_of entries) x.bounds at) (sym item)
-    (subst (λ l. IsChosenChild D l (map item_of entries) c.args.entry.now.bounds at) level c.child_for-place_of_child.ensures.chosen) in
-    over_ok c.put_above.result (IsPageMap c.put_above.new.cache) (IsPageMap c.place.new.cache) c.args.m_max c.args.top c.args.at.level c.args.target at c.child_for-place_of_child.result.1
-    c.args.waiting.now.called c.place.new.waiting.called branch row m m0 m1 m' page c.in_ok-lower.lower c.args.waiting.now.waits.items c.place.new.waiting.waits.items _ _ entries c.args.entry.now
-    (c.in_ok-read_fitting.ensures.asks.map.pages_stay h.honest) can (omega (arith, c.requires.levels, c.if-at-target.false)) read chosen (c.child_for-place_of_child.ensures.page (item_of c.args.entry.now))
-    (λ below could. c.in_ok-lower.ensures.placed (c.in_ok-read_fitting.ensures.asks.map.sound.0 h) below branch item could)
-    (λ sound branches are settle there.
-    subst (λ l. IfOk c.put_above.result (λ s. IsPageMap c.put_above.new.cache × SettlesTo D c.args.m_max c.args.top l c.place.new.waiting.called branches m1 m' page s c.place.new.waiting.waits.items c.put_above.new.waiting.waits.items c.put_above.new.waiting.called)) level
-    (c.put_above.ensures.settled sound branches are (subst (λ l. CanSettle D m1 page l branches) (sym level) settle)
-    (there ∙ ap (λ es. Some (record { level = c.args.at.level; entries = es })) read ∙ ap (λ l. Some (record { level = l; entries = map item_of entries })) (sym level))))
-
 pub returns-in_err-read_fitting-clause-faults : goal.returns-in_err-read_fitting-clause-faults
 returns-in_err-read_fitting-clause-faults g t c = λ h row branch item can few.
     at_broken c.from_residual.result (record { cause = c.in_err-read_fitting.field-0.0; touched = false }) (λ (b : Broken). IsNoDamage c.read_fitting.new.cache b.cause) c.from_residual.ensures.1
@@ -136,34 +84,6 @@ returns-then-at-target-clause-faults g t c = λ h row branch item can few.
     let same = c.in_ok-read_fitting.ensures.asks.map.pages_stay h.honest c.args.at.page in
     c.put_here.ensures.faults (c.in_ok-read_fitting.ensures.asks.map.sound.0 h) (subst IsSome (sym same) (page_of_node g.row.D (m c.args.at.page) _ can.there))
 
-pub returns-in_err-lower-clause-faults : goal.returns-in_err-lower-clause-faults
-returns-in_err-lower-clause-faults g t c = λ h row branch item can few.
-    let D = g.row.D in
-    let m : PageMap = pages c.args.cache.now in
-    let m0 : PageMap = pages c.read_fitting.new.cache in
-    let entries = c.read_fitting.new.node.entries.items in
-    let page = c.args.at.page in
-    let read = items_read D m page c.args.at.level c.read_fitting.new.node.level row (map item_of entries) can.there (c.in_ok-read_fitting.ensures.node h.honest (page_of_node D (m page) _ can.there)) in
-    let low = few_can c.args.m_max c.args.at.level c.args.target c.child_for-place_of_child.result.0 c.child_for-place_of_child.result.1 branch row m m0 page entries c.args.entry.now
-    (c.in_ok-read_fitting.ensures.asks.map.pages_stay h.honest) can (omega (arith, c.requires.levels, c.if-at-target.false)) read c.child_for-place_of_child.ensures.chosen.within (c.child_for-place_of_child.ensures.page (item_of c.args.entry.now)) few in
-    at_broken c.from_residual-in_err-lower.result c.in_err-lower.field-0.0 (λ (b : Broken). IsNoDamage c.place.new.cache b.cause) c.from_residual-in_err-lower.ensures.1
-    (c.in_err-lower.ensures.faults (c.in_ok-read_fitting.ensures.asks.map.sound.0 h) low.0 branch item low.1 low.2)
-
-pub returns-clause-faults : goal.returns-clause-faults
-returns-clause-faults g t c = λ h row branch item can few.
-    let D = g.row.D in
-    let m : PageMap = pages c.args.cache.now in
-    let m0 : PageMap = pages c.read_fitting.new.cache in
-    let m1 : PageMap = pages c.place.new.cache in
-    let entries = c.read_fitting.new.node.entries.items in
-    let page = c.args.at.page in
-    let read = items_read D m page c.args.at.level c.read_fitting.new.node.level row (map item_of entries) can.there (c.in_ok-read_fitting.ensures.node h.honest (page_of_node D (m page) _ can.there)) in
-    let live = live_after (IsPageMap c.place.new.cache) c.args.m_max c.args.top c.args.at.level c.args.target c.child_for-place_of_child.result.0 c.child_for-place_of_child.result.1
-    c.args.waiting.now.called c.place.new.waiting.called branch row m m0 m1 page c.in_ok-lower.lower c.args.waiting.now.waits.items c.place.new.waiting.waits.items entries c.args.entry.now
-    (c.in_ok-read_fitting.ensures.asks.map.pages_stay h.honest) can (omega (arith, c.requires.levels, c.if-at-target.false)) read c.child_for-place_of_child.ensures.chosen.within (c.child_for-place_of_child.ensures.page (item_of c.args.entry.now))
-    (λ below could. c.in_ok-lower.ensures.placed (c.in_ok-read_fitting.ensures.asks.map.sound.0 h) below branch item could) in
-    c.put_above.ensures.faults live.0 live.1
-
 pub returns-in_err-read_fitting-clause-alters : goal.returns-in_err-read_fitting-clause-alters
 returns-in_err-read_fitting-clause-alters g t c =
     alters_so c.args.cache.now c.read_fitting.new.cache (before c.in_err-read_fitting.field-0.0) c.from_residual.result c.from_residual.ensures.1
@@ -172,29 +92,137 @@ returns-in_err-read_fitting-clause-alters g t c =
 pub returns-then-at-target-clause-alters : goal.returns-then-at-target-clause-alters
 returns-then-at-target-clause-alters g t c = asks_and_alters c.args.cache.now c.read_fitting.new.cache c.put_here.new.cache c.put_here.result c.in_ok-read_fitting.ensures.asks c.put_here.ensures.alters
 
-pub returns-in_err-lower-clause-alters : goal.returns-in_err-lower-clause-alters
-returns-in_err-lower-clause-alters g t c =
-    let old = c.args.cache.now in
-    let mid = c.read_fitting.new.cache in
-    let new = c.place.new.cache in
-    let broken = c.in_err-lower.field-0.0 in
-    let asks = c.in_ok-read_fitting.ensures.asks in
-    alters_so old new broken c.from_residual-in_err-lower.result c.from_residual-in_err-lower.ensures.1
-    (changes_in_turn old mid new (Some broken.cause) (asks_changes old mid None asks) c.in_err-lower.ensures.alters.changes)
-    (λ untouched. the_map_is_kept_in_turn old mid new asks.gate.honest.0 asks.map (c.in_err-lower.ensures.alters.untouched untouched))
-
-pub returns-clause-alters : goal.returns-clause-alters
-returns-clause-alters g t c =
-    let old = c.args.cache.now in
-    let mid = c.read_fitting.new.cache in
-    let low = c.place.new.cache in
-    changes_and_alters old low c.put_above.new.cache c.put_above.result
-    (changes_in_turn old mid low None (asks_changes old mid None c.in_ok-read_fitting.ensures.asks) c.in_ok-lower.ensures.alters.changes) c.put_above.ensures.alters c.put_above.ensures.touched
-
 pub returns-in_err-read_fitting-clause-other_faults : goal.returns-in_err-read_fitting-clause-other_faults
 returns-in_err-read_fitting-clause-other_faults g t c =
     at_broken c.from_residual.result (before c.in_err-read_fitting.field-0.0) (λ (b : Broken). IsChangeFault b.cause) c.from_residual.ensures.1 (one_more _ _ _ c.in_err-read_fitting.ensures.other_faults)
 
+-- ---- the way down is refused, or the placing below it
+
+pub returns-in_err-way-clause-faults : goal.returns-in_err-way-clause-faults
+returns-in_err-way-clause-faults g t c = λ h row branch item can few.
+    at_broken c.from_residual-in_err-way.result (before c.in_err-way.field-0.0) (λ (b : Broken). IsNoDamage c.way_down.new.cache b.cause) c.from_residual-in_err-way.ensures.1
+    (inl (c.in_err-way.ensures.faults h.honest (record { level = c.args.at.level; entries = row_items row }) can.there refl (few_items g.row.D c.args.m_max row few)))
+
+pub returns-in_err-way-clause-alters : goal.returns-in_err-way-clause-alters
+returns-in_err-way-clause-alters g t c =
+    alters_so c.args.cache.now c.way_down.new.cache (before c.in_err-way.field-0.0) c.from_residual-in_err-way.result c.from_residual-in_err-way.ensures.1
+    (asks_changes c.args.cache.now c.way_down.new.cache (Some c.in_err-way.field-0.0) c.in_err-way.ensures.asks) (λ untouched. c.in_err-way.ensures.asks.map)
+
+pub returns-in_err-way-clause-other_faults : goal.returns-in_err-way-clause-other_faults
+returns-in_err-way-clause-other_faults g t c =
+    at_broken c.from_residual-in_err-way.result (before c.in_err-way.field-0.0) (λ (b : Broken). IsChangeFault b.cause) c.from_residual-in_err-way.ensures.1 (one_more _ _ _ c.in_err-way.ensures.other_faults)
+
+pub returns-in_err-lower-clause-faults : goal.returns-in_err-lower-clause-faults
+returns-in_err-lower-clause-faults g t c = λ h row branch item can few.
+    let m : PageMap = pages c.args.cache.now in
+    let m0 : PageMap = pages c.way_down.new.cache in
+    let way = c.in_ok-way.way in
+    let is = c.in_ok-way.ensures.way h.honest (record { level = c.args.at.level; entries = row_items row }) can.there refl in
+    let low = few_can c.args.m_max c.args.at.level c.args.target way.place way.page branch row m m0 c.args.at.page (row_items row)
+    (c.in_ok-way.ensures.asks.map.pages_stay h.honest) can (omega (arith, c.requires.levels, c.if-at-target.false)) refl is.chosen.within is.page few in
+    at_broken c.from_residual-in_err-lower.result c.in_err-lower.field-0.0 (λ (b : Broken). IsNoDamage c.place.new.cache b.cause) c.from_residual-in_err-lower.ensures.1
+    (c.in_err-lower.ensures.faults (c.in_ok-way.ensures.asks.map.sound.0 h) low.0 branch item low.1 low.2)
+
+pub returns-in_err-lower-clause-alters : goal.returns-in_err-lower-clause-alters
+returns-in_err-lower-clause-alters g t c =
+    let old = c.args.cache.now in
+    let mid = c.way_down.new.cache in
+    let new = c.place.new.cache in
+    let broken = c.in_err-lower.field-0.0 in
+    let asks = c.in_ok-way.ensures.asks in
+    alters_so old new broken c.from_residual-in_err-lower.result c.from_residual-in_err-lower.ensures.1
+    (changes_in_turn old mid new (Some broken.cause) (asks_changes old mid None asks) c.in_err-lower.ensures.alters.changes)
+    (λ untouched. the_map_is_kept_in_turn old mid new asks.gate.honest.0 asks.map (c.in_err-lower.ensures.alters.untouched untouched))
+
 pub returns-in_err-lower-clause-other_faults : goal.returns-in_err-lower-clause-other_faults
 returns-in_err-lower-clause-other_faults g t c =
     at_broken c.from_residual-in_err-lower.result c.in_err-lower.field-0.0 (λ (b : Broken). IsChangeFault b.cause) c.from_residual-in_err-lower.ensures.1 c.in_err-lower.ensures.other_faults
+
+-- ---- the node stays
+
+pub returns-then-keeps_entries-clause-placed : goal.returns-then-keeps_entries-clause-placed
+returns-then-keeps_entries-clause-placed g t c = λ h row branch item can.
+    let D = g.row.D in
+    let m : PageMap = pages c.args.cache.now in
+    let m0 : PageMap = pages c.way_down.new.cache in
+    let m1 : PageMap = pages c.place.new.cache in
+    let level = c.args.at.level in
+    let page = c.args.at.page in
+    let way = c.in_ok-way.way in
+    let lower = c.in_ok-lower.lower in
+    let called = c.place.new.waiting.called in
+    let waits = c.place.new.waiting.waits.items in
+    let settled : Settled D = record { bounds = way.least; beside = None } in
+    let done : Result (Settled D) Broken = Ok settled in
+    let is = c.in_ok-way.ensures.way h.honest (record { level = level; entries = row_items row }) can.there refl in
+    let kept = c.keeps_entries.ensures c.if-keeps_entries.true in
+    let chosen = subst (λ (x : Item). IsChosenChild D level (row_items row) x.bounds way.place) (sym item) is.chosen in
+    over_ok done (IsPageMap c.place.new.cache) (IsPageMap c.place.new.cache) c.args.m_max c.args.top level c.args.target way.place way.page c.args.waiting.now.called called branch row m m0 m1 m1 page lower
+    c.args.waiting.now.waits.items waits waits called (row_items row) (c.in_ok-way.ensures.asks.map.pages_stay h.honest) can (omega (arith, c.requires.levels, c.if-at-target.false)) refl chosen is.page
+    (λ below could. c.in_ok-lower.ensures.placed (c.in_ok-way.ensures.asks.map.sound.0 h) below branch item could)
+    (λ sound branches are settle there. (
+      sound,
+      items_settled c.args.m_max c.args.top level called branches (row_items row) m1 m1 page settled waits waits called (are ∙ items_kept (row_items row) way.place lower kept.0 (kept.1 ∙ is.bounds)) settle is.few is.least refl refl refl there (λ k differs. refl),
+    ))
+
+pub returns-then-keeps_entries-clause-alters : goal.returns-then-keeps_entries-clause-alters
+returns-then-keeps_entries-clause-alters g t c =
+    let old = c.args.cache.now in
+    let mid = c.way_down.new.cache in
+    let low = c.place.new.cache in
+    made_alters old low _ (changes_in_turn old mid low None (asks_changes old mid None c.in_ok-way.ensures.asks) c.in_ok-lower.ensures.alters.changes)
+
+-- ---- the node is settled
+
+pub put_above-requires : goal.put_above-requires
+put_above-requires g t c =
+    let up : c.args.at.level - 1 + 1 ≡ c.args.at.level = omega (arith, c.requires.levels, c.if-at-target.false) in
+    let beside : IfSome c.in_ok-lower.lower.beside (λ (e : Entry g.row.D). IsReference c.args.at.level e.reference) =
+    subst (λ l. IfSome c.in_ok-lower.lower.beside (λ (e : Entry g.row.D). IsReference l e.reference)) up c.in_ok-lower.ensures.beside in (
+      search rules,
+      (
+        search rules,
+        (
+          c.requires.dims,
+          (c.in_ok-lower.ensures.alters.changes.gate.gate ∙ c.in_ok-way.ensures.asks.gate.gate ∙ c.requires.open, (c.requires.most, ((omega (arith, c.requires.levels), omega (arith, c.requires.levels)), beside))),
+        ),
+      ),
+    )
+
+pub returns-clause-placed : goal.returns-clause-placed
+returns-clause-placed g t c = λ h row branch item can.
+    let D = g.row.D in
+    let m : PageMap = pages c.args.cache.now in
+    let m0 : PageMap = pages c.way_down.new.cache in
+    let m1 : PageMap = pages c.place.new.cache in
+    let m' : PageMap = pages c.put_above.new.cache in
+    let level = c.args.at.level in
+    let way = c.in_ok-way.way in
+    let is = c.in_ok-way.ensures.way h.honest (record { level = level; entries = row_items row }) can.there refl in
+    let chosen = subst (λ (x : Item). IsChosenChild D level (row_items row) x.bounds way.place) (sym item) is.chosen in
+    over_ok c.put_above.result (IsPageMap c.put_above.new.cache) (IsPageMap c.place.new.cache) c.args.m_max c.args.top level c.args.target way.place way.page c.args.waiting.now.called c.place.new.waiting.called branch row m m0 m1 m'
+    c.args.at.page c.in_ok-lower.lower c.args.waiting.now.waits.items c.place.new.waiting.waits.items _ _ (row_items row) (c.in_ok-way.ensures.asks.map.pages_stay h.honest) can
+    (omega (arith, c.requires.levels, c.if-at-target.false)) refl chosen is.page
+    (λ below could. c.in_ok-lower.ensures.placed (c.in_ok-way.ensures.asks.map.sound.0 h) below branch item could)
+    (λ sound branches are settle there. c.put_above.ensures.settled sound (row_items row) branches there are settle)
+
+pub returns-clause-faults : goal.returns-clause-faults
+returns-clause-faults g t c = λ h row branch item can few.
+    let m : PageMap = pages c.args.cache.now in
+    let m0 : PageMap = pages c.way_down.new.cache in
+    let m1 : PageMap = pages c.place.new.cache in
+    let level = c.args.at.level in
+    let way = c.in_ok-way.way in
+    let is = c.in_ok-way.ensures.way h.honest (record { level = level; entries = row_items row }) can.there refl in
+    let there = there_after (IsPageMap c.place.new.cache) c.args.m_max c.args.top level c.args.target way.place way.page c.args.waiting.now.called c.place.new.waiting.called branch row m m0 m1 c.args.at.page c.in_ok-lower.lower
+    c.args.waiting.now.waits.items c.place.new.waiting.waits.items (row_items row) (c.in_ok-way.ensures.asks.map.pages_stay h.honest) can (omega (arith, c.requires.levels, c.if-at-target.false)) refl is.chosen.within is.page
+    (λ below could. c.in_ok-lower.ensures.placed (c.in_ok-way.ensures.asks.map.sound.0 h) below branch item could) in
+    c.put_above.ensures.faults there.0 (row_items row) there.1 is.chosen.within (few_items g.row.D c.args.m_max row few)
+
+pub returns-clause-alters : goal.returns-clause-alters
+returns-clause-alters g t c =
+    let old = c.args.cache.now in
+    let mid = c.way_down.new.cache in
+    let low = c.place.new.cache in
+    changes_and_alters old low c.put_above.new.cache c.put_above.result
+    (changes_in_turn old mid low None (asks_changes old mid None c.in_ok-way.ensures.asks) c.in_ok-lower.ensures.alters.changes) c.put_above.ensures.alters c.put_above.ensures.touched

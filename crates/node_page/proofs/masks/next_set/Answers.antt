@@ -1,8 +1,8 @@
 -- The goals of `next_set` that are proved by hand.
 use Rattle.std.proofs.Common.{◌/◌, ◌^◌, ◌<◌, arith}
 use Rattle.std.proofs.Math.Nat.{div-le_self}
-use Rattle.range_query.proofs.EntryLemmas.{unset_before}
-use Rattle.range_query.proofs.descent.next_set.Goals as goal
+use Rattle.node_page.proofs.MaskLemmas.{unset_before}
+use Rattle.node_page.proofs.masks.next_set.Goals as goal
 
 pub returns-clause-unset : goal.returns-clause-unset
 returns-clause-unset c = λ k up below.

@@ -2,11 +2,11 @@
 use Rattle.std.proofs.Common.{◌≡◌, length, map, take}
 use Rattle.tree_node.specs.Nodes.{item_of}
 use Rattle.node_page.specs.Views.{content_in}
-use Rattle.node_page.proofs.page.decode_into.Given as goal
+use Rattle.node_page.proofs.view.NodeView.decode_into.Given as goal
 
 abbrev pub invariant-loop-place : goal.invariant-loop-place
 invariant-loop-place g l = record {
-  read : map item_of l.node.entries.items ≡ take l.place (content_in l.view).entries;
+  read : map item_of l.node.entries.items ≡ take l.place (content_in l.self).entries;
   many : length l.node.entries.items ≡ l.place;
-  level : l.node.level ≡ l.level;
+  level : l.node.level ≡ l.self.level;
 }
