@@ -134,15 +134,18 @@ holder_is_chosen dims level items new at within boxes holds least =
     let stays = holder_stays dims (box_at items at) new (boxes at within).0 holds in
     let by_area : IsFirstLeast (length items) (area_key dims items new) at =
     first_least-of_placed_area (λ k. growth_of dims (box_at items k) new) (λ k. volume_of dims (box_at items k)) (length items) at within
-    (λ j l. (omega arith, λ _. elim (cases_Bool (within_test dims new (box_at items j))) [
-      | inl held ↦
-          let inside = (within_test_true dims new (box_at items j)).0 held in
-          let same = holder_stays dims (box_at items j) new (boxes j l).0 inside in
-          (omega (arith, stays), λ _. least j l inside)
-      | inr apart ↦
-          let grows = grows_or_holds dims (box_at items j) new (boxes j l).0 (boxes j l).1 (λ inside. let t = (within_test_true dims new (box_at items j)).1 inside in absurd (cc)) in
-          (omega (arith, stays), λ same. absurd (omega (arith, same, stays, grows)))
-    ])) in
+    (λ j l. (
+      omega arith,
+      λ _. elim (cases_Bool (within_test dims new (box_at items j))) [
+        | inl held ↦
+            let inside = (within_test_true dims new (box_at items j)).0 held in
+            let same = holder_stays dims (box_at items j) new (boxes j l).0 inside in
+            (omega (arith, stays), λ _. least j l inside)
+        | inr apart ↦
+            let grows = grows_or_holds dims (box_at items j) new (boxes j l).0 (boxes j l).1 (λ inside. let t = (within_test_true dims new (box_at items j)).1 inside in absurd (cc)) in
+            (omega (arith, stays), λ same. absurd (omega (arith, same, stays, grows)))
+      ],
+    )) in
     elim (cases_eq level 1) [
       | inl is ↦ chosen_first dims items new level (length items) at is
           (first_least-of_zero (overlap_growth dims items new) (area_key dims items new) (length items) at by_area (sym (overlap_growth-none dims items new at (box_at items at) refl (boxes at within).0 holds)))

@@ -12,7 +12,7 @@ use Rattle.tree_node.specs.Boxes.{box_round, least_box, no_item}
 use Rattle.tree_node.specs.Nodes.{Item}
 use Rattle.node_page.specs.Columns.{IsGreatestOf, IsLeastOf}
 use Rattle.node_page.specs.Layout.{item_at, items_at}
-use Rattle.node_page.proofs.ColumnLemmas.{high_read, low_read, ordered_corners}
+use Rattle.node_page.proofs.ColumnLemmas.{high_read, low_read}
 use Rattle.node_page.proofs.MaskLemmas.{signed_fits}
 
 -- ---- the least and the greatest of some numbers, one number on

@@ -2,7 +2,6 @@
 use Rattle.std.proofs.Common.{Option, Some, None, ◌≡◌, ◌∙◌, ℕ, zero, suc, ◌+◌, ◌<◌, ◌≤◌, List, [], ◌∷◌, ◌++◌, length, map, take, drop, get_or, set, All, IfSome, refl, sym, ap, subst, arith}
 use Rattle.std.specs.List.{refill}
 use Rattle.std.specs.Prelude.{is_some, false}
-use Rattle.std.proofs.Math.Seq.{map-set_same}
 use Rattle.std.proofs.lemmas.List.{map-append, append-nil, take_all, length-map, length-append, length-set, get_or-map}
 use Rattle.std.proofs.lemmas.List.Elements.{All-append}
 use Rattle.box_math.specs.Bounds.{Bounds}

@@ -1,5 +1,5 @@
 -- An entry placed below a node: at the node itself, and below its chosen child.
-use Rattle.std.proofs.Common.{Option, Some, None, IsSome, Result, Ok, Err, IfOk, ◌≡◌, ◌∙◌, ℕ, zero, suc, ◌+◌, ◌-◌, ◌<◌, ◌≤◌, Bool, List, [], ◌∷◌, ◌++◌, length, map, get_or, reverse, refl, sym, ap, subst, ⊎_elim, arith, append_assoc}
+use Rattle.std.proofs.Common.{Option, Some, None, IsSome, Result, Ok, Err, IfOk, ◌≡◌, ◌∙◌, ℕ, zero, suc, ◌+◌, ◌-◌, ◌<◌, ◌≤◌, Bool, List, [], ◌∷◌, ◌++◌, length, map, reverse, refl, sym, ap, subst, ⊎_elim, arith, append_assoc}
 use Rattle.std.proofs.lemmas.Bool.{cases_eq}
 use Rattle.std.proofs.lemmas.List.{map-append, reverse-append}
 use Rattle.std.specs.Option.{option_map}

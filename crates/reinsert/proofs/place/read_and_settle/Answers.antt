@@ -4,7 +4,7 @@ use Rattle.std.proofs.lemmas.List.{length-map}
 use Rattle.page_cache.specs.Cache.{IsPageMap, pages}
 use Rattle.page_cache.specs.Calls.{asks_changes, changes_in_turn}
 use Rattle.tree_node.specs.declared.node.Entry.{Entry}
-use Rattle.tree_node.specs.Nodes.{Item, NodeContent, content_of, item_of}
+use Rattle.tree_node.specs.Nodes.{Item, NodeContent, item_of}
 use Rattle.node_page.specs.Faults.{IsNoDamage}
 use Rattle.node_page.specs.Layout.{IsReference}
 use Rattle.node_page.specs.Standing.{PageMap}

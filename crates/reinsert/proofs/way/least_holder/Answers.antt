@@ -1,8 +1,7 @@
 -- Entries that do not meet the box are passed over, and the others are looked at.
-use Rattle.std.proofs.Common.{◌≡◌, ◌≢◌, ◌+◌, ◌<◌, ◌≤◌, ◌∙◌, List, false, length, ap, subst, sym, arith, rules}
+use Rattle.std.proofs.Common.{◌≡◌, ◌+◌, ◌<◌, ◌∙◌, List, length, ap, subst, sym, arith, rules}
 use Rattle.std.proofs.lemmas.List.{get_or_default}
-use Rattle.box_math.specs.Bounds.{Bounds, Within}
-use Rattle.box_math.specs.Masks.{has_bit}
+use Rattle.box_math.specs.Bounds.{Within}
 use Rattle.box_math.specs.Measures.{volume_of}
 use Rattle.tree_node.specs.Boxes.{box_at, no_item}
 use Rattle.tree_node.specs.Nodes.{Item, item_of}
