@@ -4,6 +4,7 @@ pub mod ReadLemmas
 pub mod Reading
 pub mod HeadWritten
 pub mod Writing
+pub mod Editing
 pub mod Named
 pub mod OnePage
 pub mod ColumnLemmas

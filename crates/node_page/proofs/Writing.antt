@@ -30,7 +30,7 @@ named_more : (dims count k : ℕ) → IsNamed dims count k → IsNamed dims (cou
 named_more dims count k (inl h) = inl h
 named_more dims count k (inr h) = let lt = h.1 in inr (h.0, omega arith, h.2)
 
-head_clear : (dims place n at : ℕ) → at + n ≤ 5 → IsClearOfEntry dims place n at
+pub head_clear : (dims place n at : ℕ) → at + n ≤ 5 → IsClearOfEntry dims place n at
 head_clear dims place n at h = record { bounds = record { lows = λ a l. inl (omega arith); highs = λ a l. inl (omega arith) }; reference = inl (omega arith) }
 
 -- any entry

@@ -1,6 +1,6 @@
 -- How a page spells a node of a tree (our format, docs/FORMAT.md): byte 0 is 2, byte 1 the dimension, at 2 the count,
 -- byte 4 the level, and from 16 on columns of 100 places: lows and highs of each axis by turns, and then references.
-use Rattle.std.specs.Prelude.{◌≡◌, ℕ, ◌+◌, ◌*◌, ◌^◌, ◌<◌, ◌≤◌, ◌&&◌, ◌||◌, ◌==◌, ◌⊎◌, Bool, nat_le, nat_lt, List, length, All, Option, Some, None, if◌then◌else◌}
+use Rattle.std.specs.Prelude.{◌≡◌, ℕ, ◌+◌, ◌*◌, ◌^◌, ◌<◌, ◌≤◌, ◌&&◌, ◌||◌, ◌==◌, ◌⊎◌, Bool, nat_le, nat_lt, List, [], ◌∷◌, ◌++◌, length, All, Option, Some, None, if◌then◌else◌}
 use Rattle.block_bytes.specs.Kinds.{HasHead, node_kind}
 use Rattle.block_bytes.specs.Numbers.{number_at, IsApart}
 use Rattle.block_bytes.specs.Places.{first_places}
@@ -26,6 +26,10 @@ pub record IsNode (dims : ℕ) (c : NodeContent) : Type 0 where
   pub byte : c.level < 256
   pub boxes : All (λ item. IsBox dims item.bounds) c.entries
   pub references : All (λ item. item.reference < 2 ^ 64) c.entries
+
+-- a node with an entry more, in the place after the last one
+abbrev pub pushed : NodeContent → Item → NodeContent
+pushed c item = record { level = c.level; entries = c.entries ++ item ∷ [] }
 
 -- ---- one entry
 

@@ -2,9 +2,11 @@
 //! (docs/FORMAT.md, "Node pages", "Trees of pages").
 #![tactic(auto)]
 
+mod adding;
 mod broken;
 mod check;
 mod columns;
+mod edits;
 mod entries;
 mod head;
 pub mod laws;
@@ -16,6 +18,7 @@ mod page;
 mod view;
 mod visits;
 
+pub use adding::add_entry;
 pub use broken::Broken;
 pub use check::{TreeFacts, check_tree};
 pub use leaves::leaf_lists;

@@ -89,6 +89,7 @@ impl<'a, const D: usize> NodeView<'a, D> {
         let highs = read_columns(self.page, 416, self.count);
         (lows, highs)
     }
+
     /// Whether no entry's box is flat: on each axis its low is below its high.
     pub fn none_is_flat(&self) -> bool
         ensures { IsTrue result ↔ ((axis place : ℕ) (item : Item) → axis < D

@@ -1,5 +1,5 @@
 -- A change that broke off.
-use Rattle.std.proofs.Common.{Result, Ok, Err, IfErr, IsErrAnd, ◌≡◌, ◌∙◌, None, Some, true, sym, subst}
+use Rattle.std.proofs.Common.{Result, Ok, Err, IfErr, IfNone, IsErrAnd, ◌≡◌, ◌∙◌, Option, None, Some, true, refl, sym, subst}
 use Rattle.std.proofs.lemmas.Bool.{true≢false}
 use Rattle.page_file.specs.declared.fault.Fault.{Fault}
 use Rattle.page_cache.specs.Calls.{ChangesUntil, changes_in_turn, no_call_changes}
@@ -10,6 +10,11 @@ use Rattle.node_page.specs.declared.broken.Broken.{Broken}
 pub at_broken : {T : Type 0} (r : Result T Broken) (f : Broken) (P : Broken → Type 0) → IsErrAnd r (λ e. e ≡ f) → P f → IfErr r P
 at_broken (Ok x) f P is p = tt
 at_broken (Err e) f P is p = subst P (sym is) p
+
+-- what is so where there is none
+pub at_none : {A : Type 0} (o : Option A) (X : Type 0) → IfNone o X → ((x : A) → o ≡ Some x → ⊥) → X
+at_none None X h never = h
+at_none (Some x) X h never = absurd (never x refl)
 
 module _ {D A : Type 0} {m : _} where
   -- a call whose fault breaks the change off midway

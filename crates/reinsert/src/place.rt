@@ -25,7 +25,7 @@ use crate::waiting::Waiting;
 use crate::way::{Way, way_down};
 use arrayvec::ArrayVec;
 use block_device::BlockDevice;
-use node_page::{Broken, read_into};
+use node_page::{Broken, add_entry, read_into};
 use page_cache::PageCache;
 use page_file::Fault;
 use std::alloc::Allocator;
@@ -61,12 +61,7 @@ pub(crate) fn place<const D: usize, B: BlockDevice, A: Allocator + Copy>(
     ensures other_faults { IfErr result (λ b. IsChangeFault b.cause) }
 {
     if at.level == target {
-        let mut node = Node {
-            level: at.level,
-            entries: ArrayVec::new(),
-        };
-        read_fitting(cache, at, m_max, &mut node)?;
-        return put_here(cache, at.page, &mut node, entry, top, m_max, waiting);
+        return put_here(cache, at, entry, top, m_max, waiting);
     }
     let way = way_down(cache, at, &entry.bounds, m_max)?;
     let below = Root {
@@ -81,6 +76,54 @@ pub(crate) fn place<const D: usize, B: BlockDevice, A: Allocator + Copy>(
         });
     }
     put_above(cache, at, way.place, lower, top, m_max, waiting)
+}
+
+// Adds the entry to a node, and settles it. The node is decoded only where it has no room, or no entry yet.
+fn put_here<const D: usize, B: BlockDevice, A: Allocator + Copy>(
+    cache: &mut PageCache<B, A>,
+    at: Root,
+    entry: &Entry<D>,
+    top: u8,
+    m_max: usize,
+    waiting: &mut Waiting<D>,
+) -> Result<Settled<D>, Broken>
+    requires dims { IsDims D }
+    requires open { gate_of cache.old ≡ Open }
+    requires most { (4 ≤ m_max) × (m_max ≤ 100) }
+    requires top { (at.level ≤ top) × (top ≤ 40) }
+    requires refers { IsReference at.level entry.now.reference }
+    ensures alters { Alters cache.old cache.new result }
+    ensures grows { Grows 1 cache.old cache.new }
+    ensures measure { measure_of waiting.new ≤ measure_of waiting.old }
+    ensures beside { IfOk result (λ s. IfSome s.beside (λ e. IsReference (at.level + 1) e.reference)) }
+    ensures settled { IsPageMap cache.old → (items : List Item) (branches : List Branch)
+        → node_in D (pages cache.old at.page) ≡ Some (record { level = at.level; entries = items })
+        → map item_in branches ≡ items ++ item_of entry.now ∷ []
+        → CanSettle D (pages cache.old) at.page at.level branches →
+        IfOk result (λ s. IsPageMap cache.new
+        × SettlesTo D m_max top at.level waiting.old.called branches (pages cache.old) (pages cache.new)
+        at.page s waiting.old.waits.items waiting.new.waits.items waiting.new.called) }
+    ensures faults { IsPageMap cache.old → (items : List Item)
+        → node_in D (pages cache.old at.page) ≡ Some (record { level = at.level; entries = items })
+        → length items ≤ m_max → IfErr result (λ b. IsNoDamage cache.new b.cause) }
+    ensures other_faults { IfErr result (λ b. IsChangeFault b.cause) }
+{
+    if let Some(bounds) = add_entry(cache, at.page, at.level, entry, m_max)? {
+        return Ok(Settled {
+            bounds,
+            beside: None,
+        });
+    }
+    let mut node = Node {
+        level: at.level,
+        entries: ArrayVec::new(),
+    };
+    read_fitting(cache, at, m_max, &mut node)?;
+    node.entries.push(*entry);
+    match settle(cache, at.page, &node, top, m_max, waiting) {
+        Ok(settled) => Ok(settled),
+        Err(fault) => Err(Broken::midway(fault)),
+    }
 }
 
 // Reads a node of at most the most entries.
@@ -108,44 +151,6 @@ fn read_fitting<const D: usize, B: BlockDevice, A: Allocator + Copy>(
         return Err(Fault::Damaged(at.page));
     }
     Ok(())
-}
-
-// Adds the entry to the node, and writes it.
-fn put_here<const D: usize, B: BlockDevice, A: Allocator + Copy>(
-    cache: &mut PageCache<B, A>,
-    page: u32,
-    node: &mut Node<D>,
-    entry: &Entry<D>,
-    top: u8,
-    m_max: usize,
-    waiting: &mut Waiting<D>,
-) -> Result<Settled<D>, Broken>
-    requires dims { IsDims D }
-    requires open { gate_of cache.old ≡ Open }
-    requires most { (4 ≤ m_max) × (m_max ≤ 100) }
-    requires top { (node.old.level ≤ top) × (top ≤ 40) }
-    requires few { array_vec_len node.old.entries ≤ m_max }
-    requires refers { All (λ e. IsReference node.old.level e.reference) node.old.entries.items }
-    requires refers_too { IsReference node.old.level entry.now.reference }
-    ensures alters { Alters cache.old cache.new result }
-    ensures grows { Grows 1 cache.old cache.new }
-    ensures measure { measure_of waiting.new ≤ measure_of waiting.old }
-    ensures beside { IfOk result (λ s. IfSome s.beside (λ e. IsReference (node.old.level + 1) e.reference)) }
-    ensures settled { IsPageMap cache.old → (branches : List Branch)
-        → map item_in branches ≡ map item_of node.old.entries.items ++ item_of entry.now ∷ []
-        → CanSettle D (pages cache.old) page node.old.level branches →
-        IfOk result (λ s. IsPageMap cache.new
-        × SettlesTo D m_max top node.old.level waiting.old.called branches (pages cache.old) (pages cache.new)
-        page s waiting.old.waits.items waiting.new.waits.items waiting.new.called) }
-    ensures touched { IfErr result (λ b. b.touched ≡ true) }
-    ensures faults { IsPageMap cache.old → IsLive cache.old page → IfErr result (λ b. IsNoDamage cache.new b.cause) }
-    ensures other_faults { IfErr result (λ b. IsChangeFault b.cause) }
-{
-    node.entries.push(*entry);
-    match settle(cache, page, node, top, m_max, waiting) {
-        Ok(settled) => Ok(settled),
-        Err(fault) => Err(Broken::midway(fault)),
-    }
 }
 
 // Whether a node keeps its entries where the chosen child has settled so: it kept its box, and nothing was split off it.

@@ -25,92 +25,35 @@ use Rattle.reinsert.proofs.place.+place.Goals as goal
 
 pub put_here-requires : goal.put_here-requires
 put_here-requires g t c =
-    let level = c.in_ok-read_fitting.ensures.level in
-    let refers : All (λ (e : Entry g.row.D). IsReference c.read_fitting.new.node.level e.reference) c.read_fitting.new.node.entries.items =
-    subst (λ l. All (λ (e : Entry g.row.D). IsReference l e.reference) c.read_fitting.new.node.entries.items) (sym level) c.in_ok-read_fitting.ensures.refers in
-    let too : IsReference c.read_fitting.new.node.level c.args.entry.now.reference = subst (λ l. IsReference l c.args.entry.now.reference) (sym (level ∙ c.if-at-target.true)) c.requires.refers in (
-      search rules,
-      (
-        search rules,
-        (
-          search rules,
-          (
-            search rules,
-            (
-              c.requires.dims,
-              (
-                c.in_ok-read_fitting.ensures.asks.gate.gate ∙ c.requires.open,
-                (
-                  c.requires.most,
-                  ((omega (arith, level, c.requires.levels), omega (arith, c.requires.levels)), (c.in_ok-read_fitting.ensures.few, (refers, too))),
-                ),
-              ),
-            ),
-          ),
-        ),
-      ),
-    )
-
-pub returns-then-at-target-clause-beside : goal.returns-then-at-target-clause-beside
-returns-then-at-target-clause-beside g t c =
-    subst (λ l. IfOk c.put_here.result (λ s. IfSome s.beside (λ (e : Entry g.row.D). IsReference (l + 1) e.reference))) c.in_ok-read_fitting.ensures.level c.put_here.ensures.beside
+    let refers : IsReference c.args.at.level c.args.entry.now.reference = subst (λ l. IsReference l c.args.entry.now.reference) (sym c.if-at-target.true) c.requires.refers in
+    (search rules, (search rules, (search rules, (c.requires.dims, (c.requires.open, (c.requires.most, ((omega (arith, c.requires.levels), omega (arith, c.requires.levels)), refers)))))))
 
 pub returns-then-at-target-clause-placed : goal.returns-then-at-target-clause-placed
 returns-then-at-target-clause-placed g t c = λ h row branch item can.
-    let D = g.row.D in
     let m : PageMap = pages c.args.cache.now in
-    let m0 : PageMap = pages c.read_fitting.new.cache in
     let m' : PageMap = pages c.put_here.new.cache in
-    let level = c.in_ok-read_fitting.ensures.level in
-    let entries = c.read_fitting.new.node.entries.items in
-    let page = c.args.at.page in
-    let read = items_read D m page c.args.at.level c.read_fitting.new.node.level row (map item_of entries) can.there (c.in_ok-read_fitting.ensures.node h.honest (page_of_node D (m page) _ can.there)) in
-    here_ok c.put_here.result (IsPageMap c.put_here.new.cache) c.args.m_max c.args.top c.args.at.level c.args.target c.args.waiting.now.called branch row m m0 m' page c.args.waiting.now.waits.items _ _
-    (c.in_ok-read_fitting.ensures.asks.map.pages_stay h.honest) can c.if-at-target.true
-    (λ branches are settle.
-    subst (λ l. IfOk c.put_here.result (λ s. IsPageMap c.put_here.new.cache × SettlesTo D c.args.m_max c.args.top l c.args.waiting.now.called branches m0 m' page s c.args.waiting.now.waits.items c.put_here.new.waiting.waits.items c.put_here.new.waiting.called)) level
-    (c.put_here.ensures.settled (c.in_ok-read_fitting.ensures.asks.map.sound.0 h) branches
-    (are ∙ ap (λ (es : List Item). es ++ item_in branch ∷ []) read ∙ ap (λ (x : Item). map item_of entries ++ x ∷ []) item)
-    (subst (λ l. CanSettle D m0 page l branches) (sym level) settle)))
-
-pub returns-in_err-read_fitting-clause-faults : goal.returns-in_err-read_fitting-clause-faults
-returns-in_err-read_fitting-clause-faults g t c = λ h row branch item can few.
-    at_broken c.from_residual.result (record { cause = c.in_err-read_fitting.field-0.0; touched = false }) (λ (b : Broken). IsNoDamage c.read_fitting.new.cache b.cause) c.from_residual.ensures.1
-    (inl (c.in_err-read_fitting.ensures.faults h.honest (record { level = c.args.at.level; entries = row_items row }) can.there refl (few_items g.row.D c.args.m_max row few)))
+    here_ok c.put_here.result (IsPageMap c.put_here.new.cache) c.args.m_max c.args.top c.args.at.level c.args.target c.args.waiting.now.called branch row m m m' c.args.at.page c.args.waiting.now.waits.items _ _
+    (λ n. refl) can c.if-at-target.true
+    (λ branches are settle. c.put_here.ensures.settled h (row_items row) branches can.there (are ∙ ap (λ (x : Item). row_items row ++ x ∷ []) item) settle)
 
 pub returns-then-at-target-clause-faults : goal.returns-then-at-target-clause-faults
-returns-then-at-target-clause-faults g t c = λ h row branch item can few.
-    let m : PageMap = pages c.args.cache.now in
-    let same = c.in_ok-read_fitting.ensures.asks.map.pages_stay h.honest c.args.at.page in
-    c.put_here.ensures.faults (c.in_ok-read_fitting.ensures.asks.map.sound.0 h) (subst IsSome (sym same) (page_of_node g.row.D (m c.args.at.page) _ can.there))
-
-pub returns-in_err-read_fitting-clause-alters : goal.returns-in_err-read_fitting-clause-alters
-returns-in_err-read_fitting-clause-alters g t c =
-    alters_so c.args.cache.now c.read_fitting.new.cache (before c.in_err-read_fitting.field-0.0) c.from_residual.result c.from_residual.ensures.1
-    (asks_changes c.args.cache.now c.read_fitting.new.cache (Some c.in_err-read_fitting.field-0.0) c.in_err-read_fitting.ensures.asks) (λ untouched. c.in_err-read_fitting.ensures.asks.map)
-
-pub returns-then-at-target-clause-alters : goal.returns-then-at-target-clause-alters
-returns-then-at-target-clause-alters g t c = asks_and_alters c.args.cache.now c.read_fitting.new.cache c.put_here.new.cache c.put_here.result c.in_ok-read_fitting.ensures.asks c.put_here.ensures.alters
-
-pub returns-in_err-read_fitting-clause-other_faults : goal.returns-in_err-read_fitting-clause-other_faults
-returns-in_err-read_fitting-clause-other_faults g t c =
-    at_broken c.from_residual.result (before c.in_err-read_fitting.field-0.0) (λ (b : Broken). IsChangeFault b.cause) c.from_residual.ensures.1 (one_more _ _ _ c.in_err-read_fitting.ensures.other_faults)
+returns-then-at-target-clause-faults g t c = λ h row branch item can few. c.put_here.ensures.faults h (row_items row) can.there (few_items g.row.D c.args.m_max row few)
 
 -- ---- the way down is refused, or the placing below it
 
 pub returns-in_err-way-clause-faults : goal.returns-in_err-way-clause-faults
 returns-in_err-way-clause-faults g t c = λ h row branch item can few.
-    at_broken c.from_residual-in_err-way.result (before c.in_err-way.field-0.0) (λ (b : Broken). IsNoDamage c.way_down.new.cache b.cause) c.from_residual-in_err-way.ensures.1
+    at_broken c.from_residual.result (before c.in_err-way.field-0.0) (λ (b : Broken). IsNoDamage c.way_down.new.cache b.cause) c.from_residual.ensures.1
     (inl (c.in_err-way.ensures.faults h.honest (record { level = c.args.at.level; entries = row_items row }) can.there refl (few_items g.row.D c.args.m_max row few)))
 
 pub returns-in_err-way-clause-alters : goal.returns-in_err-way-clause-alters
 returns-in_err-way-clause-alters g t c =
-    alters_so c.args.cache.now c.way_down.new.cache (before c.in_err-way.field-0.0) c.from_residual-in_err-way.result c.from_residual-in_err-way.ensures.1
+    alters_so c.args.cache.now c.way_down.new.cache (before c.in_err-way.field-0.0) c.from_residual.result c.from_residual.ensures.1
     (asks_changes c.args.cache.now c.way_down.new.cache (Some c.in_err-way.field-0.0) c.in_err-way.ensures.asks) (λ untouched. c.in_err-way.ensures.asks.map)
 
 pub returns-in_err-way-clause-other_faults : goal.returns-in_err-way-clause-other_faults
 returns-in_err-way-clause-other_faults g t c =
-    at_broken c.from_residual-in_err-way.result (before c.in_err-way.field-0.0) (λ (b : Broken). IsChangeFault b.cause) c.from_residual-in_err-way.ensures.1 (one_more _ _ _ c.in_err-way.ensures.other_faults)
+    at_broken c.from_residual.result (before c.in_err-way.field-0.0) (λ (b : Broken). IsChangeFault b.cause) c.from_residual.ensures.1 (one_more _ _ _ c.in_err-way.ensures.other_faults)
 
 pub returns-in_err-lower-clause-faults : goal.returns-in_err-lower-clause-faults
 returns-in_err-lower-clause-faults g t c = λ h row branch item can few.

@@ -1,0 +1,24 @@
+//! A node page changed in place.
+
+ghost use Rattle.std.specs.Prelude.{◌≡◌, ◌<◌, Some};
+ghost use Rattle.block_bytes.specs.Numbers.{number_at};
+ghost use Rattle.box_math.specs.Bounds.{IsDims};
+ghost use Rattle.tree_node.specs.Nodes.{NodeContent, item_of};
+ghost use Rattle.node_page.specs.Layout.{IsReference, node_at, pushed};
+
+use crate::entries::write_entry;
+use crate::head::count_at;
+use block_bytes::write_u16;
+use tree_node::Entry;
+
+/// Adds an entry to a node page whose count is below 100: it is written in the place after the last one, and counted.
+pub(crate) fn push_entry<const D: usize>(page: &mut [u8; 4096], entry: &Entry<D>)
+    requires dims { IsDims D }
+    requires room { number_at 2 2 page.old < 100 }
+    ensures { (c : NodeContent) → node_at D page.old ≡ Some c → IsReference c.level entry.now.reference
+        → node_at D page.new ≡ Some (pushed c (item_of entry.now)) }
+{
+    let count = count_at(page);
+    write_entry(page, count, entry);
+    write_u16(page, 2, count as u16 + 1);
+}
