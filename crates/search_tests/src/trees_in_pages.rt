@@ -7,7 +7,7 @@ ghost use Rattle.page_file.specs.declared.gate.Gate.TheVariants.{Open};
 use arrayvec::ArrayVec;
 use block_device::MemoryDevice;
 use box_math::BBox;
-use node_page::{Entry, Node, Root, leaf_lists, read_node, write_node};
+use node_page::{Broken, Entry, Node, Root, add_entry, leaf_lists, read_node, write_node};
 use page_file::Fault;
 use refusing::Refusing;
 use std::alloc::Global;
@@ -78,6 +78,35 @@ fn a_node_is_written_and_read(rt: HostRuntime) -> Result<(), Fail> {
     assert_eq!(rt; root.entries[1].reference, 4);
     assert!(rt; Some(root.entries[1].bounds) == BBox::try_new([2, 2], [3, 2]));
     assert_eq!(rt; cache.looks(), 3);
+    Ok(())
+}
+
+// Adds object 9 with the box (4,4) to (5,6) to a leaf of fewer than three, and answers the least box round all.
+fn add_to_leaf(cache: &mut Cache, page: u32) -> Result<Option<BBox<2>>, Broken>
+    requires { gate_of cache.old ≡ Open }
+    ensures { gate_of cache.new ≡ Open }
+{
+    let Some(bounds) = BBox::try_new([4, 4], [5, 6]) else {
+        return Ok(None);
+    };
+    let entry = Entry {
+        bounds,
+        reference: 9,
+    };
+    add_entry(cache, page, 0, &entry, 3)
+}
+
+#[test]
+fn an_entry_is_added_where_there_is_room_and_an_entry(rt: HostRuntime) -> Result<(), Fail> {
+    let mut cache = scene(rt.alloc())?;
+    let around = add_to_leaf(&mut cache, 3)?;
+    assert!(rt; around == BBox::try_new([-1, 2], [5, 6]));
+    let leaf = read_node::<2, _, _>(&mut cache, 3, 0)?;
+    assert!(rt; leaf.entries.len() == 3 && leaf.entries[2].reference == 9);
+    let (full, empty) = (add_to_leaf(&mut cache, 4)?, add_to_leaf(&mut cache, 6)?);
+    assert!(rt; full.is_none() && empty.is_none());
+    let no_leaf = Broken::from(Fault::Damaged(5));
+    assert!(rt; add_to_leaf(&mut cache, 5) == Err(no_leaf));
     Ok(())
 }
 
