@@ -14,7 +14,7 @@ mod packed;
 #[cfg(test)]
 mod refused;
 #[cfg(test)]
-mod reinserted;
+mod refused_changes;
 #[cfg(test)]
 mod removed;
 #[cfg(test)]

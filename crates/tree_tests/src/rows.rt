@@ -3,7 +3,7 @@
 ghost use Rattle.std.specs.Prelude.{◌≡◌, ◌≤◌};
 ghost use Rattle.page_cache.specs.Cache.{gate_of};
 
-use crate::scene::{insert_tree, is_whole, leaves_are, object, point};
+use crate::scene::{insert_tree, is_whole, leaves_are, line, object, point};
 use block_device::MemoryDevice;
 use box_math::BBox;
 use bulk_load::load;
@@ -33,17 +33,6 @@ fn meeting(
         ids.push(row.0)?;
     }
     Ok((ids, cache.looks().wrapping_sub(before)))
-}
-
-// Five points on a line, of which all ties are equal.
-fn line() -> [Entry<2>; 5] {
-    [
-        point(1, 0, 0),
-        point(2, 1, 0),
-        point(3, 2, 0),
-        point(4, 3, 0),
-        point(5, 10, 0),
-    ]
 }
 
 // Two boxes that touch in a point.

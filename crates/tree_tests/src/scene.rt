@@ -5,18 +5,15 @@ ghost use Rattle.page_cache.specs.Cache.{gate_of};
 ghost use Rattle.page_file.specs.declared.gate.Gate.TheVariants.{Open};
 
 use arrayvec::ArrayVec;
-use block_device::BlockDevice;
+use block_device::{BlockDevice, MemoryDevice};
 use box_math::BBox;
 use bulk_load::load;
 use node_page::{Broken, Entry, Node, Root, check_tree, leaf_lists, write_node};
 use page_cache::PageCache;
-use page_file::Fault;
+use page_file::{Fault, open_pages};
 use reinsert::{Waiting, insert_with};
 use std::alloc::{Allocator, Global};
-use test_caches::Cache;
-
-/// Where the root of the first tree stands at first, before it has an object.
-pub const EMPTY: Root = Root { page: 3, level: 0 };
+use test_caches::{Cache, bare};
 
 /// Adds a tree without objects.
 pub fn add_tree<const D: usize>(cache: &mut Cache) -> Result<Root, Fault>
@@ -78,6 +75,27 @@ pub fn insert_tree<const D: usize>(
         Ok(root) => Ok(root),
         Err(broken) => Err(broken.cause),
     }
+}
+
+/// The device of a file whose one tree was made by inserting these entries, four to a node, and its root.
+pub fn file_with(alloc: Global, entries: &[Entry<2>]) -> Result<(MemoryDevice, Root), Fault> {
+    let mut cache = bare(alloc)?;
+    let root = insert_tree(alloc, &mut cache, entries, 4)?;
+    let device = cache.close().map_err(|(fault, _)| fault)?;
+    Ok((device, root))
+}
+
+/// A cache of eight pages with an open gate over the file on a device.
+pub fn open_cache<B: BlockDevice + Drop, A: Allocator + Copy>(
+    alloc: A,
+    device: B,
+) -> Result<PageCache<B, A>, Fault>
+    ensures { IfOk result (λ cache. gate_of cache ≡ Open) }
+{
+    let file = open_pages(device).map_err(|(fault, _)| fault)?;
+    let mut cache = PageCache::over(alloc, file, 8).map_err(|(fault, _)| fault)?;
+    cache.begin_change()?;
+    Ok(cache)
 }
 
 /// Loads so many boxes into a tree, which takes them by their places in the list.
@@ -163,9 +181,9 @@ pub fn are_rows<const D: usize>(
 }
 
 /// Whether the leaves of a tree of two axes have these identifiers.
-pub fn leaves_are(
+pub fn leaves_are<B: BlockDevice, A: Allocator + Copy>(
     alloc: Global,
-    cache: &mut Cache,
+    cache: &mut PageCache<B, A>,
     root: Root,
     expected: &[&[u64]],
 ) -> Result<bool, Fault>
@@ -194,6 +212,17 @@ pub fn object(reference: u64, [x, y, u, v]: [i32; 4]) -> Entry<2> {
 /// The point (x, y), with a reference.
 pub fn point(reference: u64, x: i32, y: i32) -> Entry<2> {
     object(reference, [x, y, x, y])
+}
+
+/// Five points on a line, of which all ties are equal: four to a node they stand in leaves {1, 2} and {3, 4, 5}.
+pub fn line() -> [Entry<2>; 5] {
+    [
+        point(1, 0, 0),
+        point(2, 1, 0),
+        point(3, 2, 0),
+        point(4, 3, 0),
+        point(5, 10, 0),
+    ]
 }
 
 /// How boxes lie: anywhere in a square of 2^20 places a side, or near one of 64 places of it.
