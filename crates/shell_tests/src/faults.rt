@@ -1,8 +1,8 @@
 //! Runs over readers and writers that are slow or fail, with lines that ask nothing of the store.
 
 use crate::fakes::{FailsOnce, Parts, Short, Slow, Unflushed, Waits};
-use crate::stores::new_store;
-use command_shell::{MAX_LINE, RunEnd, run};
+use crate::stores::run_new;
+use command_shell::{MAX_LINE, RunEnd};
 use std::cell::Cell;
 use std::io::ErrorKind;
 use std::test::Fail;
@@ -22,13 +22,12 @@ fn answers_what_a_slow_reader_gives(rt: HostRuntime) -> Result<(), Fail> {
         (TEXT, REPLIES),
     ];
     for (text, replies) in texts {
-        let mut store = new_store(rt.alloc())?;
         let mut input = Slow {
             rest: text,
             fails: None,
         };
         let mut output = Vec::new(rt.alloc());
-        let end = run(&mut store, &mut input, &mut output);
+        let end = run_new(rt.alloc(), &mut input, &mut output)?;
         assert_eq!(rt; end, RunEnd::Finished);
         assert_eq!(rt; output.as_slice(), replies);
     }
@@ -45,13 +44,12 @@ fn ends_where_a_read_fails(rt: HostRuntime) -> Result<(), Fail> {
     ];
     for (text, replies) in texts {
         for kind in [ErrorKind::Other, ErrorKind::Interrupted] {
-            let mut store = new_store(rt.alloc())?;
             let mut input = Slow {
                 rest: text,
                 fails: Some(kind),
             };
             let mut output = Vec::new(rt.alloc());
-            let end = run(&mut store, &mut input, &mut output);
+            let end = run_new(rt.alloc(), &mut input, &mut output)?;
             assert_eq!(rt; end, RunEnd::ReadFault);
             assert_eq!(rt; output.as_slice(), replies);
         }
@@ -63,14 +61,13 @@ fn ends_where_a_read_fails(rt: HostRuntime) -> Result<(), Fail> {
 fn ends_where_a_write_fails(rt: HostRuntime) -> Result<(), Fail> {
     for room in 0..REPLIES.len() {
         for fails in [false, true] {
-            let mut store = new_store(rt.alloc())?;
             let mut input = TEXT;
             let mut output = Short {
                 written: Vec::new(rt.alloc()),
                 room,
                 fails,
             };
-            let end = run(&mut store, &mut input, &mut output);
+            let end = run_new(rt.alloc(), &mut input, &mut output)?;
             assert_eq!(rt; end, RunEnd::WriteFault);
             assert_eq!(rt; output.written.as_slice(), &REPLIES[..room]);
         }
@@ -81,13 +78,12 @@ fn ends_where_a_write_fails(rt: HostRuntime) -> Result<(), Fail> {
 // An interrupted read is not tried again: the line after it is not read, and the lines before it are answered first.
 #[test]
 fn ends_where_a_read_is_interrupted_once(rt: HostRuntime) -> Result<(), Fail> {
-    let mut store = new_store(rt.alloc())?;
     let mut input = Parts {
         parts: &[Some(b"drop\ndrop\nd"), None, Some(b"rop\n")],
         calls: 0,
     };
     let mut output = Vec::new(rt.alloc());
-    let end = run(&mut store, &mut input, &mut output);
+    let end = run_new(rt.alloc(), &mut input, &mut output)?;
     assert_eq!(rt; end, RunEnd::ReadFault);
     assert_eq!(rt; output.as_slice(), REPLIES);
     assert_eq!(rt; input.calls, 2);
@@ -98,13 +94,12 @@ fn ends_where_a_read_is_interrupted_once(rt: HostRuntime) -> Result<(), Fail> {
 #[test]
 fn ends_where_a_write_is_interrupted_once(rt: HostRuntime) -> Result<(), Fail> {
     for passes in 0..2 {
-        let mut store = new_store(rt.alloc())?;
         let mut input = TEXT;
         let mut output = FailsOnce {
             written: Vec::new(rt.alloc()),
             passes: Some(passes),
         };
-        let end = run(&mut store, &mut input, &mut output);
+        let end = run_new(rt.alloc(), &mut input, &mut output)?;
         assert_eq!(rt; end, RunEnd::WriteFault);
         assert_eq!(rt; output.written.as_slice(), &REPLIES[..16 * passes]);
     }
@@ -115,7 +110,6 @@ fn ends_where_a_write_is_interrupted_once(rt: HostRuntime) -> Result<(), Fail> {
 #[test]
 fn flushes_before_it_reads(rt: HostRuntime) -> Result<(), Fail> {
     let unflushed = Cell::new(0);
-    let mut store = new_store(rt.alloc())?;
     let mut input = Waits {
         parts: Parts {
             parts: &[
@@ -132,7 +126,7 @@ fn flushes_before_it_reads(rt: HostRuntime) -> Result<(), Fail> {
         bytes: &unflushed,
         passes: 100,
     };
-    let end = run(&mut store, &mut input, &mut output);
+    let end = run_new(rt.alloc(), &mut input, &mut output)?;
     assert_eq!(rt; end, RunEnd::Finished);
     Ok(())
 }
@@ -140,13 +134,12 @@ fn flushes_before_it_reads(rt: HostRuntime) -> Result<(), Fail> {
 #[test]
 fn ends_where_a_flush_fails(rt: HostRuntime) -> Result<(), Fail> {
     let unflushed = Cell::new(0);
-    let mut store = new_store(rt.alloc())?;
     let mut input = TEXT;
     let mut output = Unflushed {
         bytes: &unflushed,
         passes: 0,
     };
-    let end = run(&mut store, &mut input, &mut output);
+    let end = run_new(rt.alloc(), &mut input, &mut output)?;
     assert_eq!(rt; end, RunEnd::WriteFault);
     assert_eq!(rt; unflushed.get(), 0);
     Ok(())
@@ -166,10 +159,9 @@ fn passes_lines_that_are_too_long(rt: HostRuntime) -> Result<(), Fail> {
         for ending in [b"".as_slice(), b"\n".as_slice(), b"\n# more\n#".as_slice()] {
             let mut text = vec![in rt.alloc(); b'#'; length]?;
             text.extend_from_slice(ending)?;
-            let mut store = new_store(rt.alloc())?;
             let mut input = text.as_slice();
             let mut output = Vec::new(rt.alloc());
-            let end = run(&mut store, &mut input, &mut output);
+            let end = run_new(rt.alloc(), &mut input, &mut output)?;
             assert_eq!(rt; end, RunEnd::Finished);
             assert_eq!(rt; output.as_slice(), reply, "at {length}");
         }

@@ -1,7 +1,7 @@
 //! Runs of the program: what it says of their end, and that the store is closed, however they ended.
 
 use crate::fakes::{FailsOnce, Parts, Short, Unflushed};
-use crate::stores::new_store;
+use crate::stores::close_new;
 use block_device::{BlockDevice, FuseDevice, FuseMode, MemoryDevice};
 use command_shell::{RunEnd, answers_to, run, run_and_close, tell_refusal};
 use layer_store::{Refusal, create_store, open_store};
@@ -26,12 +26,12 @@ fn is_closed(alloc: Global, device: MemoryDevice, objects: usize) -> Result<bool
 fn a_good_run_says_nothing_and_is_closed(rt: HostRuntime) -> Result<(), Fail> {
     let mut input = TEXT;
     let mut output = Vec::new(rt.alloc());
-    let mut errors = Vec::new(rt.alloc());
-    let ended = run_and_close(new_store(rt.alloc())?, &mut input, &mut output, &mut errors);
+    let ended = close_new(rt.alloc(), &mut input, &mut output)?;
     assert!(rt; ended.went_well);
     assert_eq!(rt; output.as_slice(), b"ok\nok\n".as_slice());
-    assert_eq!(rt; errors.as_slice(), b"".as_slice());
-    assert!(rt; is_closed(rt.alloc(), ended.device, 1)?);
+    assert_eq!(rt; ended.errors.as_slice(), b"".as_slice());
+    let is_closed = is_closed(rt.alloc(), ended.device, 1)?;
+    assert!(rt; is_closed);
     Ok(())
 }
 
@@ -42,12 +42,12 @@ fn a_run_whose_input_fails_is_closed(rt: HostRuntime) -> Result<(), Fail> {
         calls: 0,
     };
     let mut output = Vec::new(rt.alloc());
-    let mut errors = Vec::new(rt.alloc());
-    let ended = run_and_close(new_store(rt.alloc())?, &mut input, &mut output, &mut errors);
+    let ended = close_new(rt.alloc(), &mut input, &mut output)?;
     assert!(rt; !ended.went_well);
     assert_eq!(rt; output.as_slice(), b"ok\nok\n".as_slice());
-    assert_eq!(rt; errors.as_slice(), FAILED);
-    assert!(rt; is_closed(rt.alloc(), ended.device, 1)?);
+    assert_eq!(rt; ended.errors.as_slice(), FAILED);
+    let is_closed = is_closed(rt.alloc(), ended.device, 1)?;
+    assert!(rt; is_closed);
     Ok(())
 }
 
@@ -59,11 +59,11 @@ fn a_run_whose_output_fails_is_closed(rt: HostRuntime) -> Result<(), Fail> {
         room: 3,
         fails: true,
     };
-    let mut errors = Vec::new(rt.alloc());
-    let ended = run_and_close(new_store(rt.alloc())?, &mut input, &mut output, &mut errors);
+    let ended = close_new(rt.alloc(), &mut input, &mut output)?;
     assert!(rt; !ended.went_well);
-    assert_eq!(rt; errors.as_slice(), FAILED);
-    assert!(rt; is_closed(rt.alloc(), ended.device, 1)?);
+    assert_eq!(rt; ended.errors.as_slice(), FAILED);
+    let is_closed = is_closed(rt.alloc(), ended.device, 1)?;
+    assert!(rt; is_closed);
     Ok(())
 }
 
@@ -77,11 +77,10 @@ fn a_run_whose_last_flush_fails_did_not_go_well(rt: HostRuntime) -> Result<(), F
             bytes: &unflushed,
             passes,
         };
-        let mut errors = Vec::new(rt.alloc());
-        let ended = run_and_close(new_store(rt.alloc())?, &mut input, &mut output, &mut errors);
+        let ended = close_new(rt.alloc(), &mut input, &mut output)?;
         assert_eq!(rt; ended.went_well, passes == 2);
         assert_eq!(rt; unflushed.get() == 0, passes == 2);
-        assert_eq!(rt; errors.as_slice(), said);
+        assert_eq!(rt; ended.errors.as_slice(), said);
     }
     Ok(())
 }

@@ -1,7 +1,7 @@
 //! Sessions with a store: lines with their replies, a layer too many, and growths that are refused.
 
 use crate::fakes::{Short, Slow};
-use crate::stores::new_store;
+use crate::stores::{new_store, run_new};
 use block_device::MemoryDevice;
 use command_shell::{RunEnd, run};
 use layer_store::Store;
@@ -261,25 +261,22 @@ fn all_rows(alloc: Global) -> Result<Vec<Row>, Fail> {
     Ok(rows)
 }
 
-// Whether the store answers each line so.
-fn answers(alloc: Global, store: &mut Store<MemoryDevice>, rows: &[Row]) -> bool {
-    for row in rows {
-        let mut input = row.0;
-        let mut output = Vec::new(alloc);
-        let end = run(store, &mut input, &mut output);
-        if end != RunEnd::Finished || output.as_slice() != row.1 {
-            return false;
-        }
-    }
-    true
+// Whether the store answers a text so.
+fn answers(alloc: Global, store: &mut Store<MemoryDevice>, text: &[u8], replies: &[u8]) -> bool {
+    let mut input = text;
+    let mut output = Vec::new(alloc);
+    let end = run(store, &mut input, &mut output);
+    end == RunEnd::Finished && output.as_slice() == replies
 }
 
 // Layers `a`, `b` and `n` have two axes, `c` has three.
 #[test]
 fn answers_the_worked_rows(rt: HostRuntime) -> Result<(), Fail> {
     let mut store = new_store(rt.alloc())?;
-    let rows = all_rows(rt.alloc())?;
-    assert!(rt; answers(rt.alloc(), &mut store, rows.as_slice()));
+    for (line, reply) in all_rows(rt.alloc())?.iter() {
+        let is_answered = answers(rt.alloc(), &mut store, line, reply);
+        assert!(rt; is_answered, "{line:?}");
+    }
     Ok(())
 }
 
@@ -295,14 +292,13 @@ fn add(rows: &[Row], text: &mut Vec<u8>, replies: &mut Vec<u8>) -> Result<(), Fa
 
 // Whether a run whose output has room for so many bytes ends with these replies, as far as they go.
 fn breaks_off(alloc: Global, text: &[u8], replies: &[u8], room: usize) -> Result<bool, Fail> {
-    let mut store = new_store(alloc)?;
     let mut input = text;
     let mut output = Short {
         written: Vec::new(alloc),
         room,
         fails: true,
     };
-    let end = run(&mut store, &mut input, &mut output);
+    let end = run_new(alloc, &mut input, &mut output)?;
     let written = output.written.as_slice();
     Ok(end == RunEnd::WriteFault && written.len() == room && replies.starts_with(written))
 }
@@ -312,39 +308,43 @@ fn answers_the_worked_rows_as_one_text(rt: HostRuntime) -> Result<(), Fail> {
     let mut text = Vec::new(rt.alloc());
     let mut replies = Vec::new(rt.alloc());
     add(all_rows(rt.alloc())?.as_slice(), &mut text, &mut replies)?;
-    let mut store = new_store(rt.alloc())?;
     let mut input = Slow {
         rest: &text,
         fails: None,
     };
     let mut output = Vec::new(rt.alloc());
-    let end = run(&mut store, &mut input, &mut output);
+    let end = run_new(rt.alloc(), &mut input, &mut output)?;
     assert_eq!(rt; end, RunEnd::Finished);
     assert_eq!(rt; output.as_slice(), replies.as_slice());
     for room in (0..replies.len()).step_by(7) {
-        assert!(rt; breaks_off(rt.alloc(), &text, &replies, room)?);
+        let breaks_off = breaks_off(rt.alloc(), &text, &replies, room)?;
+        assert!(rt; breaks_off, "{room}");
     }
     Ok(())
+}
+
+// The line that creates the layer of a letter and a digit.
+fn create_line(letter: u8, digit: u8) -> [u8; 13] {
+    [
+        b'c', b'r', b'e', b'a', b't', b'e', b' ', letter, digit, b' ', b'2', b' ', b'4',
+    ]
 }
 
 #[test]
 fn refuses_a_layer_too_many(rt: HostRuntime) -> Result<(), Fail> {
     let mut store = new_store(rt.alloc())?;
-    for first in b'a'..=b'z' {
-        for second in b'0'..=b'9' {
-            let number = u32::from(first - b'a') * 10 + u32::from(second - b'0');
-            let line = [
-                b'c', b'r', b'e', b'a', b't', b'e', b' ', first, second, b' ', b'2', b' ', b'4',
-            ];
-            let mut input = line.as_slice();
-            let mut output = Vec::new(rt.alloc());
-            let end = run(&mut store, &mut input, &mut output);
-            assert_eq!(rt; end, RunEnd::Finished);
-            if number < 60 {
-                assert_eq!(rt; output.as_slice(), b"ok\n".as_slice());
+    let mut made = 0u32;
+    for letter in b'a'..=b'z' {
+        for digit in b'0'..=b'9' {
+            let line = create_line(letter, digit);
+            let reply = if made < 60 {
+                b"ok\n".as_slice()
             } else {
-                assert_eq!(rt; output.as_slice(), b"fail 6 TooManyLayers\n".as_slice());
-            }
+                b"fail 6 TooManyLayers\n".as_slice()
+            };
+            let is_answered = answers(rt.alloc(), &mut store, &line, reply);
+            assert!(rt; is_answered, "{made}");
+            made = made.saturating_add(1);
         }
     }
     Ok(())
@@ -469,11 +469,8 @@ fn answers_a_count_filled_up_with_blanks(rt: HostRuntime) -> Result<(), Fail> {
         for _ in line.len()..4096 {
             line.push(b' ')?;
         }
-        let mut input = line.as_slice();
-        let mut output = Vec::new(rt.alloc());
-        let end = run(&mut store, &mut input, &mut output);
-        assert_eq!(rt; end, RunEnd::Finished);
-        assert_eq!(rt; output.as_slice(), reply);
+        let is_answered = answers(rt.alloc(), &mut store, &line, reply);
+        assert!(rt; is_answered);
         line.push(b' ')?;
     }
     Ok(())
@@ -489,11 +486,8 @@ fn refuses_a_load_that_lacks_entry_lines(rt: HostRuntime) -> Result<(), Fail> {
         b"load a 3\n1 0 0 1 1\n2 0 0 1 1".as_slice(),
         b"load a 1".as_slice(),
     ] {
-        let mut input = text;
-        let mut output = Vec::new(rt.alloc());
-        let end = run(&mut store, &mut input, &mut output);
-        assert_eq!(rt; end, RunEnd::Finished);
-        assert_eq!(rt; output.as_slice(), b"fail 24 BadLine\n".as_slice());
+        let is_answered = answers(rt.alloc(), &mut store, text, b"fail 24 BadLine\n");
+        assert!(rt; is_answered);
     }
     Ok(())
 }
