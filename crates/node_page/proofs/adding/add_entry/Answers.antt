@@ -1,5 +1,5 @@
 -- The node is that of the page, with the entry after the others.
-use Rattle.std.proofs.Common.{rules, ◌≡◌, ◌∙◌, ◌⊎◌, ◌++◌, ◌<◌, ◌∷◌, [], ap, arith, Err, IsSome, length, None, Some, refl, subst, sym}
+use Rattle.std.proofs.Common.{rules, ◌≡◌, ◌∙◌, ◌⊎◌, ◌<◌, ap, arith, Err, IsSome, length, None, Some, refl, subst, sym}
 use Rattle.std.proofs.lemmas.Bool.{true≢false}
 use Rattle.page_file.specs.Fault.{IsDamage, IsOfDevice}
 use Rattle.page_cache.specs.Cache.{pages}
@@ -9,7 +9,7 @@ use Rattle.box_math.specs.Bounds.{Bounds, join_of}
 use Rattle.tree_node.specs.Nodes.{NodeContent, item_of}
 use Rattle.tree_node.proofs.LeastBoxes.{least_box-more}
 use Rattle.tree_node.specs.Boxes.{least_box}
-use Rattle.node_page.specs.Broken.{alters_so, made_alters, midway}
+use Rattle.node_page.specs.Broken.{alters_so, made_alters}
 use Rattle.node_page.specs.Layout.{IsReference, pushed}
 use Rattle.node_page.specs.Standing.{PageMap, node_in}
 use Rattle.node_page.specs.Views.{content_in}
@@ -32,12 +32,11 @@ returns-then-len-eq0-clause-room g c = λ h content there level.
     let m : PageMap = pages c.args.cache.now in
     let live = page_of_node g.row.D (m c.args.page) content there in
     let read = node_of_page g.row.D (m c.args.page) c.in_ok-bytes.field-0.now (Some (content_in c.in-Some.node)) (c.in_ok-bytes.ensures.bytes h live) c.in-Some.ensures.spelled in
-    let same = ap (λ (x : NodeContent). length x.entries) (same_content g.row.D m c.args.page (content_in c.in-Some.node) content read there) in
-    (
+    let same = ap (λ (x : NodeContent). length x.entries) (same_content g.row.D m c.args.page (content_in c.in-Some.node) content read there) in (
       λ never. absurd (cc),
       λ both. elim c.then-len-eq0.branch [
-        then-len-eq0-via-then-len-eq0 w ↦ absurd (omega (arith, w.if-len-eq0, c.len.ensures.count, same, both.0))
-      | then-len-eq0-via-else-len-eq0+then-len-most w ↦ absurd (omega (arith, w.if-len-most, w.len-else-len-eq0.ensures.count, same, both.1))
+        | then-len-eq0-via-then-len-eq0 w ↦ absurd (omega (arith, w.if-len-eq0, c.len.ensures.count, same, both.0))
+        | then-len-eq0-via-else-len-eq0+then-len-most w ↦ absurd (omega (arith, w.if-len-most, w.len-else-len-eq0.ensures.count, same, both.1))
       ],
     )
 
@@ -52,8 +51,7 @@ returns-in-Ok-clause-room g c = λ h content there level.
     let m : PageMap = pages c.args.cache.now in
     let live = page_of_node g.row.D (m c.args.page) content there in
     let read = node_of_page g.row.D (m c.args.page) c.in_ok-bytes.field-0.now (Some (content_in c.in-Some.node)) (c.in_ok-bytes.ensures.bytes h live) c.in-Some.ensures.spelled in
-    let same = ap (λ (x : NodeContent). length x.entries) (same_content g.row.D m c.args.page (content_in c.in-Some.node) content read there) in
-    (
+    let same = ap (λ (x : NodeContent). length x.entries) (same_content g.row.D m c.args.page (content_in c.in-Some.node) content read there) in (
       λ is. (omega (arith, c.if-len-eq0.false, c.len.ensures.count, same), omega (arith, c.if-len-most.false, c.len-else-len-eq0.ensures.count, same)),
       λ both. refl,
     )

@@ -1,22 +1,19 @@
 -- The goals of `place` that are proved by hand.
-use Rattle.std.proofs.Common.{rules, ◌≡◌, ◌∙◌, ◌+◌, ◌-◌, [], ◌∷◌, ◌++◌, List, map, All, IfOk, IfSome, IsSome, None, Ok, Result, Some, inl, false, refl, sym, ap, subst, arith}
+use Rattle.std.proofs.Common.{rules, ◌≡◌, ◌∙◌, ◌+◌, ◌-◌, [], ◌∷◌, ◌++◌, IfSome, None, Ok, Result, Some, inl, refl, sym, ap, subst, arith}
 use Rattle.page_cache.specs.Cache.{IsPageMap, pages}
 use Rattle.page_cache.specs.Calls.{asks_changes, changes_in_turn}
 use Rattle.page_cache.specs.Laws.{the_map_is_kept_in_turn}
 use Rattle.tree_node.specs.declared.node.Entry.{Entry}
-use Rattle.tree_node.specs.Nodes.{Item, item_of}
+use Rattle.tree_node.specs.Nodes.{Item}
 use Rattle.tree_node.specs.Trees.{row_items}
-use Rattle.tree_node.specs.Rows.{item_in}
 use Rattle.choose_subtree.specs.Choice.{IsChosenChild}
-use Rattle.node_page.specs.Broken.{alters_so, asks_and_alters, before, made_alters}
+use Rattle.node_page.specs.Broken.{alters_so, before, made_alters}
 use Rattle.node_page.specs.Layout.{IsReference}
 use Rattle.node_page.specs.Standing.{PageMap}
 use Rattle.node_page.specs.declared.broken.Broken.{Broken}
-use Rattle.node_page.proofs.StandingLemmas.{page_of_node}
 use Rattle.node_page.specs.Faults.{IsNoDamage, IsChangeFault}
-use Rattle.reinsert.specs.Placed.{CanSettle, SettlesTo}
 use Rattle.reinsert.proofs.BrokenLemmas.{at_broken, changes_and_alters}
-use Rattle.reinsert.proofs.PlaceLemmas.{few_can, few_items, here_ok, items_read, over_ok, there_after}
+use Rattle.reinsert.proofs.PlaceLemmas.{few_can, few_items, here_ok, over_ok, there_after}
 use Rattle.reinsert.proofs.AboveLemmas.{items_kept}
 use Rattle.reinsert.proofs.SettledLemmas.{items_settled}
 use Rattle.reinsert.specs.declared.settled.Settled.{Settled}

@@ -1,5 +1,5 @@
 -- The goals of `put_here` that are proved by hand.
-use Rattle.std.proofs.Common.{rules, ◌≡◌, ◌∙◌, ◌+◌, ◌++◌, [], ◌∷◌, List, map, sym, ap, subst, refl, arith, All, Err, Ok, Result, IfOk, IfSome, IsSome, None, Some, inl, length}
+use Rattle.std.proofs.Common.{rules, ◌≡◌, ◌∙◌, ◌+◌, ◌++◌, [], ◌∷◌, List, map, sym, ap, subst, refl, arith, All, Err, Ok, Result, IfOk, IfSome, IsSome, None, Some, inl}
 use Rattle.std.proofs.lemmas.List.{length-append, map-append}
 use Rattle.std.proofs.lemmas.List.Elements.{All-append}
 use Rattle.box_math.specs.Bounds.{Bounds}
@@ -18,7 +18,6 @@ use Rattle.node_page.specs.Faults.{IsNoDamage, IsChangeFault}
 use Rattle.reinsert.specs.Placed.{CanSettle, SettlesTo}
 use Rattle.reinsert.specs.declared.settled.Settled.{Settled}
 use Rattle.reinsert.proofs.BrokenLemmas.{at_broken, at_none}
-use Rattle.reinsert.proofs.FaultLemmas.{one_more}
 use Rattle.reinsert.proofs.PlaceLemmas.{can_settle_from, settles_from}
 use Rattle.reinsert.proofs.SettledLemmas.{items_settled}
 use Rattle.reinsert.proofs.WaitLemmas.{All-one}
@@ -38,11 +37,10 @@ returns-in-Some-clause-settled g c = λ h items branches there are can.
     let settled : Settled D = record { bounds = c.in-Some.bounds; beside = None } in
     let some : IsSome c.in_ok-bounds.field-0 = subst IsSome (sym c.in-Some.is) refl in
     let room = (c.in_ok-bounds.ensures.room h.honest node there refl).0 some in
-    let added = subst (λ o. IfSome o (λ (b : Bounds). (node_in D (m' page) ≡ Some (pushed node (item_of c.args.entry.now))) × (b ≡ least_box D after))) c.in-Some.is (c.in_ok-bounds.ensures.added h.honest node there) in
-    (
+    let added = subst (λ o. IfSome o (λ (b : Bounds). (node_in D (m' page) ≡ Some (pushed node (item_of c.args.entry.now))) × (b ≡ least_box D after))) c.in-Some.is (c.in_ok-bounds.ensures.added h.honest node there) in (
       c.in_ok-bounds.ensures.sound h can.live,
       items_settled c.args.m_max c.args.top level c.args.waiting.now.called branches after m m' page settled c.args.waiting.now.waits.items c.args.waiting.now.waits.items c.args.waiting.now.called
-      are can (omega (arith, length-append items (item_of c.args.entry.now ∷ []), room.1)) added.1 refl refl refl added.0 (c.in_ok-bounds.ensures.others h.honest can.live),
+          are can (omega (arith, length-append items (item_of c.args.entry.now ∷ []), room.1)) added.1 refl refl refl added.0 (c.in_ok-bounds.ensures.others h.honest can.live),
     )
 
 -- ---- it is read
@@ -73,9 +71,25 @@ settle-requires g c =
     let P : Entry g.row.D → Type 0 = λ e. IsReference c.read_fitting.new.node.level e.reference in
     let before : All P c.read_fitting.new.node.entries.items = subst (λ l. All (λ (e : Entry g.row.D). IsReference l e.reference) c.read_fitting.new.node.entries.items) (sym level) c.in_ok-read_fitting.ensures.refers in
     let too : P c.args.entry.now = subst (λ l. IsReference l c.args.entry.now.reference) (sym level) c.requires.refers in
-    let refers : All P c.push.new.self.items = subst (λ xs. All P xs) (sym c.push.ensures.items) (All-append P c.read_fitting.new.node.entries.items (c.args.entry.now ∷ []) before (All-one P c.args.entry.now too)) in
-    (search rules, (search rules, (search rules, (c.requires.dims, (c.in_ok-read_fitting.ensures.asks.gate.gate ∙ asked.gate.gate ∙ c.requires.open, (c.requires.most,
-    ((omega (arith, level, c.requires.top), omega (arith, c.requires.top)), (omega (arith, c.push.ensures.len), (omega (arith, c.push.ensures.len, c.in_ok-read_fitting.ensures.few), refers)))))))))
+    let refers : All P c.push.new.self.items = subst (λ xs. All P xs) (sym c.push.ensures.items) (All-append P c.read_fitting.new.node.entries.items (c.args.entry.now ∷ []) before (All-one P c.args.entry.now too)) in (
+      search rules,
+      (
+        search rules,
+        (
+          search rules,
+          (
+            c.requires.dims,
+            (
+              c.in_ok-read_fitting.ensures.asks.gate.gate ∙ asked.gate.gate ∙ c.requires.open,
+              (
+                c.requires.most,
+                ((omega (arith, level, c.requires.top), omega (arith, c.requires.top)), (omega (arith, c.push.ensures.len), (omega (arith, c.push.ensures.len, c.in_ok-read_fitting.ensures.few), refers))),
+              ),
+            ),
+          ),
+        ),
+      ),
+    )
 
 pub returns-in-Ok-clause-alters : goal.returns-in-Ok-clause-alters
 returns-in-Ok-clause-alters g c =
