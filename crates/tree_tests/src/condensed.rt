@@ -29,6 +29,7 @@ fn five_points(alloc: Global) -> Result<Cache, Fault>
 // Removes the point at that place of the line, if it has the identifier.
 fn take(alloc: Global, cache: &mut Cache, id: u64, x: i32) -> Result<Root, Broken>
     requires { gate_of cache.old ≡ Open }
+    ensures { gate_of cache.new ≡ Open }
 {
     remove(alloc, cache, FIVE, id, &at(x), 4)
 }
