@@ -1,7 +1,7 @@
 -- What writes into the pages of a table leave (our rule, docs/FORMAT.md, "Identifier tables").
-use Rattle.std.specs.Prelude.{◌≡◌, ◌⊎◌, ℕ, ◌<◌, ◌≤◌, All, List, [], ◌∷◌, ◌++◌, Option, Some, None, length, slice_index_or, take, drop, IsSome, ⊤}
+use Rattle.std.specs.Prelude.{◌≡◌, ◌⊎◌, ℕ, ◌<◌, ◌≤◌, All, List, [], ◌∷◌, ◌++◌, Option, Some, None, length, slice_index_or, take, drop, IfSome, IsSome, IsSomeAnd, ⊤}
 use Rattle.block_bytes.specs.Numbers.{number_at}
-use Rattle.bucket_page.specs.Layout.{BucketContent, popped}
+use Rattle.bucket_page.specs.Layout.{BucketContent, bucket_at, popped}
 use Rattle.page_file.specs.Pages.{SameBut}
 use Rattle.node_page.specs.Parts.{Part}
 use Rattle.node_page.specs.Standing.{PageMap}
@@ -107,3 +107,9 @@ IsWholeRun objects count = (100 ≤ count) ⊎ (¬ (next_class (drop count objec
 -- a bucket with these objects after its own
 abbrev pub with_more : BucketContent → List Object → BucketContent
 with_more c objects = record { next = c.next; entries = c.entries ++ objects }
+
+-- A run of objects is added to a bucket page that has room, which tells how many.
+pub record PushesRun (dims class : ℕ) (objects : List Object) (old new : List ℕ) (told : Option ℕ) : Type 0 where
+  pub run : IfSome told (IsRun class objects)
+  pub pushed : (c : BucketContent) → bucket_at dims old ≡ Some c → length c.entries < 100
+      → IsSomeAnd told (λ count. bucket_at dims new ≡ Some (with_more c (take count objects)))

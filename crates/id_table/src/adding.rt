@@ -13,14 +13,13 @@ ghost use Rattle.page_cache.specs.Calls.{Changes};
 ghost use Rattle.node_page.specs.Broken.{Alters};
 ghost use Rattle.node_page.specs.Faults.{IsNoDamage};
 ghost use Rattle.id_table.specs.Changes.{Adds, AreNew, Fills};
-ghost use Rattle.id_table.specs.Pages.{IsRun, IsWholeRun, PutsBefore, first_class, with_more};
+ghost use Rattle.id_table.specs.Pages.{IsRun, IsWholeRun, PushesRun, PutsBefore, first_class, with_more};
 ghost use Rattle.id_table.specs.Table.{IdTable, IdsStand, bucket_in, objects_of};
 
 use crate::broken::midway;
-use crate::bucket::{room_in, write_bucket};
+use crate::bucket::{has_room, write_bucket};
 use crate::directory::{class_of, read_link, write_link};
 use arrayvec::ArrayVec;
-use block_bytes::zero_block;
 use block_device::BlockDevice;
 use box_math::BBox;
 use bucket_page::{Bucket, count_at, push_entry};
@@ -84,42 +83,68 @@ pub(crate) fn add_run<const D: usize, B: BlockDevice, A: Allocator + Copy>(
 {
     let class = class_of(objects[0].0);
     let first = read_link::<D, B, A>(cache, directory, class)?;
-    let mut page = zero_block();
-    let room = room_in::<D, B, A>(cache, first, &mut page)?;
+    let room = has_room::<D, B, A>(cache, first)?;
     if room {
-        return midway(put_in(cache, first, &mut page, class, objects));
+        return midway(put_in(cache, first, class, objects));
     }
     midway(put_alone(cache, directory, class, first, objects))
 }
 
-// Writes a run of objects more into the bytes of a bucket page, and these into it. Answers how many objects.
+// Adds to the bucket at a page with room the objects from the first one on that are of the chain, where the page lies in
+// memory. Answers how many these are. A page without room is `Damaged`.
+#[tactic(auto, using(page_cache::specs::Calls::ends_so))]
 fn put_in<const D: usize, B: BlockDevice, A: Allocator + Copy>(
     cache: &mut PageCache<B, A>,
     number: u32,
-    page: &mut [u8; 4096],
     class: usize,
     objects: &[(u64, BBox<D>)],
 ) -> Result<usize, Fault>
     requires dims { IsDims D }
     requires open { gate_of cache.old ≡ Open }
-    requires room { number_at 2 2 page.old < 100 }
     requires some { 0 < length objects.now }
     requires first { class ≡ first_class objects.now }
     ensures changes { Changes cache.old cache.new result }
     ensures next { next_of cache.new ≡ next_of cache.old }
     ensures run { IfOk result (IsRun class objects.now) }
-    ensures written { IsHonest cache.old → IsLive cache.old number → (c : BucketContent) → bucket_at D page.old ≡ Some c
+    ensures written { IsHonest cache.old → (c : BucketContent) → bucket_in D (pages cache.old number) ≡ Some c
+        → length c.entries < 100
         → IfOk result (λ count. bucket_in D (pages cache.new number) ≡ Some (with_more c (take count objects.now))) }
     ensures others { IsHonest cache.old → IsLive cache.old number
         → SameBut number (pages cache.old) (pages cache.new) }
     ensures sound { IsPageMap cache.old → IsLive cache.old number → IsPageMap cache.new }
     ensures grows { Grows 0 cache.old cache.new }
-    ensures faults { IsHonest cache.old → IsLive cache.old number → IfErr result IsOfDevice }
+    ensures faults { IsHonest cache.old → (c : BucketContent) → bucket_in D (pages cache.old number) ≡ Some c
+        → length c.entries < 100 → IfErr result IsOfDevice }
     ensures other_faults { IfErr result (λ f. IsOfDevice f ⊎ IsDamage f) }
 {
-    let count = push_run(page, class, objects);
-    cache.put(number, page)?;
-    Ok(count)
+    let pushed = cache.edit(
+        number,
+        |page: &mut [u8; 4096]| -> Option<usize>
+            requires { IsDims D × (0 < length objects.now) × (class ≡ first_class objects.now) }
+            ensures { PushesRun D class objects.entry.now page.old page.new result }
+        { push_where_room(page, class, objects) },
+    )?;
+    match pushed {
+        Some(count) => Ok(count),
+        None => Err(Fault::Damaged(number)),
+    }
+}
+
+// Adds a run of objects to a bucket page that has room, and answers how many. `None` where it has none.
+fn push_where_room<const D: usize>(
+    page: &mut [u8; 4096],
+    class: usize,
+    objects: &[(u64, BBox<D>)],
+) -> Option<usize>
+    requires dims { IsDims D }
+    requires some { 0 < length objects.now }
+    requires first { class ≡ first_class objects.now }
+    ensures { PushesRun D class objects.now page.old page.new result }
+{
+    if count_at(page) >= 100 {
+        return None;
+    }
+    Some(push_run(page, class, objects))
 }
 
 // Adds to a bucket page the objects from the first one on that are of the chain, as many as it has room for. Answers

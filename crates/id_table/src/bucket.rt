@@ -111,20 +111,17 @@ pub(crate) fn place_at<const D: usize, B: BlockDevice, A: Allocator + Copy>(
     }
 }
 
-// Whether the first page of a chain has room for an object more, and what it names if it has. There is none where there
-// is no page, or it is full.
+// Whether the first page of a chain has room for an object more. There is none where there is no page, or it is full.
 #[tactic(auto, using(page_cache::specs::Calls::ends_so))]
-pub(crate) fn room_in<const D: usize, B: BlockDevice, A: Allocator + Copy>(
+pub(crate) fn has_room<const D: usize, B: BlockDevice, A: Allocator + Copy>(
     cache: &mut PageCache<B, A>,
     first: u32,
-    bytes: &mut [u8; 4096],
 ) -> Result<bool, Fault>
     requires dims { IsDims D }
     ensures asks { Asks cache.old cache.new result }
     ensures some { IfOk result (λ room. room ≡ true → ¬ (first ≡ 0)) }
-    ensures room { IfOk result (λ room. room ≡ true → number_at 2 2 bytes.new < 100) }
-    ensures bytes { IsHonest cache.old → (c : BucketContent) → bucket_in D (pages cache.old first) ≡ Some c
-        → IfOk result (λ room. room ≡ true → bucket_at D bytes.new ≡ Some c) }
+    ensures room { IsHonest cache.old → (c : BucketContent) → bucket_in D (pages cache.old first) ≡ Some c
+        → IfOk result (λ room. room ≡ true → length c.entries < 100) }
     ensures full { IsHonest cache.old → (chain : List Linked) → ChainStands D (pages cache.old) first chain
         → IfOk result (λ room. room ≡ false → BeginsFull chain) }
     ensures there { IsHonest cache.old → (chain : List Linked) → ChainStands D (pages cache.old) first chain
@@ -142,19 +139,7 @@ pub(crate) fn room_in<const D: usize, B: BlockDevice, A: Allocator + Copy>(
     if count_at(page) == 100 {
         return Ok(false);
     }
-    copy_bucket::<D>(page, bytes);
     Ok(true)
-}
-
-// Copies what a bucket page may name: its head, and the places of its objects.
-fn copy_bucket<const D: usize>(page: &[u8; 4096], bytes: &mut [u8; 4096])
-    requires dims { IsDims D }
-    requires few { number_at 2 2 page.now ≤ 100 }
-    ensures count { number_at 2 2 bytes.new ≡ number_at 2 2 page.now }
-    ensures same { bucket_at D bytes.new ≡ bucket_at D page.now }
-{
-    let end = 816 + 800 * D;
-    bytes[..end].copy_from_slice(&page[..end]);
 }
 
 // Writes a bucket into a live page. After a refusal that page may hold any bytes.

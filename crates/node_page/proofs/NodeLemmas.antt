@@ -1,5 +1,5 @@
 -- A node at a page of a map, and a page that was refused.
-use Rattle.std.proofs.Common.{◌≡◌, ◌∙◌, ◌⊎◌, ℕ, ◌<◌, ◌≤◌, List, Option, Some, Result, Ok, Err, IfErr, OnOk, IsErrAnd, sym, ap, subst, inl, inr, ⊎_elim, arith, length, map}
+use Rattle.std.proofs.Common.{◌≡◌, ◌∙◌, ◌⊎◌, ℕ, ◌<◌, ◌≤◌, List, Option, Some, Result, Ok, Err, IfErr, OnOk, IsErrAnd, sym, ap, subst, inl, inr, ⊎_elim, arith, length, map, None, refl}
 use Rattle.std.proofs.lemmas.Bool.{cases_lt}
 use Rattle.std.proofs.lemmas.List.{length-map}
 use Rattle.std.proofs.lemmas.List.Elements.{All-from_get_or}
@@ -45,6 +45,11 @@ page_refused n next f inside outside = ⊎_elim
 -- the node of a page that is there is the one that it spells
 pub node_of_page : (dims : ℕ) (page : Option (List ℕ)) (bytes : List ℕ) (c : Option NodeContent) → page ≡ Some bytes → node_at dims bytes ≡ c → node_in dims page ≡ c
 node_of_page dims page bytes c there spelled = ap (node_in dims) there ∙ spelled
+
+-- the bytes of a page that spells a node
+pub bytes_of_node : (dims : ℕ) (page : Option (List ℕ)) (c : NodeContent) → node_in dims page ≡ Some c → (bytes : List ℕ) × (page ≡ Some bytes) × (node_at dims bytes ≡ Some c)
+bytes_of_node dims None c is = absurd (cc)
+bytes_of_node dims (Some bytes) c is = (bytes, refl, is)
 
 -- a leaf of at most 100 entries can be spelled
 pub leaf_spellable : {dims : ℕ} (leaf : Node dims) → leaf.level ≡ 0 → length leaf.entries.items ≤ 100 → IsSpellable (content_of leaf)

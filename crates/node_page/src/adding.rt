@@ -1,21 +1,21 @@
 //! An entry added to a node at a page of a cache, which is not decoded.
 
-ghost use Rattle.std.specs.Prelude.{◌≡◌, ◌⊎◌, ◌↔◌, ◌<◌, ◌≤◌, Some, None, IfErr, IfNone, IfOk, IfSome, IsSome, length};
+ghost use Rattle.std.specs.Prelude.{◌≡◌, ◌⊎◌, ◌↔◌, ◌<◌, ◌≤◌, Some, None, IfErr, IfNone, IfOk, IfSome, IsSome, OnOk, length};
 ghost use Rattle.box_math.specs.Bounds.{IsDims};
 ghost use Rattle.page_file.specs.Fault.{IsDamage, IsOfDevice};
 ghost use Rattle.page_file.specs.Pages.{SameBut};
 ghost use Rattle.page_file.specs.declared.gate.Gate.TheVariants.{Open};
 ghost use Rattle.page_cache.specs.Cache.{Grows, IsHonest, IsLive, IsPageMap, gate_of, pages};
-ghost use Rattle.page_cache.specs.Calls.{AsksUntil};
+ghost use Rattle.page_cache.specs.Calls.{Asks, AsksUntil};
 ghost use Rattle.tree_node.specs.Boxes.{least_box};
 ghost use Rattle.tree_node.specs.Nodes.{NodeContent, item_of};
 ghost use Rattle.node_page.specs.Broken.{Alters};
-ghost use Rattle.node_page.specs.Layout.{IsReference, pushed};
+ghost use Rattle.node_page.specs.Layout.{IsReference, node_at, pushed};
 ghost use Rattle.node_page.specs.Standing.{node_in};
 
 use crate::broken::Broken;
-use crate::edits::push_entry;
-use crate::view::NodeView;
+use crate::edits::push_where_room;
+use crate::lending::view_node;
 use block_device::BlockDevice;
 use box_math::BBox;
 use page_cache::PageCache;
@@ -25,9 +25,10 @@ use tree_node::Entry;
 
 /// Adds an entry to the node of that level at a live page, in the place after the last one, where the node has some
 /// entry and fewer than the most, and answers the least box round all of them then; else it answers `None`, and has
-/// only asked for the page. The gate has to be open.
+/// only asked for the page. The entry is written where the page lies in memory. The gate has to be open.
 ///
-/// It breaks off as `read_node` is refused, untouched, and as `write_node` is.
+/// It breaks off as `read_node` is refused, untouched.
+#[tactic(auto, using(crate::specs::Broken::breaks))]
 pub fn add_entry<const D: usize, B: BlockDevice, A: Allocator + Copy>(
     cache: &mut PageCache<B, A>,
     page: u32,
@@ -54,17 +55,45 @@ pub fn add_entry<const D: usize, B: BlockDevice, A: Allocator + Copy>(
         → c.level ≡ level → IfErr result (λ b. IsOfDevice b.cause) }
     ensures other_faults { IfErr result (λ b. IsOfDevice b.cause ⊎ IsDamage b.cause) }
 {
-    let mut bytes = *cache.page(page)?;
-    let Some(node) = NodeView::of(&bytes, level) else {
-        return Err(Broken::from(Fault::Damaged(page)));
+    let Some(bounds) = least_with(cache, page, level, entry, most)? else {
+        return Ok(None);
     };
+    cache.edit(
+        page,
+        |bytes: &mut [u8; 4096]|
+            requires { IsDims D }
+            ensures { (c : NodeContent) → node_at D bytes.old ≡ Some c → length c.entries < 100
+                → IsReference c.level entry.entry.now.reference
+                → node_at D bytes.new ≡ Some (pushed c (item_of entry.entry.now)) }
+        { push_where_room(bytes, entry) },
+    )?;
+    Ok(Some(bounds))
+}
+
+// The least box round the entries of a node and one more, where it has some entry and fewer than the most.
+fn least_with<const D: usize, B: BlockDevice, A: Allocator + Copy>(
+    cache: &mut PageCache<B, A>,
+    page: u32,
+    level: u8,
+    entry: &Entry<D>,
+    most: usize,
+) -> Result<Option<BBox<D>>, Fault>
+    requires dims { IsDims D }
+    ensures asks { Asks cache.old cache.new result }
+    ensures room { IsHonest cache.old → (c : NodeContent) → node_in D (pages cache.old page) ≡ Some c
+        → IfOk result (λ some. IsSome some ↔ ((0 < length c.entries) × (length c.entries < most))) }
+    ensures level { IsHonest cache.old → (c : NodeContent) → node_in D (pages cache.old page) ≡ Some c
+        → OnOk result (c.level ≡ level) }
+    ensures least { IsHonest cache.old → (c : NodeContent) → node_in D (pages cache.old page) ≡ Some c
+        → IfOk result (λ some. IfSome some (λ bounds.
+        bounds ≡ least_box D (pushed c (item_of entry.now)).entries)) }
+    ensures faults { IsHonest cache.old → (c : NodeContent) → node_in D (pages cache.old page) ≡ Some c
+        → c.level ≡ level → IfErr result IsOfDevice }
+    ensures other_faults { IfErr result (λ f. IsOfDevice f ⊎ IsDamage f) }
+{
+    let node = view_node::<D, B, A>(cache, page, level)?;
     if node.len() == 0 || node.len() >= most {
         return Ok(None);
     }
-    let bounds = node.least().join(&entry.bounds);
-    push_entry(&mut bytes, entry);
-    match cache.put(page, &bytes) {
-        Ok(()) => Ok(Some(bounds)),
-        Err(fault) => Err(Broken::midway(fault)),
-    }
+    Ok(Some(node.least().join(&entry.bounds)))
 }

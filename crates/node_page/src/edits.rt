@@ -1,6 +1,6 @@
 //! A node page changed in place.
 
-ghost use Rattle.std.specs.Prelude.{◌≡◌, ◌<◌, Some};
+ghost use Rattle.std.specs.Prelude.{◌≡◌, ◌<◌, Some, length};
 ghost use Rattle.block_bytes.specs.Numbers.{number_at};
 ghost use Rattle.box_math.specs.Bounds.{IsDims};
 ghost use Rattle.tree_node.specs.Nodes.{NodeContent, item_of};
@@ -21,4 +21,15 @@ pub(crate) fn push_entry<const D: usize>(page: &mut [u8; 4096], entry: &Entry<D>
     let count = count_at(page);
     write_entry(page, count, entry);
     write_u16(page, 2, count as u16 + 1);
+}
+
+/// Adds an entry to a node page as `push_entry` does, where its count is below 100.
+pub(crate) fn push_where_room<const D: usize>(page: &mut [u8; 4096], entry: &Entry<D>)
+    requires { IsDims D }
+    ensures { (c : NodeContent) → node_at D page.old ≡ Some c → length c.entries < 100
+        → IsReference c.level entry.now.reference → node_at D page.new ≡ Some (pushed c (item_of entry.now)) }
+{
+    if count_at(page) < 100 {
+        push_entry(page, entry);
+    }
 }

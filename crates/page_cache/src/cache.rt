@@ -5,6 +5,7 @@ ghost use Rattle.page_file.specs.declared.gate.Gate.TheVariants.{Open};
 ghost use Rattle.page_cache.specs.Frames.{frame_at};
 
 mod change;
+mod edit;
 mod frames;
 mod open;
 mod pages;

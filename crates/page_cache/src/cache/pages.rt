@@ -60,7 +60,7 @@ impl<D: BlockDevice, A: Allocator + Copy> PageCache<D, A> {
     }
 
     // Makes a page the one used last, and brings it in where it is not held.
-    fn load(&mut self, n: u32) -> Result<(), Fault>
+    pub(crate) fn load(&mut self, n: u32) -> Result<(), Fault>
         ensures kept { KeepsBlocks self.old self.new }
         ensures first { OnOk result (option_map (λ e. e.0) (slice_get self.new.frames.entries 0) ≡ Some n) }
         ensures held { IsHeld self.old n → (self.new.file ≡ self.old.file) × IsOk result }

@@ -20,13 +20,13 @@ pub returns-in_err-room-clause-faults : goal.returns-in_err-room-clause-faults
 returns-in_err-room-clause-faults g c = λ map t at stands.
     let class = c.class_of-class.result in
     let s = starts g.row.D c.args.directory class c.in_ok-first.first c.args.cache.now c.read_link.new.cache c.in_ok-first.ensures.asks c.in_ok-first.ensures.link map.honest c.class_of-class.ensures.bound t at stands in
-    refused_before c.from_residual-in_err-room.result c.in_err-room.field-0.0 (IsNoDamage c.room_in.new.cache) c.from_residual-in_err-room.ensures.1
+    refused_before c.from_residual-in_err-room.result c.in_err-room.field-0.0 (IsNoDamage c.has_room.new.cache) c.from_residual-in_err-room.ensures.1
     (inl (c.in_err-room.ensures.there s.honest (chain_at t class) s.begins_now))
 
 pub returns-then-room-clause-alters : goal.returns-then-room-clause-alters
 returns-then-room-clause-alters g c =
-    alters_after c.args.cache.now c.room_in.new.cache c.put_in.new.cache c.put_in.result c.midway.result c.midway.ensures
-    (asks_in_turn c.args.cache.now c.read_link.new.cache c.room_in.new.cache None c.in_ok-first.ensures.asks c.in_ok-room.ensures.asks) c.put_in.ensures.changes
+    alters_after c.args.cache.now c.has_room.new.cache c.put_in.new.cache c.put_in.result c.midway.result c.midway.ensures
+    (asks_in_turn c.args.cache.now c.read_link.new.cache c.has_room.new.cache None c.in_ok-first.ensures.asks c.in_ok-room.ensures.asks) c.put_in.ensures.changes
 
 pub returns-then-room-clause-count : goal.returns-then-room-clause-count
 returns-then-room-clause-count g c =
@@ -53,8 +53,8 @@ returns-then-room-clause-sound g c = λ map t at stands.
     let first = c.in_ok-first.first in
     let s = starts g.row.D c.args.directory class first c.args.cache.now c.read_link.new.cache c.in_ok-first.ensures.asks c.in_ok-first.ensures.link map.honest c.class_of-class.ensures.bound t at stands in
     let some = c.in_ok-room.ensures.some c.if-room.true in
-    let asks = asks_in_turn c.args.cache.now c.read_link.new.cache c.room_in.new.cache None c.in_ok-first.ensures.asks c.in_ok-room.ensures.asks in
-    c.put_in.ensures.sound (asks.map.sound.0 map) (first_is_live g.row.D first (chain_at t class) c.args.cache.now c.room_in.new.cache asks map.honest s.begins some)
+    let asks = asks_in_turn c.args.cache.now c.read_link.new.cache c.has_room.new.cache None c.in_ok-first.ensures.asks c.in_ok-room.ensures.asks in
+    c.put_in.ensures.sound (asks.map.sound.0 map) (first_is_live g.row.D first (chain_at t class) c.args.cache.now c.has_room.new.cache asks map.honest s.begins some)
 
 pub returns-then-room-clause-added : goal.returns-then-room-clause-added
 returns-then-room-clause-added g c = λ map t at stands fresh.
@@ -66,13 +66,13 @@ returns-then-room-clause-added g c = λ map t at stands fresh.
     let s = starts g.row.D c.args.directory class first c.args.cache.now c.read_link.new.cache c.in_ok-first.ensures.asks c.in_ok-first.ensures.link map.honest c.class_of-class.ensures.bound t at stands in
     let some = c.in_ok-room.ensures.some c.if-room.true in
     let b = begins_at g.row.D m first (chain_at t class) s.begins some in
-    let asks = asks_in_turn c.args.cache.now c.read_link.new.cache c.room_in.new.cache None c.in_ok-first.ensures.asks c.in_ok-room.ensures.asks in
+    let asks = asks_in_turn c.args.cache.now c.read_link.new.cache c.has_room.new.cache None c.in_ok-first.ensures.asks c.in_ok-room.ensures.asks in
     let there = ap (bucket_in g.row.D) (c.in_ok-first.ensures.asks.map.pages_stay map.honest first) ∙ b.there in
-    let bytes = c.in_ok-room.ensures.bytes s.honest b.content there c.if-room.true in
-    let live = first_is_live g.row.D first (chain_at t class) c.args.cache.now c.room_in.new.cache asks map.honest s.begins some in
+    let few = c.in_ok-room.ensures.room s.honest b.content there c.if-room.true in
+    let live = first_is_live g.row.D first (chain_at t class) c.args.cache.now c.has_room.new.cache asks map.honest s.begins some in
     let honest = asks.gate.honest.0 map.honest in
     broken_if c.put_in.result c.midway.result (IsRun class objects) (λ n. bucket_in g.row.D (now first) ≡ Some (with_more b.content (take n objects))) (λ n. Fills g.row.D m now t (take n objects)) c.midway.ensures
-    c.put_in.ensures.run (c.put_in.ensures.written honest live b.content bytes)
+    c.put_in.ensures.run (c.put_in.ensures.written honest b.content (ap (bucket_in g.row.D) (asks.map.pages_stay map.honest first) ∙ b.there) few)
     (λ n run written. fills_in_place g.row.D m now t class (take n objects) first b.content stands c.class_of-class.ensures.bound (first_new n objects (objects_of t) fresh) run.placed s.link b.there written
     (λ k other. c.put_in.ensures.others honest live k other ∙ asks.map.pages_stay map.honest k) some)
 
@@ -82,15 +82,17 @@ returns-then-room-clause-faults g c = λ map t at stands.
     let first = c.in_ok-first.first in
     let s = starts g.row.D c.args.directory class first c.args.cache.now c.read_link.new.cache c.in_ok-first.ensures.asks c.in_ok-first.ensures.link map.honest c.class_of-class.ensures.bound t at stands in
     let some = c.in_ok-room.ensures.some c.if-room.true in
-    let asks = asks_in_turn c.args.cache.now c.read_link.new.cache c.room_in.new.cache None c.in_ok-first.ensures.asks c.in_ok-room.ensures.asks in
-    let live = first_is_live g.row.D first (chain_at t class) c.args.cache.now c.room_in.new.cache asks map.honest s.begins some in
+    let asks = asks_in_turn c.args.cache.now c.read_link.new.cache c.has_room.new.cache None c.in_ok-first.ensures.asks c.in_ok-room.ensures.asks in
+    let b = begins_at g.row.D (pages c.args.cache.now) first (chain_at t class) s.begins some in
+    let there = ap (bucket_in g.row.D) (c.in_ok-first.ensures.asks.map.pages_stay map.honest first) ∙ b.there in
+    let few = c.in_ok-room.ensures.room s.honest b.content there c.if-room.true in
     broken_err c.put_in.result c.midway.result (IsNoDamage c.put_in.new.cache) c.midway.ensures
-    (if_err c.put_in.result IsOfDevice (IsNoDamage c.put_in.new.cache) (λ f is. inl is) (c.put_in.ensures.faults (asks.gate.honest.0 map.honest) live))
+    (if_err c.put_in.result IsOfDevice (IsNoDamage c.put_in.new.cache) (λ f is. inl is) (c.put_in.ensures.faults (asks.gate.honest.0 map.honest) b.content (ap (bucket_in g.row.D) (asks.map.pages_stay map.honest first) ∙ b.there) few))
 
 pub returns-clause-alters : goal.returns-clause-alters
 returns-clause-alters g c =
-    alters_after c.args.cache.now c.room_in.new.cache c.put_alone.new.cache c.put_alone.result c.midway-2.result c.midway-2.ensures
-    (asks_in_turn c.args.cache.now c.read_link.new.cache c.room_in.new.cache None c.in_ok-first.ensures.asks c.in_ok-room.ensures.asks) c.put_alone.ensures.changes
+    alters_after c.args.cache.now c.has_room.new.cache c.put_alone.new.cache c.put_alone.result c.midway-2.result c.midway-2.ensures
+    (asks_in_turn c.args.cache.now c.read_link.new.cache c.has_room.new.cache None c.in_ok-first.ensures.asks c.in_ok-room.ensures.asks) c.put_alone.ensures.changes
 
 pub returns-clause-count : goal.returns-clause-count
 returns-clause-count g c =
@@ -106,14 +108,14 @@ returns-clause-whole g c =
 pub returns-clause-added : goal.returns-clause-added
 returns-clause-added g c = λ map t at stands fresh.
     let m = pages c.args.cache.now in
-    let mid = pages c.room_in.new.cache in
+    let mid = pages c.has_room.new.cache in
     let now = pages c.put_alone.new.cache in
     let objects = c.args.objects.now in
     let class = c.class_of-class.result in
     let first = c.in_ok-first.first in
     let s = starts g.row.D c.args.directory class first c.args.cache.now c.read_link.new.cache c.in_ok-first.ensures.asks c.in_ok-first.ensures.link map.honest c.class_of-class.ensures.bound t at stands in
     let full = c.in_ok-room.ensures.full s.honest (chain_at t class) s.begins_now c.if-room.false in
-    let asks = asks_in_turn c.args.cache.now c.read_link.new.cache c.room_in.new.cache None c.in_ok-first.ensures.asks c.in_ok-room.ensures.asks in
+    let asks = asks_in_turn c.args.cache.now c.read_link.new.cache c.has_room.new.cache None c.in_ok-first.ensures.asks c.in_ok-room.ensures.asks in
     let there = asks.map.pages_stay map.honest c.args.directory ∙ ap m (sym at) ∙ stands.there in
     broken_if c.put_alone.result c.midway-2.result (IsRun class objects) (λ n. PutsBefore g.row.D mid now c.args.directory class first (take n objects) stands.directory) (λ n. Fills g.row.D m now t (take n objects)) c.midway-2.ensures
     c.put_alone.ensures.run (c.put_alone.ensures.put (asks.map.sound.0 map) stands.directory there)

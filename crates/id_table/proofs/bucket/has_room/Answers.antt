@@ -1,5 +1,5 @@
--- The goals of `room_in` that are proved by hand: a chain that stands begins with a bucket.
-use Rattle.std.proofs.Common.{◌≡◌, ◌∙◌, ◌⊎◌, ap, length, subst, sym}
+-- The goals of `has_room` that are proved by hand: a chain that stands begins with a bucket.
+use Rattle.std.proofs.Common.{◌≡◌, ◌∙◌, ◌⊎◌, ap, arith, length, subst, sym}
 use Rattle.bucket_page.proofs.Reading.{no_head}
 use Rattle.page_file.specs.declared.fault.Fault.TheVariants as fault
 use Rattle.page_file.specs.Fault.{IsOfDevice}
@@ -9,7 +9,7 @@ use Rattle.node_page.proofs.NodeLemmas.{at_error, page_refused}
 use Rattle.id_table.specs.Pages.{BeginsFull}
 use Rattle.id_table.proofs.BucketLemmas.{bucket_bytes, page_of_bucket}
 use Rattle.id_table.proofs.WalkLemmas.{begins_at}
-use Rattle.id_table.proofs.bucket.room_in.Goals as goal
+use Rattle.id_table.proofs.bucket.has_room.Goals as goal
 
 pub returns-in_err-page-clause-there : goal.returns-in_err-page-clause-there
 returns-in_err-page-clause-there g c = λ h chain stands.
@@ -33,6 +33,13 @@ returns-then-count_at-eq100-clause-full g c = λ h chain stands none.
     let is = bucket_bytes g.row.D page _ b.content (c.in_ok-page.ensures.bytes h (page_of_bucket g.row.D page b.content b.there)) b.there in
     let full : length b.bucket.entries ≡ 100 = ap length (sym b.entries) ∙ sym (c.count_at.ensures.of_bucket g.row.D b.content is) ∙ c.if-count_at-eq100.true in
     subst BeginsFull (sym b.is) full
+
+pub returns-clause-room : goal.returns-clause-room
+returns-clause-room g c = λ h content there room.
+    let page = pages c.args.cache.now c.args.first in
+    let is = bucket_bytes g.row.D page _ content (c.in_ok-page.ensures.bytes h (page_of_bucket g.row.D page content there)) there in
+    let few = (c.has_bucket_head.ensures.0 c.if-not-has_bucket_head.false).few in
+    omega (arith, c.count_at.ensures.of_bucket g.row.D content is, few, c.count_at.ensures.value, c.if-count_at-eq100.false)
 
 pub returns-in_err-page-clause-damage : goal.returns-in_err-page-clause-damage
 returns-in_err-page-clause-damage g c = λ h.

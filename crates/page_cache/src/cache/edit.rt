@@ -1,0 +1,88 @@
+//! A page changed where it lies in memory.
+ghost use Rattle.std.specs.Prelude.{◌≡◌, ◌⊎◌, ◌≤◌, ◌<◌, ℕ, List, Some, IsErrOf, IfOk, IfErr, OnOk, OnErr};
+ghost use Rattle.std.specs.Prelude.{if◌then◌else◌, ◌==◌, true};
+ghost use Rattle.std.specs.Fn.{FnOnceReturnsAtMut};
+ghost use Rattle.block_device.specs.Device.{IsBlock};
+ghost use Rattle.page_file.specs.Fault.{IsOfDevice, IsDamage};
+ghost use Rattle.page_file.specs.Pages.{SameBut};
+ghost use Rattle.page_file.specs.declared.fault.Fault.TheVariants as fault;
+ghost use Rattle.page_file.specs.declared.gate.Gate.TheVariants.{Open};
+ghost use Rattle.page_cache.specs.Cache.{Grows, IsHeld, IsHonest, IsLive, IsPageMap, KeepsMap};
+ghost use Rattle.page_cache.specs.Cache.{device_of, gate_of, given, looks_of, next_of, pages};
+ghost use Rattle.page_cache.specs.Calls.{Changes};
+ghost use Rattle.page_cache.specs.Frames.{frame_at};
+ghost use Rattle.page_cache.specs.declared.frame.Frame.{Frame};
+
+use crate::cache::PageCache;
+use block_device::BlockDevice;
+use page_file::Fault;
+use std::alloc::Allocator;
+
+// The bytes of a page are those of a block.
+fn see_block(page: &[u8; 4096])
+    ensures { IsBlock page.now }
+{
+    let _first = page[0];
+}
+
+impl<D: BlockDevice, A: Allocator + Copy> PageCache<D, A> {
+    /// Changes a live page where it lies in memory, and holds it: `change` gets its bytes, and its answer is handed on.
+    /// The gate has to be open. A number outside 2 to the last one given out is `Damaged` with that number, without a
+    /// call of the device.
+    ///
+    /// It counts no look. After a refusal, which on an honest device is `Memory` or `Device`, the map is as before.
+    #[tactic(auto, using(crate::specs::Calls::counted_by_end))]
+    pub fn edit<T, F: FnOnce(&mut [u8; 4096]) -> T>(&mut self, n: u32, change: F) -> Result<T, Fault>
+        requires open { gate_of self.old ≡ Open }
+        requires change { F.IsAlwaysCallable change }
+        ensures changes { Changes self.old self.new result }
+        ensures answered { IfOk result (λ answer. (page after : List ℕ)
+            × FnOnceReturnsAtMut F.FnOnce change page answer after) }
+        ensures edited { IsHonest self.old → (page : List ℕ) → given self.old n ≡ Some page
+            → IfOk result (λ answer. (after : List ℕ) × (given self.new n ≡ Some after)
+            × (IsLive self.old n → pages self.new n ≡ Some after)
+            × FnOnceReturnsAtMut F.FnOnce change page answer after) }
+        ensures live { IsHonest self.old → IsLive self.old n → IsLive self.new n }
+        ensures others { IsHonest self.old → IsLive self.old n → SameBut n (pages self.old) (pages self.new) }
+        ensures given_others { IsHonest self.old → SameBut n (given self.old) (given self.new) }
+        ensures refused { OnErr result (KeepsMap self.old self.new) }
+        ensures sound { IsPageMap self.old → IsLive self.old n → IsPageMap self.new }
+        ensures next { next_of self.new ≡ next_of self.old }
+        ensures grows { Grows 0 self.old self.new }
+        ensures looks { looks_of self.new ≡ looks_of self.old }
+        ensures holds { OnOk result (IsHeld self.new n) }
+        ensures outside { (n < 2) ⊎ (next_of self.old ≤ n) →
+            IsErrOf result (fault.Damaged n) × (device_of self.new ≡ device_of self.old) }
+        ensures faults { IsHonest self.old → 2 ≤ n → n < next_of self.old → IfErr result IsOfDevice }
+        ensures other_faults { IfErr result (λ f. IsOfDevice f ⊎ IsDamage f) }
+    {
+        self.load(n)?;
+        Ok(self.change_held(n, change))
+    }
+
+    // Changes the bytes of a page that is held.
+    fn change_held<T, F: FnOnce(&mut [u8; 4096]) -> T>(&mut self, n: u32, change: F) -> T
+        requires held { IsHeld self.old n }
+        requires open { gate_of self.old ≡ Open }
+        requires change { F.IsAlwaysCallable change }
+        ensures frames { (old : Frame A) → frame_at self.old.frames.entries n ≡ Some old
+            → (new : Frame A) × (new.changed ≡ true) × IsBlock new.bytes.value
+            × FnOnceReturnsAtMut F.FnOnce change old.bytes.value result new.bytes.value
+            × ((k : ℕ) → frame_at self.new.frames.entries k
+            ≡ (if k == n then Some new else frame_at self.old.frames.entries k)) }
+        ensures file { self.new.file ≡ self.old.file }
+        ensures looks { self.new.looks ≡ self.old.looks }
+        ensures capacity { self.new.frames.cap ≡ self.old.frames.cap }
+    {
+        let _count = self.frames.len();
+        match self.frames.peek_mut(&n) {
+            Some(frame) => {
+                frame.changed = true;
+                let answer = change(&mut frame.bytes);
+                see_block(&frame.bytes);
+                answer
+            }
+            None => unreachable!(),
+        }
+    }
+}
