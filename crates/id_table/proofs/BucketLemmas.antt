@@ -41,6 +41,10 @@ page_of_bucket dims (Some bytes) c e = refl
 pub bucket_bytes : (dims : ℕ) (page : Option (List ℕ)) (bytes : List ℕ) (c : BucketContent) → page ≡ Some bytes → bucket_in dims page ≡ Some c → bucket_at dims bytes ≡ Some c
 bucket_bytes dims page bytes c there is = sym (ap (bucket_in dims) there) ∙ is
 
+pub bytes_of_bucket : (dims : ℕ) (page : Option (List ℕ)) (c : BucketContent) → bucket_in dims page ≡ Some c → (bytes : List ℕ) × (page ≡ Some bytes) × (bucket_at dims bytes ≡ Some c)
+bytes_of_bucket dims None c is = absurd (cc)
+bytes_of_bucket dims (Some bytes) c is = (bytes, refl, is)
+
 pub is_there : (page : Option (List ℕ)) (bytes : List ℕ) → page ≡ Some bytes → IsSome page
 is_there None bytes e = absurd (cc)
 is_there (Some x) bytes e = refl

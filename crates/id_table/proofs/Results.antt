@@ -8,6 +8,11 @@ use Rattle.node_page.specs.Broken.{Alters, asks_and_alters, before}
 use Rattle.node_page.specs.declared.broken.Broken.{Broken}
 use Rattle.id_table.specs.Faults.{broken_of}
 
+-- a fact of the answer that does not name it
+pub ok_of : {T E Q : Type 0} {P : T → Type 0} (r : Result T E) → IfOk r P → ((x : T) → P x → Q) → OnOk r Q
+ok_of (Ok x) p f = f x p
+ok_of (Err e) p f = tt
+
 -- a change refused by a call before it began
 pub refused_before : {T : Type 0} (r : Result T Broken) (f : Fault) (P : Fault → Type 0) → IsErrAnd r (λ e. e ≡ before f) → P f → IfErr r (λ b. P b.cause)
 refused_before (Ok x) f P is p = tt

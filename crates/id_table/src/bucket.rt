@@ -4,7 +4,7 @@ ghost use Rattle.std.specs.Prelude.{◌≡◌, ◌≤◌, ◌<◌, ◌⊎◌, �
 ghost use Rattle.std.specs.Prelude.{IfOk, IfErr, IfSome, IsSomeAnd, OnOk};
 ghost use Rattle.block_bytes.specs.Numbers.{number_at};
 ghost use Rattle.box_math.specs.Bounds.{IsDims};
-ghost use Rattle.bucket_page.specs.Layout.{BucketContent, bucket_at, content_of};
+ghost use Rattle.bucket_page.specs.Layout.{BucketContent, bucket_at, content_of, Spells};
 ghost use Rattle.page_file.specs.Fault.{IsDamage, IsOfDevice};
 ghost use Rattle.page_file.specs.Pages.{SameBut};
 ghost use Rattle.page_file.specs.declared.fault.Fault.TheVariants as fault;
@@ -14,7 +14,6 @@ ghost use Rattle.page_cache.specs.Calls.{Asks, Changes};
 ghost use Rattle.id_table.specs.Pages.{BeginsFull, IsFoundAt};
 ghost use Rattle.id_table.specs.Table.{Bucket as Linked, ChainStands, box_in, bucket_in};
 
-use block_bytes::zero_block;
 use block_device::BlockDevice;
 use box_math::BBox;
 use bucket_page::{Bucket, count_at, encode, entry_at, has_bucket_head, id_at, next_at};
@@ -163,7 +162,11 @@ pub(crate) fn write_bucket<const D: usize, B: BlockDevice, A: Allocator + Copy>(
     ensures faults { IsHonest cache.old → IsLive cache.old number → IfErr result IsOfDevice }
     ensures other_faults { IfErr result (λ f. IsOfDevice f ⊎ IsDamage f) }
 {
-    let mut bytes = zero_block();
-    encode(bucket, &mut bytes);
-    cache.put(number, &bytes)
+    cache.refill(
+        number,
+        |page: &mut [u8; 4096]|
+            requires { IsDims D × (0 < length bucket.now.entries.items) }
+            ensures { Spells D page.new (content_of bucket.entry.now) }
+        { encode(bucket, page) },
+    )
 }

@@ -121,7 +121,11 @@ pub(crate) fn write_link<B: BlockDevice, A: Allocator + Copy>(
     ensures faults { IsHonest cache.old → IsLive cache.old directory → IfErr result IsOfDevice }
     ensures other_faults { IfErr result (λ f. IsOfDevice f ⊎ IsDamage f) }
 {
-    let mut bytes = copy_page(cache, directory)?;
-    set_link(&mut bytes, class, first);
-    cache.put(directory, &bytes)
+    cache.edit(
+        directory,
+        |page: &mut [u8; 4096]|
+            requires { class < 1000 }
+            ensures { SetsLink class first page.old page.new }
+        { set_link(page, class, first) },
+    )
 }

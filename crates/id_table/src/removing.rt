@@ -127,9 +127,14 @@ fn put_at<const D: usize, B: BlockDevice, A: Allocator + Copy>(
     ensures faults { IsHonest cache.old → IsLive cache.old number → IfErr result (λ b. IsOfDevice b.cause) }
     ensures other_faults { IfErr result (λ b. IsOfDevice b.cause ⊎ IsDamage b.cause) }
 {
-    let mut bytes = copy_page(cache, number)?;
-    set_entry(&mut bytes, place, object);
-    midway(cache.put(number, &bytes))
+    midway(cache.edit(
+        number,
+        |page: &mut [u8; 4096]|
+            requires { IsDims D × (place < 100) }
+            ensures { (c : BucketContent) → bucket_at D page.old ≡ Some c → place < length c.entries
+                → bucket_at D page.new ≡ Some (replaced c place object.entry.now) }
+        { set_entry(page, place, object) },
+    ))
 }
 
 // Writes the first page of a chain without its last object, or frees it where that was its only one.

@@ -11,11 +11,10 @@ ghost use Rattle.page_cache.specs.Cache.{Grows, IsHonest, IsLive, IsPageMap, IsU
 ghost use Rattle.page_cache.specs.Cache.{given, looks_of, next_of, pages};
 ghost use Rattle.page_cache.specs.Calls.{Asks, Changes};
 ghost use Rattle.tree_node.specs.Nodes.{NodeContent, content_of};
-ghost use Rattle.node_page.specs.Layout.{IsSpellable};
+ghost use Rattle.node_page.specs.Layout.{IsSpellable, node_at};
 ghost use Rattle.node_page.specs.Standing.{node_in};
 
 use crate::page::{decode, decode_into, encode};
-use block_bytes::zero_block;
 use block_device::BlockDevice;
 use page_cache::PageCache;
 use page_file::Fault;
@@ -120,7 +119,11 @@ pub fn write_node<const D: usize, B: BlockDevice, A: Allocator + Copy>(
     ensures faults { IsHonest cache.old → IsLive cache.old page → IfErr result IsOfDevice }
     ensures other_faults { IfErr result (λ f. IsOfDevice f ⊎ IsDamage f) }
 {
-    let mut bytes = zero_block();
-    encode(node, &mut bytes);
-    cache.put(page, &bytes)
+    cache.refill(
+        page,
+        |bytes: &mut [u8; 4096]|
+            requires { IsDims D × IsSpellable (content_of node.now) }
+            ensures { node_at D bytes.new ≡ Some (content_of node.entry.now) }
+        { encode(node, bytes) },
+    )
 }

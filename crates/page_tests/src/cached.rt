@@ -53,6 +53,22 @@ fn put<D: BlockDevice>(cache: &mut PageCache<D, Global>, n: u32, byte: u8) -> Re
     cache.put(n, &[byte; 4096])
 }
 
+// Changes page n where it lies to this byte throughout, and answers what it had first.
+fn refill<D: BlockDevice>(
+    cache: &mut PageCache<D, Global>,
+    n: u32,
+    byte: u8,
+) -> Result<u8, Fault>
+    requires { gate_of cache.old ≡ Open }
+    ensures { gate_of cache.new ≡ Open }
+{
+    cache.edit(n, |page: &mut [u8; 4096]| {
+        let had = page[0];
+        *page = [byte; 4096];
+        had
+    })
+}
+
 // Opens the gate, and puts page n with this byte throughout.
 fn put_first<D: BlockDevice>(
     cache: &mut PageCache<D, Global>,
@@ -93,6 +109,24 @@ fn pages_are_put_and_lent(rt: HostRuntime) -> Result<(), Fail> {
     assert!(rt; lends(&mut cache, 3, 2)?);
     assert!(rt; lends(&mut cache, 4, 3)?);
     assert_eq!(rt; cache.looks(), 6);
+    Ok(())
+}
+
+#[test]
+fn pages_are_changed_where_they_lie(rt: HostRuntime) -> Result<(), Fail> {
+    let mut cache = cache_on(rt.alloc(), scene(rt.alloc())?)?;
+    put_first(&mut cache, 3, 1)?;
+    // A page that is held, and one that is not.
+    assert_eq!(rt; refill(&mut cache, 3, 2)?, 1);
+    assert_eq!(rt; refill(&mut cache, 4, 3)?, 8);
+    assert_eq!(rt; refill(&mut cache, 5, 3), Err(Fault::Damaged(5)));
+    assert!(rt; lends(&mut cache, 3, 2)?);
+    assert_eq!(rt; cache.looks(), 1);
+    let Ok(device) = cache.close() else {
+        return Err(Fail::from("close"));
+    };
+    let mut cache = cache_on(rt.alloc(), device)?;
+    assert!(rt; lends(&mut cache, 3, 2)? && lends(&mut cache, 4, 3)?);
     Ok(())
 }
 

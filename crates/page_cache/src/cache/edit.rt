@@ -1,5 +1,5 @@
 //! A page changed where it lies in memory.
-ghost use Rattle.std.specs.Prelude.{◌≡◌, ◌⊎◌, ◌≤◌, ◌<◌, ℕ, List, Some, IsErrOf, IfOk, IfErr, OnOk, OnErr};
+ghost use Rattle.std.specs.Prelude.{◌≡◌, ◌⊎◌, ◌≤◌, ◌<◌, ℕ, List, Some, Err, IsErrOf, IfOk, IfErr, OnOk, OnErr};
 ghost use Rattle.std.specs.Prelude.{if◌then◌else◌, ◌==◌, true};
 ghost use Rattle.std.specs.Fn.{FnOnceReturnsAtMut};
 ghost use Rattle.block_device.specs.Device.{IsBlock};
@@ -7,13 +7,13 @@ ghost use Rattle.page_file.specs.Fault.{IsOfDevice, IsDamage};
 ghost use Rattle.page_file.specs.Pages.{SameBut};
 ghost use Rattle.page_file.specs.declared.fault.Fault.TheVariants as fault;
 ghost use Rattle.page_file.specs.declared.gate.Gate.TheVariants.{Open};
-ghost use Rattle.page_cache.specs.Cache.{Grows, IsHeld, IsHonest, IsLive, IsPageMap, KeepsMap};
+ghost use Rattle.page_cache.specs.Cache.{Grows, IsHeld, IsHonest, IsLive, IsPageMap, IsUnchanged, KeepsMap};
 ghost use Rattle.page_cache.specs.Cache.{device_of, gate_of, given, looks_of, next_of, pages};
 ghost use Rattle.page_cache.specs.Calls.{Changes};
 ghost use Rattle.page_cache.specs.Frames.{frame_at};
-ghost use Rattle.page_cache.specs.declared.frame.Frame.{Frame};
 
 use crate::cache::PageCache;
+use crate::frame::Frame;
 use block_device::BlockDevice;
 use page_file::Fault;
 use std::alloc::Allocator;
@@ -58,6 +58,53 @@ impl<D: BlockDevice, A: Allocator + Copy> PageCache<D, A> {
     {
         self.load(n)?;
         Ok(self.change_held(n, change))
+    }
+
+    /// Fills a live page in memory, and holds it: `fill` gets a page of any bytes, which is that page where it is held.
+    /// The gate has to be open. A number outside 2 to the last one given out is `Damaged` with that number, without a
+    /// call of the device.
+    ///
+    /// It counts no look. After a refusal, which on an honest device is `Memory` or `Device`, the page is still live and
+    /// may hold any bytes; all others are as before.
+    #[tactic(auto, using(crate::specs::Calls::counted_by_end))]
+    pub fn refill<F: FnOnce(&mut [u8; 4096])>(&mut self, n: u32, fill: F) -> Result<(), Fault>
+        requires open { gate_of self.old ≡ Open }
+        requires fill { F.IsAlwaysCallable fill }
+        ensures changes { Changes self.old self.new result }
+        ensures filled { IsHonest self.old → OnOk result ((before after : List ℕ) × (given self.new n ≡ Some after)
+            × (IsLive self.old n → pages self.new n ≡ Some after)
+            × FnOnceReturnsAtMut F.FnOnce fill before tt after) }
+        ensures live { IsHonest self.old → IsLive self.old n → IsLive self.new n }
+        ensures others { IsHonest self.old → IsLive self.old n → SameBut n (pages self.old) (pages self.new) }
+        ensures given_others { IsHonest self.old → SameBut n (given self.old) (given self.new) }
+        ensures sound { IsPageMap self.old → IsLive self.old n → IsPageMap self.new }
+        ensures next { next_of self.new ≡ next_of self.old }
+        ensures grows { Grows 0 self.old self.new }
+        ensures looks { looks_of self.new ≡ looks_of self.old }
+        ensures holds { OnOk result (IsHeld self.new n) }
+        ensures outside { (n < 2) ⊎ (next_of self.old ≤ n) →
+            (result ≡ Err (fault.Damaged n)) × IsUnchanged self.old self.new }
+        ensures faults { IsHonest self.old → 2 ≤ n → n < next_of self.old → IfErr result IsOfDevice }
+        ensures other_faults { IfErr result (λ f. IsOfDevice f ⊎ IsDamage f) }
+    {
+        if self.promote(n) {
+            self.change_held(n, fill);
+            return Ok(());
+        }
+        if n < 2 || n >= self.file.next_number() {
+            return Err(Fault::Damaged(n));
+        }
+        self.make_room()?;
+        let mut bytes = self.blank()?;
+        fill(&mut bytes);
+        see_block(&bytes);
+        self.hold(
+            n,
+            Frame {
+                bytes,
+                changed: true,
+            },
+        )
     }
 
     // Changes the bytes of a page that is held.

@@ -103,37 +103,7 @@ impl<D: BlockDevice, A: Allocator + Copy> PageCache<D, A> {
         ensures faults { IsHonest self.old → 2 ≤ n → n < next_of self.old → IfErr result IsOfDevice }
         ensures other_faults { IfErr result (λ f. IsOfDevice f ⊎ IsDamage f) }
     {
-        self.admit(n)?;
-        let mut page = self.blank()?;
-        *page = *bytes;
-        self.hold(
-            n,
-            Frame {
-                bytes: page,
-                changed: true,
-            },
-        )
-    }
-
-    // Sees that there is a frame for a page that was given out.
-    fn admit(&mut self, n: u32) -> Result<(), Fault>
-        ensures kept { KeepsBlocks self.old self.new }
-        ensures within { OnOk result ((2 ≤ n) × (n < next_of self.old)) }
-        ensures room { OnOk result (frame_at self.new.frames.entries n ≡ None →
-            length self.new.frames.entries < self.new.frames.cap) }
-        ensures outside { (n < 2) ⊎ (next_of self.old ≤ n) →
-            (result ≡ Err (fault.Damaged n)) × SameFrames self.old self.new }
-        ensures faults { IsHonest self.old → 2 ≤ n → n < next_of self.old → IfErr result IsOfDevice }
-        ensures other_faults { IfErr result (λ f. IsOfDevice f ⊎ IsDamage f) }
-        ensures cause { HasCause (D.faults (device_of self.old)) (D.faults (device_of self.new)) result }
-    {
-        if self.promote(n) {
-            return Ok(());
-        }
-        if n < 2 || n >= self.file.next_number() {
-            return Err(Fault::Damaged(n));
-        }
-        self.make_room()
+        self.refill(n, |page: &mut [u8; 4096]| *page = *bytes)
     }
 
     /// Gives out a page of zeros that was not live: the first free page where there is one, and else one of a new

@@ -15,6 +15,7 @@ use std::test::Fail;
 enum Call {
     Page,
     Put,
+    Edit,
     Allocate,
     Free,
     Flush,
@@ -35,6 +36,7 @@ fn make<D: BlockDevice, A: Allocator + Copy>(
             let _ = cache.page(3)?;
         }
         Call::Put => cache.put(3, &[9; 4096])?,
+        Call::Edit => cache.edit(3, |page: &mut [u8; 4096]| page[0] = 9)?,
         Call::Allocate => {
             let _ = cache.allocate()?;
         }
@@ -144,6 +146,7 @@ fn each_growth_of_a_call_is_refused(rt: HostRuntime) -> Result<(), Fail> {
     let calls = [
         Call::Page,
         Call::Put,
+        Call::Edit,
         Call::Allocate,
         Call::Free,
         Call::Flush,
