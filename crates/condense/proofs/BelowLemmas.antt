@@ -1,12 +1,12 @@
 -- The child that an object is looked for in, while the ones before it lacked it.
-use Rattle.std.proofs.Common.{Result, Ok, Err, IfOk, IfErr, IfSome, IsNone, Option, None, ◌≡◌, ◌∙◌, ℕ, suc, ◌+◌, ◌-◌, ◌<◌, ◌≤◌, IsSome, Some, List, [], length, map, get_or, refl, sym, ap, subst, arith}
+use Rattle.std.proofs.Common.{Bool, true, Result, Ok, Err, IfOk, IfErr, IfSome, IsNone, Option, None, ◌≡◌, ◌∙◌, ℕ, suc, ◌+◌, ◌-◌, ◌<◌, ◌≤◌, IsSome, Some, List, [], length, map, get_or, refl, sym, ap, subst, arith}
 use Rattle.std.specs.List.{Contains}
 use Rattle.std.proofs.lemmas.List.{get_or-map, length-map}
 use Rattle.box_math.specs.Bounds.{Bounds, Within}
 use Rattle.tree_node.specs.declared.node.Entry.{Entry}
 use Rattle.tree_node.specs.declared.node.Node.{Node}
 use Rattle.tree_node.specs.declared.node.Root.{Root}
-use Rattle.tree_node.specs.Nodes.{Item, item_of}
+use Rattle.tree_node.specs.Nodes.{Item, content_of, item_of}
 use Rattle.tree_node.specs.Trees.{Row, objects_in, row_items}
 use Rattle.tree_node.proofs.RowLemmas.{all_dropped, row_drop}
 use Rattle.node_page.specs.Standing.{PageMap, RowStands, Stands, node_in}
@@ -15,7 +15,7 @@ use Rattle.node_page.proofs.StandingLemmas.{node_stays, page_of_node, row_stays}
 use Rattle.reinsert.specs.Placed.{Held}
 use Rattle.reinsert.proofs.ChildLemmas.{HasChild, has_child}
 use Rattle.reinsert.proofs.PlaceLemmas.{items_read}
-use Rattle.condense.specs.Taken.{HasTaken, IsTakenFrom, LeadsTo, TookBelow, tree_at}
+use Rattle.condense.specs.Taken.{HasTaken, IsSettledBelow, IsTakenFrom, LeadsTo, TookBelow, tree_at}
 use Rattle.condense.proofs.LeadLemmas.{child_contains, leads_later, leaf_lacks, leaf_taken}
 
 -- the child in a place stands, in pages that are as they were
@@ -149,3 +149,9 @@ at_some o x P is h = subst (λ p. IfSome p P) is h
 pub is_none : {A : Type 0} (o : Option A) → ((x : A) → o ≡ Some x → ⊥) → o ≡ None
 is_none None h = refl
 is_none (Some x) h = absurd (h x refl)
+
+-- the page of a child has it where it is settled
+pub settled_child : {D : ℕ} (o : Option (Node D)) (lower : Node D) (m : PageMap) (entries : List Item) (place page : ℕ) (settled : Bool) → o ≡ Some lower → ((d : Item) → page ≡ (get_or entries place d).reference)
+    → (settled ≡ true → IfSome o (λ n. node_in D (m page) ≡ Some (content_of n))) → IsSettledBelow D m entries place (content_of lower) settled
+settled_child {D} o lower m entries place page settled is refers has so d =
+    subst (λ k. node_in D (m k) ≡ Some (content_of lower)) (refers d) (at_some o lower (λ (n : Node D). node_in D (m page) ≡ Some (content_of n)) is (has so))

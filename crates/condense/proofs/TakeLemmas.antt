@@ -1,5 +1,5 @@
 -- A child of which the object was taken, and the node above it condensed.
-use Rattle.std.proofs.Common.{Result, Ok, Err, IfOk, OnOk, ◌≡◌, ◌∙◌, ℕ, suc, ◌+◌, ◌-◌, ◌<◌, ◌≤◌, IsSome, Some, None, true, false, cond, eqb, List, [], ◌∷◌, ◌++◌, length, map, get_or, reverse, refl, sym, ap, subst, ⊎_elim, arith, append_assoc}
+use Rattle.std.proofs.Common.{Result, Ok, Err, Option, None, IfOk, IfSome, OnOk, ◌≡◌, ◌∙◌, ℕ, suc, ◌+◌, ◌-◌, ◌<◌, ◌≤◌, IsSome, Some, None, true, false, cond, eqb, List, [], ◌∷◌, ◌++◌, length, map, get_or, reverse, refl, sym, ap, subst, ⊎_elim, arith, append_assoc}
 use Rattle.std.specs.Prelude.{nat_lt}
 use Rattle.std.proofs.lemmas.Bool.{cases_eq}
 use Rattle.std.proofs.lemmas.Bool.Decides.{nat_tests}
@@ -9,7 +9,7 @@ use Rattle.page_file.specs.Pages.{SameBut}
 use Rattle.tree_node.specs.declared.node.Entry.{Entry}
 use Rattle.tree_node.specs.Boxes.{least_box}
 use Rattle.tree_node.specs.declared.node.Node.{Node}
-use Rattle.tree_node.specs.Nodes.{Item, NodeContent, item_of}
+use Rattle.tree_node.specs.Nodes.{Item, NodeContent, content_of, item_of}
 use Rattle.tree_node.specs.Positions.{total}
 use Rattle.tree_node.specs.Rows.{Waiter, branches_of, item_in, occurs_on, occurs_waiting, row_of}
 use Rattle.tree_node.specs.Shape.{least_entries}
@@ -64,6 +64,27 @@ stays_is dims most level row at below some = let no : nat_lt (row_length below.r
 -- how often a page is another
 abbrev once_at : ℕ → ℕ → ℕ
 once_at page n = cond (eqb page n) 1 0
+
+-- ---- the node's own page
+
+-- what is taken out below a node leaves its page
+pub page_stays : (dims most : ℕ) (m m' : PageMap) (page level id : ℕ) (bounds : Bounds) (row : Row) (held held' : List Held) (items : List Item) → Stands dims m (record { page = page; level = level; row = row })
+    → HasTaken dims most m m' level id bounds row held held' items → m' page ≡ m page
+page_stays dims most m m' page level id bounds row held held' items stands done =
+    rest_same m m' (λ n. occurs n row) (λ n. occurs n done.out.row + occurs_waiting n done.out.kept) (once_at page) done.moves
+    (λ n. omega (arith, stands.distinct n))
+    (λ n there. ⊎_elim (λ same. subst (λ k. IsSome (m k)) same (page_of_node dims (m page) _ stands.root)) (λ differs. absurd (omega (arith, there, zero_there page n differs))) (cases_eq page n))
+    page (omega (arith, occurs_here page))
+
+-- and so it has the node where that is as it was
+pub settled_ok : {D : ℕ} {E : Type 0} (r : Result (Option (Node D)) E) (X : Type 0) (most : ℕ) (m m' : PageMap) (page level id : ℕ) (bounds : Bounds) (row : Row) (held held' : List Held) (was : NodeContent)
+    → Stands D m (record { page = page; level = level; row = row }) → node_in D (m page) ≡ Some was → IfOk r (λ o. IfSome o (λ n. content_of n ≡ was))
+    → IfOk r (λ o. IfSome o (λ n. X × HasTaken D most m m' level id bounds row held held' (map item_of n.entries.items)))
+    → IfOk r (λ o. IfSome o (λ n. node_in D (m' page) ≡ Some (content_of n)))
+settled_ok (Err e) X most m m' page level id bounds row held held' was stands read same taken = tt
+settled_ok (Ok None) X most m m' page level id bounds row held held' was stands read same taken = tt
+settled_ok {D} (Ok (Some n)) X most m m' page level id bounds row held held' was stands read same taken =
+    ap (node_in D) (page_stays D most m m' page level id bounds row held held' (map item_of n.entries.items) stands taken.1) ∙ read ∙ ap (λ (x : NodeContent). Some x) (sym same)
 
 -- ---- the node above
 

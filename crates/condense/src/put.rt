@@ -7,7 +7,7 @@ ghost use Rattle.box_math.specs.Bounds.{Bounds, IsDims};
 ghost use Rattle.page_file.specs.Fault.{IsDamage, IsOfDevice};
 ghost use Rattle.page_file.specs.Pages.{SameBut};
 ghost use Rattle.page_file.specs.declared.gate.Gate.TheVariants.{Open};
-ghost use Rattle.page_cache.specs.Cache.{Grows, IsLive, IsPageMap, gate_of, pages};
+ghost use Rattle.page_cache.specs.Cache.{Grows, IsHonest, IsLive, IsPageMap, gate_of, pages};
 ghost use Rattle.page_cache.specs.Calls.{Changes};
 ghost use Rattle.tree_node.specs.Boxes.{least_box};
 ghost use Rattle.tree_node.specs.Nodes.{Item, content_of, item_of};
@@ -17,7 +17,7 @@ ghost use Rattle.node_page.specs.Broken.{Alters};
 ghost use Rattle.node_page.specs.Layout.{IsSpellable};
 ghost use Rattle.node_page.specs.Standing.{PageMap, node_in};
 ghost use Rattle.reinsert.specs.Placed.{Held, held_with, set_box};
-ghost use Rattle.condense.specs.Taken.{HasTaken, IsCut, TookBelow, held_now, items_without};
+ghost use Rattle.condense.specs.Taken.{HasTaken, IsCut, IsSettledBelow, TookBelow, held_now, items_without};
 
 use crate::children::child_of;
 use crate::kept::Kept;
@@ -37,7 +37,8 @@ fn least_entries(m_max: usize) -> usize
     (2 * m_max / 5).max(2)
 }
 
-// Puts a child of this node back, of which the object was taken.
+// Puts a child of this node back, of which the object was taken. `settled` tells whether the page of the child has it as
+// it is, and then whether the node is as it was.
 pub(crate) fn put_back<const D: usize, B: BlockDevice, A: Allocator + Copy>(
     cache: &mut PageCache<B, A>,
     node: Node<D>,
@@ -45,6 +46,7 @@ pub(crate) fn put_back<const D: usize, B: BlockDevice, A: Allocator + Copy>(
     lower: Node<D>,
     m_max: usize,
     kept: &mut Kept<D>,
+    settled: &mut bool,
 ) -> Result<Option<Node<D>>, Broken>
     requires dims { IsDims D }
     requires open { gate_of cache.old ≡ Open }
@@ -62,22 +64,28 @@ pub(crate) fn put_back<const D: usize, B: BlockDevice, A: Allocator + Copy>(
     ensures taken { IsPageMap cache.old → (m : PageMap) (page id : ℕ) (bounds : Bounds) (row : Row) (held : List Held)
         → TookBelow D m_max m (pages cache.old) page node.entry.level id bounds row place held (held_now kept.old)
         (map item_of node.entry.entries.items) (map item_of lower.entry.entries.items)
+        → IsSettledBelow D (pages cache.old) (map item_of node.entry.entries.items) place (content_of lower.entry)
+        settled.old
         → IfOk result (λ o. IfSome o (λ after. IsPageMap cache.new × HasTaken D m_max m (pages cache.new)
         node.entry.level id bounds row held (held_now kept.new) (map item_of after.entries.items))) }
+    ensures settled { settled.new ≡ true
+        → IfOk result (λ o. IfSome o (λ after. content_of after ≡ content_of node.entry)) }
     ensures touched { IfErr result (λ b. b.touched ≡ true) }
     ensures faults { IsPageMap cache.old → (m : PageMap) (page id : ℕ) (bounds : Bounds) (row : Row) (held : List Held)
         → TookBelow D m_max m (pages cache.old) page node.entry.level id bounds row place held (held_now kept.old)
         (map item_of node.entry.entries.items) (map item_of lower.entry.entries.items)
+        → IsSettledBelow D (pages cache.old) (map item_of node.entry.entries.items) place (content_of lower.entry)
+        settled.old
         → IfErr result (λ b. IsOfDevice b.cause) }
     ensures other_faults { IfErr result (λ b. IsOfDevice b.cause ⊎ IsDamage b.cause) }
 {
-    match put_child(cache, node, place, lower, m_max, kept) {
+    match put_child(cache, node, place, lower, m_max, kept, settled) {
         Ok(after) => Ok(Some(after)),
         Err(fault) => Err(Broken::midway(fault)),
     }
 }
 
-// Puts the child back: one of too few entries leaves, else it is written.
+// Puts the child back: one of too few entries leaves, else it is written where it is not settled.
 fn put_child<const D: usize, B: BlockDevice, A: Allocator + Copy>(
     cache: &mut PageCache<B, A>,
     node: Node<D>,
@@ -85,6 +93,7 @@ fn put_child<const D: usize, B: BlockDevice, A: Allocator + Copy>(
     lower: Node<D>,
     m_max: usize,
     kept: &mut Kept<D>,
+    settled: &mut bool,
 ) -> Result<Node<D>, Fault>
     requires dims { IsDims D }
     requires open { gate_of cache.old ≡ Open }
@@ -101,19 +110,25 @@ fn put_child<const D: usize, B: BlockDevice, A: Allocator + Copy>(
     ensures taken { IsPageMap cache.old → (m : PageMap) (page id : ℕ) (bounds : Bounds) (row : Row) (held : List Held)
         → TookBelow D m_max m (pages cache.old) page node.entry.level id bounds row place held (held_now kept.old)
         (map item_of node.entry.entries.items) (map item_of lower.entry.entries.items)
+        → IsSettledBelow D (pages cache.old) (map item_of node.entry.entries.items) place (content_of lower.entry)
+        settled.old
         → IfOk result (λ after. IsPageMap cache.new × HasTaken D m_max m (pages cache.new)
         node.entry.level id bounds row held (held_now kept.new) (map item_of after.entries.items)) }
     ensures faults { IsPageMap cache.old → (m : PageMap) (page id : ℕ) (bounds : Bounds) (row : Row) (held : List Held)
         → TookBelow D m_max m (pages cache.old) page node.entry.level id bounds row place held (held_now kept.old)
         (map item_of node.entry.entries.items) (map item_of lower.entry.entries.items)
+        → IsSettledBelow D (pages cache.old) (map item_of node.entry.entries.items) place (content_of lower.entry)
+        settled.old
         → IfErr result IsOfDevice }
+    ensures settled { settled.new ≡ true → IfOk result (λ after. content_of after ≡ content_of node.entry) }
     ensures other_faults { IfErr result (λ f. IsOfDevice f ⊎ IsDamage f) }
 {
     let page = child_of(&node, place).page;
     if lower.entries.len() < least_entries(m_max) {
+        *settled = false;
         return leave_out(cache, node, place, page, lower, kept);
     }
-    write_back(cache, node, place, page, lower)
+    write_back(cache, node, place, page, lower, settled)
 }
 
 // A child of too few entries leaves: its page is freed, and its entries are kept.
@@ -152,13 +167,15 @@ fn leave_out<const D: usize, B: BlockDevice, A: Allocator + Copy>(
     Ok(node)
 }
 
-// A child is written, and the box above it is made least.
+// A child is written where it is not settled, and the box above it is made least. The node is settled where that box
+// stays.
 fn write_back<const D: usize, B: BlockDevice, A: Allocator + Copy>(
     cache: &mut PageCache<B, A>,
     mut node: Node<D>,
     place: usize,
     page: u32,
     lower: Node<D>,
+    settled: &mut bool,
 ) -> Result<Node<D>, Fault>
     requires dims { IsDims D }
     requires open { gate_of cache.old ≡ Open }
@@ -171,14 +188,45 @@ fn write_back<const D: usize, B: BlockDevice, A: Allocator + Copy>(
     ensures cut { IfOk result (λ after. IsCut node.entry.level (content_of after)) }
     ensures sound { IsPageMap cache.old → IsLive cache.old page → IsPageMap cache.new }
     ensures there { IsPageMap cache.old → IsLive cache.old page
+        → (settled.old ≡ true → node_in D (pages cache.old page) ≡ Some (content_of lower.entry))
         → OnOk result (node_in D (pages cache.new page) ≡ Some (content_of lower.entry)) }
     ensures others { IsPageMap cache.old → IsLive cache.old page → SameBut page (pages cache.old) (pages cache.new) }
     ensures entries { IfOk result (λ after. map item_of after.entries.items ≡ set_box
         (map item_of node.entry.entries.items) place (least_box D (map item_of lower.entry.entries.items))) }
+    ensures settled { settled.new ≡ true → IfOk result (λ after. content_of after ≡ content_of node.entry) }
     ensures faults { IsPageMap cache.old → IsLive cache.old page → IfErr result IsOfDevice }
     ensures other_faults { IfErr result (λ f. IsOfDevice f ⊎ IsDamage f) }
 {
-    write_node(cache, page, &lower)?;
-    node.entries[place].bounds = least(lower.entries.as_slice());
+    settle(cache, page, &lower, *settled)?;
+    let bounds = least(lower.entries.as_slice());
+    *settled = node.entries[place].bounds == bounds;
+    node.entries[place].bounds = bounds;
     Ok(node)
+}
+
+// Writes a node where its page does not have it as it is.
+#[tactic(auto, using(page_cache::specs::Calls::turns))]
+pub(crate) fn settle<const D: usize, B: BlockDevice, A: Allocator + Copy>(
+    cache: &mut PageCache<B, A>,
+    page: u32,
+    node: &Node<D>,
+    settled: bool,
+) -> Result<(), Fault>
+    requires dims { IsDims D }
+    requires open { gate_of cache.old ≡ Open }
+    requires spellable { IsSpellable (content_of node.now) }
+    ensures changes { Changes cache.old cache.new result }
+    ensures grows { Grows 0 cache.old cache.new }
+    ensures written { IsHonest cache.old → IsLive cache.old page
+        → (settled ≡ true → node_in D (pages cache.old page) ≡ Some (content_of node.now))
+        → OnOk result (node_in D (pages cache.new page) ≡ Some (content_of node.now)) }
+    ensures others { IsHonest cache.old → IsLive cache.old page → SameBut page (pages cache.old) (pages cache.new) }
+    ensures sound { IsPageMap cache.old → IsLive cache.old page → IsPageMap cache.new }
+    ensures faults { IsHonest cache.old → IsLive cache.old page → IfErr result IsOfDevice }
+    ensures other_faults { IfErr result (λ f. IsOfDevice f ⊎ IsDamage f) }
+{
+    if settled {
+        return Ok(());
+    }
+    write_node(cache, page, node)
 }

@@ -13,7 +13,7 @@ ghost use Rattle.tree_node.specs.Nodes.{content_of, item_of};
 ghost use Rattle.tree_node.specs.Shape.{HasShape};
 ghost use Rattle.tree_node.specs.Trees.{Tree, objects_in};
 ghost use Rattle.node_page.specs.Broken.{Alters};
-ghost use Rattle.node_page.specs.Standing.{PageMap, Stands};
+ghost use Rattle.node_page.specs.Standing.{PageMap, Stands, node_in};
 ghost use Rattle.node_page.specs.Faults.{IsChangeFault, IsNoDamage};
 ghost use Rattle.reinsert.specs.Inserted.{IsRootOf, most_new_pages};
 ghost use Rattle.condense.specs.Removed.{CanRemove, IsRefused, IsRoot, RemovesTo, TookOut, most_removal_pages};
@@ -22,10 +22,11 @@ ghost use Rattle.condense.specs.Taken.{IsCut, held_now};
 use crate::fill::insert_kept;
 use crate::kept::Kept;
 use crate::lower::give_way;
+use crate::put::settle;
 use crate::take::take_out;
 use block_device::BlockDevice;
 use box_math::BBox;
-use node_page::{Broken, write_node};
+use node_page::Broken;
 use page_cache::PageCache;
 use page_file::Fault;
 use reinsert::Waiting;
@@ -111,16 +112,17 @@ pub fn remove_with<const D: usize, B: BlockDevice, A: Allocator + Copy>(
     ensures other_faults { IfErr result (λ b. IsChangeFault b.cause) }
 {
     kept.begin();
-    let Some(node) = take_out(cache, root, id, bounds, m_max, kept)? else {
+    let mut settled = false;
+    let Some(node) = take_out(cache, root, id, bounds, m_max, kept, &mut settled)? else {
         return Err(Broken::from(Fault::Damaged(root.page)));
     };
-    match put_root(cache, root, node, m_max, waiting, kept) {
+    match put_root(cache, root, node, m_max, waiting, kept, settled) {
         Ok(after) => Ok(after),
         Err(fault) => Err(Broken::midway(fault)),
     }
 }
 
-// Writes what the root has become, inserts what is kept, and lets the root give way.
+// Writes what the root has become, where it is not settled, inserts what is kept, and lets the root give way.
 fn put_root<const D: usize, B: BlockDevice, A: Allocator + Copy>(
     cache: &mut PageCache<B, A>,
     root: Root,
@@ -128,6 +130,7 @@ fn put_root<const D: usize, B: BlockDevice, A: Allocator + Copy>(
     m_max: usize,
     waiting: &mut Waiting<D>,
     kept: &mut Kept<D>,
+    settled: bool,
 ) -> Result<Root, Fault>
     requires dims { IsDims D }
     requires open { gate_of cache.old ≡ Open }
@@ -140,11 +143,13 @@ fn put_root<const D: usize, B: BlockDevice, A: Allocator + Copy>(
     ensures removed { IsPageMap cache.old → (m : PageMap) (t : Tree) (elsewhere : ℕ → ℕ) (id : ℕ) (bounds : Bounds)
         → TookOut D m_max m (pages cache.old) root t elsewhere id bounds (held_now kept.old)
         (map item_of node.entry.entries.items)
+        → (settled ≡ true → node_in D (pages cache.old root.page) ≡ Some (content_of node.entry))
         → IfOk result (λ after. IsPageMap cache.new
         × RemovesTo D m_max m (pages cache.new) elsewhere id bounds t after) }
     ensures faults { IsPageMap cache.old → (m : PageMap) (t : Tree) (elsewhere : ℕ → ℕ) (id : ℕ) (bounds : Bounds)
         → TookOut D m_max m (pages cache.old) root t elsewhere id bounds (held_now kept.old)
         (map item_of node.entry.entries.items)
+        → (settled ≡ true → node_in D (pages cache.old root.page) ≡ Some (content_of node.entry))
         → HasShape D m_max t → RowHasBoxes D t.row
         → IfErr result (IsNoDamage cache.new) }
     ensures other_faults { IfErr result IsChangeFault }
@@ -152,7 +157,7 @@ fn put_root<const D: usize, B: BlockDevice, A: Allocator + Copy>(
     if lacks_entries(&node) {
         return Err(Fault::Damaged(root.page));
     }
-    write_node(cache, root.page, &node)?;
+    settle(cache, root.page, &node, settled)?;
     let filled = insert_kept(cache, root, m_max, waiting, kept)?;
     give_way::<D, B, A>(cache, filled)
 }

@@ -1,6 +1,6 @@
 //! An object taken out below a node, and the nodes between condensed.
 
-ghost use Rattle.std.specs.Prelude.{◌≡◌, ◌⊎◌, ◌+◌, ◌*◌, ◌<◌, ◌≤◌, ℕ, IfOk, IfErr, IfSome, None, false, map};
+ghost use Rattle.std.specs.Prelude.{◌≡◌, ◌⊎◌, ◌+◌, ◌*◌, ◌<◌, ◌≤◌, ℕ, IfOk, IfErr, IfSome, None, false, true, map};
 ghost use Rattle.std.specs.List.{Contains};
 ghost use Rattle.arrayvec.specs.ArrayVec.{array_vec_len};
 ghost use Rattle.box_math.specs.Bounds.{IsDims};
@@ -11,7 +11,7 @@ ghost use Rattle.page_cache.specs.Calls.{AsksUntil};
 ghost use Rattle.tree_node.specs.Nodes.{content_of, item_of};
 ghost use Rattle.tree_node.specs.Trees.{Row, objects_in};
 ghost use Rattle.node_page.specs.Broken.{Alters};
-ghost use Rattle.node_page.specs.Standing.{Stands};
+ghost use Rattle.node_page.specs.Standing.{Stands, node_in};
 ghost use Rattle.condense.specs.Taken.{HasTaken, IsCut, LeadsTo, held_now, tree_at};
 
 use crate::children::child_of;
@@ -26,8 +26,8 @@ use std::alloc::Allocator;
 use tree_node::{Node, Root};
 
 // Takes the object out of the first leaf below this node that has it, and to which boxes lead that enclose its box, and
-// condenses the nodes between. What this node has become is handed out, and not yet written. Where no such leaf has the
-// object, nothing is written.
+// condenses the nodes between. What this node has become is handed out, and not yet written; `settled` tells whether its
+// page has it as it is. Where no such leaf has the object, nothing is written.
 pub(crate) fn take_out<const D: usize, B: BlockDevice, A: Allocator + Copy>(
     cache: &mut PageCache<B, A>,
     at: Root,
@@ -35,6 +35,7 @@ pub(crate) fn take_out<const D: usize, B: BlockDevice, A: Allocator + Copy>(
     bounds: &BBox<D>,
     m_max: usize,
     kept: &mut Kept<D>,
+    settled: &mut bool,
 ) -> Result<Option<Node<D>>, Broken>
     requires dims { IsDims D }
     requires open { gate_of cache.old ≡ Open }
@@ -50,6 +51,9 @@ pub(crate) fn take_out<const D: usize, B: BlockDevice, A: Allocator + Copy>(
         → IfOk result (λ o. IfSome o (λ node. IsPageMap cache.new × HasTaken D m_max (pages cache.old)
         (pages cache.new) at.level id bounds.now row (held_now kept.old) (held_now kept.new)
         (map item_of node.entries.items))) }
+    ensures settled { IsPageMap cache.old → (row : Row) → Stands D (pages cache.old) (tree_at at row)
+        → settled.new ≡ true → IfOk result (λ o. IfSome o (λ node.
+        node_in D (pages cache.new at.page) ≡ Some (content_of node))) }
     ensures found { IsPageMap cache.old → (row : Row) → Stands D (pages cache.old) (tree_at at row)
         → LeadsTo D id bounds.now row → IfOk result (λ o. ¬ (o ≡ None)) }
     ensures absent { IsPageMap cache.old → (row : Row) → Stands D (pages cache.old) (tree_at at row)
@@ -60,6 +64,7 @@ pub(crate) fn take_out<const D: usize, B: BlockDevice, A: Allocator + Copy>(
 {
     let node = read_node::<D, B, A>(cache, at.page, at.level)?;
     if at.level == 0 {
+        *settled = false;
         return Ok(take_here(node, id, bounds));
     }
     'children: for place in 0..node.entries.len() {
@@ -67,10 +72,10 @@ pub(crate) fn take_out<const D: usize, B: BlockDevice, A: Allocator + Copy>(
             continue;
         }
         let below = child_of(&node, place);
-        let Some(lower) = take_out(cache, below, id, bounds, m_max, kept)? else {
+        let Some(lower) = take_out(cache, below, id, bounds, m_max, kept, settled)? else {
             continue;
         };
-        return put_back(cache, node, place, lower, m_max, kept);
+        return put_back(cache, node, place, lower, m_max, kept, settled);
     }
     Ok(None)
 }

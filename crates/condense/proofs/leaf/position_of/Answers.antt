@@ -1,16 +1,13 @@
 -- The goals of `position_of` that are proved by hand.
-use Rattle.std.proofs.Common.{◌≡◌, ◌∙◌, ℤ, List, ap, sym, arith, get_or, map}
+use Rattle.std.proofs.Common.{◌≡◌, ◌∙◌, ap, sym, arith, get_or, map}
 use Rattle.std.specs.Cmp.Rules.{signed_items}
 use Rattle.std.proofs.lemmas.Bool.{true≢false}
 use Rattle.std.proofs.lemmas.Bool.Decides.{Decides-and}
 use Rattle.box_math.specs.Bounds.{Bounds}
 use Rattle.tree_node.specs.Nodes.{Item, item_of}
-use Rattle.condense.proofs.CutLemmas.{found_here, is_here, none_more}
+use Rattle.condense.proofs.CutLemmas.{found_here, is_here, none_more, same_box}
 use Rattle.condense.proofs.leaf.position_of.Goals.{else-entry-id-via-then-entry-id+else-eq, else-entry-id-via-else-entry-id}
 use Rattle.condense.proofs.leaf.position_of.Goals as goal
-
-same_box : (a b : Bounds) → a.low ≡ b.low → a.high ≡ b.high → a ≡ b
-same_box a b low high = ap (λ (xs : List ℤ). record { low = xs; high = a.high }) low ∙ ap (λ (xs : List ℤ). record { low = b.low; high = xs }) high
 
 pub returns-then-eq-clause-found : goal.returns-then-eq-clause-found
 returns-then-eq-clause-found g c = λ d.

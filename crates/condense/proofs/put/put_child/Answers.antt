@@ -1,14 +1,16 @@
 -- The goals of `put_child` that are proved by hand.
-use Rattle.std.proofs.Common.{arith, map, refl}
+use Rattle.std.proofs.Common.{◌≡◌, Some, arith, map, refl, subst, sym, true}
 use Rattle.std.proofs.lemmas.List.{length-map}
 use Rattle.page_cache.specs.Cache.{IsPageMap, pages}
-use Rattle.tree_node.specs.Nodes.{item_of}
+use Rattle.tree_node.specs.Boxes.{no_item}
+use Rattle.tree_node.specs.Nodes.{content_of, item_of}
+use Rattle.node_page.specs.Standing.{node_in}
 use Rattle.condense.specs.Taken.{held_now}
 use Rattle.condense.proofs.TakeLemmas.{left_ok, lives, lower, stayed_ok}
 use Rattle.condense.proofs.put.put_child.Goals as goal
 
 pub returns-then-len-least_entries-clause-taken : goal.returns-then-len-least_entries-clause-taken
-returns-then-len-least_entries-clause-taken g c = λ h m page id bounds row held took.
+returns-then-len-least_entries-clause-taken g c = λ h m page id bounds row held took is.
     let m1 = pages c.args.cache.now in
     let reference = c.child_of-page.result.page in
     let entries = map (item_of {D = g.row.D}) c.args.node.entries.items in
@@ -21,7 +23,7 @@ returns-then-len-least_entries-clause-taken g c = λ h m page id bounds row held
     (omega (arith, c.if-len-least_entries.true, c.len.ensures.value, c.least_entries.ensures.value)) (c.leave_out.ensures.gone h live) c.leave_out.ensures.entries c.leave_out.ensures.held
 
 pub returns-then-len-least_entries-clause-faults : goal.returns-then-len-least_entries-clause-faults
-returns-then-len-least_entries-clause-faults g c = λ h m page id bounds row held took.
+returns-then-len-least_entries-clause-faults g c = λ h m page id bounds row held took is.
     let m1 = pages c.args.cache.now in
     let reference = c.child_of-page.result.page in
     let entries = map (item_of {D = g.row.D}) c.args.node.entries.items in
@@ -31,7 +33,7 @@ returns-then-len-least_entries-clause-faults g c = λ h m page id bounds row hel
     c.leave_out.ensures.faults h (lives c.args.m_max m m1 page c.args.node.level id bounds row c.args.place held (held_now c.args.kept.now) entries es reference l)
 
 pub returns-clause-taken : goal.returns-clause-taken
-returns-clause-taken g c = λ h m page id bounds row held took.
+returns-clause-taken g c = λ h m page id bounds row held took is.
     let m1 = pages c.args.cache.now in
     let reference = c.child_of-page.result.page in
     let entries = map (item_of {D = g.row.D}) c.args.node.entries.items in
@@ -39,12 +41,14 @@ returns-clause-taken g c = λ h m page id bounds row held took.
     let l = lower c.args.m_max m m1 page c.args.node.level id bounds row c.args.place held (held_now c.args.kept.now) entries es reference took c.requires.above
     (omega (arith, c.requires.within, length-map c.args.node.entries.items (item_of {D = g.row.D}))) c.child_of-page.ensures.page in
     let live = lives c.args.m_max m m1 page c.args.node.level id bounds row c.args.place held (held_now c.args.kept.now) entries es reference l in
+    let below : c.args.settled.now ≡ true → node_in g.row.D (m1 reference) ≡ Some (content_of c.args.lower) = λ yes.
+    subst (λ k. node_in g.row.D (m1 k) ≡ Some (content_of c.args.lower)) (sym (c.child_of-page.ensures.page no_item)) (is yes no_item) in
     stayed_ok c.args.m_max m m1 (pages c.write_back.new.cache) page c.args.node.level id bounds row c.args.place held (held_now c.args.kept.now) (held_now c.args.kept.now) entries es reference l
     c.write_back.result (IsPageMap c.write_back.new.cache) (c.write_back.ensures.sound h live) (c.write_back.ensures.others h live)
-    (omega (arith, c.if-len-least_entries.false, c.len.ensures.value, c.least_entries.ensures.value)) c.args.lower.level c.requires.cut.level_is (c.write_back.ensures.there h live) c.write_back.ensures.entries refl
+    (omega (arith, c.if-len-least_entries.false, c.len.ensures.value, c.least_entries.ensures.value)) c.args.lower.level c.requires.cut.level_is (c.write_back.ensures.there h live (λ yes. below yes)) c.write_back.ensures.entries refl
 
 pub returns-clause-faults : goal.returns-clause-faults
-returns-clause-faults g c = λ h m page id bounds row held took.
+returns-clause-faults g c = λ h m page id bounds row held took is.
     let m1 = pages c.args.cache.now in
     let reference = c.child_of-page.result.page in
     let entries = map (item_of {D = g.row.D}) c.args.node.entries.items in

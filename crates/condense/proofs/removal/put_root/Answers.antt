@@ -20,8 +20,8 @@ use Rattle.condense.proofs.RootLemmas.{can_fill, cut_root, removes_to, root_stay
 use Rattle.condense.proofs.ShapeLemmas.{cut_shaped}
 use Rattle.condense.proofs.removal.put_root.Goals as goal
 
-pub write_node-requires : goal.write_node-requires
-write_node-requires g c =
+pub settle-requires : goal.settle-requires
+settle-requires g c =
     let spells : IsSpellable (content_of c.args.node) = record {
       few = c.requires.cut.few;
       some = λ high. omega (arith, c.lacks_entries.ensures.no c.if-lacks_entries.false high, length-map c.args.node.entries.items (item_of {D = g.row.D}));
@@ -30,73 +30,73 @@ write_node-requires g c =
     search (rules, spells)
 
 pub returns-then-lacks_entries-clause-faults : goal.returns-then-lacks_entries-clause-faults
-returns-then-lacks_entries-clause-faults g c = λ h m t elsewhere id bounds took shape boxes.
+returns-then-lacks_entries-clause-faults g c = λ h m t elsewhere id bounds took is shape boxes.
     let s = cut_shaped g.row.D c.args.m_max id bounds t took.taken.out shape boxes took.taken.takes_out in
     let lacks = c.lacks_entries.ensures.yes c.if-lacks_entries.true in
     let some = s.tree.some (omega (arith, lacks.0, c.requires.cut.level_is, took.can.at.level)) in
     absurd (omega (arith, some, lacks.1, ap length took.taken.entries, length-map c.args.node.entries.items (item_of {D = g.row.D}), length-items took.taken.out.row))
 
-pub returns-in_err-write_node-clause-faults : goal.returns-in_err-write_node-clause-faults
-returns-in_err-write_node-clause-faults g c = λ h m t elsewhere id bounds took shape boxes.
+pub returns-in_err-settle-clause-faults : goal.returns-in_err-settle-clause-faults
+returns-in_err-settle-clause-faults g c = λ h m t elsewhere id bounds took is shape boxes.
     let live = root_stays_live g.row.D c.args.m_max m (pages c.args.cache.now) c.args.root t elsewhere id bounds (held_now c.args.kept.now) (map (item_of {D = g.row.D}) c.args.node.entries.items) took in
-    at_fault c.from_residual.result c.in_err-write_node.field-0.0 (IsNoDamage c.write_node.new.cache) c.from_residual.ensures.1 (inl (c.in_err-write_node.ensures.faults h.honest live))
+    at_fault c.from_residual.result c.in_err-settle.field-0.0 (IsNoDamage c.settle.new.cache) c.from_residual.ensures.1 (inl (c.in_err-settle.ensures.faults h.honest live))
 
 pub returns-in_err-filled-clause-faults : goal.returns-in_err-filled-clause-faults
-returns-in_err-filled-clause-faults g c = λ h m t elsewhere id bounds took shape boxes.
+returns-in_err-filled-clause-faults g c = λ h m t elsewhere id bounds took is shape boxes.
     let D = g.row.D in
     let m1 : PageMap = pages c.args.cache.now in
-    let m2 : PageMap = pages c.write_node.new.cache in
+    let m2 : PageMap = pages c.settle.new.cache in
     let items = map (item_of {D = D}) c.args.node.entries.items in
     let held = held_now c.args.kept.now in
     let live = root_stays_live D c.args.m_max m m1 c.args.root t elsewhere id bounds held items took in
-    let can = can_fill D c.args.m_max m m1 c.args.root t elsewhere id bounds held items took m2 c.args.node.level c.requires.cut.level_is (c.in_ok-write_node.ensures.written h.honest live) (c.in_ok-write_node.ensures.others h.honest live) in
-    let sound = c.in_ok-write_node.ensures.sound h live in
+    let can = can_fill D c.args.m_max m m1 c.args.root t elsewhere id bounds held items took m2 c.args.node.level c.requires.cut.level_is (c.in_ok-settle.ensures.written h.honest live is) (c.in_ok-settle.ensures.others h.honest live) in
+    let sound = c.in_ok-settle.ensures.sound h live in
     let s = cut_shaped D c.args.m_max id bounds t took.taken.out shape boxes took.taken.takes_out in
     at_fault c.from_residual-in_err-filled.result c.in_err-filled.field-0.0 (IsNoDamage c.insert_kept.new.cache) c.from_residual-in_err-filled.ensures.1
     (c.in_err-filled.ensures.faults sound (cut_root took) took.taken.out.kept elsewhere can s)
 
 pub returns-clause-removed : goal.returns-clause-removed
-returns-clause-removed g c = λ h m t elsewhere id bounds took.
+returns-clause-removed g c = λ h m t elsewhere id bounds took is.
     let D = g.row.D in
     let m1 : PageMap = pages c.args.cache.now in
-    let m2 : PageMap = pages c.write_node.new.cache in
+    let m2 : PageMap = pages c.settle.new.cache in
     let items = map (item_of {D = D}) c.args.node.entries.items in
     let held = held_now c.args.kept.now in
     let live = root_stays_live D c.args.m_max m m1 c.args.root t elsewhere id bounds held items took in
-    let can = can_fill D c.args.m_max m m1 c.args.root t elsewhere id bounds held items took m2 c.args.node.level c.requires.cut.level_is (c.in_ok-write_node.ensures.written h.honest live) (c.in_ok-write_node.ensures.others h.honest live) in
-    let sound = c.in_ok-write_node.ensures.sound h live in
+    let can = can_fill D c.args.m_max m m1 c.args.root t elsewhere id bounds held items took m2 c.args.node.level c.requires.cut.level_is (c.in_ok-settle.ensures.written h.honest live is) (c.in_ok-settle.ensures.others h.honest live) in
+    let sound = c.in_ok-settle.ensures.sound h live in
     let filled = c.in_ok-filled.ensures.filled sound (cut_root took) took.taken.out.kept elsewhere can in
     map_ok c.give_way.result (IsPageMap c.give_way.new.cache) (GivesWayTo D (pages c.insert_kept.new.cache) (pages c.give_way.new.cache) filled.1.new)
     (RemovesTo D c.args.m_max m (pages c.give_way.new.cache) elsewhere id bounds t)
     (c.give_way.ensures.lowered filled.0 filled.1.new filled.1.at filled.1.stands)
-    (λ after gives. removes_to D c.args.m_max m m1 c.args.root t elsewhere id bounds held items took m2 c.args.node.level c.requires.cut.level_is (c.in_ok-write_node.ensures.written h.honest live) (c.in_ok-write_node.ensures.others h.honest live)
+    (λ after gives. removes_to D c.args.m_max m m1 c.args.root t elsewhere id bounds held items took m2 c.args.node.level c.requires.cut.level_is (c.in_ok-settle.ensures.written h.honest live is) (c.in_ok-settle.ensures.others h.honest live)
     (pages c.insert_kept.new.cache) (pages c.give_way.new.cache) c.in_ok-filled.filled after filled.1 gives)
 
 pub returns-clause-faults : goal.returns-clause-faults
-returns-clause-faults g c = λ h m t elsewhere id bounds took shape boxes.
+returns-clause-faults g c = λ h m t elsewhere id bounds took is shape boxes.
     let D = g.row.D in
     let m1 : PageMap = pages c.args.cache.now in
-    let m2 : PageMap = pages c.write_node.new.cache in
+    let m2 : PageMap = pages c.settle.new.cache in
     let items = map (item_of {D = D}) c.args.node.entries.items in
     let held = held_now c.args.kept.now in
     let live = root_stays_live D c.args.m_max m m1 c.args.root t elsewhere id bounds held items took in
-    let can = can_fill D c.args.m_max m m1 c.args.root t elsewhere id bounds held items took m2 c.args.node.level c.requires.cut.level_is (c.in_ok-write_node.ensures.written h.honest live) (c.in_ok-write_node.ensures.others h.honest live) in
-    let sound = c.in_ok-write_node.ensures.sound h live in
+    let can = can_fill D c.args.m_max m m1 c.args.root t elsewhere id bounds held items took m2 c.args.node.level c.requires.cut.level_is (c.in_ok-settle.ensures.written h.honest live is) (c.in_ok-settle.ensures.others h.honest live) in
+    let sound = c.in_ok-settle.ensures.sound h live in
     let filled = c.in_ok-filled.ensures.filled sound (cut_root took) took.taken.out.kept elsewhere can in
     no_damage c.give_way.result (IsNoDamage c.give_way.new.cache) (c.give_way.ensures.faults filled.0 filled.1.new filled.1.at filled.1.stands) (λ f is. inl is)
 
-pub returns-in_err-write_node-clause-other_faults : goal.returns-in_err-write_node-clause-other_faults
-returns-in_err-write_node-clause-other_faults g c =
-    at_fault c.from_residual.result c.in_err-write_node.field-0.0 IsChangeFault c.from_residual.ensures.1 (one_more _ _ _ c.in_err-write_node.ensures.other_faults)
+pub returns-in_err-settle-clause-other_faults : goal.returns-in_err-settle-clause-other_faults
+returns-in_err-settle-clause-other_faults g c =
+    at_fault c.from_residual.result c.in_err-settle.field-0.0 IsChangeFault c.from_residual.ensures.1 (one_more _ _ _ c.in_err-settle.ensures.other_faults)
 
 pub returns-in_err-filled-clause-changes : goal.returns-in_err-filled-clause-changes
 returns-in_err-filled-clause-changes g c =
-    changes_and_refuses c.args.cache.now c.write_node.new.cache c.insert_kept.new.cache c.in_err-filled.field-0.0 c.from_residual-in_err-filled.result c.from_residual-in_err-filled.ensures.1
-    c.in_ok-write_node.ensures.changes c.in_err-filled.ensures.changes
+    changes_and_refuses c.args.cache.now c.settle.new.cache c.insert_kept.new.cache c.in_err-filled.field-0.0 c.from_residual-in_err-filled.result c.from_residual-in_err-filled.ensures.1
+    c.in_ok-settle.ensures.changes c.in_err-filled.ensures.changes
 
 pub returns-clause-changes : goal.returns-clause-changes
 returns-clause-changes g c =
-    let so_far = changes_in_turn c.args.cache.now c.write_node.new.cache c.insert_kept.new.cache None c.in_ok-write_node.ensures.changes c.in_ok-filled.ensures.changes in
+    let so_far = changes_in_turn c.args.cache.now c.settle.new.cache c.insert_kept.new.cache None c.in_ok-settle.ensures.changes c.in_ok-filled.ensures.changes in
     changes_in_turn c.args.cache.now c.insert_kept.new.cache c.give_way.new.cache (fault_in c.give_way.result) so_far c.give_way.ensures.changes
 
 pub returns-clause-other_faults : goal.returns-clause-other_faults

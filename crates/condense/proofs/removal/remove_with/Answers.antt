@@ -10,6 +10,7 @@ use Rattle.tree_node.specs.declared.node.Node.{Node}
 use Rattle.tree_node.specs.Nodes.{content_of, item_of}
 use Rattle.node_page.specs.Broken.{alters_so, before, changes_and_breaks, made_alters}
 use Rattle.node_page.specs.declared.broken.Broken.{Broken}
+use Rattle.node_page.specs.Standing.{node_in}
 use Rattle.node_page.specs.Faults.{IsChangeFault, IsNoDamage}
 use Rattle.reinsert.proofs.BrokenLemmas.{at_broken}
 use Rattle.reinsert.proofs.FaultLemmas.{one_more}
@@ -80,6 +81,7 @@ returns-in-Ok-clause-removed g c = λ h t elsewhere can.
     let took = took_out g.row.D c.args.m_max (pages c.args.cache.now) (pages c.take_out.new.cache) c.args.root t elsewhere c.args.id c.args.bounds.now (held_now c.begin.new.self) (held_now c.take_out.new.kept)
     (map (item_of {D = g.row.D}) c.in-Some.node.entries.items) can (ap (map (orphan_held {D = g.row.D})) c.begin.ensures) done.1 in
     c.in-Ok.ensures.removed done.0 (pages c.args.cache.now) t elsewhere c.args.id c.args.bounds.now took
+    (λ so. at_some c.in_ok-node.field-0 c.in-Some.node (λ (n : Node g.row.D). node_in g.row.D (pages c.take_out.new.cache c.args.root.page) ≡ Some (content_of n)) c.in-Some.is (c.in_ok-node.ensures.settled h t.row stands so))
 
 pub returns-in-Ok-clause-shape : goal.returns-in-Ok-clause-shape
 returns-in-Ok-clause-shape g c = λ h t elsewhere can shape boxes.
@@ -90,7 +92,8 @@ returns-in-Ok-clause-shape g c = λ h t elsewhere can shape boxes.
     let took = took_out g.row.D c.args.m_max (pages c.args.cache.now) (pages c.take_out.new.cache) c.args.root t elsewhere c.args.id c.args.bounds.now (held_now c.begin.new.self) (held_now c.take_out.new.kept)
     (map (item_of {D = g.row.D}) c.in-Some.node.entries.items) can (ap (map (orphan_held {D = g.row.D})) c.begin.ensures) done.1 in
     keeps_all {E = Broken} (Ok c.in-Ok.after) (IsPageMap c.put_root.new.cache) g.row.D c.args.m_max (pages c.args.cache.now) (pages c.put_root.new.cache) elsewhere c.args.id c.args.bounds.now t (omega (arith, c.requires.most)) shape boxes
-    (c.in-Ok.ensures.removed done.0 (pages c.args.cache.now) t elsewhere c.args.id c.args.bounds.now took)
+    (c.in-Ok.ensures.removed done.0 (pages c.args.cache.now) t elsewhere c.args.id c.args.bounds.now took
+    (λ so. at_some c.in_ok-node.field-0 c.in-Some.node (λ (n : Node g.row.D). node_in g.row.D (pages c.take_out.new.cache c.args.root.page) ≡ Some (content_of n)) c.in-Some.is (c.in_ok-node.ensures.settled h t.row stands so)))
 
 pub returns-in-Ok-clause-absent : goal.returns-in-Ok-clause-absent
 returns-in-Ok-clause-absent g c = λ h t elsewhere can lacks.
@@ -121,7 +124,8 @@ returns-in-Err-clause-faults g c = λ h t elsewhere can shape boxes has.
     let took = took_out g.row.D c.args.m_max (pages c.args.cache.now) (pages c.take_out.new.cache) c.args.root t elsewhere c.args.id c.args.bounds.now (held_now c.begin.new.self) (held_now c.take_out.new.kept)
     (map (item_of {D = g.row.D}) c.in-Some.node.entries.items) can (ap (map (orphan_held {D = g.row.D})) c.begin.ensures) done.1 in
     subst (λ (b : Broken). IsNoDamage c.put_root.new.cache b.cause) (sym c.midway.ensures)
-    (c.in-Err.ensures.faults done.0 (pages c.args.cache.now) t elsewhere c.args.id c.args.bounds.now took shape boxes)
+    (c.in-Err.ensures.faults done.0 (pages c.args.cache.now) t elsewhere c.args.id c.args.bounds.now took
+    (λ so. at_some c.in_ok-node.field-0 c.in-Some.node (λ (n : Node g.row.D). node_in g.row.D (pages c.take_out.new.cache c.args.root.page) ≡ Some (content_of n)) c.in-Some.is (c.in_ok-node.ensures.settled h t.row stands so)) shape boxes)
 
 pub returns-in-Err-clause-other_faults : goal.returns-in-Err-clause-other_faults
 returns-in-Err-clause-other_faults g c =

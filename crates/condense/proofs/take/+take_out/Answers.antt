@@ -14,11 +14,13 @@ use Rattle.tree_node.specs.Nodes.{content_of, item_of}
 use Rattle.tree_node.specs.Trees.{row_items}
 use Rattle.node_page.specs.Broken.{alters_so, before, made_alters}
 use Rattle.node_page.specs.declared.broken.Broken.{Broken}
-use Rattle.node_page.specs.Standing.{PageMap}
+use Rattle.node_page.specs.Standing.{PageMap, Stands}
+use Rattle.node_page.proofs.StandingLemmas.{page_of_node}
 use Rattle.reinsert.proofs.BrokenLemmas.{at_broken, changes_and_alters}
 use Rattle.condense.specs.Taken.{HasTaken, IsCut, held_now, orphan_held}
-use Rattle.condense.proofs.BelowLemmas.{at_some, below_contained, found_leaf, is_below, is_none, later_than, none_of_some, nothing_later, passed_by, taken_here, took_below}
+use Rattle.condense.proofs.BelowLemmas.{at_some, settled_child, below_contained, found_leaf, is_below, is_none, later_than, none_of_some, nothing_later, passed_by, taken_here, took_below}
 use Rattle.condense.proofs.LeadLemmas.{takes_contained}
+use Rattle.condense.proofs.TakeLemmas.{settled_ok}
 use Rattle.condense.proofs.take.+take_out.Goals as goal
 
 pub returns-in_err-node-clause-alters : goal.returns-in_err-node-clause-alters
@@ -183,7 +185,29 @@ returns-in-children-clause-taken g t c = λ h row stands.
     (map (item_of {D = D}) c.in-Some.lower.entries.items) stands same c.in_ok-node.ensures.level (ap (map (orphan_held {D = D})) c.children.invariant.1) done.1 in
     subst (λ l. IfOk c.put_back.result (λ o. IfSome o (λ (n : Node D). IsPageMap c.put_back.new.cache
     × HasTaken D c.args.m_max m (pages c.put_back.new.cache) l c.args.id c.args.bounds.now row (held_now c.args.kept.now) (held_now c.put_back.new.kept) (map item_of n.entries.items)))) c.in_ok-node.ensures.level
-    (c.put_back.ensures.taken done.0 m c.args.at.page c.args.id c.args.bounds.now row (held_now c.args.kept.now) took)
+    (c.put_back.ensures.taken done.0 m c.args.at.page c.args.id c.args.bounds.now row (held_now c.args.kept.now) took
+    (settled_child c.in_ok-lower.field-0 c.in-Some.lower (pages c.take_out.new.cache) (map (item_of {D = D}) entries) c.children.place c.child_of-below.result.page c.take_out.new.settled c.in-Some.is c.child_of-below.ensures.page (c.in_ok-lower.ensures.settled sound b.h.from.row b.stands)))
+
+pub returns-in-children-clause-settled : goal.returns-in-children-clause-settled
+returns-in-children-clause-settled g t c = λ h row stands so.
+    let D = g.row.D in
+    let m : PageMap = pages c.args.cache.now in
+    let m0 : PageMap = pages c.children.cache in
+    let entries = c.in_ok-node.node.entries.items in
+    let same = c.children.invariant.0.map.pages_stay h.honest in
+    let sound = c.children.invariant.0.map.sound.0 h in
+    let within : c.children.place < length entries = omega (arith, c.children-test.true, c.len-place-end.ensures.value) in
+    let b = is_below m m0 c.args.at row c.in_ok-node.node.level entries c.children.place c.child_of-below.result stands same (c.in_ok-node.ensures.node h.honest) c.in_ok-node.ensures.level c.if-at-eq0.false within c.child_of-below.ensures.page c.child_of-below.ensures.level in
+    let done = at_some c.in_ok-lower.field-0 c.in-Some.lower (λ (n : Node D). IsPageMap c.take_out.new.cache
+    × HasTaken D c.args.m_max m0 (pages c.take_out.new.cache) c.child_of-below.result.level c.args.id c.args.bounds.now b.h.from.row (held_now c.children.kept) (held_now c.take_out.new.kept) (map item_of n.entries.items)) c.in-Some.is
+    (c.in_ok-lower.ensures.taken sound b.h.from.row b.stands) in
+    let took = took_below D c.args.m_max m m0 c.args.at row (map (item_of {D = D}) entries) c.children.place c.child_of-below.result b c.args.id c.args.bounds.now (pages c.take_out.new.cache) c.in_ok-node.node.level (held_now c.children.kept) (held_now c.args.kept.now) (held_now c.take_out.new.kept)
+    (map (item_of {D = D}) c.in-Some.lower.entries.items) stands same c.in_ok-node.ensures.level (ap (map (orphan_held {D = D})) c.children.invariant.1) done.1 in
+    settled_ok c.put_back.result (IsPageMap c.put_back.new.cache) c.args.m_max m (pages c.put_back.new.cache) c.args.at.page c.in_ok-node.node.level c.args.id c.args.bounds.now row (held_now c.args.kept.now) (held_now c.put_back.new.kept)
+    (content_of c.in_ok-node.node) (subst (λ k. Stands D m (record { page = c.args.at.page; level = k; row = row })) (sym c.in_ok-node.ensures.level) stands)
+    (c.in_ok-node.ensures.node h.honest (page_of_node D (m c.args.at.page) _ stands.root)) (c.put_back.ensures.settled so)
+    (c.put_back.ensures.taken done.0 m c.args.at.page c.args.id c.args.bounds.now row (held_now c.args.kept.now) took
+    (settled_child c.in_ok-lower.field-0 c.in-Some.lower (pages c.take_out.new.cache) (map (item_of {D = D}) entries) c.children.place c.child_of-below.result.page c.take_out.new.settled c.in-Some.is c.child_of-below.ensures.page (c.in_ok-lower.ensures.settled sound b.h.from.row b.stands)))
 
 pub returns-in-children-clause-absent : goal.returns-in-children-clause-absent
 returns-in-children-clause-absent g t c = λ h row stands lacks.
@@ -217,6 +241,7 @@ returns-in-children-clause-faults g t c = λ h row stands.
     let took = took_below D c.args.m_max m m0 c.args.at row (map (item_of {D = D}) entries) c.children.place c.child_of-below.result b c.args.id c.args.bounds.now (pages c.take_out.new.cache) c.in_ok-node.node.level (held_now c.children.kept) (held_now c.args.kept.now) (held_now c.take_out.new.kept)
     (map (item_of {D = D}) c.in-Some.lower.entries.items) stands same c.in_ok-node.ensures.level (ap (map (orphan_held {D = D})) c.children.invariant.1) done.1 in
     c.put_back.ensures.faults done.0 m c.args.at.page c.args.id c.args.bounds.now row (held_now c.args.kept.now) took
+    (settled_child c.in_ok-lower.field-0 c.in-Some.lower (pages c.take_out.new.cache) (map (item_of {D = D}) entries) c.children.place c.child_of-below.result.page c.take_out.new.settled c.in-Some.is c.child_of-below.ensures.page (c.in_ok-lower.ensures.settled sound b.h.from.row b.stands))
 
 pub returns-clause-alters : goal.returns-clause-alters
 returns-clause-alters g t c = made_alters c.args.cache.now c.children.cache None (asks_changes c.args.cache.now c.children.cache None c.children.invariant.0)
