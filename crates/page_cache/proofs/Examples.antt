@@ -1,6 +1,6 @@
 -- Worked examples of what a cache shows of the blocks below it, and of how calls end. No other proof rests on them. A
 -- definition that says another thing than docs/FORMAT.md is refused here.
-use Rattle.std.proofs.Common.{◌≡◌, ℕ, ◌-◌, ◌^◌, [], ◌∷◌, Option, Some, None, Ok, Err, if◌then◌else◌, ◌==◌, refl}
+use Rattle.std.proofs.Common.{◌≡◌, ℕ, ◌-◌, ◌^◌, [], ◌∷◌, Some, None, Ok, Err, if◌then◌else◌, ◌==◌, refl}
 use Rattle.page_file.specs.declared.fault.Fault.TheVariants.{Device, Memory}
 use Rattle.page_cache.specs.Calls.{fault_in, faults_behind, looks_after}
 use Rattle.page_cache.specs.Frames.{laid_over}

@@ -1,5 +1,5 @@
 -- A page that is put or edited, behind what is held.
-use Rattle.std.proofs.Common.{◌≡◌, ◌∙◌, ℕ, ◌≤◌, ◌<◌, List, length, Some, Bool, true, inl, inr, is_some, IsSome, cond, nat_eq, refl, subst, ap, sym, arith}
+use Rattle.std.proofs.Common.{◌≡◌, ◌∙◌, ℕ, ◌≤◌, ◌<◌, List, length, Some, true, inl, inr, is_some, IsSome, cond, nat_eq, refl, ap, sym, arith}
 use Rattle.std.proofs.lemmas.Bool.Decides.{eqb_tells}
 use Rattle.block_device.specs.Device.{IsBlock, written}
 use Rattle.page_file.specs.File as below

@@ -1,7 +1,7 @@
 -- A page is given out below, while no frame holds it: the same is given out behind what is held.
-use Rattle.std.proofs.Common.{inl, inr, ◌≡◌, ◌⊎◌, ◌∙◌, ℕ, zero, suc, ◌<◌, ◌≤◌, ◌-◌, true, List, length, Option, None, Some, unwrap_or, is_some, IsSome, refl, sym, ap, arith, subst, ⊎_elim}
+use Rattle.std.proofs.Common.{inl, inr, ◌≡◌, ◌∙◌, ℕ, zero, suc, ◌≤◌, ◌-◌, true, List, length, Option, None, unwrap_or, refl, sym, ap, arith, ⊎_elim}
 use Rattle.block_bytes.specs.Numbers.{zeros}
-use Rattle.block_device.specs.Device.{Blocks, block_at, written}
+use Rattle.block_device.specs.Device.{Blocks, block_at}
 use Rattle.page_file.specs.Layout.{link_of}
 use Rattle.page_file.specs.Opening.{is_sound}
 use Rattle.page_file.specs.Pages.{HasGiven, MayHaveGiven, next_given, next_of_free, with_free, with_given}

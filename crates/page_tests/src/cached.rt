@@ -54,11 +54,7 @@ fn put<D: BlockDevice>(cache: &mut PageCache<D, Global>, n: u32, byte: u8) -> Re
 }
 
 // Changes page n where it lies to this byte throughout, and answers what it had first.
-fn refill<D: BlockDevice>(
-    cache: &mut PageCache<D, Global>,
-    n: u32,
-    byte: u8,
-) -> Result<u8, Fault>
+fn refill<D: BlockDevice>(cache: &mut PageCache<D, Global>, n: u32, byte: u8) -> Result<u8, Fault>
     requires { gate_of cache.old ≡ Open }
     ensures { gate_of cache.new ≡ Open }
 {

@@ -32,7 +32,11 @@ impl<D: BlockDevice, A: Allocator + Copy> PageCache<D, A> {
     ///
     /// It counts no look. After a refusal, which on an honest device is `Memory` or `Device`, the map is as before.
     #[tactic(auto, using(crate::specs::Calls::counted_by_end))]
-    pub fn edit<T, F: FnOnce(&mut [u8; 4096]) -> T>(&mut self, n: u32, change: F) -> Result<T, Fault>
+    pub fn edit<T, F: FnOnce(&mut [u8; 4096]) -> T>(
+        &mut self,
+        n: u32,
+        change: F,
+    ) -> Result<T, Fault>
         requires open { gate_of self.old ≡ Open }
         requires change { F.IsAlwaysCallable change }
         ensures changes { Changes self.old self.new result }

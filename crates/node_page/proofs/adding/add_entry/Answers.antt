@@ -1,12 +1,11 @@
 -- The node is that of the page, with the entry after the others.
 use Rattle.std.proofs.Common.{◌≡◌, ◌∙◌, ◌<◌, ap, arith, IfSome, is_some, length, rules, Some, subst, sym}
-use Rattle.page_cache.specs.Cache.{given, pages}
+use Rattle.page_cache.specs.Cache.{pages}
 use Rattle.page_cache.specs.Laws.{a_live_page_is_given}
 use Rattle.tree_node.specs.Boxes.{least_box}
-use Rattle.tree_node.specs.Nodes.{NodeContent, item_of}
+use Rattle.tree_node.specs.Nodes.{item_of}
 use Rattle.node_page.specs.Broken.{asks_and_is_refused}
 use Rattle.node_page.specs.Layout.{IsReference, node_at, pushed}
-use Rattle.node_page.specs.Standing.{PageMap, node_in}
 use Rattle.node_page.proofs.NodeLemmas.{bytes_of_node, node_of_page}
 use Rattle.node_page.proofs.adding.add_entry.Goals as goal
 
@@ -26,9 +25,10 @@ returns-clause-added g c = λ h content there.
     let spelled : node_at D ran.shown.now ≡ Some content = ap (node_at D) ran.shows ∙ was.2 in
     let few : length content.entries < 100 = omega (arith, (room.0 (ap is_some c.in-Some.is)).1, c.requires.most) in
     let refers : IsReference content.level c.args.entry.now.reference = subst (λ l. IsReference l c.args.entry.now.reference) (sym level) c.requires.refers in
-    let now : node_at D did.0 ≡ Some (pushed content item) = ap (node_at D) (sym ran.leaves) ∙ ran.met content spelled few refers in
-    (node_of_page D (pages c.edit.new.self page) did.0 (Some (pushed content item)) (did.2 (ap is_some live)) now,
-    subst (λ o. IfSome o (λ bounds. bounds ≡ least_box D (pushed content item).entries)) c.in-Some.is (c.in_ok-bounds.ensures.least h content there))
+    let now : node_at D did.0 ≡ Some (pushed content item) = ap (node_at D) (sym ran.leaves) ∙ ran.met content spelled few refers in (
+      node_of_page D (pages c.edit.new.self page) did.0 (Some (pushed content item)) (did.2 (ap is_some live)) now,
+      subst (λ o. IfSome o (λ bounds. bounds ≡ least_box D (pushed content item).entries)) c.in-Some.is (c.in_ok-bounds.ensures.least h content there),
+    )
 
 pub returns-in_err-edit-clause-alters : goal.returns-in_err-edit-clause-alters
 returns-in_err-edit-clause-alters g c = asks_and_is_refused c.args.cache.now c.least_with.new.cache c.edit.new.self c.in_err-edit.field-0.0 c.from_residual-in_err-edit.result

@@ -1,15 +1,15 @@
 -- The goals of `PageCache::allocate` that are proved by hand.
-use Rattle.std.proofs.Common.{inl, inr, ◌≡◌, ◌⊎◌, ◌∙◌, ℕ, ◌≤◌, ◌<◌, length, Option, Some, None, is_some, IsSome, ap, refl, sym, subst, arith, ⊎_elim}
+use Rattle.std.proofs.Common.{inl, inr, ◌≡◌, ◌∙◌, ℕ, ◌≤◌, ◌<◌, length, Option, Some, None, is_some, IsSome, ap, refl, sym, subst, arith, ⊎_elim}
 use Rattle.block_bytes.specs.Numbers.{zeros}
 use Rattle.block_device.specs.Device.{Blocks, block_at}
 use Rattle.page_file.specs.Fault.{IsOfDevice}
 use Rattle.page_file.specs.File as below
-use Rattle.page_file.specs.Pages.{HasFreeChain, HasGiven, MayHaveGiven, SameBut, TakesFirst, free_page_link, free_pages_of, given_pages, next_given, page_of}
+use Rattle.page_file.specs.Pages.{HasGiven, MayHaveGiven, SameBut, TakesFirst, free_page_link, free_pages_of, given_pages, next_given, page_of}
 use Rattle.page_file.specs.Reused.{all_live, chain_refused, chain_stays, chain_unchanged, given_is_zeros, given_refused, given_stays, given_unchanged, none_before, others_refused, others_stay, pages_unchanged, sound_link, takes_first}
 use Rattle.page_file.specs.declared.fault.Fault.TheVariants as fault
 use Rattle.page_file.specs.declared.file.PageFile.{PageFile}
 use Rattle.page_file.specs.declared.header.Header.{Header}
-use Rattle.page_cache.specs.Cache.{IsHonest, IsPageMap, blocks_behind, blocks_of}
+use Rattle.page_cache.specs.Cache.{IsHonest, blocks_behind, blocks_of}
 use Rattle.page_cache.specs.Frames.{changed_pages, frame_at, laid_over, newer_bytes}
 use Rattle.page_cache.specs.Keeps.{KeepsBlocks}
 use Rattle.page_cache.specs.Laid.{length-laid}
@@ -17,9 +17,8 @@ use Rattle.page_cache.specs.Laws.{the_map_is_kept_in_turn}
 use Rattle.page_cache.specs.declared.cache.PageCache.{PageCache}
 use Rattle.page_cache.specs.declared.frame.Frame.{Frame}
 use Rattle.page_cache.proofs.Behind.{map_from, map_kept}
-use Rattle.page_cache.proofs.Changed.{given_grown}
 use Rattle.page_cache.proofs.Kept.{kept_below}
-use Rattle.page_cache.proofs.Results.{either, if_err_map, if_ok_both, on_err_any, on_err_given, on_err_map}
+use Rattle.page_cache.proofs.Results.{either, if_err_map, if_ok_both, on_err_given, on_err_map}
 use Rattle.page_cache.proofs.Reused.{either_given, first_same, gives_behind, may_behind}
 use Rattle.page_cache.proofs.cache.PageCache.allocate.Goals as goal
 

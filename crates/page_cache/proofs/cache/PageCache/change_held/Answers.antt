@@ -22,6 +22,10 @@ pub returns-clause-frames : goal.returns-clause-frames
 returns-clause-frames g c = λ old is.
     let after : Frame _ = record { bytes = with_value c.in-Some.frame.now.bytes c.change-answer.new.arg2; changed = true } in
     let same : Some c.in-Some.frame.now ≡ Some old = c.in-Some.ensures.value ∙ is in
-    let found : c.in-Some.frame.now ≡ old = cc in
-    (after, refl, subst (λ b. IsBlock b) c.deref.ensures c.see_block.ensures, record { shown = _; shows = c.deref_mut.ensures.value ∙ ap (λ (f : Frame _). f.bytes.value) found; left = _; met = c.change-answer.ensures; leaves = refl },
-    λ k. lookup-set c.args.n k c.args.self.now.frames.entries after c.requires.held)
+    let found : c.in-Some.frame.now ≡ old = cc in (
+      after,
+      refl,
+      subst (λ b. IsBlock b) c.deref.ensures c.see_block.ensures,
+      record { shown = _; shows = c.deref_mut.ensures.value ∙ ap (λ (f : Frame _). f.bytes.value) found; left = _; met = c.change-answer.ensures; leaves = refl },
+      λ k. lookup-set c.args.n k c.args.self.now.frames.entries after c.requires.held,
+    )

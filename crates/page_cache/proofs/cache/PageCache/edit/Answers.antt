@@ -23,11 +23,12 @@ returns-clause-edited g c = λ h page given_is.
     let did = c.change_held.ensures.frames was.0 was.2 in
     let behind = held_written old mid new c.args.n was.0 did.0 c.load.ensures.kept c.change_held.ensures.file was.2 did.1 did.4 h in
     let same : Some was.0.bytes.value ≡ Some page = sym (held_bytes old mid new c.args.n was.0 did.0 c.load.ensures.kept c.change_held.ensures.file was.2 h) ∙ given_is in
-    let page_is : was.0.bytes.value ≡ page = cc in
-    (did.0.bytes.value,
-    given_there old mid new c.args.n did.0.bytes.value c.load.ensures.kept c.change_held.ensures.file (held_within old mid new c.args.n was.0 did.0 c.load.ensures.kept c.change_held.ensures.file was.2) h behind,
-    λ live. there old mid new c.args.n did.0.bytes.value did.2 c.load.ensures.kept c.change_held.ensures.file h live behind,
-    subst (λ x. FnOnceReturnsAtMut g.F.FnOnce c.args.change x c.change_held.result did.0.bytes.value) page_is did.3)
+    let page_is : was.0.bytes.value ≡ page = cc in (
+      did.0.bytes.value,
+      given_there old mid new c.args.n did.0.bytes.value c.load.ensures.kept c.change_held.ensures.file (held_within old mid new c.args.n was.0 did.0 c.load.ensures.kept c.change_held.ensures.file was.2) h behind,
+      λ live. there old mid new c.args.n did.0.bytes.value did.2 c.load.ensures.kept c.change_held.ensures.file h live behind,
+      subst (λ x. FnOnceReturnsAtMut g.F.FnOnce c.args.change x c.change_held.result did.0.bytes.value) page_is did.3,
+    )
 
 pub returns-clause-live : goal.returns-clause-live
 returns-clause-live g c = λ h live.

@@ -1,5 +1,5 @@
 -- The goals of `PageCache::evict` that are proved by hand.
-use Rattle.std.proofs.Common.{◌≡◌, ◌∙◌, ◌+◌, ℕ, length, is_some, ap}
+use Rattle.std.proofs.Common.{◌∙◌, ◌+◌, length, is_some, ap}
 use Rattle.page_cache.proofs.Lookups.{length-removed, lookup-last}
 use Rattle.page_cache.proofs.Results.{on_ok_map}
 use Rattle.page_cache.proofs.cache.PageCache.evict.Goals as goal

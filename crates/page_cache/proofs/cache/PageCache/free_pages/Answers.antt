@@ -1,5 +1,5 @@
 -- The goals of `PageCache::free_pages` that are proved by hand.
-use Rattle.std.proofs.Common.{◌≡◌, ◌∙◌, ℕ, None, ap, arith, sym}
+use Rattle.std.proofs.Common.{◌∙◌, ℕ, ap, arith}
 use Rattle.page_file.specs.Laws.{the_gate_is_kept_in_turn}
 use Rattle.page_cache.specs.Calls.{counted_by_end, fault_in, faults_behind}
 use Rattle.page_cache.specs.Frames.{changed_pages}

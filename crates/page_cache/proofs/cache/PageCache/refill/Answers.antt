@@ -1,5 +1,5 @@
 -- The goals of `PageCache::refill` that are proved by hand.
-use Rattle.std.proofs.Common.{◌≡◌, ◌∙◌, ◌<◌, ◌≤◌, ap, arith, is_some, refl, subst, sym}
+use Rattle.std.proofs.Common.{◌∙◌, ◌<◌, ◌≤◌, ap, arith, is_some, refl, subst, sym}
 use Rattle.block_device.specs.Device.{IsBlock}
 use Rattle.page_file.specs.File as below
 use Rattle.page_file.specs.declared.file.PageFile.{PageFile}
@@ -18,11 +18,13 @@ returns-then-promote-clause-filled g c = λ h.
     let keeps = keeps_same old mid c.promote.ensures.same in
     let was = first-found c.args.n mid.frames.entries (c.promote.ensures.first c.if-promote.true) in
     let did = c.change_held.ensures.frames was.0 was.2 in
-    let behind = (held_written old mid new c.args.n was.0 did.0 keeps c.change_held.ensures.file was.2 did.1 did.4 h) in
-    (was.0.bytes.value, did.0.bytes.value,
-    given_there old mid new c.args.n did.0.bytes.value keeps c.change_held.ensures.file (held_within old mid new c.args.n was.0 did.0 keeps c.change_held.ensures.file was.2) h behind,
-    λ live. there old mid new c.args.n did.0.bytes.value did.2 keeps c.change_held.ensures.file h live behind,
-    did.3)
+    let behind = (held_written old mid new c.args.n was.0 did.0 keeps c.change_held.ensures.file was.2 did.1 did.4 h) in (
+      was.0.bytes.value,
+      did.0.bytes.value,
+      given_there old mid new c.args.n did.0.bytes.value keeps c.change_held.ensures.file (held_within old mid new c.args.n was.0 did.0 keeps c.change_held.ensures.file was.2) h behind,
+      λ live. there old mid new c.args.n did.0.bytes.value did.2 keeps c.change_held.ensures.file h live behind,
+      did.3,
+    )
 
 pub returns-then-promote-clause-live : goal.returns-then-promote-clause-live
 returns-then-promote-clause-live g c = λ h live.
@@ -76,10 +78,13 @@ returns-clause-filled g c = λ h.
     let keeps = keeps_in_turn old c.make_room.new.self mid (keeps_in_turn old c.promote.new.self c.make_room.new.self (keeps_same old c.promote.new.self c.promote.ensures.same) c.make_room.ensures.kept) (keeps_same c.make_room.new.self mid c.blank.ensures.same) in
     let within : (2 ≤ c.args.n) × (c.args.n < old.file.header.next) = (omega (arith, c.if-n-lt2.false), omega (arith, c.if-n-next_number.false, c.next_number.ensures, ap (λ (f : PageFile _ _). below.next_of f) c.promote.ensures.same.file)) in
     on_ok_map c.hold.result (c.hold.ensures.written (keeps.gate.honest.0 h) refl)
-    (λ behind. (c.deref_mut.result.now, c.fill.new.arg2,
-    given_there old mid new c.args.n c.fill.new.arg2 keeps c.hold.ensures.file within h behind,
-    λ live. there old mid new c.args.n c.fill.new.arg2 (subst (λ b. IsBlock b) c.deref.ensures c.see_block.ensures) keeps c.hold.ensures.file h live behind,
-    record { shown = _; shows = refl; left = _; met = c.fill.ensures; leaves = refl }))
+    (λ behind. (
+      c.deref_mut.result.now,
+      c.fill.new.arg2,
+      given_there old mid new c.args.n c.fill.new.arg2 keeps c.hold.ensures.file within h behind,
+      λ live. there old mid new c.args.n c.fill.new.arg2 (subst (λ b. IsBlock b) c.deref.ensures c.see_block.ensures) keeps c.hold.ensures.file h live behind,
+      record { shown = _; shows = refl; left = _; met = c.fill.ensures; leaves = refl },
+    ))
 
 pub returns-clause-given_others : goal.returns-clause-given_others
 returns-clause-given_others g c = λ h.

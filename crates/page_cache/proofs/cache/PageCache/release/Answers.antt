@@ -1,5 +1,5 @@
 -- The goals of `PageCache::release` that are proved by hand.
-use Rattle.std.proofs.Common.{◌≡◌, ◌∙◌, is_some, sym, ap, refl, arith, subst}
+use Rattle.std.proofs.Common.{◌∙◌, is_some, sym, ap, refl, arith, subst}
 use Rattle.page_file.specs.File as below
 use Rattle.page_file.specs.declared.file.PageFile.{PageFile}
 use Rattle.page_cache.specs.Frames.{frame_at}
