@@ -1,7 +1,7 @@
 //! The child of which an object was taken: it leaves its parent where it has too few entries, else it is written.
 
-ghost use Rattle.std.specs.Prelude.{◌≡◌, ◌+◌, ◌*◌, ◌-◌, ◌<◌, ◌≤◌, ◌++◌, ℕ, List, All, IfOk, IfErr, IfSome, None, Some};
-ghost use Rattle.std.specs.Prelude.{◌⊎◌, OnOk, map, reverse, slice_index_or, true};
+ghost use Rattle.std.specs.Prelude.{◌≡◌, ◌+◌, ◌*◌, ◌-◌, ◌<◌, ◌≤◌, ◌++◌, ℕ, List, IfOk, IfErr, IfSome, None, Some};
+ghost use Rattle.std.specs.Prelude.{◌⊎◌, OnOk, map, reverse, true};
 ghost use Rattle.arrayvec.specs.ArrayVec.{array_vec_len};
 ghost use Rattle.box_math.specs.Bounds.{Bounds, IsDims};
 ghost use Rattle.page_file.specs.Fault.{IsDamage, IsOfDevice};
@@ -10,7 +10,7 @@ ghost use Rattle.page_file.specs.declared.gate.Gate.TheVariants.{Open};
 ghost use Rattle.page_cache.specs.Cache.{Grows, IsHonest, IsLive, IsPageMap, gate_of, pages};
 ghost use Rattle.page_cache.specs.Calls.{Changes};
 ghost use Rattle.tree_node.specs.Boxes.{least_box};
-ghost use Rattle.tree_node.specs.Nodes.{Item, content_of, item_of};
+ghost use Rattle.tree_node.specs.Nodes.{content_of, item_of};
 ghost use Rattle.tree_node.specs.Shape;
 ghost use Rattle.tree_node.specs.Trees.{Row};
 ghost use Rattle.node_page.specs.Broken.{Alters};

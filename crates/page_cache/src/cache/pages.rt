@@ -1,6 +1,6 @@
 //! The pages: given out, put, freed and lent.
 ghost use Rattle.std.specs.Prelude.{◌≡◌, ◌⊎◌, ◌≤◌, ◌<◌, ◌+◌, ◌^◌, ℕ, Some, None, Err, IsErrOf, IsOk, IfOk, IfErr};
-ghost use Rattle.std.specs.Prelude.{OnOk, OnErr, length, option_map, slice_get};
+ghost use Rattle.std.specs.Prelude.{OnOk, OnErr, option_map, slice_get};
 ghost use Rattle.std.specs.Borrow.{sem};
 ghost use Rattle.block_bytes.specs.Numbers.{zeros};
 ghost use Rattle.page_file.specs.Fault.{HasCause, IsOfDevice, IsDamage};
@@ -8,16 +8,14 @@ ghost use Rattle.page_file.specs.Pages.{SameBut, TakesFirst};
 ghost use Rattle.page_file.specs.declared.fault.Fault.TheVariants as fault;
 ghost use Rattle.page_file.specs.declared.gate.Gate.TheVariants.{Open};
 ghost use Rattle.page_cache.specs.Cache.{Grows, IsBroken, IsFull, IsHeld, IsHonest, IsLive};
-ghost use Rattle.page_cache.specs.Cache.{IsPageMap, IsUnchanged, KeepsGate, KeepsMap};
-ghost use Rattle.page_cache.specs.Cache.{capacity_of, device_of, free_count_of, free_of, gate_of, given, looks_of};
+ghost use Rattle.page_cache.specs.Cache.{IsPageMap, IsUnchanged, KeepsMap};
+ghost use Rattle.page_cache.specs.Cache.{device_of, free_count_of, free_of, gate_of, given, looks_of};
 ghost use Rattle.page_cache.specs.Cache.{next_of, pages};
 ghost use Rattle.page_cache.specs.Calls.{Asks, Changes, IsLookedAt};
-ghost use Rattle.page_cache.specs.Frames.{frame_at};
-ghost use Rattle.page_cache.specs.Keeps.{KeepsBlocks, SameFrames};
+ghost use Rattle.page_cache.specs.Keeps.{KeepsBlocks};
 ghost use Rattle.page_cache.specs.Loan.{EndsLookedAt};
 
 use crate::cache::PageCache;
-use crate::frame::Frame;
 use block_device::BlockDevice;
 use page_file::Fault;
 use std::alloc::Allocator;
