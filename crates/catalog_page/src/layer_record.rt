@@ -16,7 +16,7 @@ pub struct LayerRecord {
     pub level: u8,
     /// The page of the root of its tree.
     pub root: u32,
-    /// The page of the identifier table's directory. Until layers are trees: the first page of its chain, 0 for none.
+    /// The page of the directory of its identifier table.
     pub directory: u32,
     /// How many objects it has.
     pub count: u64,
