@@ -26,8 +26,8 @@ use std::alloc::Allocator;
 use tree_node::{Node, Root};
 
 // Takes the object out of the first leaf below this node that has it, and to which boxes lead that enclose its box, and
-// condenses the nodes between. What this node has become is handed out, and not yet written; `settled` tells whether its
-// page has it as it is. Where no such leaf has the object, nothing is written.
+// condenses the nodes between. What this node has become is handed out, and not yet written; `settled` tells whether
+// its page has it as it is. Where no such leaf has the object, nothing is written.
 pub(crate) fn take_out<const D: usize, B: BlockDevice, A: Allocator + Copy>(
     cache: &mut PageCache<B, A>,
     at: Root,

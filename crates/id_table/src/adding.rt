@@ -90,8 +90,8 @@ pub(crate) fn add_run<const D: usize, B: BlockDevice, A: Allocator + Copy>(
     midway(put_alone(cache, directory, class, first, objects))
 }
 
-// Adds to the bucket at a page with room the objects from the first one on that are of the chain, where the page lies in
-// memory. Answers how many these are. A page without room is `Damaged`.
+// Adds to the bucket at a page with room the objects from the first one on that are of the chain, where the page lies
+// in memory. Answers how many these are. A page without room is `Damaged`.
 #[tactic(auto, using(page_cache::specs::Calls::ends_so))]
 fn put_in<const D: usize, B: BlockDevice, A: Allocator + Copy>(
     cache: &mut PageCache<B, A>,

@@ -1,6 +1,7 @@
 //! An entry added to a node at a page of a cache, which is not decoded.
 
-ghost use Rattle.std.specs.Prelude.{◌≡◌, ◌⊎◌, ◌↔◌, ◌<◌, ◌≤◌, Some, None, IfErr, IfNone, IfOk, IfSome, IsSome, OnOk, length};
+ghost use Rattle.std.specs.Prelude.{◌≡◌, ◌⊎◌, ◌↔◌, ◌<◌, ◌≤◌, Some, None, IfErr, IfNone};
+ghost use Rattle.std.specs.Prelude.{IfOk, IfSome, IsSome, OnOk, length};
 ghost use Rattle.box_math.specs.Bounds.{IsDims};
 ghost use Rattle.page_file.specs.Fault.{IsDamage, IsOfDevice};
 ghost use Rattle.page_file.specs.Pages.{SameBut};

@@ -68,8 +68,8 @@ impl<D: BlockDevice, A: Allocator + Copy> PageCache<D, A> {
     /// The gate has to be open. A number outside 2 to the last one given out is `Damaged` with that number, without a
     /// call of the device.
     ///
-    /// It counts no look. After a refusal, which on an honest device is `Memory` or `Device`, the page is still live and
-    /// may hold any bytes; all others are as before.
+    /// It counts no look. After a refusal, which on an honest device is `Memory` or `Device`, the page is still live
+    /// and may hold any bytes; all others are as before.
     #[tactic(auto, using(crate::specs::Calls::counted_by_end))]
     pub fn refill<F: FnOnce(&mut [u8; 4096])>(&mut self, n: u32, fill: F) -> Result<(), Fault>
         requires open { gate_of self.old ≡ Open }
