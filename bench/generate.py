@@ -65,6 +65,7 @@ def scene(folder, boxes, shape="uniform", axes="2", fanout="100"):
     """Each operation's commands, but for how a layer is made and that changes are kept."""
     boxes, axes = int(boxes), int(axes)
     at = Scene(boxes, shape, axes)
+    changes = min(boxes // 10, 100000)
     operations = {
         "insert": (boxes, (text("insert a", place, at.box()) for place in shuffled(boxes))),
         "window of 1": (20000, (text("window a", at.window(1)) for _ in range(20000))),
@@ -72,8 +73,8 @@ def scene(folder, boxes, shape="uniform", axes="2", fanout="100"):
         "window of 1000": (1000, (text("window a", at.window(1000)) for _ in range(1000))),
         "point": (20000, (text("point a", at.point()) for _ in range(20000))),
         "ten nearest": (10000, (text("nearest a 10", at.point()) for _ in range(10000))),
-        "move": (boxes // 10, (text("move a", place, at.box()) for place in shuffled(boxes)[: boxes // 10])),
-        "delete": (boxes // 10, (text("delete a", place) for place in shuffled(boxes)[: boxes // 10])),
+        "move": (changes, (text("move a", place, at.box()) for place in shuffled(boxes)[:changes])),
+        "delete": (changes, (text("delete a", place) for place in shuffled(boxes)[:changes])),
         "load": (boxes, (text(place, at.box()) for place in shuffled(boxes))),
         "join": (boxes, ["join a b"]),
     }

@@ -8,7 +8,6 @@ ghost use Rattle.box_math.specs.Bounds.{IsDims};
 
 mod damaged;
 mod many;
-mod refused;
 
 use block_bytes::{read_u16, read_u32};
 use block_device::MemoryDevice;
