@@ -1,5 +1,5 @@
 -- The child that an object is looked for in, while the ones before it lacked it.
-use Rattle.std.proofs.Common.{Bool, true, Result, Ok, Err, IfOk, IfErr, IfSome, IsNone, Option, None, ◌≡◌, ◌∙◌, ℕ, suc, ◌+◌, ◌-◌, ◌<◌, ◌≤◌, IsSome, Some, List, [], length, map, get_or, refl, sym, ap, subst, arith}
+use Rattle.std.proofs.Common.{Bool, false, true, ◌≡◌, ◌∙◌, ℕ, suc, ◌+◌, ◌-◌, ◌<◌, ◌≤◌, IsSome, Some, List, [], length, map, get_or, refl, sym, ap, subst, arith}
 use Rattle.std.specs.List.{Contains}
 use Rattle.std.proofs.lemmas.List.{get_or-map, length-map}
 use Rattle.box_math.specs.Bounds.{Bounds, Within}
@@ -90,26 +90,23 @@ leaf_read : {dims : ℕ} (m : PageMap) (at : Root) (row : Row) (level : ℕ) (en
     → (IsSome (m at.page) → node_in dims (m at.page) ≡ Some (record { level = level; entries = map item_of entries })) → row_items row ≡ map item_of entries
 leaf_read {dims} m at row level entries stands read = items_read dims m at.page at.level level row (map item_of entries) stands.root (read (page_of_node dims (m at.page) _ stands.root))
 
-pub taken_here : {D : ℕ} (o : Option (Node D)) (X : Type 0) (most : ℕ) (m m' : PageMap) (at : Root) (id : ℕ) (bounds : Bounds) (row : Row) (held : List Held) (level : ℕ) (entries : List (Entry D)) → X → at.level ≡ 0 → Stands D m (tree_at at row) → ((n : ℕ) → m' n ≡ m n)
-    → (IsSome (m at.page) → node_in D (m at.page) ≡ Some (record { level = level; entries = map item_of entries })) → IfSome o (λ n. IsTakenFrom id bounds (map item_of entries) (map item_of n.entries.items))
-    → IfSome o (λ n. X × HasTaken D most m m' at.level id bounds row held held (map item_of n.entries.items))
-taken_here None X most m m' at id bounds row held level entries x low stands same read taken = tt
-taken_here {D} (Some n) X most m m' at id bounds row held level entries x low stands same read taken =
-    let below : RowStands D m 0 row = subst (λ l. RowStands D m l row) low stands.below in (
-      x,
-      subst (λ l. HasTaken D most m m' l id bounds row held held (map item_of n.entries.items)) (sym low)
-          (leaf_taken D most id bounds m m' row held held (map item_of entries) (map item_of n.entries.items) below same (leaf_read m at row level entries stands read) refl taken),
-    )
+pub taken_here : {D : ℕ} (most : ℕ) (m m' : PageMap) (at : Root) (id : ℕ) (bounds : Bounds) (row : Row) (held : List Held) (level : ℕ) (entries : List (Entry D)) (items : List Item) → at.level ≡ 0 → Stands D m (tree_at at row) → ((n : ℕ) → m' n ≡ m n)
+    → (IsSome (m at.page) → node_in D (m at.page) ≡ Some (record { level = level; entries = map item_of entries })) → IsTakenFrom id bounds (map item_of entries) items
+    → HasTaken D most m m' at.level id bounds row held held items
+taken_here {D} most m m' at id bounds row held level entries items low stands same read taken =
+    let below : RowStands D m 0 row = subst (λ l. RowStands D m l row) low stands.below in
+    subst (λ l. HasTaken D most m m' l id bounds row held held items) (sym low)
+    (leaf_taken D most id bounds m m' row held held (map item_of entries) items below same (leaf_read m at row level entries stands read) refl taken)
 
-pub found_leaf : {D : ℕ} (o : Option (Node D)) (most : ℕ) (m : PageMap) (at : Root) (id : ℕ) (bounds : Bounds) (row : Row) (level : ℕ) (entries : List (Entry D)) → at.level ≡ 0 → Stands D m (tree_at at row)
+pub found_leaf : {D : ℕ} (most : ℕ) (m : PageMap) (at : Root) (id : ℕ) (bounds : Bounds) (row : Row) (level : ℕ) (entries : List (Entry D)) → at.level ≡ 0 → Stands D m (tree_at at row)
     → (IsSome (m at.page) → node_in D (m at.page) ≡ Some (record { level = level; entries = map item_of entries }))
-    → (IsNone o → (k : ℕ) (d : Item) → k < length entries → ¬ (get_or (map item_of entries) k d ≡ record { bounds = bounds; reference = id })) → LeadsTo D id bounds row → ¬ (o ≡ None)
-found_leaf (Some n) most m at id bounds row level entries low stands read none leads is = absurd (cc)
-found_leaf {D} None most m at id bounds row level entries low stands read none leads is =
+    → (found : Bool) → (found ≡ false → (k : ℕ) (d : Item) → k < length entries → ¬ (get_or (map item_of entries) k d ≡ record { bounds = bounds; reference = id })) → LeadsTo D id bounds row → found ≡ true
+found_leaf most m at id bounds row level entries low stands read true none leads = refl
+found_leaf {D} most m at id bounds row level entries low stands read false none leads =
     let are = leaf_read m at row level entries stands read in
     let below : RowStands D m 0 row = subst (λ l. RowStands D m l row) low stands.below in
-    leaf_lacks D most id bounds m row below
-    (λ k d within found. none refl k d (omega (arith, within, ap length are, length-map entries (item_of {D = D}))) (ap (λ (xs : List Item). get_or xs k d) (sym are) ∙ found)) leads
+    absurd (leaf_lacks D most id bounds m row below
+    (λ k d within found. none refl k d (omega (arith, within, ap length are, length-map entries (item_of {D = D}))) (ap (λ (xs : List Item). get_or xs k d) (sym are) ∙ found)) leads)
 
 -- ---- a child whose box does not enclose the object's
 
@@ -136,22 +133,8 @@ nothing_later {dims} m at row level entries place id bounds stands read over lea
 
 -- ---- answers
 
-pub none_of_some : {A E : Type 0} (r : Result (Option A) E) (P : Type 0) → IfOk r (λ o. ¬ (o ≡ None)) → IfOk r (λ o. o ≡ None → P)
-none_of_some (Ok o) P some = λ is. absurd (some is)
-none_of_some (Err e) P some = tt
-
-pub never_err : {A E : Type 0} (r : Result A E) (P : E → Type 0) → ⊥ → IfErr r P
-never_err r P never = absurd never
-
-pub at_some : {A : Type 0} (o : Option A) (x : A) (P : A → Type 0) → o ≡ Some x → IfSome o P → P x
-at_some o x P is h = subst (λ p. IfSome p P) is h
-
-pub is_none : {A : Type 0} (o : Option A) → ((x : A) → o ≡ Some x → ⊥) → o ≡ None
-is_none None h = refl
-is_none (Some x) h = absurd (h x refl)
-
 -- the page of a child has it where it is settled
-pub settled_child : {D : ℕ} (o : Option (Node D)) (lower : Node D) (m : PageMap) (entries : List Item) (place page : ℕ) (settled : Bool) → o ≡ Some lower → ((d : Item) → page ≡ (get_or entries place d).reference)
-    → (settled ≡ true → IfSome o (λ n. node_in D (m page) ≡ Some (content_of n))) → IsSettledBelow D m entries place (content_of lower) settled
-settled_child {D} o lower m entries place page settled is refers has so d =
-    subst (λ k. node_in D (m k) ≡ Some (content_of lower)) (refers d) (at_some o lower (λ (n : Node D). node_in D (m page) ≡ Some (content_of n)) is (has so))
+pub settled_child : {D : ℕ} (lower : Node D) (m : PageMap) (entries : List Item) (place page : ℕ) (settled : Bool) → ((d : Item) → page ≡ (get_or entries place d).reference)
+    → (settled ≡ true → node_in D (m page) ≡ Some (content_of lower)) → IsSettledBelow D m entries place (content_of lower) settled
+settled_child {D} lower m entries place page settled refers has so d =
+    subst (λ k. node_in D (m k) ≡ Some (content_of lower)) (refers d) (has so)

@@ -1,5 +1,5 @@
 -- A child of which the object was taken, and the node above it condensed.
-use Rattle.std.proofs.Common.{Result, Ok, Err, Option, None, IfOk, IfSome, OnOk, ◌≡◌, ◌∙◌, ℕ, suc, ◌+◌, ◌-◌, ◌<◌, ◌≤◌, IsSome, Some, None, true, false, cond, eqb, List, [], ◌∷◌, ◌++◌, length, map, get_or, reverse, refl, sym, ap, subst, ⊎_elim, arith, append_assoc}
+use Rattle.std.proofs.Common.{Result, Ok, Err, None, OnOk, ◌≡◌, ◌∙◌, ℕ, suc, ◌+◌, ◌-◌, ◌<◌, ◌≤◌, IsSome, Some, true, false, cond, eqb, List, [], ◌∷◌, ◌++◌, length, map, get_or, reverse, refl, sym, ap, subst, ⊎_elim, arith, append_assoc}
 use Rattle.std.specs.Prelude.{nat_lt}
 use Rattle.std.proofs.lemmas.Bool.{cases_eq}
 use Rattle.std.proofs.lemmas.Bool.Decides.{nat_tests}
@@ -77,14 +77,12 @@ page_stays dims most m m' page level id bounds row held held' items stands done 
     page (omega (arith, occurs_here page))
 
 -- and so it has the node where that is as it was
-pub settled_ok : {D : ℕ} {E : Type 0} (r : Result (Option (Node D)) E) (X : Type 0) (most : ℕ) (m m' : PageMap) (page level id : ℕ) (bounds : Bounds) (row : Row) (held held' : List Held) (was : NodeContent)
-    → Stands D m (record { page = page; level = level; row = row }) → node_in D (m page) ≡ Some was → IfOk r (λ o. IfSome o (λ n. content_of n ≡ was))
-    → IfOk r (λ o. IfSome o (λ n. X × HasTaken D most m m' level id bounds row held held' (map item_of n.entries.items)))
-    → IfOk r (λ o. IfSome o (λ n. node_in D (m' page) ≡ Some (content_of n)))
-settled_ok (Err e) X most m m' page level id bounds row held held' was stands read same taken = tt
-settled_ok (Ok None) X most m m' page level id bounds row held held' was stands read same taken = tt
-settled_ok {D} (Ok (Some n)) X most m m' page level id bounds row held held' was stands read same taken =
-    ap (node_in D) (page_stays D most m m' page level id bounds row held held' (map item_of n.entries.items) stands taken.1) ∙ read ∙ ap (λ (x : NodeContent). Some x) (sym same)
+pub settled_still : {D : ℕ} (most : ℕ) (m m' : PageMap) (page level id : ℕ) (bounds : Bounds) (row : Row) (held held' : List Held) (was : NodeContent) (n : Node D)
+    → Stands D m (record { page = page; level = level; row = row }) → node_in D (m page) ≡ Some was → content_of n ≡ was
+    → HasTaken D most m m' level id bounds row held held' (map item_of n.entries.items)
+    → node_in D (m' page) ≡ Some (content_of n)
+settled_still {D} most m m' page level id bounds row held held' was n stands read same taken =
+    ap (node_in D) (page_stays D most m m' page level id bounds row held held' (map item_of n.entries.items) stands taken) ∙ read ∙ ap (λ (x : NodeContent). Some x) (sym same)
 
 -- ---- the node above
 
@@ -235,20 +233,20 @@ lives most m m1 page level id bounds row at held held1 entries es reference l =
 
 module _ {D : ℕ} (most : ℕ) (m m1 m2 : PageMap) (page level id : ℕ) (bounds : Bounds) (row : Row) (at : ℕ) (held held1 held2 : List Held) (entries : List Item) (es : List (Entry D)) (reference : ℕ)
     (l : Lower most m m1 page level id bounds row at held held1 entries es reference) where
-  pub left_ok : {E : Type 0} (r : Result (Node D) E) (X : Type 0) → X → SameBut reference m1 m2 → length es < least_entries most → OnOk r (m2 reference ≡ None)
-      → IfOk r (λ after. map item_of after.entries.items ≡ items_without entries at) → OnOk r (held2 ≡ held1 ++ reverse (map (held_with (level - 1)) es))
-      → IfOk r (λ after. X × HasTaken D most m m2 level id bounds row held held2 (map item_of after.entries.items))
-  left_ok (Ok after) X x others few gone written holds =
-      (x, child_leaves most level (level - 1) at reference id bounds row m m1 page held held1 es entries l.stands l.h l.is l.up refl l.are l.done m2 held2 (map item_of after.entries.items) others few gone written holds)
-  left_ok (Err e) X x others few gone written holds = tt
+  pub left_ok : {A E : Type 0} (r : Result A E) (X : Type 0) (after : List Item) → X → SameBut reference m1 m2 → length es < least_entries most → OnOk r (m2 reference ≡ None)
+      → OnOk r (after ≡ items_without entries at) → OnOk r (held2 ≡ held1 ++ reverse (map (held_with (level - 1)) es))
+      → OnOk r (X × HasTaken D most m m2 level id bounds row held held2 after)
+  left_ok (Ok a) X after x others few gone written holds =
+      (x, child_leaves most level (level - 1) at reference id bounds row m m1 page held held1 es entries l.stands l.h l.is l.up refl l.are l.done m2 held2 after others few gone written holds)
+  left_ok (Err e) X after x others few gone written holds = tt
 
-  pub stayed_ok : {E : Type 0} (r : Result (Node D) E) (X : Type 0) → X → SameBut reference m1 m2 → least_entries most ≤ length es
+  pub stayed_ok : {A E : Type 0} (r : Result A E) (X : Type 0) (after : List Item) → X → SameBut reference m1 m2 → least_entries most ≤ length es
       → (of : ℕ) → of ≡ level - 1 → OnOk r (node_in D (m2 reference) ≡ Some (record { level = of; entries = map item_of es }))
-      → IfOk r (λ after. map item_of after.entries.items ≡ set_box entries at (least_box D (map item_of es))) → held2 ≡ held1
-      → IfOk r (λ after. X × HasTaken D most m m2 level id bounds row held held2 (map item_of after.entries.items))
-  stayed_ok (Ok after) X x others some of low there written holds = (
+      → OnOk r (after ≡ set_box entries at (least_box D (map item_of es))) → held2 ≡ held1
+      → OnOk r (X × HasTaken D most m m2 level id bounds row held held2 after)
+  stayed_ok (Ok a) X after x others some of low there written holds = (
     x,
-    child_stays most level (level - 1) at reference id bounds row m m1 page held held1 es entries l.stands l.h l.is l.up refl l.are l.done m2 held2 (map item_of after.entries.items) others some
+    child_stays most level (level - 1) at reference id bounds row m m1 page held held1 es entries l.stands l.h l.is l.up refl l.are l.done m2 held2 after others some
         (there ∙ ap (λ (l : ℕ). Some (let c : NodeContent = record { level = l; entries = map item_of es } in c)) low ∙ ap (λ (xs : List Item). Some (let c : NodeContent = record { level = level - 1; entries = xs } in c)) l.done.entries) written holds,
   )
-  stayed_ok (Err e) X x others some of low there written holds = tt
+  stayed_ok (Err e) X after x others some of low there written holds = tt

@@ -1,6 +1,6 @@
 //! The child of which an object was taken: it leaves its parent where it has too few entries, else it is written.
 
-ghost use Rattle.std.specs.Prelude.{◌≡◌, ◌+◌, ◌*◌, ◌-◌, ◌<◌, ◌≤◌, ◌++◌, ℕ, List, IfOk, IfErr, IfSome, None, Some};
+ghost use Rattle.std.specs.Prelude.{◌≡◌, ◌+◌, ◌*◌, ◌-◌, ◌<◌, ◌≤◌, ◌++◌, ℕ, List, IfErr, None, Some};
 ghost use Rattle.std.specs.Prelude.{◌⊎◌, OnOk, map, reverse, true};
 ghost use Rattle.arrayvec.specs.ArrayVec.{array_vec_len};
 ghost use Rattle.box_math.specs.Bounds.{Bounds, IsDims};
@@ -41,46 +41,45 @@ fn least_entries(m_max: usize) -> usize
 // as it is, and then whether the node is as it was.
 pub(crate) fn put_back<const D: usize, B: BlockDevice, A: Allocator + Copy>(
     cache: &mut PageCache<B, A>,
-    node: Node<D>,
+    node: &mut Node<D>,
     place: usize,
-    lower: Node<D>,
+    lower: &Node<D>,
     m_max: usize,
     kept: &mut Kept<D>,
     settled: &mut bool,
-) -> Result<Option<Node<D>>, Broken>
+) -> Result<(), Broken>
     requires dims { IsDims D }
     requires open { gate_of cache.old ≡ Open }
     requires most { (4 ≤ m_max) × (m_max ≤ 100) }
-    requires above { 0 < node.level }
-    requires within { place < array_vec_len node.entries }
-    requires spellable { IsSpellable (content_of node) }
-    requires cut { IsCut (node.level - 1) (content_of lower) }
+    requires above { 0 < node.old.level }
+    requires within { place < array_vec_len node.old.entries }
+    requires spellable { IsSpellable (content_of node.old) }
+    requires cut { IsCut (node.old.level - 1) (content_of lower.now) }
     requires room { array_vec_len kept.old.orphans + 39 ≤ 1560 }
     ensures alters { Alters cache.old cache.new result }
     ensures grows { Grows 0 cache.old cache.new }
-    ensures some { IfOk result (λ o. ¬ (o ≡ None)) }
-    ensures cut { IfOk result (λ o. IfSome o (λ after. IsCut node.entry.level (content_of after))) }
+    ensures cut { OnOk result (IsCut node.old.level (content_of node.new)) }
     ensures room { array_vec_len kept.new.orphans ≤ array_vec_len kept.old.orphans + 39 }
     ensures taken { IsPageMap cache.old → (m : PageMap) (page id : ℕ) (bounds : Bounds) (row : Row) (held : List Held)
-        → TookBelow D m_max m (pages cache.old) page node.entry.level id bounds row place held (held_now kept.old)
-        (map item_of node.entry.entries.items) (map item_of lower.entry.entries.items)
-        → IsSettledBelow D (pages cache.old) (map item_of node.entry.entries.items) place (content_of lower.entry)
+        → TookBelow D m_max m (pages cache.old) page node.old.level id bounds row place held (held_now kept.old)
+        (map item_of node.old.entries.items) (map item_of lower.now.entries.items)
+        → IsSettledBelow D (pages cache.old) (map item_of node.old.entries.items) place (content_of lower.now)
         settled.old
-        → IfOk result (λ o. IfSome o (λ after. IsPageMap cache.new × HasTaken D m_max m (pages cache.new)
-        node.entry.level id bounds row held (held_now kept.new) (map item_of after.entries.items))) }
+        → OnOk result (IsPageMap cache.new × HasTaken D m_max m (pages cache.new)
+        node.old.level id bounds row held (held_now kept.new) (map item_of node.new.entries.items)) }
     ensures settled { settled.new ≡ true
-        → IfOk result (λ o. IfSome o (λ after. content_of after ≡ content_of node.entry)) }
+        → OnOk result (content_of node.new ≡ content_of node.old) }
     ensures touched { IfErr result (λ b. b.touched ≡ true) }
     ensures faults { IsPageMap cache.old → (m : PageMap) (page id : ℕ) (bounds : Bounds) (row : Row) (held : List Held)
-        → TookBelow D m_max m (pages cache.old) page node.entry.level id bounds row place held (held_now kept.old)
-        (map item_of node.entry.entries.items) (map item_of lower.entry.entries.items)
-        → IsSettledBelow D (pages cache.old) (map item_of node.entry.entries.items) place (content_of lower.entry)
+        → TookBelow D m_max m (pages cache.old) page node.old.level id bounds row place held (held_now kept.old)
+        (map item_of node.old.entries.items) (map item_of lower.now.entries.items)
+        → IsSettledBelow D (pages cache.old) (map item_of node.old.entries.items) place (content_of lower.now)
         settled.old
         → IfErr result (λ b. IsOfDevice b.cause) }
     ensures other_faults { IfErr result (λ b. IsOfDevice b.cause ⊎ IsDamage b.cause) }
 {
     match put_child(cache, node, place, lower, m_max, kept, settled) {
-        Ok(after) => Ok(Some(after)),
+        Ok(()) => Ok(()),
         Err(fault) => Err(Broken::midway(fault)),
     }
 }
@@ -88,42 +87,42 @@ pub(crate) fn put_back<const D: usize, B: BlockDevice, A: Allocator + Copy>(
 // Puts the child back: one of too few entries leaves, else it is written where it is not settled.
 fn put_child<const D: usize, B: BlockDevice, A: Allocator + Copy>(
     cache: &mut PageCache<B, A>,
-    node: Node<D>,
+    node: &mut Node<D>,
     place: usize,
-    lower: Node<D>,
+    lower: &Node<D>,
     m_max: usize,
     kept: &mut Kept<D>,
     settled: &mut bool,
-) -> Result<Node<D>, Fault>
+) -> Result<(), Fault>
     requires dims { IsDims D }
     requires open { gate_of cache.old ≡ Open }
     requires most { (4 ≤ m_max) × (m_max ≤ 100) }
-    requires above { 0 < node.level }
-    requires within { place < array_vec_len node.entries }
-    requires spellable { IsSpellable (content_of node) }
-    requires cut { IsCut (node.level - 1) (content_of lower) }
+    requires above { 0 < node.old.level }
+    requires within { place < array_vec_len node.old.entries }
+    requires spellable { IsSpellable (content_of node.old) }
+    requires cut { IsCut (node.old.level - 1) (content_of lower.now) }
     requires room { array_vec_len kept.old.orphans + 39 ≤ 1560 }
     ensures changes { Changes cache.old cache.new result }
     ensures grows { Grows 0 cache.old cache.new }
-    ensures cut { IfOk result (λ after. IsCut node.entry.level (content_of after)) }
+    ensures cut { OnOk result (IsCut node.old.level (content_of node.new)) }
     ensures room { array_vec_len kept.new.orphans ≤ array_vec_len kept.old.orphans + 39 }
     ensures taken { IsPageMap cache.old → (m : PageMap) (page id : ℕ) (bounds : Bounds) (row : Row) (held : List Held)
-        → TookBelow D m_max m (pages cache.old) page node.entry.level id bounds row place held (held_now kept.old)
-        (map item_of node.entry.entries.items) (map item_of lower.entry.entries.items)
-        → IsSettledBelow D (pages cache.old) (map item_of node.entry.entries.items) place (content_of lower.entry)
+        → TookBelow D m_max m (pages cache.old) page node.old.level id bounds row place held (held_now kept.old)
+        (map item_of node.old.entries.items) (map item_of lower.now.entries.items)
+        → IsSettledBelow D (pages cache.old) (map item_of node.old.entries.items) place (content_of lower.now)
         settled.old
-        → IfOk result (λ after. IsPageMap cache.new × HasTaken D m_max m (pages cache.new)
-        node.entry.level id bounds row held (held_now kept.new) (map item_of after.entries.items)) }
+        → OnOk result (IsPageMap cache.new × HasTaken D m_max m (pages cache.new)
+        node.old.level id bounds row held (held_now kept.new) (map item_of node.new.entries.items)) }
     ensures faults { IsPageMap cache.old → (m : PageMap) (page id : ℕ) (bounds : Bounds) (row : Row) (held : List Held)
-        → TookBelow D m_max m (pages cache.old) page node.entry.level id bounds row place held (held_now kept.old)
-        (map item_of node.entry.entries.items) (map item_of lower.entry.entries.items)
-        → IsSettledBelow D (pages cache.old) (map item_of node.entry.entries.items) place (content_of lower.entry)
+        → TookBelow D m_max m (pages cache.old) page node.old.level id bounds row place held (held_now kept.old)
+        (map item_of node.old.entries.items) (map item_of lower.now.entries.items)
+        → IsSettledBelow D (pages cache.old) (map item_of node.old.entries.items) place (content_of lower.now)
         settled.old
         → IfErr result IsOfDevice }
-    ensures settled { settled.new ≡ true → IfOk result (λ after. content_of after ≡ content_of node.entry) }
+    ensures settled { settled.new ≡ true → OnOk result (content_of node.new ≡ content_of node.old) }
     ensures other_faults { IfErr result (λ f. IsOfDevice f ⊎ IsDamage f) }
 {
-    let page = child_of(&node, place).page;
+    let page = child_of(node, place).page;
     if lower.entries.len() < least_entries(m_max) {
         *settled = false;
         return leave_out(cache, node, place, page, lower, kept);
@@ -134,74 +133,74 @@ fn put_child<const D: usize, B: BlockDevice, A: Allocator + Copy>(
 // A child of too few entries leaves: its page is freed, and its entries are kept.
 fn leave_out<const D: usize, B: BlockDevice, A: Allocator + Copy>(
     cache: &mut PageCache<B, A>,
-    mut node: Node<D>,
+    node: &mut Node<D>,
     place: usize,
     page: u32,
-    lower: Node<D>,
+    lower: &Node<D>,
     kept: &mut Kept<D>,
-) -> Result<Node<D>, Fault>
+) -> Result<(), Fault>
     requires open { gate_of cache.old ≡ Open }
     requires page { 3 ≤ page }
-    requires within { place < array_vec_len node.entries }
-    requires spellable { IsSpellable (content_of node) }
-    requires few { array_vec_len lower.entries ≤ 39 }
-    requires cut { IsCut (node.level - 1) (content_of lower) }
+    requires within { place < array_vec_len node.old.entries }
+    requires spellable { IsSpellable (content_of node.old) }
+    requires few { array_vec_len lower.now.entries ≤ 39 }
+    requires cut { IsCut (node.old.level - 1) (content_of lower.now) }
     requires room { array_vec_len kept.old.orphans + 39 ≤ 1560 }
     ensures changes { Changes cache.old cache.new result }
     ensures grows { Grows 0 cache.old cache.new }
-    ensures cut { IfOk result (λ after. IsCut node.entry.level (content_of after)) }
+    ensures cut { OnOk result (IsCut node.old.level (content_of node.new)) }
     ensures room { array_vec_len kept.new.orphans ≤ array_vec_len kept.old.orphans + 39 }
     ensures sound { IsPageMap cache.old → IsLive cache.old page → IsPageMap cache.new }
     ensures gone { IsPageMap cache.old → IsLive cache.old page → OnOk result (pages cache.new page ≡ None) }
     ensures others { IsPageMap cache.old → IsLive cache.old page → SameBut page (pages cache.old) (pages cache.new) }
-    ensures entries { IfOk result (λ after. map item_of after.entries.items
-        ≡ items_without (map item_of node.entry.entries.items) place) }
+    ensures entries { OnOk result (map item_of node.new.entries.items
+        ≡ items_without (map item_of node.old.entries.items) place) }
     ensures held { OnOk result (held_now kept.new ≡ held_now kept.old
-        ++ reverse (map (held_with (node.entry.level - 1)) lower.entry.entries.items)) }
+        ++ reverse (map (held_with (node.old.level - 1)) lower.now.entries.items)) }
     ensures faults { IsPageMap cache.old → IsLive cache.old page → IfErr result IsOfDevice }
     ensures other_faults { IfErr result (λ f. IsOfDevice f ⊎ IsDamage f) }
 {
     cache.free(page)?;
     kept.keep(&lower.entries, lower.level);
     node.entries.remove(place);
-    Ok(node)
+    Ok(())
 }
 
 // A child is written where it is not settled, and the box above it is made least. The node is settled where that box
 // stays.
 fn write_back<const D: usize, B: BlockDevice, A: Allocator + Copy>(
     cache: &mut PageCache<B, A>,
-    mut node: Node<D>,
+    node: &mut Node<D>,
     place: usize,
     page: u32,
-    lower: Node<D>,
+    lower: &Node<D>,
     settled: &mut bool,
-) -> Result<Node<D>, Fault>
+) -> Result<(), Fault>
     requires dims { IsDims D }
     requires open { gate_of cache.old ≡ Open }
-    requires within { place < array_vec_len node.entries }
-    requires spellable { IsSpellable (content_of node) }
-    requires some { 0 < array_vec_len lower.entries }
-    requires cut { IsCut (node.level - 1) (content_of lower) }
+    requires within { place < array_vec_len node.old.entries }
+    requires spellable { IsSpellable (content_of node.old) }
+    requires some { 0 < array_vec_len lower.now.entries }
+    requires cut { IsCut (node.old.level - 1) (content_of lower.now) }
     ensures changes { Changes cache.old cache.new result }
     ensures grows { Grows 0 cache.old cache.new }
-    ensures cut { IfOk result (λ after. IsCut node.entry.level (content_of after)) }
+    ensures cut { OnOk result (IsCut node.old.level (content_of node.new)) }
     ensures sound { IsPageMap cache.old → IsLive cache.old page → IsPageMap cache.new }
     ensures there { IsPageMap cache.old → IsLive cache.old page
-        → (settled.old ≡ true → node_in D (pages cache.old page) ≡ Some (content_of lower.entry))
-        → OnOk result (node_in D (pages cache.new page) ≡ Some (content_of lower.entry)) }
+        → (settled.old ≡ true → node_in D (pages cache.old page) ≡ Some (content_of lower.now))
+        → OnOk result (node_in D (pages cache.new page) ≡ Some (content_of lower.now)) }
     ensures others { IsPageMap cache.old → IsLive cache.old page → SameBut page (pages cache.old) (pages cache.new) }
-    ensures entries { IfOk result (λ after. map item_of after.entries.items ≡ set_box
-        (map item_of node.entry.entries.items) place (least_box D (map item_of lower.entry.entries.items))) }
-    ensures settled { settled.new ≡ true → IfOk result (λ after. content_of after ≡ content_of node.entry) }
+    ensures entries { OnOk result (map item_of node.new.entries.items ≡ set_box
+        (map item_of node.old.entries.items) place (least_box D (map item_of lower.now.entries.items))) }
+    ensures settled { settled.new ≡ true → OnOk result (content_of node.new ≡ content_of node.old) }
     ensures faults { IsPageMap cache.old → IsLive cache.old page → IfErr result IsOfDevice }
     ensures other_faults { IfErr result (λ f. IsOfDevice f ⊎ IsDamage f) }
 {
-    settle(cache, page, &lower, *settled)?;
+    settle(cache, page, lower, *settled)?;
     let bounds = least(lower.entries.as_slice());
     *settled = node.entries[place].bounds == bounds;
     node.entries[place].bounds = bounds;
-    Ok(node)
+    Ok(())
 }
 
 // Writes a node where its page does not have it as it is.

@@ -24,6 +24,7 @@ use crate::kept::Kept;
 use crate::lower::give_way;
 use crate::put::settle;
 use crate::take::take_out;
+use arrayvec::ArrayVec;
 use block_device::BlockDevice;
 use box_math::BBox;
 use node_page::Broken;
@@ -113,10 +114,24 @@ pub fn remove_with<const D: usize, B: BlockDevice, A: Allocator + Copy>(
 {
     kept.begin();
     let mut settled = false;
-    let Some(node) = take_out(cache, root, id, bounds, m_max, kept, &mut settled)? else {
-        return Err(Broken::from(Fault::Damaged(root.page)));
+    let mut node = Node {
+        level: 0,
+        entries: ArrayVec::new(),
     };
-    match put_root(cache, root, node, m_max, waiting, kept, settled) {
+    let taken = take_out(
+        cache,
+        root,
+        id,
+        bounds,
+        m_max,
+        kept,
+        &mut settled,
+        &mut node,
+    )?;
+    if !taken {
+        return Err(Broken::from(Fault::Damaged(root.page)));
+    }
+    match put_root(cache, root, &node, m_max, waiting, kept, settled) {
         Ok(after) => Ok(after),
         Err(fault) => Err(Broken::midway(fault)),
     }
@@ -126,7 +141,7 @@ pub fn remove_with<const D: usize, B: BlockDevice, A: Allocator + Copy>(
 fn put_root<const D: usize, B: BlockDevice, A: Allocator + Copy>(
     cache: &mut PageCache<B, A>,
     root: Root,
-    node: Node<D>,
+    node: &Node<D>,
     m_max: usize,
     waiting: &mut Waiting<D>,
     kept: &mut Kept<D>,
@@ -136,28 +151,28 @@ fn put_root<const D: usize, B: BlockDevice, A: Allocator + Copy>(
     requires open { gate_of cache.old ≡ Open }
     requires most { (4 ≤ m_max) × (m_max ≤ 100) }
     requires root { IsRoot root }
-    requires cut { IsCut root.level (content_of node) }
+    requires cut { IsCut root.level (content_of node.now) }
     ensures changes { Changes cache.old cache.new result }
     ensures grows { Grows (most_new_pages * array_vec_len kept.old.orphans) cache.old cache.new }
     ensures root { IfOk result IsRoot }
     ensures removed { IsPageMap cache.old → (m : PageMap) (t : Tree) (elsewhere : ℕ → ℕ) (id : ℕ) (bounds : Bounds)
         → TookOut D m_max m (pages cache.old) root t elsewhere id bounds (held_now kept.old)
-        (map item_of node.entry.entries.items)
-        → (settled ≡ true → node_in D (pages cache.old root.page) ≡ Some (content_of node.entry))
+        (map item_of node.now.entries.items)
+        → (settled ≡ true → node_in D (pages cache.old root.page) ≡ Some (content_of node.now))
         → IfOk result (λ after. IsPageMap cache.new
         × RemovesTo D m_max m (pages cache.new) elsewhere id bounds t after) }
     ensures faults { IsPageMap cache.old → (m : PageMap) (t : Tree) (elsewhere : ℕ → ℕ) (id : ℕ) (bounds : Bounds)
         → TookOut D m_max m (pages cache.old) root t elsewhere id bounds (held_now kept.old)
-        (map item_of node.entry.entries.items)
-        → (settled ≡ true → node_in D (pages cache.old root.page) ≡ Some (content_of node.entry))
+        (map item_of node.now.entries.items)
+        → (settled ≡ true → node_in D (pages cache.old root.page) ≡ Some (content_of node.now))
         → HasShape D m_max t → RowHasBoxes D t.row
         → IfErr result (IsNoDamage cache.new) }
     ensures other_faults { IfErr result IsChangeFault }
 {
-    if lacks_entries(&node) {
+    if lacks_entries(node) {
         return Err(Fault::Damaged(root.page));
     }
-    settle(cache, root.page, &node, settled)?;
+    settle(cache, root.page, node, settled)?;
     let filled = insert_kept(cache, root, m_max, waiting, kept)?;
     give_way::<D, B, A>(cache, filled)
 }

@@ -1,6 +1,6 @@
 //! An object taken out below a node, and the nodes between condensed.
 
-ghost use Rattle.std.specs.Prelude.{◌≡◌, ◌⊎◌, ◌+◌, ◌*◌, ◌<◌, ◌≤◌, IfOk, IfErr, IfSome, None, false, true, map};
+ghost use Rattle.std.specs.Prelude.{◌≡◌, ◌⊎◌, ◌+◌, ◌*◌, ◌<◌, ◌≤◌, IfOk, IfErr, None, false, true, map};
 ghost use Rattle.std.specs.List.{Contains};
 ghost use Rattle.arrayvec.specs.ArrayVec.{array_vec_len};
 ghost use Rattle.box_math.specs.Bounds.{IsDims};
@@ -18,16 +18,17 @@ use crate::children::child_of;
 use crate::kept::Kept;
 use crate::leaf::take_here;
 use crate::put::put_back;
+use arrayvec::ArrayVec;
 use block_device::BlockDevice;
 use box_math::BBox;
-use node_page::{Broken, read_node};
+use node_page::{Broken, read_into};
 use page_cache::PageCache;
 use std::alloc::Allocator;
 use tree_node::{Node, Root};
 
 // Takes the object out of the first leaf below this node that has it, and to which boxes lead that enclose its box, and
-// condenses the nodes between. What this node has become is handed out, and not yet written; `settled` tells whether
-// its page has it as it is. Where no such leaf has the object, nothing is written.
+// condenses the nodes between: whether there was one. `node` is then what this node has become, not yet written, and
+// `settled` tells whether its page has it as it is. Where no such leaf has the object, nothing is written.
 pub(crate) fn take_out<const D: usize, B: BlockDevice, A: Allocator + Copy>(
     cache: &mut PageCache<B, A>,
     at: Root,
@@ -36,46 +37,53 @@ pub(crate) fn take_out<const D: usize, B: BlockDevice, A: Allocator + Copy>(
     m_max: usize,
     kept: &mut Kept<D>,
     settled: &mut bool,
-) -> Result<Option<Node<D>>, Broken>
+    node: &mut Node<D>,
+) -> Result<bool, Broken>
     requires dims { IsDims D }
     requires open { gate_of cache.old ≡ Open }
     requires most { (4 ≤ m_max) × (m_max ≤ 100) }
     requires room { array_vec_len kept.old.orphans + 39 * at.level ≤ 1560 }
     ensures alters { Alters cache.old cache.new result }
     ensures grows { Grows 0 cache.old cache.new }
-    ensures cut { IfOk result (λ o. IfSome o (λ node. IsCut at.level (content_of node))) }
+    ensures cut { IfOk result (λ found. found ≡ true → IsCut at.level (content_of node.new)) }
     ensures room { array_vec_len kept.new.orphans ≤ array_vec_len kept.old.orphans + 39 * at.level }
-    ensures none { IfOk result (λ o. o ≡ None → AsksUntil cache.old cache.new None
+    ensures none { IfOk result (λ found. found ≡ false → AsksUntil cache.old cache.new None
         × (kept.new.orphans.items ≡ kept.old.orphans.items)) }
     ensures taken { IsPageMap cache.old → (row : Row) → Stands D (pages cache.old) (tree_at at row)
-        → IfOk result (λ o. IfSome o (λ node. IsPageMap cache.new × HasTaken D m_max (pages cache.old)
+        → IfOk result (λ found. found ≡ true → IsPageMap cache.new × HasTaken D m_max (pages cache.old)
         (pages cache.new) at.level id bounds.now row (held_now kept.old) (held_now kept.new)
-        (map item_of node.entries.items))) }
+        (map item_of node.new.entries.items)) }
     ensures settled { IsPageMap cache.old → (row : Row) → Stands D (pages cache.old) (tree_at at row)
-        → settled.new ≡ true → IfOk result (λ o. IfSome o (λ node.
-        node_in D (pages cache.new at.page) ≡ Some (content_of node))) }
+        → settled.new ≡ true → IfOk result (λ found. found ≡ true
+        → node_in D (pages cache.new at.page) ≡ Some (content_of node.new)) }
     ensures found { IsPageMap cache.old → (row : Row) → Stands D (pages cache.old) (tree_at at row)
-        → LeadsTo D id bounds.now row → IfOk result (λ o. ¬ (o ≡ None)) }
+        → LeadsTo D id bounds.now row → IfOk result (λ found. found ≡ true) }
     ensures absent { IsPageMap cache.old → (row : Row) → Stands D (pages cache.old) (tree_at at row)
         → ¬ Contains (objects_in row) (id, bounds.now) → IfErr result (λ b. b.touched ≡ false) }
     ensures faults { IsPageMap cache.old → (row : Row) → Stands D (pages cache.old) (tree_at at row)
         → IfErr result (λ b. IsOfDevice b.cause) }
     ensures other_faults { IfErr result (λ b. IsOfDevice b.cause ⊎ IsDamage b.cause) }
 {
-    let node = read_node::<D, B, A>(cache, at.page, at.level)?;
+    read_into(cache, at.page, at.level, node)?;
     if at.level == 0 {
         *settled = false;
         return Ok(take_here(node, id, bounds));
     }
+    let mut lower = Node {
+        level: 0,
+        entries: ArrayVec::new(),
+    };
     'children: for place in 0..node.entries.len() {
         if !node.entries[place].bounds.encloses(bounds) {
             continue;
         }
-        let below = child_of(&node, place);
-        let Some(lower) = take_out(cache, below, id, bounds, m_max, kept, settled)? else {
+        let below = child_of(node, place);
+        let taken = take_out(cache, below, id, bounds, m_max, kept, settled, &mut lower)?;
+        if !taken {
             continue;
-        };
-        return put_back(cache, node, place, lower, m_max, kept, settled);
+        }
+        put_back(cache, node, place, &lower, m_max, kept, settled)?;
+        return Ok(true);
     }
-    Ok(None)
+    Ok(false)
 }
