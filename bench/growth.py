@@ -81,7 +81,7 @@ def lines(operations, sizes, marks):
         yield f'<polyline class="c{k % 7} line" points="{path}"/>'
         yield from (f'<circle class="c{k % 7}" cx="{x:.1f}" cy="{y:.1f}" r="3"/>' for x, y in points)
         last = operations[name][-1][1]
-        yield f'<text class="c{k % 7} name" x="{RIGHT + 10}" y="{heights[k] + 4:.0f}">{name}, {last:.2g} µs</text>'
+        yield f'<text class="c{k % 7} name" x="{RIGHT + 10}" y="{heights[k] + 4:.0f}">{name}, {float(f"{last:.2g}"):g} µs</text>'
 
 
 def main():
