@@ -1,7 +1,8 @@
 -- A store that was made or opened, or was refused.
-use Rattle.std.proofs.Common.{◌≡◌, ℕ, Result, Ok, Err, refl, sym, subst}
+use Rattle.std.proofs.Common.{◌≡◌, ◌==◌, ap, ℕ, List, [], ◌∷◌, length, Option, Result, Ok, Err, refl, sym, subst, arith}
 use Rattle.block_device.specs.Device.{Blocks, LeavesOnly}
-use Rattle.command_line.specs.Serving.{IsRefusedStart}
+use Rattle.plain_table.specs.Table.{Table}
+use Rattle.command_line.specs.Serving.{HasAnswered, HasServed, IsRefusedStart}
 use Rattle.command_line.specs.declared.program.Served.{Served}
 
 -- one or the other
@@ -19,3 +20,21 @@ refused_start moment left_since P device d r r' w w' left so stops = record {
   unwritten = so.3;
   stops = subst (λ x. LeavesOnly moment left_since device x P) (sym so.1) stops;
 }
+
+-- a run to the closing answers what it read
+pub has_answered : {D : Type 0} (shown : D → Blocks) (moment : D → ℕ) (left_since : D → ℕ → Blocks → Type 0) (may_leave : D → Blocks → Type 0) (t : Table) (device : D)
+    (unread unread' written written' : Option (List ℕ)) (left : Served D) → HasServed shown moment left_since may_leave t device unread unread' written written' left
+    → HasAnswered t unread unread' written written' left.status
+has_answered shown moment left_since may_leave t device unread unread' written written' left h = record {
+  old = h.old;
+  new = h.new;
+  begins = h.begins;
+  end = h.runs.end;
+  runs = h.runs.runs;
+  well = λ zero. (h.runs.well (ap (λ (k : ℕ). k == 0) zero)).0;
+}
+
+-- a device whose blocks count 0 has none
+pub no_blocks : (blocks : Blocks) → length blocks ≡ 0 → blocks ≡ []
+no_blocks [] none = refl
+no_blocks (b ∷ bs) none = absurd (omega (arith, none))

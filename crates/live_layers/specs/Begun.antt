@@ -1,4 +1,4 @@
--- What a change of pages behind the gate leaves of a cache and its device (our rule, docs/FORMAT.md, "Stops").
+-- What a change of pages behind the gate leaves of a cache and its device (our rule, docs/FORMAT.md, "The gate").
 use Rattle.std.specs.Prelude.{◌≡◌, ◌≤◌, ◌↔◌, true, false, List, Result, OnErr, OnOk, IfErr}
 use Rattle.block_device.specs.Device.{LeavesOnly}
 use Rattle.node_page.specs.Broken.{cause_in}

@@ -1,6 +1,7 @@
 //! Runs of the program: its words, its file, its texts and its status.
 
 use command_line::{greet, serve};
+use file_device::open_file;
 use std::io::{ErrorKind, Read, Write};
 use std::test::Fail;
 use std::{fs, io};
@@ -9,6 +10,18 @@ const FIRST: &str = "# first run\ncreate a 2 4\ninsert a 1 0 0 10 10\ninsert a 2
 window a 5 5 25 25\nwindow a 11 11 19 19\n";
 
 const SAID: &str = "ok\nok\nok\nok 2\n1 0 0 10 10\n2 20 20 30 30\nok 0\n";
+
+// The status of a run over files of the system.
+fn run<I: Read, W: Write, E: Write>(
+    rt: &HostRuntime,
+    words: &[&str],
+    input: &mut I,
+    output: &mut W,
+    errors: &mut E,
+) -> u8 {
+    let open = |path: &str, create: bool| open_file(rt, path, create);
+    serve(rt.alloc(), words, open, input, output, errors)
+}
 
 // The status of a run with these words and this text, and whether it wrote these replies and said this.
 fn runs(
@@ -21,7 +34,7 @@ fn runs(
     let mut input = text.as_bytes();
     let mut output = Vec::new(rt.alloc());
     let mut errors = Vec::new(rt.alloc());
-    let status = serve(rt, words, &mut input, &mut output, &mut errors);
+    let status = run(rt, words, &mut input, &mut output, &mut errors);
     if output.as_slice() == replies.as_bytes() && errors.as_slice() == said.as_bytes() {
         Ok(Some(status))
     } else {
@@ -181,7 +194,7 @@ fn input_or_output_fails(rt: HostRuntime) -> Result<(), Fail> {
     let mut errors = Vec::new(rt.alloc());
     let mut replies = Vec::new(rt.alloc());
     let mut input = b"create a 2 4\n".chain(Fails);
-    let status = serve(
+    let status = run(
         &rt,
         &["rstore", "--create", file],
         &mut input,
@@ -193,14 +206,14 @@ fn input_or_output_fails(rt: HostRuntime) -> Result<(), Fail> {
     errors.clear();
     let mut input = b"insert a 1 0 0 10 10\n".as_slice();
     assert_eq!(rt;
-        serve(&rt, &["rstore", file], &mut input, &mut Fails, &mut errors),
+        run(&rt, &["rstore", file], &mut input, &mut Fails, &mut errors),
         1
     );
     assert!(rt; errors.as_slice() == fault);
     errors.clear();
     let mut input = b"".as_slice();
     assert_eq!(rt;
-        serve(
+        run(
             &rt,
             &["rstore", "--help"],
             &mut input,
@@ -224,7 +237,7 @@ fn prints(rt: &HostRuntime, words: &[&str], on_output: bool) -> Option<u8> {
     let mut input = b"create a 2 4".as_slice();
     let mut output = Vec::new(rt.alloc());
     let mut errors = Vec::new(rt.alloc());
-    let status = serve(rt, words, &mut input, &mut output, &mut errors);
+    let status = run(rt, words, &mut input, &mut output, &mut errors);
     if output.is_empty() != on_output && errors.is_empty() == on_output {
         Some(status)
     } else {

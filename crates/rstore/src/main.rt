@@ -3,6 +3,7 @@
 
 use command_line::{greet, serve};
 use command_shell::tell_refusal;
+use file_device::open_file;
 use layer_store::Refusal;
 use std::io::{BufWriter, IsTerminal, Write};
 use std::process::ExitCode;
@@ -37,5 +38,13 @@ fn run(rt: &HostRuntime) -> io::Result<u8> {
     }
     let mut output = BufWriter::new(alloc, io::writer(rt))?;
     let mut input = rt.reader();
-    Ok(serve(rt, words.as_slice(), &mut input, &mut output, &mut errors))
+    let open = |path: &str, create: bool| open_file(rt, path, create);
+    Ok(serve(
+        alloc,
+        words.as_slice(),
+        open,
+        &mut input,
+        &mut output,
+        &mut errors,
+    ))
 }

@@ -126,7 +126,8 @@ fn change<D: BlockDevice, A: Allocator + Copy + Drop>(
     }
 }
 
-// Puts a command that is no change to a store, and adds the numbers of its answer.
+// Puts a command that is no change to a store, and adds the numbers of its answer. The changes are named, so that a
+// new command is not passed over.
 fn ask<D: BlockDevice, A: Allocator + Copy + Drop>(
     numbers: &mut Vec<i128>,
     store: &mut Store<D, A>,
@@ -147,7 +148,12 @@ fn ask<D: BlockDevice, A: Allocator + Copy + Drop>(
         Command::Dump => push_dump(numbers, &store.dump()?)?,
         Command::Check => store.check()?,
         Command::Reopen => store.reopen()?,
-        _ => {}
+        Command::Create(..)
+        | Command::Insert(..)
+        | Command::Load(..)
+        | Command::Move(..)
+        | Command::Delete(..)
+        | Command::Drop(..) => {}
     }
     Ok(())
 }
@@ -169,7 +175,7 @@ pub fn listed(alloc: Global, table: &mut ListTable<Global>, command: Command<'_>
     Ok(Vec::new(alloc))
 }
 
-// Puts a question to the plain list. A check and a closing find nothing to do.
+// Puts a question to the plain list. A check and a closing find nothing to do, and changes have been made before.
 fn list_answer(alloc: Global, table: &ListTable<Global>, question: Command<'_>) -> Answer {
     let mut numbers = Vec::new(alloc);
     match question {
@@ -195,7 +201,13 @@ fn list_answer(alloc: Global, table: &ListTable<Global>, question: Command<'_>) 
         }
         Command::Layers => push_infos(&mut numbers, &infos(alloc, table)?)?,
         Command::Dump => push_dump(&mut numbers, &dumped(alloc, table)?)?,
-        _ => {}
+        Command::Check | Command::Reopen => {}
+        Command::Create(..)
+        | Command::Insert(..)
+        | Command::Load(..)
+        | Command::Move(..)
+        | Command::Delete(..)
+        | Command::Drop(..) => {}
     }
     Ok(numbers)
 }

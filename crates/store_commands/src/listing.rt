@@ -1,4 +1,4 @@
-//! What later commands answer on the plain list, each by calls that the list has.
+//! What the commands that the list lacks are answered on it, each by calls that it has.
 
 use crate::commands::Object;
 use layer_store::{AnyBox, RawBox, RawQuery, Refusal};

@@ -1,28 +1,13 @@
 //! Worked rows of loads, moves, removals, joins and listings: small scenes, with the answers to questions, and how many
 //! nodes these look at.
 
-use crate::rows::{Scene, ask_thrice};
+use crate::rows::ask_thrice;
 use block_device::BlockDevice;
 use layer_store::{RawBox, RawPoint, Refusal};
 use std::test::Fail;
-use store_commands::{Command, answer_all, device_of, new_store};
-
-/// Two boxes that touch in a point.
-pub const TWO: [Command; 3] = [
-    Command::Create(b"a", 2, 4),
-    Command::Insert(b"a", 1, RawBox::Two([0, 0], [1, 1])),
-    Command::Insert(b"a", 2, RawBox::Two([1, 1], [2, 2])),
-];
-
-/// Points on a line, whose leaves are {1,2} and {3,4,5}.
-pub const FIVE: [Command; 6] = [
-    Command::Create(b"l", 2, 4),
-    Command::Insert(b"l", 1, RawBox::Two([0, 0], [0, 0])),
-    Command::Insert(b"l", 2, RawBox::Two([1, 0], [1, 0])),
-    Command::Insert(b"l", 3, RawBox::Two([2, 0], [2, 0])),
-    Command::Insert(b"l", 4, RawBox::Two([3, 0], [3, 0])),
-    Command::Insert(b"l", 5, RawBox::Two([10, 0], [10, 0])),
-];
+use store_commands::{
+    Command, DELETED, FIVE, JOINED, LOADED, Scene, TWO, answer_all, device_of, new_store,
+};
 
 // A move to the box that the object has, and one to another.
 const MOVED: Scene = Scene {
@@ -66,21 +51,6 @@ const MOVED: Scene = Scene {
     ],
 };
 
-/// The leaf of object 2 alone is given up, and the root with it: the leaf is {3,4,5,2}.
-pub const DELETED: Scene = Scene {
-    made: &[Command::Delete(b"l", 1)],
-    asked: &[
-        (
-            Command::Window(b"l", RawBox::Two([1, 0], [1, 0])),
-            Ok(&[2, 1, 0, 1, 0]),
-            Some(1),
-        ),
-        (Command::Get(b"l", 1), Err(Refusal::NoObject), None),
-        (Command::Delete(b"l", 1), Err(Refusal::NoObject), None),
-        (Command::Check, Ok(&[]), None),
-    ],
-};
-
 // An identifier that comes back with another box.
 const INSERTED_ANEW: Scene = Scene {
     made: &[
@@ -96,117 +66,6 @@ const INSERTED_ANEW: Scene = Scene {
         ),
         (Command::Get(b"l", 2), Ok(&[2, 7, 7, 8, 8]), None),
         (Command::Count(b"l"), Ok(&[4]), None),
-        (Command::Check, Ok(&[]), None),
-    ],
-};
-
-/// Packed: the leaves are {1,2,3} and {4,5}. And loads that are refused, or of nothing.
-pub const LOADED: Scene = Scene {
-    made: &[
-        Command::Create(b"t", 2, 4),
-        Command::Load(
-            b"t",
-            &[
-                (1, RawBox::Two([0, 0], [0, 0])),
-                (2, RawBox::Two([1, 0], [1, 0])),
-                (3, RawBox::Two([2, 0], [2, 0])),
-                (4, RawBox::Two([3, 0], [3, 0])),
-                (5, RawBox::Two([10, 0], [10, 0])),
-            ],
-        ),
-        Command::Create(b"u", 2, 4),
-        Command::Load(b"u", &[]),
-    ],
-    asked: &[
-        (
-            Command::Window(b"t", RawBox::Two([10, 0], [10, 0])),
-            Ok(&[5, 10, 0, 10, 0]),
-            Some(2),
-        ),
-        (
-            Command::Window(b"t", RawBox::Two([3, 0], [3, 0])),
-            Ok(&[4, 3, 0, 3, 0]),
-            Some(2),
-        ),
-        (
-            Command::Window(b"t", RawBox::Two([0, 0], [2, 0])),
-            Ok(&[1, 0, 0, 0, 0, 2, 1, 0, 1, 0, 3, 2, 0, 2, 0]),
-            Some(2),
-        ),
-        (Command::Get(b"t", 4), Ok(&[4, 3, 0, 3, 0]), None),
-        (Command::Count(b"t"), Ok(&[5]), None),
-        (Command::Load(b"t", &[]), Err(Refusal::NotEmpty), None),
-        (
-            Command::Load(
-                b"u",
-                &[
-                    (1, RawBox::Two([0, 0], [0, 0])),
-                    (2, RawBox::Two([0, 0], [0, 0])),
-                    (1, RawBox::Two([0, 0], [0, 0])),
-                ],
-            ),
-            Err(Refusal::DuplicateInLoad(1)),
-            None,
-        ),
-        (
-            Command::Load(
-                b"u",
-                &[
-                    (1, RawBox::Two([1, 0], [0, 0])),
-                    (1, RawBox::Three([0; 3], [0; 3])),
-                ],
-            ),
-            Err(Refusal::WrongDims),
-            None,
-        ),
-        (
-            Command::Load(
-                b"t",
-                &[
-                    (1, RawBox::Two([0, 0], [0, 0])),
-                    (1, RawBox::Two([1, 0], [0, 0])),
-                ],
-            ),
-            Err(Refusal::BadBox),
-            None,
-        ),
-        (Command::Count(b"u"), Ok(&[0]), None),
-        (Command::Check, Ok(&[]), None),
-    ],
-};
-
-/// Joins of layers, also with themselves, and what there is.
-pub const JOINED: Scene = Scene {
-    made: &[
-        Command::Create(b"c", 3, 4),
-        Command::Insert(b"c", 2, RawBox::Three([i32::MAX; 3], [i32::MAX; 3])),
-    ],
-    asked: &[
-        (
-            Command::Join(b"a", b"a"),
-            Ok(&[1, 1, 1, 2, 2, 1, 2, 2]),
-            None,
-        ),
-        (Command::Join(b"l", b"a"), Ok(&[1, 1, 2, 1]), None),
-        (Command::Join(b"a", b"l"), Ok(&[1, 1, 1, 2]), None),
-        (Command::Join(b"a", b"c"), Err(Refusal::DimsDiffer), None),
-        (Command::Join(b"q", b"C"), Err(Refusal::BadName), None),
-        (Command::Join(b"a", b"q"), Err(Refusal::NoLayer), None),
-        (
-            Command::Layers,
-            Ok(&[97, 2, 4, 2, 99, 3, 4, 1, 108, 2, 4, 5]),
-            None,
-        ),
-        (
-            Command::Dump,
-            Ok(&[
-                97, 2, 4, 97, 1, 0, 0, 1, 1, 97, 2, 1, 1, 2, 2, 99, 3, 4, 99, 2, 2147483647,
-                2147483647, 2147483647, 2147483647, 2147483647, 2147483647, 108, 2, 4, 108, 1, 0,
-                0, 0, 0, 108, 2, 1, 0, 1, 0, 108, 3, 2, 0, 2, 0, 108, 4, 3, 0, 3, 0, 108, 5, 10, 0,
-                10, 0,
-            ]),
-            None,
-        ),
         (Command::Check, Ok(&[]), None),
     ],
 };

@@ -1,9 +1,9 @@
 //! Stores with many objects, and with many layers.
 
-use crate::rows::{Row, ask_thrice};
+use crate::rows::ask_thrice;
 use layer_store::{RawBox, RawPoint, Refusal};
 use std::test::Fail;
-use store_commands::{Command, PLANE, answer, answer_all, device_of, new_store, opened};
+use store_commands::{Command, PLANE, Row, answer, answer_all, device_of, new_store, opened};
 
 // Of a thousand objects, object i with the box from (i,2i) to (i+1,2i+1).
 const THOUSAND: [Row; 6] = [

@@ -1,7 +1,6 @@
 //! Changes of a store that was opened, in which each growth, or each call of the device, is refused in turn. One that
 //! is refused before it wrote a page leaves a store that goes on.
 
-use crate::change_rows::{FIVE, TWO};
 use crate::refused::{Ending, Heap, check_failed, put};
 use block_device::{BlockDevice, FuseDevice, FuseMode, MemoryDevice};
 use layer_store::{RawBox, Refusal, Store, create_store};
@@ -10,7 +9,7 @@ use refusing::Refusing;
 use std::alloc::Global;
 use std::process::Abort;
 use std::test::Fail;
-use store_commands::{Command, answer, device_of, listed, opened};
+use store_commands::{Command, FIVE, TWO, answer, device_of, listed, opened};
 
 // More growths, and more calls of the device, than a change makes.
 const MOST: u32 = 1000;

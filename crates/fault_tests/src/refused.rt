@@ -1,8 +1,6 @@
 //! Each growth and each call of the device refused in turn. A command says so and the table stays, or in a change the
 //! store fails; and what is left is opened as the table that was closed last, or refused.
 
-use crate::change_rows::{DELETED, FIVE, JOINED, LOADED, TWO};
-use crate::rows::{FIRST_OVERFLOW, LINE, Row, Scene, TOUCHING};
 use block_device::{BlockDevice, FuseDevice, FuseMode, MemoryDevice};
 use layer_store::{RawBox, RawPoint, Refusal, Store, create_store, open_store};
 use list_table::ListTable;
@@ -10,7 +8,10 @@ use refusing::Refusing;
 use std::alloc::{AllocError, Global};
 use std::process::Abort;
 use std::test::Fail;
-use store_commands::{Command, PLANE, SPACE, answer, closed, listed, opened, represents};
+use store_commands::{
+    Command, DELETED, FIRST_OVERFLOW, FIVE, JOINED, LINE, LOADED, PLANE, Row, SPACE, Scene,
+    TOUCHING, TWO, answer, closed, listed, opened, represents,
+};
 
 // More growths, and more calls of the device, than the script makes.
 const MOST: u32 = 10000;

@@ -1,0 +1,51 @@
+-- What words ask for, on worked examples.
+use Rattle.std.proofs.Common.{◌≡◌, List, [], ◌∷◌, Option, Some, None, codes, refl}
+use Rattle.clap.specs.Words.{Text, fault_of, matches_of, one_of}
+use Rattle.clap.specs.declared.error.kind.ErrorKind.TheVariants as kind
+use Rattle.clap.proofs.OnLiterals.{clap_on_literals}
+use Rattle.command_line.specs.Words.{file_in, program}
+
+-- the texts that stand for the cached pages, and for whether a file is to be made
+abbrev pages_in : List Text → Option Text
+pages_in words = one_of (codes "cache") (matches_of program words)
+
+abbrev made_in : List Text → Option Text
+made_in words = one_of (codes "create") (matches_of program words)
+
+abbrev said : List Text → List Text
+said words = codes "rstore" ∷ words
+
+-- no word: a store in memory, with 64 cached pages
+nothing_said : (fault_of program (said []) ≡ []) × (file_in (said []) ≡ None) × (pages_in (said []) ≡ Some (codes "64")) × (made_in (said []) ≡ Some (codes "false"))
+unfolding clap_on_literals
+nothing_said = (refl, refl, refl, refl)
+
+abbrev all_said : List Text
+all_said = said (codes "--cache" ∷ codes "8" ∷ codes "--create" ∷ codes "map.rst" ∷ [])
+
+-- all that can be said
+each_is_read : (fault_of program all_said ≡ []) × (file_in all_said ≡ Some (codes "map.rst")) × (pages_in all_said ≡ Some (codes "8")) × (made_in all_said ≡ Some (codes "true"))
+unfolding clap_on_literals
+each_is_read = (refl, refl, refl, refl)
+
+abbrev in_another_order : List Text
+in_another_order = said (codes "map.rst" ∷ codes "--cache=4096" ∷ [])
+
+order_is_free : (fault_of program in_another_order ≡ []) × (file_in in_another_order ≡ Some (codes "map.rst")) × (pages_in in_another_order ≡ Some (codes "4096")) × (made_in in_another_order ≡ Some (codes "false"))
+unfolding clap_on_literals
+order_is_free = (refl, refl, refl, refl)
+
+-- after `--` each word is a file
+file_after_dashes : file_in (said (codes "--" ∷ codes "--create" ∷ [])) ≡ Some (codes "--create")
+unfolding clap_on_literals
+file_after_dashes = refl
+
+-- what is refused, and what is told
+refusals : (fault_of program (said (codes "--cache" ∷ codes "7" ∷ [])) ≡ kind.ValueValidation ∷ [])
+    × (fault_of program (said (codes "--cache" ∷ codes "4097" ∷ [])) ≡ kind.ValueValidation ∷ [])
+    × (fault_of program (said (codes "a" ∷ codes "b" ∷ [])) ≡ kind.UnknownArgument ∷ [])
+    × (fault_of program (said (codes "--create" ∷ codes "--create" ∷ [])) ≡ kind.ArgumentConflict ∷ [])
+    × (fault_of program (said (codes "--help" ∷ [])) ≡ kind.DisplayHelp ∷ [])
+    × (fault_of program (said (codes "--version" ∷ [])) ≡ kind.DisplayVersion ∷ [])
+unfolding clap_on_literals
+refusals = (refl, refl, refl, refl, refl, refl)

@@ -1,0 +1,42 @@
+-- What a text is read as, and the status that tells a fault of the words.
+use Rattle.std.proofs.Common.{◌≡◌, ◌≢◌, ◌∙◌, ◌<◌, ◌≤◌, ◌^◌, ap, ℕ, Bool, true, false, List, Option, Some, None, Result, Ok, Err, refl, sym, subst, arith, codes}
+use Rattle.std.proofs.lemmas.Bool.Decides.{nat_tests}
+use Rattle.std.specs.Str.Parse.{ParsesUnsigned}
+use Rattle.clap.specs.Values.{bool_text}
+use Rattle.clap.specs.Words.{ReadsOne, Text}
+use Rattle.clap.specs.declared.error.kind.ErrorKind.{ErrorKind}
+use Rattle.clap.specs.declared.error.kind.ErrorKind.TheVariants.{DisplayHelp, DisplayVersion}
+use Rattle.layer_store.specs.Starting.{is_cache}
+use Rattle.command_line.specs.Words.{IsNumber, status_of_fault}
+
+-- a text that is a number is read as that number
+pub number_read : (E : Type 0) (G : List ℕ → Result ℕ E → Type 0) (text : Text) (n : ℕ) (r : Option ℕ) → ReadsOne G text r
+    → ((bs : List ℕ) (x : Result ℕ E) → G bs x → ParsesUnsigned 32 10 bs x) → IsNumber text n → n < 2 ^ 32 → r ≡ Some n
+number_read E G text n (Some v) read only is fits = ap (λ (k : ℕ). Some k) ((only text (Ok v) read).1 ∙ is.value)
+number_read E G text n None read only is fits =
+    absurd (only text (Err read.0) read.1 (is.numeral, subst (λ (k : ℕ). k < 2 ^ 32) (sym is.value) fits))
+
+-- a number of pages that can be cached
+pub in_range : (n : ℕ) → 8 ≤ n → n ≤ 4096 → is_cache n ≡ true
+in_range n low high = grind (arith, nat_tests)
+
+-- a flag is read as its text says
+pub flag_read : (r : Bool) (o : Option Text) → (o ≡ Some (codes "true") → r ≡ true) → (o ≡ Some (codes "false") → r ≡ false) → (flag : Bool) → o ≡ Some (bool_text flag) → r ≡ flag
+flag_read r o set unset true is = set is
+flag_read r o set unset false is = unset is
+
+-- a mistake in the words, and a request
+pub mistake_told : (k : ErrorKind) → (k ≢ DisplayHelp) × (k ≢ DisplayVersion) → status_of_fault k ≡ 2
+mistake_told DisplayHelp h = absurd (h.0 refl)
+mistake_told DisplayVersion h = absurd (h.1 refl)
+mistake_told _ h = refl
+
+pub request_told : (k : ErrorKind) → ¬ ((k ≢ DisplayHelp) × (k ≢ DisplayVersion)) → status_of_fault k ≡ 0
+request_told DisplayHelp h = refl
+request_told DisplayVersion h = refl
+request_told _ h = absurd (h ((λ e. cc), (λ e. cc)))
+
+pub fault_is_small : (k : ErrorKind) → status_of_fault k ≤ 2
+fault_is_small DisplayHelp = omega arith
+fault_is_small DisplayVersion = omega arith
+fault_is_small _ = omega arith

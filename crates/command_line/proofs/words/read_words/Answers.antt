@@ -1,0 +1,31 @@
+-- What `clap` finds in words that it takes is what they ask for.
+use Rattle.std.proofs.Common.{◌≡◌, ◌∙◌, ap, sym, codes, Some, arith}
+use Rattle.std.specs.Str.Parse.{ExplainsUnsignedError, HasUnsignedDigitsIfOk, ParsesUnsigned}
+use Rattle.clap.specs.Walk.{texts}
+use Rattle.clap.specs.Words.{App, app_of, fault_of, first_of, found_of, is_simple, is_simple_and_free, matches_of, one_of, one_text, rows_of}
+use Rattle.clap.proofs.WalkLemmas.{first_value-rows, one_text-rows}
+use Rattle.command_line.specs.Words.{program}
+use Rattle.command_line.proofs.WordsLemmas.{flag_read, in_range, number_read}
+use Rattle.command_line.proofs.words.read_words.Goals as goal
+
+pub returns-clause-refused : goal.returns-clause-refused
+returns-clause-refused c =
+    let is : app_of c.in_ok-command.field-0 ≡ program = c.in_ok-command.ensures in
+    ap (λ (a : App). fault_of a (texts c.args.words.now)) (sym is) ∙ c.in_ok-matches.ensures.kinds (ap is_simple_and_free is)
+
+pub returns-clause-asked : goal.returns-clause-asked
+returns-clause-asked c =
+    let is : app_of c.in_ok-command.field-0 ≡ program = c.in_ok-command.ensures in
+    let found = found_of c.in_ok-matches.matches in
+    let rows : rows_of found ≡ matches_of program (texts c.args.words.now) =
+    (c.in_ok-matches.ensures.matches (ap is_simple is)).0 ∙ ap (λ (a : App). matches_of a (texts c.args.words.now)) is in
+    let cached : one_text found (codes "cache") ≡ one_of (codes "cache") (matches_of program (texts c.args.words.now)) = one_text-rows found (codes "cache") ∙ ap (one_of (codes "cache")) rows in
+    let created : one_text found (codes "create") ≡ one_of (codes "create") (matches_of program (texts c.args.words.now)) = one_text-rows found (codes "create") ∙ ap (one_of (codes "create")) rows in
+    record {
+      taken = ap (λ (a : App). fault_of a (texts c.args.words.now)) (sym is) ∙ c.in_ok-matches.ensures.kinds (ap is_simple_and_free is);
+      cache_is = λ text n one number low high.
+          let got : c.get_one.result ≡ Some n = number_read _ (λ bs r. ParsesUnsigned 32 10 bs r × ExplainsUnsignedError 10 bs r × HasUnsignedDigitsIfOk bs r) text n c.get_one.result (c.get_one.ensures.value text (cached ∙ one)) (λ bs x g. g.0) number (omega (arith, high)) in
+          (rw got at c.cached_pages.ensures.as_asked) (in_range n low high);
+      create_is = λ flag one. flag_read c.get_flag.result (one_text found (codes "create")) c.get_flag.ensures.value c.get_flag.ensures.other flag (created ∙ one);
+      file_is = c.get_str.ensures ∙ first_value-rows found (codes "file") ∙ ap (first_of (codes "file")) rows;
+    }

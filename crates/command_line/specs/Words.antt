@@ -1,0 +1,68 @@
+-- What the words of the command line ask for (our rule, docs/COMMANDS.md, "The program"). How words are read as options
+-- and values is told by `clap`: `fault_of` is why it refuses them, and empty where it takes them; `matches_of` is what it
+-- finds in those.
+use Rattle.std.specs.Prelude.{◌≡◌, ◌≤◌, ℕ, Bool, List, [], ◌∷◌, Option, Some, codes, pos, true}
+use Rattle.std.specs.Str.Parse.{IsNumeral, digits_value, without_leading_plus}
+use Rattle.clap.specs.Simple.{on_top}
+use Rattle.clap.specs.Values.{bool_text}
+use Rattle.clap.specs.Words.{App, IsAmong, Rule, Text, fault_of, first_of, matches_of, new_app, new_rule, one_of, with_rule}
+use Rattle.clap.specs.declared.builder.action.ArgAction.TheVariants.{SetTrue}
+use Rattle.clap.specs.declared.builder.value_parser.ValueParser.TheVariants.{Signed}
+use Rattle.clap.specs.declared.error.kind.ErrorKind.{ErrorKind}
+use Rattle.clap.specs.declared.error.kind.ErrorKind.TheVariants.{DisplayHelp, DisplayVersion}
+
+-- `--cache N`, a number from 8 to 4096, and 64 where it is not said
+abbrev pub cache_rule : Rule
+cache_rule = record (new_rule (codes "cache")) {
+  long = Some (codes "cache");
+  value_names = 1;
+  parser = Some (Signed (pos 8) (pos 4096));
+  defaults = codes "64" ∷ [];
+}
+
+-- `--create`
+abbrev pub create_rule : Rule
+create_rule = record (new_rule (codes "create")) { long = Some (codes "create"); action = Some SetTrue }
+
+-- `FILE`
+abbrev pub file_rule : Rule
+file_rule = record (new_rule (codes "file")) { value_names = 1 }
+
+-- the program, which tells its version too
+abbrev pub program : App
+program =
+    with_rule (with_rule (with_rule (on_top (λ s. record s { has_version = true }) (new_app (codes "rstore"))) cache_rule)
+    create_rule) file_rule
+
+-- the file that words name, if they name one
+abbrev pub file_in : List Text → Option Text
+file_in words = first_of (codes "file") (matches_of program words)
+
+-- whether they ask for it to be made
+abbrev pub AsksToMake : List Text → Bool → Type 0
+AsksToMake words create =
+    (flag : Bool) → one_of (codes "create") (matches_of program words) ≡ Some (bool_text flag) → create ≡ flag
+
+-- a text is this decimal number
+pub record IsNumber (text : Text) (n : ℕ) : Type 0 where
+  pub numeral : IsNumeral 10 (without_leading_plus text)
+  pub value : digits_value 10 (without_leading_plus text) ≡ n
+
+-- The words, the first of which is the program's name, are taken, and ask for so many cached pages, for a file to be made
+-- or not, and for this file, or for none.
+pub record AskFor (words : List Text) (cache : ℕ) (create : Bool) (file : Option Text) : Type 0 where
+  pub taken : fault_of program words ≡ []
+  pub cache_is : (text : Text) (n : ℕ) → one_of (codes "cache") (matches_of program words) ≡ Some text → IsNumber text n
+      → 8 ≤ n → n ≤ 4096 → cache ≡ n
+  pub create_is : AsksToMake words create
+  pub file_is : file ≡ file_in words
+
+-- the status with which the program ends where words are not taken: help and version were asked for
+abbrev pub status_of_fault : ErrorKind → ℕ
+status_of_fault DisplayHelp = 0
+status_of_fault DisplayVersion = 0
+status_of_fault _ = 2
+
+-- the status is that of one of the faults
+abbrev pub IsStatusOf : List ErrorKind → ℕ → Type 0
+IsStatusOf faults status = (k : ErrorKind) × IsAmong k faults × (status ≡ status_of_fault k)
