@@ -48,8 +48,8 @@ pub record HasNotBegun {R W : Type 0} (r r' : R) (w w' : W) (status : ℕ) : Typ
   pub unread : r' ≡ r
   pub unwritten : w' ≡ w
 
--- Commands were answered by a lawful session that begins with this table. With status 0 all that the reader had was read,
--- and each reply was written.
+-- Commands were answered by a lawful session that begins with this table. With status 0 all that the reader had was
+-- read, and each reply was written.
 pub record HasAnswered (t : Table) (unread unread' written written' : Option (List ℕ)) (status : ℕ) : Type 0 where
   pub old : SessionState
   pub new : SessionState
@@ -58,8 +58,8 @@ pub record HasAnswered (t : Table) (unread unread' written written' : Option (Li
   pub runs : Runs end (run_state old unread written) (run_state new unread' written')
   pub well : status ≡ 0 → end ≡ Finished
 
--- A store was made on an honest device without blocks, or else opened on it, its commands were answered and it was closed,
--- with this status; or its making or its opening was refused.
+-- A store was made on an honest device without blocks, or else opened on it, its commands were answered and it was
+-- closed, with this status; or its making or its opening was refused.
 pub record HasServedOn {D R W : Type 0} (m : device.Ghosts D) (create : Bool) (device : D) (r r' : R) (w w' : W)
     (unread unread' written written' : Option (List ℕ)) (status : ℕ) : Type 0 where
   pub left : Served D
