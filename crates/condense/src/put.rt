@@ -13,7 +13,6 @@ ghost use Rattle.tree_node.specs.Boxes.{least_box};
 ghost use Rattle.tree_node.specs.Nodes.{content_of, item_of};
 ghost use Rattle.tree_node.specs.Shape;
 ghost use Rattle.tree_node.specs.Trees.{Row};
-ghost use Rattle.node_page.specs.Broken.{Alters};
 ghost use Rattle.node_page.specs.Layout.{IsSpellable};
 ghost use Rattle.node_page.specs.Standing.{PageMap, node_in};
 ghost use Rattle.reinsert.specs.Placed.{Held, held_with, set_box};
@@ -22,7 +21,7 @@ ghost use Rattle.condense.specs.Taken.{HasTaken, IsCut, IsSettledBelow, TookBelo
 use crate::children::child_of;
 use crate::kept::Kept;
 use block_device::BlockDevice;
-use node_page::{Broken, write_node};
+use node_page::write_node;
 use page_cache::PageCache;
 use page_file::Fault;
 use std::alloc::Allocator;
@@ -37,55 +36,10 @@ fn least_entries(m_max: usize) -> usize
     (2 * m_max / 5).max(2)
 }
 
-// Puts a child of this node back, of which the object was taken. `settled` tells whether the page of the child has it
-// as it is, and then whether the node is as it was.
-pub(crate) fn put_back<const D: usize, B: BlockDevice, A: Allocator + Copy>(
-    cache: &mut PageCache<B, A>,
-    node: &mut Node<D>,
-    place: usize,
-    lower: &Node<D>,
-    m_max: usize,
-    kept: &mut Kept<D>,
-    settled: &mut bool,
-) -> Result<(), Broken>
-    requires dims { IsDims D }
-    requires open { gate_of cache.old ≡ Open }
-    requires most { (4 ≤ m_max) × (m_max ≤ 100) }
-    requires above { 0 < node.old.level }
-    requires within { place < array_vec_len node.old.entries }
-    requires spellable { IsSpellable (content_of node.old) }
-    requires cut { IsCut (node.old.level - 1) (content_of lower.now) }
-    requires room { array_vec_len kept.old.orphans + 39 ≤ 1560 }
-    ensures alters { Alters cache.old cache.new result }
-    ensures grows { Grows 0 cache.old cache.new }
-    ensures cut { OnOk result (IsCut node.old.level (content_of node.new)) }
-    ensures room { array_vec_len kept.new.orphans ≤ array_vec_len kept.old.orphans + 39 }
-    ensures taken { IsPageMap cache.old → (m : PageMap) (page id : ℕ) (bounds : Bounds) (row : Row) (held : List Held)
-        → TookBelow D m_max m (pages cache.old) page node.old.level id bounds row place held (held_now kept.old)
-        (map item_of node.old.entries.items) (map item_of lower.now.entries.items)
-        → IsSettledBelow D (pages cache.old) (map item_of node.old.entries.items) place (content_of lower.now)
-        settled.old
-        → OnOk result (IsPageMap cache.new × HasTaken D m_max m (pages cache.new)
-        node.old.level id bounds row held (held_now kept.new) (map item_of node.new.entries.items)) }
-    ensures settled { settled.new ≡ true
-        → OnOk result (content_of node.new ≡ content_of node.old) }
-    ensures touched { IfErr result (λ b. b.touched ≡ true) }
-    ensures faults { IsPageMap cache.old → (m : PageMap) (page id : ℕ) (bounds : Bounds) (row : Row) (held : List Held)
-        → TookBelow D m_max m (pages cache.old) page node.old.level id bounds row place held (held_now kept.old)
-        (map item_of node.old.entries.items) (map item_of lower.now.entries.items)
-        → IsSettledBelow D (pages cache.old) (map item_of node.old.entries.items) place (content_of lower.now)
-        settled.old
-        → IfErr result (λ b. IsOfDevice b.cause) }
-    ensures other_faults { IfErr result (λ b. IsOfDevice b.cause ⊎ IsDamage b.cause) }
-{
-    match put_child(cache, node, place, lower, m_max, kept, settled) {
-        Ok(()) => Ok(()),
-        Err(fault) => Err(Broken::midway(fault)),
-    }
-}
-
-// Puts the child back: one of too few entries leaves, else it is written where it is not settled.
-fn put_child<const D: usize, B: BlockDevice, A: Allocator + Copy>(
+// Puts a child of this node back, of which the object was taken: one of too few entries leaves, else it is written where
+// it is not settled. `settled` tells whether the page of the child has it as it is, and then whether the node is as it
+// was.
+pub(crate) fn put_child<const D: usize, B: BlockDevice, A: Allocator + Copy>(
     cache: &mut PageCache<B, A>,
     node: &mut Node<D>,
     place: usize,

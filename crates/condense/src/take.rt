@@ -17,7 +17,7 @@ ghost use Rattle.condense.specs.Taken.{HasTaken, IsCut, LeadsTo, held_now, tree_
 use crate::children::child_of;
 use crate::kept::Kept;
 use crate::leaf::take_here;
-use crate::put::put_back;
+use crate::put::put_child;
 use arrayvec::ArrayVec;
 use block_device::BlockDevice;
 use box_math::BBox;
@@ -82,8 +82,10 @@ pub(crate) fn take_out<const D: usize, B: BlockDevice, A: Allocator + Copy>(
         if !taken {
             continue;
         }
-        put_back(cache, node, place, &lower, m_max, kept, settled)?;
-        return Ok(true);
+        match put_child(cache, node, place, &lower, m_max, kept, settled) {
+            Ok(()) => return Ok(true),
+            Err(fault) => return Err(Broken::midway(fault)),
+        }
     }
     Ok(false)
 }

@@ -1,5 +1,5 @@
 -- The goals of `take_out` that are proved by hand.
-use Rattle.std.proofs.Common.{rules, ◌≡◌, ◌∙◌, ◌+◌, ◌*◌, ◌-◌, ◌<◌, ◌≤◌, false, true, None, Some, length, map, refl, sym, ap, subst, arith}
+use Rattle.std.proofs.Common.{Err, rules, ◌≡◌, ◌∙◌, ◌+◌, ◌*◌, ◌-◌, ◌<◌, ◌≤◌, false, true, None, Some, length, map, refl, sym, ap, subst, arith}
 use Rattle.std.proofs.lemmas.Bool.{true≢false}
 use Rattle.arrayvec.specs.ArrayVec.{array_vec_len}
 use Rattle.page_file.specs.Fault.{IsDamage, IsOfDevice}
@@ -12,7 +12,7 @@ use Rattle.tree_node.specs.declared.node.Entry.{Entry}
 use Rattle.tree_node.specs.declared.node.Node.{Node}
 use Rattle.tree_node.specs.Nodes.{content_of, item_of}
 use Rattle.tree_node.specs.Trees.{row_items}
-use Rattle.node_page.specs.Broken.{alters_so, before, made_alters}
+use Rattle.node_page.specs.Broken.{alters_so, before, changes_and_breaks, made_alters}
 use Rattle.node_page.specs.declared.broken.Broken.{Broken}
 use Rattle.node_page.specs.Standing.{PageMap, Stands}
 use Rattle.node_page.proofs.StandingLemmas.{page_of_node}
@@ -164,8 +164,8 @@ children-preserved g t c =
       c.children.invariant.6,
     )
 
-pub put_back-requires : goal.put_back-requires
-put_back-requires g t c =
+pub put_child-requires : goal.put_child-requires
+put_child-requires g t c =
     let gate = c.in_ok-taken.ensures.alters.changes.gate.gate ∙ c.children.invariant.0.gate.gate ∙ c.requires.open in
     let above : 0 < c.children.node.level = omega (arith, c.children.invariant.3, c.if-at-eq0.false) in
     let within : c.children.place < array_vec_len c.children.node.entries = omega (arith, c.children-test.true, c.len-place-end.ensures.value, ap (λ (x : Node g.row.D). length x.entries.items) c.children.invariant.6) in
@@ -173,46 +173,44 @@ put_back-requires g t c =
     let room : array_vec_len c.take_out.new.kept.orphans + 39 ≤ 1560 = omega (arith, ap length c.children.invariant.1, c.requires.room, c.take_out.ensures.room, c.child_of-below.ensures.level, c.children.invariant.3, above) in
     (search rules, (search rules, (c.requires.dims, (gate, (c.requires.most, (above, (within, (c.children.invariant.4, (cut, room)))))))))
 
-pub returns-in_err-put_back-clause-alters : goal.returns-in_err-put_back-clause-alters
-returns-in_err-put_back-clause-alters g t c =
+pub returns-in-Err-clause-alters : goal.returns-in-Err-clause-alters
+returns-in-Err-clause-alters g t c =
     let old = c.args.cache.now in
     let mid = c.children.cache in
     let low = c.take_out.new.cache in
-    let broken = c.in_err-put_back.field-0.0 in
-    alters_so old c.put_back.new.cache broken c.from_residual-in_err-put_back.result c.from_residual-in_err-put_back.ensures.1
-    (changes_in_turn old low c.put_back.new.cache (Some broken.cause) (changes_in_turn old mid low None (asks_changes old mid None c.children.invariant.0) c.in_ok-taken.ensures.alters.changes) c.in_err-put_back.ensures.alters.changes)
-    (λ untouched. absurd (true≢false (sym c.in_err-put_back.ensures.touched ∙ untouched)))
+    changes_and_breaks old low c.put_child.new.cache c.in-Err.fault (Err c.midway.result) c.midway.ensures
+    (changes_in_turn old mid low None (asks_changes old mid None c.children.invariant.0) c.in_ok-taken.ensures.alters.changes) c.in-Err.ensures.changes
 
-pub returns-in_err-put_back-clause-room : goal.returns-in_err-put_back-clause-room
-returns-in_err-put_back-clause-room g t c =
+pub returns-in-Err-clause-room : goal.returns-in-Err-clause-room
+returns-in-Err-clause-room g t c =
     let above : 0 < c.children.node.level = omega (arith, c.children.invariant.3, c.if-at-eq0.false) in
-    omega (arith, ap length c.children.invariant.1, c.take_out.ensures.room, c.put_back.ensures.room, c.child_of-below.ensures.level, c.children.invariant.3, above)
+    omega (arith, ap length c.children.invariant.1, c.take_out.ensures.room, c.put_child.ensures.room, c.child_of-below.ensures.level, c.children.invariant.3, above)
 
-pub returns-in_err-put_back-clause-other_faults : goal.returns-in_err-put_back-clause-other_faults
-returns-in_err-put_back-clause-other_faults g t c =
-    at_broken c.from_residual-in_err-put_back.result c.in_err-put_back.field-0.0 (λ (b : Broken). IsOfDevice b.cause ⊎ IsDamage b.cause) c.from_residual-in_err-put_back.ensures.1 c.in_err-put_back.ensures.other_faults
+pub returns-in-Err-clause-other_faults : goal.returns-in-Err-clause-other_faults
+returns-in-Err-clause-other_faults g t c =
+    subst (λ (b : Broken). IsOfDevice b.cause ⊎ IsDamage b.cause) (sym c.midway.ensures) c.in-Err.ensures.other_faults
 
-pub returns-in-children-clause-alters : goal.returns-in-children-clause-alters
-returns-in-children-clause-alters g t c =
+pub returns-in-Ok-clause-alters : goal.returns-in-Ok-clause-alters
+returns-in-Ok-clause-alters g t c =
     let old = c.args.cache.now in
     let mid = c.children.cache in
     let low = c.take_out.new.cache in
-    made_alters old c.put_back.new.cache true
-    (changes_in_turn old low c.put_back.new.cache None (changes_in_turn old mid low None (asks_changes old mid None c.children.invariant.0) c.in_ok-taken.ensures.alters.changes) c.in_ok-put_back.ensures.alters.changes)
+    made_alters old c.put_child.new.cache true
+    (changes_in_turn old low c.put_child.new.cache None (changes_in_turn old mid low None (asks_changes old mid None c.children.invariant.0) c.in_ok-taken.ensures.alters.changes) c.in-Ok.ensures.changes)
 
-pub returns-in-children-clause-cut : goal.returns-in-children-clause-cut
-returns-in-children-clause-cut g t c = λ yes. subst (λ l. IsCut l (content_of c.put_back.new.node)) c.children.invariant.3 c.in_ok-put_back.ensures.cut
+pub returns-in-Ok-clause-cut : goal.returns-in-Ok-clause-cut
+returns-in-Ok-clause-cut g t c = λ yes. subst (λ l. IsCut l (content_of c.put_child.new.node)) c.children.invariant.3 c.in-Ok.ensures.cut
 
-pub returns-in-children-clause-room : goal.returns-in-children-clause-room
-returns-in-children-clause-room g t c =
+pub returns-in-Ok-clause-room : goal.returns-in-Ok-clause-room
+returns-in-Ok-clause-room g t c =
     let above : 0 < c.children.node.level = omega (arith, c.children.invariant.3, c.if-at-eq0.false) in
-    omega (arith, ap length c.children.invariant.1, c.take_out.ensures.room, c.put_back.ensures.room, c.child_of-below.ensures.level, c.children.invariant.3, above)
+    omega (arith, ap length c.children.invariant.1, c.take_out.ensures.room, c.put_child.ensures.room, c.child_of-below.ensures.level, c.children.invariant.3, above)
 
-pub returns-in-children-clause-none : goal.returns-in-children-clause-none
-returns-in-children-clause-none g t c = λ is. absurd (true≢false is)
+pub returns-in-Ok-clause-none : goal.returns-in-Ok-clause-none
+returns-in-Ok-clause-none g t c = λ is. absurd (true≢false is)
 
-pub returns-in-children-clause-taken : goal.returns-in-children-clause-taken
-returns-in-children-clause-taken g t c = λ h row stands yes.
+pub returns-in-Ok-clause-taken : goal.returns-in-Ok-clause-taken
+returns-in-Ok-clause-taken g t c = λ h row stands yes.
     let D = g.row.D in
     let m : PageMap = pages c.args.cache.now in
     let m0 : PageMap = pages c.children.cache in
@@ -224,13 +222,13 @@ returns-in-children-clause-taken g t c = λ h row stands yes.
     let done = c.in_ok-taken.ensures.taken sound b.h.from.row b.stands c.if-not-taken.false in
     let took = took_below D c.args.m_max m m0 c.args.at row (map (item_of {D = D}) entries) c.children.place c.child_of-below.result b c.args.id c.args.bounds.now (pages c.take_out.new.cache) c.children.node.level (held_now c.children.kept) (held_now c.args.kept.now) (held_now c.take_out.new.kept)
     (map (item_of {D = D}) c.take_out.new.node.entries.items) stands same c.children.invariant.3 (ap (map (orphan_held {D = D})) c.children.invariant.1) done.1 in
-    subst (λ l. IsPageMap c.put_back.new.cache
-    × HasTaken D c.args.m_max m (pages c.put_back.new.cache) l c.args.id c.args.bounds.now row (held_now c.args.kept.now) (held_now c.put_back.new.kept) (map (item_of {D = D}) c.put_back.new.node.entries.items)) c.children.invariant.3
-    (c.in_ok-put_back.ensures.taken done.0 m c.args.at.page c.args.id c.args.bounds.now row (held_now c.args.kept.now) took
+    subst (λ l. IsPageMap c.put_child.new.cache
+    × HasTaken D c.args.m_max m (pages c.put_child.new.cache) l c.args.id c.args.bounds.now row (held_now c.args.kept.now) (held_now c.put_child.new.kept) (map (item_of {D = D}) c.put_child.new.node.entries.items)) c.children.invariant.3
+    (c.in-Ok.ensures.taken done.0 m c.args.at.page c.args.id c.args.bounds.now row (held_now c.args.kept.now) took
     (settled_child c.take_out.new.node (pages c.take_out.new.cache) (map (item_of {D = D}) entries) c.children.place c.child_of-below.result.page c.take_out.new.settled c.child_of-below.ensures.page (λ so. c.in_ok-taken.ensures.settled sound b.h.from.row b.stands so c.if-not-taken.false)))
 
-pub returns-in-children-clause-settled : goal.returns-in-children-clause-settled
-returns-in-children-clause-settled g t c = λ h row stands so yes.
+pub returns-in-Ok-clause-settled : goal.returns-in-Ok-clause-settled
+returns-in-Ok-clause-settled g t c = λ h row stands so yes.
     let D = g.row.D in
     let m : PageMap = pages c.args.cache.now in
     let m0 : PageMap = pages c.children.cache in
@@ -242,14 +240,14 @@ returns-in-children-clause-settled g t c = λ h row stands so yes.
     let done = c.in_ok-taken.ensures.taken sound b.h.from.row b.stands c.if-not-taken.false in
     let took = took_below D c.args.m_max m m0 c.args.at row (map (item_of {D = D}) entries) c.children.place c.child_of-below.result b c.args.id c.args.bounds.now (pages c.take_out.new.cache) c.children.node.level (held_now c.children.kept) (held_now c.args.kept.now) (held_now c.take_out.new.kept)
     (map (item_of {D = D}) c.take_out.new.node.entries.items) stands same c.children.invariant.3 (ap (map (orphan_held {D = D})) c.children.invariant.1) done.1 in
-    settled_still c.args.m_max m (pages c.put_back.new.cache) c.args.at.page c.children.node.level c.args.id c.args.bounds.now row (held_now c.args.kept.now) (held_now c.put_back.new.kept)
-    (content_of c.children.node) c.put_back.new.node (subst (λ k. Stands D m (record { page = c.args.at.page; level = k; row = row })) (sym c.children.invariant.3) stands)
-    (c.children.invariant.5 h.honest (page_of_node D (m c.args.at.page) _ stands.root)) (c.in_ok-put_back.ensures.settled so)
-    (c.in_ok-put_back.ensures.taken done.0 m c.args.at.page c.args.id c.args.bounds.now row (held_now c.args.kept.now) took
+    settled_still c.args.m_max m (pages c.put_child.new.cache) c.args.at.page c.children.node.level c.args.id c.args.bounds.now row (held_now c.args.kept.now) (held_now c.put_child.new.kept)
+    (content_of c.children.node) c.put_child.new.node (subst (λ k. Stands D m (record { page = c.args.at.page; level = k; row = row })) (sym c.children.invariant.3) stands)
+    (c.children.invariant.5 h.honest (page_of_node D (m c.args.at.page) _ stands.root)) (c.in-Ok.ensures.settled so)
+    (c.in-Ok.ensures.taken done.0 m c.args.at.page c.args.id c.args.bounds.now row (held_now c.args.kept.now) took
     (settled_child c.take_out.new.node (pages c.take_out.new.cache) (map (item_of {D = D}) entries) c.children.place c.child_of-below.result.page c.take_out.new.settled c.child_of-below.ensures.page (λ so. c.in_ok-taken.ensures.settled sound b.h.from.row b.stands so c.if-not-taken.false))).1
 
-pub returns-in_err-put_back-clause-absent : goal.returns-in_err-put_back-clause-absent
-returns-in_err-put_back-clause-absent g t c = λ h row stands lacks.
+pub returns-in-Err-clause-absent : goal.returns-in-Err-clause-absent
+returns-in-Err-clause-absent g t c = λ h row stands lacks.
     let D = g.row.D in
     let m : PageMap = pages c.args.cache.now in
     let m0 : PageMap = pages c.children.cache in
@@ -262,8 +260,8 @@ returns-in_err-put_back-clause-absent g t c = λ h row stands lacks.
     absurd (below_contained D c.args.m_max m m0 c.args.at row (map item_of entries) c.children.place c.child_of-below.result b c.args.id c.args.bounds.now lacks
     (takes_contained D c.args.m_max c.args.id c.args.bounds.now c.child_of-below.result.level b.h.from.row done.1.out done.1.takes_out))
 
-pub returns-in_err-put_back-clause-faults : goal.returns-in_err-put_back-clause-faults
-returns-in_err-put_back-clause-faults g t c = λ h row stands.
+pub returns-in-Err-clause-faults : goal.returns-in-Err-clause-faults
+returns-in-Err-clause-faults g t c = λ h row stands.
     let D = g.row.D in
     let m : PageMap = pages c.args.cache.now in
     let m0 : PageMap = pages c.children.cache in
@@ -275,8 +273,8 @@ returns-in_err-put_back-clause-faults g t c = λ h row stands.
     let done = c.in_ok-taken.ensures.taken sound b.h.from.row b.stands c.if-not-taken.false in
     let took = took_below D c.args.m_max m m0 c.args.at row (map (item_of {D = D}) entries) c.children.place c.child_of-below.result b c.args.id c.args.bounds.now (pages c.take_out.new.cache) c.children.node.level (held_now c.children.kept) (held_now c.args.kept.now) (held_now c.take_out.new.kept)
     (map (item_of {D = D}) c.take_out.new.node.entries.items) stands same c.children.invariant.3 (ap (map (orphan_held {D = D})) c.children.invariant.1) done.1 in
-    at_broken c.from_residual-in_err-put_back.result c.in_err-put_back.field-0.0 (λ (x : Broken). IsOfDevice x.cause) c.from_residual-in_err-put_back.ensures.1
-    (c.in_err-put_back.ensures.faults done.0 m c.args.at.page c.args.id c.args.bounds.now row (held_now c.args.kept.now) took
+    subst (λ (x : Broken). IsOfDevice x.cause) (sym c.midway.ensures)
+    (c.in-Err.ensures.faults done.0 m c.args.at.page c.args.id c.args.bounds.now row (held_now c.args.kept.now) took
     (settled_child c.take_out.new.node (pages c.take_out.new.cache) (map (item_of {D = D}) entries) c.children.place c.child_of-below.result.page c.take_out.new.settled c.child_of-below.ensures.page (λ so. c.in_ok-taken.ensures.settled sound b.h.from.row b.stands so c.if-not-taken.false)))
 
 pub returns-clause-alters : goal.returns-clause-alters
