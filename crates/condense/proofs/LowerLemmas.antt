@@ -1,11 +1,9 @@
 -- The root gives way to its only child, and so on.
-use Rattle.std.proofs.Common.{Result, Ok, Err, IfErr, IsErrAnd, ◌≡◌, ◌∙◌, ℕ, suc, ◌+◌, ◌-◌, ◌<◌, IsSome, Some, None, List, [], length, map, get_or, refl, sym, ap, subst, arith}
-use Rattle.std.proofs.lemmas.List.{length-map}
+use Rattle.std.proofs.Common.{Result, Ok, Err, IfErr, IsErrAnd, ◌≡◌, ◌∙◌, ℕ, suc, ◌+◌, ◌-◌, ◌<◌, IsSome, Some, None, [], length, get_or, refl, sym, ap, subst, arith}
 use Rattle.page_file.specs.Pages.{SameBut}
 use Rattle.page_file.specs.declared.fault.Fault.{Fault}
-use Rattle.tree_node.specs.declared.node.Entry.{Entry}
 use Rattle.tree_node.specs.declared.node.Root.{Root}
-use Rattle.tree_node.specs.Nodes.{Item, item_of}
+use Rattle.tree_node.specs.Nodes.{Item}
 use Rattle.tree_node.specs.Trees.{Row, end, more, object, child, Tree, occurs, occurs_in, row_items, row_length}
 use Rattle.tree_node.proofs.RowLemmas.{occurs_here}
 use Rattle.node_page.specs.Parts.{Moves, no_page, one_page}
@@ -15,7 +13,6 @@ use Rattle.node_page.proofs.StandingLemmas.{equal_pages_stand, page_of_node, pag
 use Rattle.reinsert.specs.Children.{Child, child_at, occurs_at}
 use Rattle.reinsert.specs.Inserted.{IsRootOf}
 use Rattle.reinsert.proofs.ChildLemmas.{HasChild, has_child}
-use Rattle.reinsert.proofs.PlaceLemmas.{items_read}
 use Rattle.reinsert.proofs.StandLemmas.{moves_with}
 use Rattle.condense.specs.Filled.{GivesWayTo}
 use Rattle.condense.specs.Removal.{GivesWay}
@@ -56,14 +53,6 @@ only_child n (more (child b page below) end) c one is =
     omega (arith, ap (λ (x : Child). occurs_at x.page n x.row) this)
 only_child n (more (child b page below) (more x rest)) c one is = absurd (omega (arith, one))
 
--- the node that was read is the root's
-pub root_read : {dims : ℕ} (m m0 m1 : PageMap) (t : Tree) (now : Root) (level : ℕ) (entries : List (Entry dims)) (h : Lowered dims m m1 t now) → ((n : ℕ) → m1 n ≡ m0 n)
-    → (IsSome (m0 now.page) → node_in dims (m0 now.page) ≡ Some (record { level = level; entries = map item_of entries })) → row_items h.mid.row ≡ map item_of entries
-root_read {dims} m m0 m1 t now level entries h same read =
-    let there : HasNode dims m1 now.page h.mid.level h.mid.row = subst (λ n. HasNode dims m1 n h.mid.level h.mid.row) h.at.page h.stands.root in
-    let live : IsSome (m0 now.page) = subst IsSome (same now.page) (page_of_node dims (m1 now.page) _ there) in
-    items_read dims m1 now.page h.mid.level level h.mid.row (map item_of entries) there (ap (node_in dims) (same now.page) ∙ read live)
-
 pub at_fault : {T : Type 0} (r : Result T Fault) (f : Fault) (P : Fault → Type 0) → IsErrAnd r (λ e. e ≡ f) → P f → IfErr r P
 at_fault (Ok x) f P is p = tt
 at_fault (Err e) f P is p = subst P (sym is) p
@@ -71,16 +60,20 @@ at_fault (Err e) f P is p = subst P (sym is) p
 pub root_is_live : (dims : ℕ) (m m1 : PageMap) (t : Tree) (now : Root) → Lowered dims m m1 t now → IsSome (m1 now.page)
 root_is_live dims m m1 t now h = subst (λ n. IsSome (m1 n)) h.at.page (page_of_node dims (m1 h.mid.page) _ h.stands.root)
 
-module _ {dims : ℕ} (m m1 m2 : PageMap) (t : Tree) (now below : Root) (entries : List (Entry dims)) (h : Lowered dims m m1 t now) (are : row_items h.mid.row ≡ map item_of entries) (high : 0 < now.level)
-    (one : length entries ≡ 1) (refers : (d : Item) → below.page ≡ (get_or (map item_of entries) 0 d).reference) (low : below.level ≡ now.level - 1) (others : SameBut now.page m1 m2) (gone : m2 now.page ≡ None) where
+-- the node that its page had before it was only read
+pub root_node : (dims : ℕ) (m m0 m1 : PageMap) (t : Tree) (now : Root) (h : Lowered dims m m1 t now) → ((n : ℕ) → m1 n ≡ m0 n) → HasNode dims m0 now.page h.mid.level h.mid.row
+root_node dims m m0 m1 t now h same = ap (node_in dims) (sym (same now.page)) ∙ subst (λ n. HasNode dims m1 n h.mid.level h.mid.row) h.at.page h.stands.root
+
+module _ {dims : ℕ} (m m1 m2 : PageMap) (t : Tree) (now below : Root) (h : Lowered dims m m1 t now) (high : 0 < now.level)
+    (one : length (row_items h.mid.row) ≡ 1) (refers : (d : Item) → below.page ≡ (get_or (row_items h.mid.row) 0 d).reference) (low : below.level ≡ now.level - 1) (others : SameBut now.page m1 m2) (gone : m2 now.page ≡ None) where
   count : row_length h.mid.row ≡ 1
-  count = omega (arith, one, length-map entries (item_of {D = dims}), ap length are, length-items h.mid.row)
+  count = omega (arith, one, length-items h.mid.row)
 
   c : HasChild dims m1 h.mid.level h.mid.row 0
   c = has_child dims m1 h.mid.level h.mid.row 0 (omega (arith, high, h.at.level)) (omega (arith, count, length-items h.mid.row)) h.stands.below
 
   page : below.page ≡ c.from.page
-  page = let d : Item = record { bounds = record { low = []; high = [] }; reference = 0 } in refers d ∙ ap (λ (xs : List Item). (get_or xs 0 d).reference) (sym are) ∙ c.reference d
+  page = let d : Item = record { bounds = record { low = []; high = [] }; reference = 0 } in refers d ∙ c.reference d
 
   down : h.mid.level - 1 ≡ below.level
   down = omega (arith, low, h.at.level)

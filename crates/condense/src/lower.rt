@@ -1,20 +1,21 @@
 //! The root gives way to its only child.
 
-ghost use Rattle.std.specs.Prelude.{◌≡◌, ◌⊎◌, ◌^◌, ◌<◌, ◌≤◌, IfOk, IfErr};
+ghost use Rattle.std.specs.Prelude.{◌≡◌, ◌⊎◌, ◌^◌, ◌-◌, ◌<◌, ◌≤◌, IfErr, IfNone, IfOk, IfSome, Some, length};
+ghost use Rattle.std.specs.Prelude.{slice_index_or};
 ghost use Rattle.box_math.specs.Bounds.{IsDims};
 ghost use Rattle.page_file.specs.Fault.{IsDamage, IsOfDevice};
 ghost use Rattle.page_file.specs.declared.gate.Gate.TheVariants.{Open};
-ghost use Rattle.page_cache.specs.Cache.{Grows, IsPageMap, gate_of, pages};
-ghost use Rattle.page_cache.specs.Calls.{Changes};
+ghost use Rattle.page_cache.specs.Cache.{Grows, IsHonest, IsPageMap, gate_of, pages};
+ghost use Rattle.page_cache.specs.Calls.{Asks, Changes};
+ghost use Rattle.tree_node.specs.Nodes.{Item, NodeContent};
 ghost use Rattle.tree_node.specs.Trees.{Tree};
-ghost use Rattle.node_page.specs.Standing.{Stands};
+ghost use Rattle.node_page.specs.Standing.{Stands, node_in};
 ghost use Rattle.reinsert.specs.Inserted.{IsRootOf};
 ghost use Rattle.condense.specs.Filled.{GivesWayTo};
 ghost use Rattle.condense.specs.Removed.{IsRoot};
 
-use crate::children::child_of;
 use block_device::BlockDevice;
-use node_page::read_node;
+use node_page::view_node;
 use page_cache::PageCache;
 use page_file::Fault;
 use std::alloc::Allocator;
@@ -39,13 +40,40 @@ pub(crate) fn give_way<const D: usize, B: BlockDevice, A: Allocator + Copy>(
 {
     let mut now = root;
     'lowering: while now.level > 0 {
-        let node = read_node::<D, B, A>(cache, now.page, now.level)?;
-        if node.entries.len() != 1 {
+        let Some(below) = only_child::<D, B, A>(cache, now)? else {
             break;
-        }
-        let below = child_of(&node, 0);
+        };
         cache.free(now.page)?;
         now = below;
     }
     Ok(now)
+}
+
+// The only child of a node above the leaves, or `None` where it has several.
+fn only_child<const D: usize, B: BlockDevice, A: Allocator + Copy>(
+    cache: &mut PageCache<B, A>,
+    at: Root,
+) -> Result<Option<Root>, Fault>
+    requires dims { IsDims D }
+    requires above { 0 < at.level }
+    ensures asks { Asks cache.old cache.new result }
+    ensures child { IsHonest cache.old → (c : NodeContent) → node_in D (pages cache.old at.page) ≡ Some c
+        → IfOk result (λ child. IfSome child (λ below. (length c.entries ≡ 1)
+        × ((d : Item) → below.page ≡ (slice_index_or c.entries 0 d).reference))) }
+    ensures several { IsHonest cache.old → (c : NodeContent) → node_in D (pages cache.old at.page) ≡ Some c
+        → IfOk result (λ child. IfNone child (¬ (length c.entries ≡ 1))) }
+    ensures root { IfOk result (λ child. IfSome child (λ below. (below.level ≡ at.level - 1)
+        × (3 ≤ below.page) × (below.page < 2 ^ 31))) }
+    ensures there { IsHonest cache.old → (c : NodeContent) → node_in D (pages cache.old at.page) ≡ Some c
+        → c.level ≡ at.level → IfErr result IsOfDevice }
+    ensures other_faults { IfErr result (λ f. IsOfDevice f ⊎ IsDamage f) }
+{
+    let node = view_node::<D, B, A>(cache, at.page, at.level)?;
+    if node.len() != 1 {
+        return Ok(None);
+    }
+    Ok(Some(Root {
+        page: node.entry(0).reference as u32,
+        level: at.level - 1,
+    }))
 }
