@@ -1,8 +1,10 @@
 -- The child that an object is looked for in, while the ones before it lacked it.
-use Rattle.std.proofs.Common.{Bool, false, true, ◌≡◌, ◌∙◌, ℕ, suc, ◌+◌, ◌-◌, ◌<◌, ◌≤◌, IsSome, Some, List, [], length, map, get_or, refl, sym, ap, subst, arith}
+use Rattle.std.proofs.Common.{Bool, false, true, ◌≡◌, ◌∙◌, ⊎_elim, ℕ, zero, suc, ◌+◌, ◌-◌, ◌<◌, ◌≤◌, IsSome, Some, List, [], length, map, get_or, refl, sym, ap, subst, arith}
 use Rattle.std.specs.List.{Contains}
+use Rattle.std.proofs.lemmas.Bool.{cases_lt}
 use Rattle.std.proofs.lemmas.List.{get_or-map, length-map}
 use Rattle.box_math.specs.Bounds.{Bounds, Within}
+use Rattle.tree_node.specs.Boxes.{box_at, no_item}
 use Rattle.tree_node.specs.declared.node.Entry.{Entry}
 use Rattle.tree_node.specs.declared.node.Node.{Node}
 use Rattle.tree_node.specs.declared.node.Root.{Root}
@@ -90,26 +92,43 @@ leaf_read : {dims : ℕ} (m : PageMap) (at : Root) (row : Row) (level : ℕ) (en
     → (IsSome (m at.page) → node_in dims (m at.page) ≡ Some (record { level = level; entries = map item_of entries })) → row_items row ≡ map item_of entries
 leaf_read {dims} m at row level entries stands read = items_read dims m at.page at.level level row (map item_of entries) stands.root (read (page_of_node dims (m at.page) _ stands.root))
 
-pub taken_here : {D : ℕ} (most : ℕ) (m m' : PageMap) (at : Root) (id : ℕ) (bounds : Bounds) (row : Row) (held : List Held) (level : ℕ) (entries : List (Entry D)) (items : List Item) → at.level ≡ 0 → Stands D m (tree_at at row) → ((n : ℕ) → m' n ≡ m n)
-    → (IsSome (m at.page) → node_in D (m at.page) ≡ Some (record { level = level; entries = map item_of entries })) → IsTakenFrom id bounds (map item_of entries) items
-    → HasTaken D most m m' at.level id bounds row held held items
-taken_here {D} most m m' at id bounds row held level entries items low stands same read taken =
+pub taken_here : {D : ℕ} (most : ℕ) (m m' : PageMap) (at : Root) (id : ℕ) (bounds : Bounds) (row : Row) (held : List Held) (items : List Item) → at.level ≡ 0 → Stands D m (tree_at at row) → ((n : ℕ) → m' n ≡ m n)
+    → IsTakenFrom id bounds (row_items row) items → HasTaken D most m m' at.level id bounds row held held items
+taken_here {D} most m m' at id bounds row held items low stands same taken =
     let below : RowStands D m 0 row = subst (λ l. RowStands D m l row) low stands.below in
     subst (λ l. HasTaken D most m m' l id bounds row held held items) (sym low)
-    (leaf_taken D most id bounds m m' row held held (map item_of entries) items below same (leaf_read m at row level entries stands read) refl taken)
+    (leaf_taken D most id bounds m m' row held held (row_items row) items below same refl refl taken)
 
-pub found_leaf : {D : ℕ} (most : ℕ) (m : PageMap) (at : Root) (id : ℕ) (bounds : Bounds) (row : Row) (level : ℕ) (entries : List (Entry D)) → at.level ≡ 0 → Stands D m (tree_at at row)
-    → (IsSome (m at.page) → node_in D (m at.page) ≡ Some (record { level = level; entries = map item_of entries }))
-    → (found : Bool) → (found ≡ false → (k : ℕ) (d : Item) → k < length entries → ¬ (get_or (map item_of entries) k d ≡ record { bounds = bounds; reference = id })) → LeadsTo D id bounds row → found ≡ true
-found_leaf most m at id bounds row level entries low stands read true none leads = refl
-found_leaf {D} most m at id bounds row level entries low stands read false none leads =
-    let are = leaf_read m at row level entries stands read in
+pub found_leaf : {D : ℕ} (most : ℕ) (m : PageMap) (at : Root) (id : ℕ) (bounds : Bounds) (row : Row) → at.level ≡ 0 → Stands D m (tree_at at row)
+    → (found : Bool) → (found ≡ false → (k : ℕ) (d : Item) → k < length (row_items row) → ¬ (get_or (row_items row) k d ≡ record { bounds = bounds; reference = id })) → LeadsTo D id bounds row → found ≡ true
+found_leaf most m at id bounds row low stands true none leads = refl
+found_leaf {D} most m at id bounds row low stands false none leads =
     let below : RowStands D m 0 row = subst (λ l. RowStands D m l row) low stands.below in
-    absurd (leaf_lacks D most id bounds m row below
-    (λ k d within found. none refl k d (omega (arith, within, ap length are, length-map entries (item_of {D = D}))) (ap (λ (xs : List Item). get_or xs k d) (sym are) ∙ found)) leads)
+    absurd (leaf_lacks D most id bounds m row below (none refl) leads)
 
--- ---- a child whose box does not enclose the object's
+-- ---- children whose boxes do not enclose the object's
 
+-- all before one
+pub passed_to : {dims : ℕ} (most : ℕ) (m : PageMap) (at : Root) (row : Row) (first id : ℕ) (bounds : Bounds) → Stands dims m (tree_at at row) → ¬ (at.level ≡ 0)
+    → ((k : ℕ) → k < first → k < length (row_items row) → ¬ Within dims bounds (box_at (row_items row) k)) → LeadsTo dims id bounds row → LeadsTo dims id bounds (row_drop first row)
+passed_to most m at row zero id bounds stands high before leads = leads
+passed_to {dims} most m at row (suc first) id bounds stands high before leads =
+    let so_far = passed_to most m at row first id bounds stands high (λ k below lt. before k (omega (arith, below)) lt) leads in
+    ⊎_elim
+    (λ (within : first < length (row_items row)).
+    let h = has_child dims m at.level row first (omega (arith, high)) within stands.below in
+    leads_later dims most id bounds row first h.from no_item h.there (λ both. before first (omega arith) within both.0) so_far)
+    (λ past. absurd (subst (LeadsTo dims id bounds) (all_dropped first row past) so_far))
+    (cases_lt first (length (row_items row)))
+
+-- and where these are all, the object is nowhere
+pub none_leads : {dims : ℕ} (most : ℕ) (m : PageMap) (at : Root) (row : Row) (id : ℕ) (bounds : Bounds) → Stands dims m (tree_at at row) → ¬ (at.level ≡ 0)
+    → ((k : ℕ) → k < length (row_items row) → ¬ Within dims bounds (box_at (row_items row) k)) → ¬ LeadsTo dims id bounds row
+none_leads {dims} most m at row id bounds stands high none leads =
+    let n = length (row_items row) in
+    subst (LeadsTo dims id bounds) (all_dropped n row (omega arith)) (passed_to most m at row n id bounds stands high (λ k below lt. none k lt) leads)
+
+-- and one
 pub passed_by : {dims : ℕ} (most : ℕ) (m : PageMap) (at : Root) (row : Row) (level : ℕ) (entries now : List (Entry dims)) (place : ℕ) (e : Entry dims) (id : ℕ) (bounds : Bounds) → Stands dims m (tree_at at row)
     → (IsSome (m at.page) → node_in dims (m at.page) ≡ Some (record { level = level; entries = map item_of entries })) → ¬ (at.level ≡ 0) → place < length entries → now ≡ entries → e ≡ get_or now place e → ¬ Within dims bounds e.bounds
     → LeadsTo dims id bounds (row_drop place row) → LeadsTo dims id bounds (row_drop (place + 1) row)

@@ -1,10 +1,9 @@
 -- Lists, rows and nodes without the entry at a position.
-use Rattle.std.proofs.Common.{◌≡◌, ◌∙◌, ℕ, ℤ, set, zero, suc, ◌+◌, ◌<◌, Some, All, List, [], ◌∷◌, ◌++◌, length, map, take, drop, get_or, refl, sym, ap, subst, ⊎_elim, arith}
+use Rattle.std.proofs.Common.{◌≡◌, ◌∙◌, ℕ, ℤ, set, zero, suc, ◌+◌, ◌<◌, Some, All, List, [], ◌∷◌, ◌++◌, length, map, take, drop, get_or, refl, sym, ap, subst, arith}
 use Rattle.std.specs.Prelude.{remove}
 use Rattle.std.specs.List.{refill}
 use Rattle.std.proofs.Math.ListN.{drop_of_length-le}
-use Rattle.std.proofs.lemmas.Bool.{cases_eq}
-use Rattle.std.proofs.lemmas.List.{append-nil, get_or-map, get_or_default, length-map, set-get_or, take_all}
+use Rattle.std.proofs.lemmas.List.{append-nil, get_or_default, length-map, set-get_or, take_all}
 use Rattle.std.proofs.lemmas.List.Elements.{All-append, All-take, All-drop}
 use Rattle.box_math.specs.Bounds.{Bounds}
 use Rattle.tree_node.specs.declared.node.Entry.{Entry}
@@ -92,22 +91,9 @@ All-without P xs at h = All-append P (take at xs) (drop (at + 1) xs) (All-take P
 pub length-without : (xs : List Item) (at : ℕ) → at < length xs → length (items_without xs at) + 1 ≡ length xs
 length-without xs at within = ap (λ ys. length ys + 1) (cut-is xs at) ∙ length-cut xs at within
 
--- the entry that was read is this item
+-- two boxes of the same corners
 pub same_box : (a b : Bounds) → a.low ≡ b.low → a.high ≡ b.high → a ≡ b
 same_box a b low high = ap (λ (xs : List ℤ). record { low = xs; high = a.high }) low ∙ ap (λ (xs : List ℤ). record { low = b.low; high = xs }) high
-
-pub found_here : {D : ℕ} (entries now : List (Entry D)) (at : ℕ) (e : Entry D) (b : Bounds) (id : ℕ) (d : Item) → at < length entries → now ≡ entries → e ≡ get_or now at e → e.reference ≡ id → e.bounds ≡ b
-    → get_or (map item_of entries) at d ≡ record { bounds = b; reference = id }
-found_here entries now at e b id d within is here same box =
-    let this : get_or entries at e ≡ e = sym (here ∙ ap (λ xs. get_or xs at e) is) in
-    get_or-map item_of entries at e d within ∙ ap item_of this ∙ cc
-
-pub is_here : {D : ℕ} (entries now : List (Entry D)) (at : ℕ) (e : Entry D) (b : Bounds) (id : ℕ) (d : Item) → at < length entries → now ≡ entries → e ≡ get_or now at e
-    → get_or (map item_of entries) at d ≡ record { bounds = b; reference = id } → (e.reference ≡ id) × (e.bounds ≡ b)
-is_here entries now at e b id d within is here found =
-    let this : get_or entries at e ≡ e = sym (here ∙ ap (λ xs. get_or xs at e) is) in
-    let item : item_of e ≡ record { bounds = b; reference = id } = sym (get_or-map item_of entries at e d within ∙ ap item_of this) ∙ found in
-    (ap (λ (x : Item). x.reference) item, ap (λ (x : Item). x.bounds) item)
 
 -- an entry that gets the box that it has stays
 pub set_same : {D : ℕ} (entries seen now : List (Entry D)) (at : ℕ) (e f : Entry D) (b : Bounds) → at < length entries → seen ≡ entries → now ≡ entries → (get_or seen at e).bounds ≡ b
@@ -121,12 +107,6 @@ set_same {D} entries seen now at e f b within same is box =
 -- what is written over itself stays
 pub refilled : {A : Type 0} (xs : List A) → refill (length xs) xs xs ≡ xs
 refilled xs = ap (λ ys. take (length xs) (xs ++ ys)) (drop_of_length-le xs (omega arith)) ∙ ap (take (length xs)) (append-nil xs) ∙ take_all (length xs) xs (omega arith)
-
-pub none_more : (xs : List Item) (k : ℕ) (x : Item) → ((at : ℕ) (d : Item) → at < k → ¬ (get_or xs at d ≡ x)) → ((d : Item) → ¬ (get_or xs k d ≡ x)) → (at : ℕ) (d : Item) → at < k + 1 → ¬ (get_or xs at d ≡ x)
-none_more xs k x before now at d within is = ⊎_elim
-    (λ (same : at ≡ k). now d (subst (λ j. get_or xs j d ≡ x) same is))
-    (λ differs. before at d (omega (arith, within, differs)) is)
-    (cases_eq at k)
 
 -- ---- nodes in hand
 

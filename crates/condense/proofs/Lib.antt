@@ -3,6 +3,7 @@ pub mod BelowLemmas
 pub mod CutLemmas
 pub mod FillLemmas
 pub mod FreeLemmas
+pub mod HoldLemmas
 pub mod KeptLemmas
 pub mod LeadLemmas
 pub mod LowerLemmas

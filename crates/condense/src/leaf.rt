@@ -1,48 +1,72 @@
 //! An object taken out of its leaf.
 
-ghost use Rattle.std.specs.Prelude.{◌≡◌, ◌<◌, ℕ, IfSome, IsNone, false, true, map, slice_index_or};
-ghost use Rattle.arrayvec.specs.ArrayVec.{array_vec_len};
-ghost use Rattle.tree_node.specs.Nodes.{Item, content_of, item_of};
+ghost use Rattle.std.specs.Prelude.{◌≡◌, ◌⊎◌, ◌<◌, ℕ, IfErr, IfNone, IfOk, IfSome, Some, false, true, length, map};
+ghost use Rattle.std.specs.Prelude.{slice_index_or};
+ghost use Rattle.box_math.specs.Bounds.{IsDims};
+ghost use Rattle.page_file.specs.Fault.{IsDamage, IsOfDevice};
+ghost use Rattle.page_cache.specs.Cache.{IsHonest, pages};
+ghost use Rattle.page_cache.specs.Calls.{Asks};
+ghost use Rattle.tree_node.specs.Nodes.{Item, NodeContent, content_of, item_of};
+ghost use Rattle.node_page.specs.Standing.{node_in};
+ghost use Rattle.node_page.specs.Views.{content_in};
 ghost use Rattle.condense.specs.Taken.{IsCut, IsTakenFrom};
-ghost use Rattle.node_page.specs.Layout.{IsSpellable};
 
+use block_device::BlockDevice;
 use box_math::BBox;
+use node_page::{NodeView, next_set, view_node};
+use page_cache::PageCache;
+use page_file::Fault;
+use std::alloc::Allocator;
 use tree_node::Node;
 
 // Where a leaf has the object first.
-fn position_of<const D: usize>(leaf: &Node<D>, id: u64, bounds: &BBox<D>) -> Option<usize>
-    ensures within { IfSome result (λ at. at < array_vec_len leaf.now.entries) }
-    ensures found { IfSome result (λ at. (d : Item) → slice_index_or (map item_of leaf.now.entries.items) at d
+fn position_of<const D: usize>(leaf: &NodeView<D>, id: u64, bounds: &BBox<D>) -> Option<usize>
+    ensures within { IfSome result (λ at. at < length (content_in leaf.now).entries) }
+    ensures found { IfSome result (λ at. (d : Item) → slice_index_or (content_in leaf.now).entries at d
         ≡ record { bounds = bounds.now; reference = id }) }
-    ensures none { IsNone result → (at : ℕ) (d : Item) → at < array_vec_len leaf.now.entries
-        → ¬ (slice_index_or (map item_of leaf.now.entries.items) at d
-        ≡ record { bounds = bounds.now; reference = id }) }
+    ensures none { IfNone result ((at : ℕ) (d : Item) → at < length (content_in leaf.now).entries
+        → ¬ (slice_index_or (content_in leaf.now).entries at d ≡ record { bounds = bounds.now; reference = id })) }
 {
-    'entries: for at in 0..leaf.entries.len() {
-        let entry = leaf.entries[at];
+    let _ = bounds.low();
+    let mask = leaf.mask(bounds);
+    let mut place = next_set(mask, 0);
+    'entries: while place < leaf.len() {
+        let entry = leaf.entry(place);
         if entry.reference == id && entry.bounds == *bounds {
-            return Some(at);
+            return Some(place);
         }
+        place = next_set(mask, place + 1);
     }
     None
 }
 
-// Takes the object out of the leaf: whether it was there. A leaf that lacks it stays as it is.
-pub(crate) fn take_here<const D: usize>(leaf: &mut Node<D>, id: u64, bounds: &BBox<D>) -> bool
-    requires spellable { IsSpellable (content_of leaf.old) }
-    ensures cut { result ≡ true → IsCut leaf.old.level (content_of leaf.new) }
-    ensures taken { result ≡ true → IsTakenFrom id bounds.now (map item_of leaf.old.entries.items)
-        (map item_of leaf.new.entries.items) }
-    ensures none { result ≡ false → (at : ℕ) (d : Item) → at < array_vec_len leaf.old.entries
-        → ¬ (slice_index_or (map item_of leaf.old.entries.items) at d
-        ≡ record { bounds = bounds.now; reference = id }) }
-    ensures same { result ≡ false → leaf.new ≡ leaf.old }
+// Takes the object out of the leaf at a page: whether it was there. `node` is then what the leaf has become, not yet
+// written. A leaf that lacks the object is not decoded.
+pub(crate) fn take_here<const D: usize, B: BlockDevice, A: Allocator + Copy>(
+    cache: &mut PageCache<B, A>,
+    page: u32,
+    id: u64,
+    bounds: &BBox<D>,
+    node: &mut Node<D>,
+) -> Result<bool, Fault>
+    requires dims { IsDims D }
+    ensures asks { Asks cache.old cache.new result }
+    ensures cut { IfOk result (λ found. found ≡ true → IsCut 0 (content_of node.new)) }
+    ensures taken { IsHonest cache.old → (c : NodeContent) → node_in D (pages cache.old page) ≡ Some c
+        → IfOk result (λ found. found ≡ true
+        → IsTakenFrom id bounds.now c.entries (map item_of node.new.entries.items)) }
+    ensures none { IsHonest cache.old → (c : NodeContent) → node_in D (pages cache.old page) ≡ Some c
+        → IfOk result (λ found. found ≡ false → (at : ℕ) (d : Item) → at < length c.entries
+        → ¬ (slice_index_or c.entries at d ≡ record { bounds = bounds.now; reference = id })) }
+    ensures there { IsHonest cache.old → (c : NodeContent) → node_in D (pages cache.old page) ≡ Some c
+        → c.level ≡ 0 → IfErr result IsOfDevice }
+    ensures other_faults { IfErr result (λ f. IsOfDevice f ⊎ IsDamage f) }
 {
-    match position_of(leaf, id, bounds) {
-        None => false,
-        Some(place) => {
-            leaf.entries.remove(place);
-            true
-        }
-    }
+    let leaf = view_node::<D, B, A>(cache, page, 0)?;
+    let Some(place) = position_of(&leaf, id, bounds) else {
+        return Ok(false);
+    };
+    leaf.decode_into(node);
+    node.entries.remove(place);
+    Ok(true)
 }

@@ -8,6 +8,7 @@ mod free;
 mod kept;
 pub mod laws;
 mod leaf;
+mod look;
 mod lower;
 mod put;
 mod removal;

@@ -36,9 +36,9 @@ fn least_entries(m_max: usize) -> usize
     (2 * m_max / 5).max(2)
 }
 
-// Puts a child of this node back, of which the object was taken: one of too few entries leaves, else it is written where
-// it is not settled. `settled` tells whether the page of the child has it as it is, and then whether the node is as it
-// was.
+// Puts a child of this node back, of which the object was taken: one of too few entries leaves, else it is written
+// where it is not settled. `settled` tells whether the page of the child has it as it is, and then whether the node is
+// as it was.
 pub(crate) fn put_child<const D: usize, B: BlockDevice, A: Allocator + Copy>(
     cache: &mut PageCache<B, A>,
     node: &mut Node<D>,

@@ -17,18 +17,20 @@ ghost use Rattle.condense.specs.Taken.{HasTaken, IsCut, LeadsTo, held_now, tree_
 use crate::children::child_of;
 use crate::kept::Kept;
 use crate::leaf::take_here;
+use crate::look::read_enclosing;
 use crate::put::put_child;
 use arrayvec::ArrayVec;
 use block_device::BlockDevice;
 use box_math::BBox;
-use node_page::{Broken, read_into};
+use node_page::Broken;
 use page_cache::PageCache;
 use std::alloc::Allocator;
 use tree_node::{Node, Root};
 
 // Takes the object out of the first leaf below this node that has it, and to which boxes lead that enclose its box, and
 // condenses the nodes between: whether there was one. `node` is then what this node has become, not yet written, and
-// `settled` tells whether its page has it as it is. Where no such leaf has the object, nothing is written.
+// `settled` tells whether its page has it as it is. Where no such leaf has the object, nothing is written. Pages are
+// viewed, and only those decoded that have the object or a child where it may be.
 pub(crate) fn take_out<const D: usize, B: BlockDevice, A: Allocator + Copy>(
     cache: &mut PageCache<B, A>,
     at: Root,
@@ -64,16 +66,18 @@ pub(crate) fn take_out<const D: usize, B: BlockDevice, A: Allocator + Copy>(
         → IfErr result (λ b. IsOfDevice b.cause) }
     ensures other_faults { IfErr result (λ b. IsOfDevice b.cause ⊎ IsDamage b.cause) }
 {
-    read_into(cache, at.page, at.level, node)?;
     if at.level == 0 {
         *settled = false;
-        return Ok(take_here(node, id, bounds));
+        return Ok(take_here(cache, at.page, id, bounds, node)?);
     }
+    let Some(first) = read_enclosing(cache, at, bounds, node)? else {
+        return Ok(false);
+    };
     let mut lower = Node {
         level: 0,
         entries: ArrayVec::new(),
     };
-    'children: for place in 0..node.entries.len() {
+    'children: for place in first..node.entries.len() {
         if !node.entries[place].bounds.encloses(bounds) {
             continue;
         }

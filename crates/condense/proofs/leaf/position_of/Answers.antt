@@ -1,34 +1,42 @@
 -- The goals of `position_of` that are proved by hand.
-use Rattle.std.proofs.Common.{◌≡◌, ◌∙◌, ap, sym, arith, get_or, map}
+use Rattle.std.proofs.Common.{◌≡◌, ◌∙◌, ap, sym, arith, get_or, length, List, ◌<◌}
 use Rattle.std.specs.Cmp.Rules.{signed_items}
 use Rattle.std.proofs.lemmas.Bool.{true≢false}
 use Rattle.std.proofs.lemmas.Bool.Decides.{Decides-and}
 use Rattle.box_math.specs.Bounds.{Bounds}
 use Rattle.tree_node.specs.Nodes.{Item, item_of}
-use Rattle.condense.proofs.CutLemmas.{found_here, is_here, none_more, same_box}
+use Rattle.node_page.specs.Views.{content_in}
+use Rattle.condense.proofs.CutLemmas.{same_box}
+use Rattle.condense.proofs.HoldLemmas.{found_at, is_at, unset_is_not, up_to}
 use Rattle.condense.proofs.leaf.position_of.Goals.{else-entry-id-via-then-entry-id+else-eq, else-entry-id-via-else-entry-id}
 use Rattle.condense.proofs.leaf.position_of.Goals as goal
 
+pub entries-init : goal.entries-init
+entries-init g c = λ k below d lt.
+    unset_is_not g.row.D (content_in c.args.leaf.now).entries c.args.bounds.now c.args.id c.mask-mask.result k d c.low.ensures.is_box c.mask-mask.ensures.met (c.next_set-place.ensures.unset k (omega arith) below) lt
+
 pub returns-then-eq-clause-found : goal.returns-then-eq-clause-found
 returns-then-eq-clause-found g c = λ d.
-    let e = c.index-deref-at.result in
+    let e = c.entry-entry.result in
     let b : Bounds = c.args.bounds.now in
     let both = (Decides-and _ _ (signed_items e.bounds.low b.low) (signed_items e.bounds.high b.high)).0 (sym c.if-eq.ensures) in
-    found_here c.args.leaf.now.entries.items c.deref.result.now c.entries.at e b c.args.id d (omega (arith, c.entries-test.true, c.len-at-end.ensures.value)) c.deref.ensures.0 c.index-deref-at.is c.if-entry-id.true
+    found_at (content_in c.args.leaf.now).entries c.entries.place (item_of e) b c.args.id d (omega (arith, c.entries-test.true, c.len.ensures.count)) c.entry-entry.ensures c.if-entry-id.true
     (same_box e.bounds b both.0 both.1)
 
 pub entries-preserved : goal.entries-preserved
 entries-preserved g c =
-    let e = c.index-deref-at.result in
+    let e = c.entry-entry.result in
     let b : Bounds = c.args.bounds.now in
-    let entries = c.args.leaf.now.entries.items in
-    let here : (d : Item) → get_or (map item_of entries) c.entries.at d ≡ record { bounds = b; reference = c.args.id } → (e.reference ≡ c.args.id) × (e.bounds ≡ b) = λ d is.
-    is_here entries c.deref.result.now c.entries.at e b c.args.id d (omega (arith, c.entries-test.true, c.len-at-end.ensures.value)) c.deref.ensures.0 c.index-deref-at.is is in
-    none_more (map item_of entries) c.entries.at (record { bounds = b; reference = c.args.id }) c.entries.invariant
+    let items : List Item = (content_in c.args.leaf.now).entries in
+    let place = c.entries.place in
+    let here : (d : Item) → place < length items → get_or items place d ≡ record { bounds = b; reference = c.args.id } → (e.reference ≡ c.args.id) × (e.bounds ≡ b) = λ d within is.
+    is_at items place (item_of e) b c.args.id d within c.entry-entry.ensures is in
+    up_to (λ k. (d : Item) → k < length items → ¬ (get_or items k d ≡ record { bounds = b; reference = c.args.id })) place c.next_set-place-in-entries.result c.entries.invariant
     (elim c.else-entry-id.branch [
-      | else-entry-id-via-then-entry-id+else-eq w ↦ λ d is.
-          let box = (here d is).1 in
+      | else-entry-id-via-then-entry-id+else-eq w ↦ λ d within is.
+          let box = (here d within is).1 in
           let both = (Decides-and _ _ (signed_items e.bounds.low b.low) (signed_items e.bounds.high b.high)).1 (ap (λ (x : Bounds). x.low) box, ap (λ (x : Bounds). x.high) box) in
           absurd (true≢false (sym both ∙ sym w.if-eq.ensures))
-      | else-entry-id-via-else-entry-id w ↦ λ d is. absurd (w.if-entry-id.false (here d is).0)
+      | else-entry-id-via-else-entry-id w ↦ λ d within is. absurd (w.if-entry-id.false (here d within is).0)
     ])
+    (λ k up below d lt. unset_is_not g.row.D items b c.args.id c.mask-mask.result k d c.low.ensures.is_box c.mask-mask.ensures.met (c.next_set-place-in-entries.ensures.unset k up below) lt)

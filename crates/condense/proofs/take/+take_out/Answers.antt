@@ -1,5 +1,5 @@
 -- The goals of `take_out` that are proved by hand.
-use Rattle.std.proofs.Common.{Err, rules, ◌≡◌, ◌∙◌, ◌+◌, ◌*◌, ◌-◌, ◌<◌, ◌≤◌, false, true, None, Some, length, map, refl, sym, ap, subst, arith}
+use Rattle.std.proofs.Common.{Err, IfSome, ℕ, rules, ◌≡◌, ◌∙◌, ◌+◌, ◌*◌, ◌-◌, ◌<◌, ◌≤◌, false, true, None, Some, length, map, refl, sym, ap, subst, arith}
 use Rattle.std.proofs.lemmas.Bool.{true≢false}
 use Rattle.arrayvec.specs.ArrayVec.{array_vec_len}
 use Rattle.page_file.specs.Fault.{IsDamage, IsOfDevice}
@@ -8,61 +8,60 @@ use Rattle.page_cache.specs.Calls.{asks_changes, asks_in_turn, changes_in_turn}
 use Rattle.page_cache.specs.Laws.{the_map_is_kept_in_turn}
 use Rattle.std.specs.Prelude.{◌⊎◌}
 use Rattle.box_math.specs.Bounds.{Within}
+use Rattle.tree_node.specs.Boxes.{box_at}
 use Rattle.tree_node.specs.declared.node.Entry.{Entry}
 use Rattle.tree_node.specs.declared.node.Node.{Node}
 use Rattle.tree_node.specs.Nodes.{content_of, item_of}
 use Rattle.tree_node.specs.Trees.{row_items}
-use Rattle.node_page.specs.Broken.{alters_so, before, changes_and_breaks, made_alters}
+use Rattle.node_page.specs.Layout.{IsSpellable}
+use Rattle.node_page.specs.Broken.{alters_so, changes_and_breaks, made_alters}
 use Rattle.node_page.specs.declared.broken.Broken.{Broken}
-use Rattle.node_page.specs.Standing.{PageMap, Stands}
+use Rattle.node_page.specs.Standing.{PageMap, Stands, node_in}
 use Rattle.node_page.proofs.StandingLemmas.{page_of_node}
-use Rattle.reinsert.proofs.BrokenLemmas.{at_broken}
+use Rattle.reinsert.proofs.BrokenLemmas.{at_broken, at_none}
 use Rattle.condense.specs.Taken.{HasTaken, IsCut, held_now, orphan_held}
-use Rattle.condense.proofs.BelowLemmas.{settled_child, below_contained, found_leaf, is_below, later_than, nothing_later, passed_by, taken_here, took_below}
+use Rattle.condense.proofs.BelowLemmas.{settled_child, below_contained, found_leaf, is_below, later_than, none_leads, nothing_later, passed_by, passed_to, taken_here, took_below}
 use Rattle.condense.proofs.LeadLemmas.{takes_contained}
 use Rattle.condense.proofs.TakeLemmas.{settled_still}
 use Rattle.condense.proofs.take.+take_out.Goals as goal
 
-pub returns-in_err-read_into-clause-alters : goal.returns-in_err-read_into-clause-alters
-returns-in_err-read_into-clause-alters g t c =
-    alters_so c.args.cache.now c.read_into.new.cache (before c.in_err-read_into.field-0.0) c.from_residual.result c.from_residual.ensures.1
-    (asks_changes c.args.cache.now c.read_into.new.cache (Some c.in_err-read_into.field-0.0) c.in_err-read_into.ensures.asks) (λ untouched. c.in_err-read_into.ensures.asks.map)
-
-pub returns-in_err-read_into-clause-faults : goal.returns-in_err-read_into-clause-faults
-returns-in_err-read_into-clause-faults g t c = λ h row stands.
-    at_broken c.from_residual.result (before c.in_err-read_into.field-0.0) (λ (b : Broken). IsOfDevice b.cause) c.from_residual.ensures.1
-    (c.in_err-read_into.ensures.there h.honest (record { level = c.args.at.level; entries = row_items row }) stands.root refl)
-
-pub returns-in_err-read_into-clause-other_faults : goal.returns-in_err-read_into-clause-other_faults
-returns-in_err-read_into-clause-other_faults g t c =
-    at_broken c.from_residual.result (before c.in_err-read_into.field-0.0) (λ (b : Broken). IsOfDevice b.cause ⊎ IsDamage b.cause) c.from_residual.ensures.1 c.in_err-read_into.ensures.other_faults
-
 pub returns-then-at-eq0-clause-cut : goal.returns-then-at-eq0-clause-cut
-returns-then-at-eq0-clause-cut g t c = λ yes.
-    subst (λ l. IsCut l (content_of c.take_here.new.leaf)) c.in_ok-read_into.ensures.level (c.take_here.ensures.cut yes)
+returns-then-at-eq0-clause-cut g t c = λ yes. subst (λ l. IsCut l (content_of c.take_here.new.node)) (sym c.if-at-eq0.true) (c.in_ok-take_here.ensures.cut yes)
 
 pub returns-then-at-eq0-clause-taken : goal.returns-then-at-eq0-clause-taken
 returns-then-at-eq0-clause-taken g t c = λ h row stands yes. (
-  c.in_ok-read_into.ensures.asks.map.sound.0 h,
-  taken_here c.args.m_max (pages c.args.cache.now) (pages c.read_into.new.cache) c.args.at c.args.id c.args.bounds.now row (held_now c.args.kept.now)
-      c.read_into.new.node.level c.read_into.new.node.entries.items (map (item_of {D = g.row.D}) c.take_here.new.leaf.entries.items) c.if-at-eq0.true stands (c.in_ok-read_into.ensures.asks.map.pages_stay h.honest) (c.in_ok-read_into.ensures.node h.honest) (c.take_here.ensures.taken yes),
+  c.in_ok-take_here.ensures.asks.map.sound.0 h,
+  taken_here c.args.m_max (pages c.args.cache.now) (pages c.take_here.new.cache) c.args.at c.args.id c.args.bounds.now row (held_now c.args.kept.now)
+      (map (item_of {D = g.row.D}) c.take_here.new.node.entries.items) c.if-at-eq0.true stands (c.in_ok-take_here.ensures.asks.map.pages_stay h.honest)
+      (c.in_ok-take_here.ensures.taken h.honest (record { level = c.args.at.level; entries = row_items row }) stands.root yes),
 )
 
 pub returns-then-at-eq0-clause-found : goal.returns-then-at-eq0-clause-found
 returns-then-at-eq0-clause-found g t c = λ h row stands leads.
-    found_leaf c.args.m_max (pages c.args.cache.now) c.args.at c.args.id c.args.bounds.now row c.read_into.new.node.level c.read_into.new.node.entries.items c.if-at-eq0.true stands
-    (c.in_ok-read_into.ensures.node h.honest) c.take_here.result c.take_here.ensures.none leads
+    found_leaf c.args.m_max (pages c.args.cache.now) c.args.at c.args.id c.args.bounds.now row c.if-at-eq0.true stands c.in_ok-take_here.field-0
+    (c.in_ok-take_here.ensures.none h.honest (record { level = c.args.at.level; entries = row_items row }) stands.root) leads
+
+pub returns-in_default-clause-found : goal.returns-in_default-clause-found
+returns-in_default-clause-found g t c = λ h row stands leads.
+    absurd (none_leads c.args.m_max (pages c.args.cache.now) c.args.at row c.args.id c.args.bounds.now stands c.if-at-eq0.false
+    (at_none c.in_ok-first.field-0 _ (c.in_ok-first.ensures.none h.honest (record { level = c.args.at.level; entries = row_items row }) stands.root) c.in_default.not-Some) leads)
 
 pub children-init : goal.children-init
-children-init g t c = (
-  c.in_ok-read_into.ensures.asks,
-  refl,
-  λ h row stands leads. leads,
-  c.in_ok-read_into.ensures.level,
-  c.in_ok-read_into.ensures.spellable,
-  c.in_ok-read_into.ensures.node,
-  refl,
-)
+children-init g t c =
+    let D = g.row.D in
+    let now = c.read_enclosing.new.node in
+    let m : PageMap = pages c.args.cache.now in (
+      c.in_ok-first.ensures.asks,
+      refl,
+      λ h row stands leads.
+          passed_to c.args.m_max m c.args.at row c.in-Some.first c.args.id c.args.bounds.now stands c.if-at-eq0.false
+          (subst (λ o. IfSome o (λ first. (k : ℕ) → k < first → k < length (row_items row) → ¬ Within D c.args.bounds.now (box_at (row_items row) k))) c.in-Some.is
+          (c.in_ok-first.ensures.before h.honest (record { level = c.args.at.level; entries = row_items row }) stands.root)) leads,
+      subst (λ o. IfSome o (λ _. now.level ≡ c.args.at.level)) c.in-Some.is c.in_ok-first.ensures.level,
+      subst (λ o. IfSome o (λ _. IsSpellable (content_of now))) c.in-Some.is c.in_ok-first.ensures.spellable,
+      λ h live. subst (λ o. IfSome o (λ _. node_in D (m c.args.at.page) ≡ Some (content_of now))) c.in-Some.is (c.in_ok-first.ensures.node h live),
+      refl,
+    )
 
 pub bounds-deref-place : goal.bounds-deref-place
 bounds-deref-place g t c =
