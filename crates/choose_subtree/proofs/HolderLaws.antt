@@ -1,4 +1,4 @@
--- An entry with an area grows where it does not hold the new box already; and the least of those that hold it.
+-- An entry with an area grows where it does not hold the new box already; and the child that is chosen where some does.
 use Rattle.std.proofs.Common.{IfNone, IfSome, List, ◌≡◌, ◌≢◌, ℕ, zero, suc, ◌+◌, ◌*◌, ◌<◌, ◌≤◌, ◌⊎◌, ◌∷◌, [], ℤ, ◌-ℤ◌, ◌<ℤ◌, ◌≤ℤ◌, length, unsigned_abs, Option, None, Some, arith, below_more, subst, sym, refl, ap, ◌∙◌, inl, inr}
 use Rattle.std.proofs.lemmas.Bool.{cases_Bool, cases_eq}
 use Rattle.std.proofs.lemmas.Int.{ints}
@@ -63,55 +63,6 @@ pub holder_stays : (dims : ℕ) (a new : Bounds) → IsBox dims a → Within dim
 holder_stays dims a new box inside =
     let stays : join_of dims a new ≡ a = join_of-commutes dims a new ∙ join_of-enclosing dims new a box inside in
     rw stays (omega arith)
-
--- of the first n entries this is the least of those that do not grow, if there are some
-abbrev pub IsLeastHolder : ℕ → List Item → Bounds → ℕ → ℕ → Option Key → Type 0
-IsLeastHolder dims items new count n None = (j : ℕ) → j < n → 0 < growth_of dims (box_at items j) new
-IsLeastHolder dims items new count n (Some key) = IsBest (numbers_with 0 dims items new) count n (numbers_of key) key.position × (key.overlap ≡ 0) × (key.growth ≡ 0)
-
--- one more entry, which grows
-pub holder_passes : (dims : ℕ) (items : List Item) (new : Bounds) (count n : ℕ) (least : Option Key) → 0 < growth_of dims (box_at items n) new
-    → IsLeastHolder dims items new count n least → IsLeastHolder dims items new count (n + 1) least
-holder_passes dims items new count n None grows h = below_more (λ j. 0 < growth_of dims (box_at items j) new) n h grows
-holder_passes dims items new count n (Some key) grows h =
-    (best_keeps (numbers_with 0 dims items new) count n (numbers_of key) key.position h.0 (omega (arith, h.1), λ _. (omega (arith, h.2), λ e. absurd (omega (arith, h.2, e, grows)))), h.1, h.2)
-
--- the key of the code for an entry that does not grow
-abbrev held : ℕ → ℕ → Key
-held area n = record { overlap = 0; growth = 0; area = area; position = n }
-
--- one more entry, which does not grow
-pub holder_takes : (dims : ℕ) (items : List Item) (new : Bounds) (count n area : ℕ) (least : Option Key) (lesser : Key) → n < count
-    → area ≡ volume_of dims (box_at items n) → growth_of dims (box_at items n) new ≡ 0
-    → IfNone least (lesser ≡ held area n)
-    → IfSome least (λ best. ((lesser ≡ best) × AtMost (numbers_of best) (numbers_of (held area n))) ⊎ ((lesser ≡ held area n) × (AtMost (numbers_of best) (numbers_of (held area n)) → ⊥)))
-    → IsLeastHolder dims items new count n least → IsLeastHolder dims items new count (n + 1) (Some lesser)
-holder_takes dims items new count n area least lesser within is stays = go least
-  where
-    key : ℕ → List ℕ
-    key = numbers_with 0 dims items new
-
-    same : numbers_of (held area n) ≡ key n
-    same = ap (λ x. 0 ∷ x ∷ area ∷ n ∷ []) (sym stays) ∙ ap (λ x. 0 ∷ growth_of dims (box_at items n) new ∷ x ∷ n ∷ []) is
-
-    Holds : Key → Type 0
-    Holds k = IsBest key count (n + 1) (numbers_of k) k.position × (k.overlap ≡ 0) × (k.growth ≡ 0)
-
-    go : (least : Option Key) → IfNone least (lesser ≡ held area n)
-        → IfSome least (λ best. ((lesser ≡ best) × AtMost (numbers_of best) (numbers_of (held area n))) ⊎ ((lesser ≡ held area n) × (AtMost (numbers_of best) (numbers_of (held area n)) → ⊥)))
-        → IsLeastHolder dims items new count n least → Holds lesser
-    go None alone both h =
-        let first : IsBest key count (n + 1) (numbers_of (held area n)) n = record {
-          within = within;
-          is = same;
-          least = below_more (λ j. AtMost (numbers_of (held area n)) (key j)) n (λ j l. (omega arith, λ _. (omega arith, λ e. absurd (omega (arith, e, h j l))))) (subst (AtMost (numbers_of (held area n))) same (AtMost-itself (numbers_of (held area n))));
-        } in
-        subst Holds (sym alone) (first, refl, refl)
-    go (Some best) alone both h =
-        elim both [
-          | inl b ↦ subst Holds (sym b.0) (best_keeps key count n (numbers_of best) best.position h.0 (subst (AtMost (numbers_of best)) same b.1), h.1, h.2)
-          | inr b ↦ subst Holds (sym b.0) (best_takes key count n (numbers_of best) best.position (numbers_of (held area n)) h.0 within same refl b.1, refl, refl)
-        ]
 
 -- ---- the child that is chosen
 

@@ -1,43 +1,16 @@
 //! The choice among the children of a node.
 
-ghost use Rattle.std.specs.Prelude.{◌≡◌, ℕ, ◌<◌, ◌≤◌, length, IfSome};
+ghost use Rattle.std.specs.Prelude.{◌≡◌, ℕ, ◌<◌, ◌≤◌, length};
 ghost use Rattle.arrayvec.specs.ArrayVec.{array_vec_len};
 ghost use Rattle.box_math.specs.Bounds.{IsDims};
 ghost use Rattle.tree_node.specs.Nodes.{content_of, items_of};
 ghost use Rattle.tree_node.specs.Keys.{IsFirstLeast};
 ghost use Rattle.choose_subtree.specs.Choice.{area_key, overlap_key, IsChosenChild};
 
-use crate::key::{Key, at_most, key_of, lesser};
+use crate::key::{at_most, key_of};
 use crate::overlap::{overlap_growth_up_to, whole_overlap_growth};
 use box_math::BBox;
 use tree_node::{Entry, Node, box_of, see_boxes};
-
-// The first least of the entries that hold the box already, which is the answer: none of them grows, and each other one
-// does where it has an area. `None` where none holds it, or some other is flat, and may take it in and stay flat.
-fn least_holder<const D: usize>(entries: &[Entry<D>], new: &BBox<D>) -> Option<usize>
-    requires dims { IsDims D }
-    ensures { IfSome result (λ at. IsFirstLeast (length entries.now) (area_key D (items_of entries.now) new.now) at) }
-{
-    let mut least: Option<Key> = None;
-    for k in 0..entries.len() {
-        let bounds = box_of(entries, k);
-        let key = Key {
-            overlap: 0,
-            growth: 0,
-            area: bounds.volume(),
-            position: k,
-        };
-        if bounds.encloses(new) {
-            least = Some(lesser(least, key));
-        } else if key.area == 0 {
-            return None;
-        }
-    }
-    match least {
-        Some(key) => Some(key.position),
-        None => None,
-    }
-}
 
 // The first entry whose area grows least, and of those with equal growth the least.
 fn least_area<const D: usize>(entries: &[Entry<D>], new: &BBox<D>) -> usize
@@ -45,9 +18,6 @@ fn least_area<const D: usize>(entries: &[Entry<D>], new: &BBox<D>) -> usize
     requires some { 0 < length entries.now }
     ensures { IsFirstLeast (length entries.now) (area_key D (items_of entries.now) new.now) result }
 {
-    if let Some(at) = least_holder(entries, new) {
-        return at;
-    }
     let mut best = key_of(entries, new, 0, 0);
     for k in 1..entries.len() {
         let key = key_of(entries, new, k, 0);
@@ -74,6 +44,9 @@ fn least_overlap<const D: usize>(entries: &[Entry<D>], new: &BBox<D>) -> usize
     see_boxes(entries);
     let mut best = key_of(entries, new, first, overlap);
     for k in 0..entries.len() {
+        if k == first {
+            continue;
+        }
         if let Some(overlap) = overlap_growth_up_to(entries, new, k, first, best.overlap) {
             let key = key_of(entries, new, k, overlap);
             if !at_most(&best, &key) {

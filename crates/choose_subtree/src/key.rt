@@ -1,6 +1,6 @@
 //! What decides between the entries of a node.
 
-ghost use Rattle.std.specs.Prelude.{◌≡◌, ℕ, ◌^◌, ◌<◌, ◌↔◌, ◌⊎◌, List, length, IsTrue, IfNone, IfSome};
+ghost use Rattle.std.specs.Prelude.{◌≡◌, ℕ, ◌^◌, ◌<◌, ◌↔◌, List, length, IsTrue};
 ghost use Rattle.box_math.specs.Bounds.{IsDims};
 ghost use Rattle.box_math.specs.Measures.{volume_of};
 ghost use Rattle.tree_node.specs.Nodes.{items_of};
@@ -36,18 +36,6 @@ pub(crate) fn at_most(a: &Key, b: &Key) -> bool
     ensures { IsTrue result ↔ AtMost (numbers_of a.now) (numbers_of b.now) }
 {
     (a.overlap, a.growth, a.area, a.position) <= (b.overlap, b.growth, b.area, b.position)
-}
-
-/// The lesser of two keys, of which there may be one; the first where they are equal.
-pub(crate) fn lesser(first: Option<Key>, second: Key) -> Key
-    ensures alone { IfNone first (result ≡ second) }
-    ensures both { IfSome first (λ key. ((result ≡ key) × AtMost (numbers_of key) (numbers_of second))
-        ⊎ ((result ≡ second) × (AtMost (numbers_of key) (numbers_of second) → ⊥))) }
-{
-    match first {
-        Some(key) if at_most(&key, &second) => key,
-        _ => second,
-    }
 }
 
 /// The key of an entry, the growth of its overlap being known.
