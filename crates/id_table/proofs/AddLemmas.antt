@@ -4,7 +4,6 @@ use Rattle.std.proofs.lemmas.Bool.{cases_eq}
 use Rattle.std.proofs.lemmas.Bool.Decides.{nat_tests}
 use Rattle.std.proofs.lemmas.List.Elements.{All-cons, All-head, All-tail}
 use Rattle.std.specs.FinMap as map
-use Rattle.std.specs.Ordering.{eq_by_cmp, nat_cmp}
 use Rattle.box_math.specs.Bounds.{Bounds}
 use Rattle.node_page.specs.Standing.{PageMap}
 use Rattle.id_table.specs.Table.{Bucket, ChainStands, IdTable, IdsStand, Object, box_in, chain_at, class_of, entries_in, link_at, objects_of, occurs_in_chain, occurs_in_ids, times_in}
@@ -38,9 +37,6 @@ none_times q (x ∷ xs) none = step (eqb x.0 q) (box_in q xs) (times_in q xs) (n
     step : (b : Bool) (there : Option Bounds) (n : ℕ) → (there ≡ None → n ≡ 0) → cond b (Some x.1) there ≡ None → (cond b 1 0) + n ≡ 0
     step true there n later e = absurd (cc)
     step false there n later e = omega (arith, later e)
-
-pub same_key : (q k : ℕ) → eq_by_cmp nat_cmp q k ≡ eqb k q
-same_key q k = grind (arith, nat_tests)
 
 -- an object that the table does not have is not in its chain
 pub not_in_chain : (dims : ℕ) (pages : PageMap) (t : IdTable) (id : ℕ) → IdsStand dims pages t → map.contains_key (objects_of t) id ≡ false → box_in id (entries_in (chain_at t (class_of id))) ≡ None

@@ -14,6 +14,8 @@ pub mod AddLemmas
 pub mod ManyLemmas
 pub mod StartLemmas
 pub mod RemoveLemmas
+pub mod HolderLemmas
+pub mod UpdateLemmas
 pub mod ShrinkLemmas
 pub mod PlaceLemmas
 pub mod ReachLemmas

@@ -15,9 +15,9 @@ use Rattle.node_page.specs.Standing.{PageMap}
 use Rattle.id_table.specs.Changes.{AreNew, Fills, with_all}
 use Rattle.id_table.specs.Pages.{BeginsFull, PutsBefore, first_class, with_more}
 use Rattle.id_table.specs.Table.{Bucket, ChainStands, IdTable, IdsStand, IsFilled, Object, box_in, bucket_in, chain_at, class_of, entries_in, entries_of, link_at, objects_of, occurs_in_chain, times_in}
-use Rattle.id_table.proofs.AddLemmas.{all_both, not_in_chain, one_more, replaced_before, same_key, single_more, times_more}
+use Rattle.id_table.proofs.AddLemmas.{all_both, not_in_chain, one_more, replaced_before, single_more, times_more}
 use Rattle.id_table.proofs.ReplaceLemmas.{Replaces, chain_stays, moves_with, other_chain, stands_with, this_chain, with_chain}
-use Rattle.id_table.proofs.TableLemmas.{chain_in_table, elsewhere, found_by_class, found_is, not_here, occurs_here}
+use Rattle.id_table.proofs.TableLemmas.{chain_in_table, elsewhere, found_by_class, found_is, not_here, occurs_here, same_key}
 
 -- the objects have this remainder
 abbrev pub AreOfClass : ℕ → List Object → Type 0

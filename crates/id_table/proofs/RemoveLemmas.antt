@@ -26,7 +26,7 @@ split_last es d some =
     let place = length es - 1 in
     (split_set es place d d (omega (arith, some))).0 ∙ ap (λ l. take place es ++ get_or es place d ∷ l) (drop_end es (suc place) (omega (arith, some)))
 
-none_in : (q : ℕ) (xs : List Object) → times_in q xs ≡ 0 → box_in q xs ≡ None
+pub none_in : (q : ℕ) (xs : List Object) → times_in q xs ≡ 0 → box_in q xs ≡ None
 none_in q [] none = refl
 none_in q (x ∷ xs) none = step (eqb x.0 q) (none_in q xs) none
   where
@@ -34,11 +34,11 @@ none_in q (x ∷ xs) none = step (eqb x.0 q) (none_in q xs) none
     step true later e = absurd (omega (arith, e))
     step false later e = later (omega (arith, e))
 
-all_less : (P : Object → Type 0) (x : Object) (xs ys : List Object) → All P (xs ++ x ∷ ys) → P x × All P (xs ++ ys)
+pub all_less : (P : Object → Type 0) (x : Object) (xs ys : List Object) → All P (xs ++ x ∷ ys) → P x × All P (xs ++ ys)
 all_less P x [] ys all = (All-head P x ys all, All-tail P x ys all)
 all_less P x (y ∷ xs) ys all = let r = all_less P x xs ys (All-tail P y (xs ++ x ∷ ys) all) in (r.0, All-cons P y (xs ++ ys) (All-head P y (xs ++ x ∷ ys) all) r.1)
 
-one_of : (a q : ℕ) → a ≡ q → ◌≡◌ {A = ℕ} (cond (eqb a q) 1 0) 1
+pub one_of : (a q : ℕ) → a ≡ q → ◌≡◌ {A = ℕ} (cond (eqb a q) 1 0) 1
 one_of a q is = grind (arith, nat_tests)
 
 other_than : (a q : ℕ) → ¬ (a ≡ q) → eqb a q ≡ false

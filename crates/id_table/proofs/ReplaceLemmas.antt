@@ -1,12 +1,15 @@
 -- One chain of a table replaced by another.
-use Rattle.std.proofs.Common.{◌≡◌, ◌∙◌, ℕ, ◌+◌, ◌<◌, ◌≤◌, cond, eqb, Some, None, List, [], ◌∷◌, length, set, sum_by, sym, ap, subst, ⊎_elim, arith}
+use Rattle.std.proofs.Common.{◌≡◌, ◌∙◌, ℕ, ◌+◌, ◌<◌, ◌≤◌, false, cond, eqb, Option, Some, None, List, [], ◌∷◌, length, set, sum_by, sym, ap, subst, ⊎_elim, arith}
 use Rattle.std.proofs.lemmas.Bool.{cases_eq}
+use Rattle.std.proofs.lemmas.Bool.Decides.{nat_tests}
 use Rattle.std.proofs.lemmas.List.{get_or-set_other, get_or-set_same, length-set}
 use Rattle.std.proofs.lemmas.List.Sums.{sum_by-set}
+use Rattle.std.specs.FinMap.{get}
+use Rattle.box_math.specs.Bounds.{Bounds}
 use Rattle.node_page.specs.Parts.{Moves}
 use Rattle.node_page.specs.Standing.{PageMap}
-use Rattle.id_table.specs.Table.{Bucket, ChainStands, IdTable, IdsStand, IsDirectory, IsFilled, bucket_in, chain_at, link_at, occurs_in_chain, occurs_in_ids, part_of}
-use Rattle.id_table.proofs.TableLemmas.{chain_in_table, occurs_here, table_there}
+use Rattle.id_table.specs.Table.{Bucket, ChainStands, IdTable, IdsStand, IsDirectory, IsFilled, box_in, bucket_in, chain_at, class_of, entries_in, link_at, objects_of, occurs_in_chain, occurs_in_ids, part_of}
+use Rattle.id_table.proofs.TableLemmas.{chain_in_table, found_by_class, occurs_here, table_there}
 
 -- the table with another chain for a remainder
 abbrev pub with_chain : IdTable → ℕ → List Bucket → IdTable
@@ -111,3 +114,28 @@ module _ (dims : ℕ) (old new : PageMap) (t : IdTable) (class : ℕ) (chain : L
         (λ (there : ¬ (occurs_in_chain n (chain_at t class) ≡ 0)). r.went n (omega (arith, there)) (⊎_elim (λ (e : occurs_in_chain n chain ≡ 0). e) (λ (kept : ¬ (occurs_in_chain n chain ≡ 0)). let part = chain_in_table n class t here in absurd (omega (arith, kept, none, part, count_with t class chain here n, stands.once n, there))) (cases_eq (occurs_in_chain n chain) 0)))
         (cases_eq (occurs_in_chain n (chain_at t class)) 0);
   }
+
+-- ---- what it has, where its chain has another box for one identifier, or none, and is otherwise as before
+
+pub found_with : (dims : ℕ) (old new : PageMap) (t : IdTable) (id : ℕ) (chain : List Bucket) (now : Option Bounds) → IdsStand dims old t → IdsStand dims new (with_chain t (class_of id) chain)
+    → ((q : ℕ) → box_in q (entries_in chain) ≡ cond (eqb id q) now (box_in q (entries_in (chain_at t (class_of id)))))
+    → (q : ℕ) → get (objects_of (with_chain t (class_of id) chain)) q ≡ cond (eqb id q) now (get (objects_of t) q)
+found_with dims old new t id chain now stands after other q =
+    found_by_class (with_chain t (class_of id) chain) q after.whole after.filled ∙ in_its_chain (omega (arith, stands.whole))
+    ∙ ap (λ o. cond (eqb id q) now o) (sym (found_by_class t q stands.whole stands.filled))
+  where
+    other_key : ¬ (class_of q ≡ class_of id) → eqb id q ≡ false
+    other_key differ = ⊎_elim (λ (is : id ≡ q). absurd (differ (ap class_of (sym is)))) (λ (no : ¬ (id ≡ q)). is_no id q no) (cases_eq id q)
+      where
+        is_no : (a b : ℕ) → ¬ (a ≡ b) → eqb a b ≡ false
+        is_no a b h = grind (arith, nat_tests)
+
+    in_its_chain : class_of id < length t.chains → box_in q (entries_in (chain_at (with_chain t (class_of id) chain) (class_of q))) ≡ cond (eqb id q) now (box_in q (entries_in (chain_at t (class_of q))))
+    in_its_chain within = ⊎_elim
+        (λ (is : class_of q ≡ class_of id).
+        ap (λ k. box_in q (entries_in (chain_at (with_chain t (class_of id) chain) k))) is ∙ ap (λ c. box_in q (entries_in c)) (this_chain t (class_of id) chain within)
+        ∙ other q ∙ ap (λ k. cond (eqb id q) now (box_in q (entries_in (chain_at t k)))) (sym is))
+        (λ (differ : ¬ (class_of q ≡ class_of id)).
+        ap (λ c. box_in q (entries_in c)) (other_chain t (class_of id) chain within (class_of q) differ)
+        ∙ ap (λ b. cond b now (box_in q (entries_in (chain_at t (class_of q))))) (sym (other_key differ)))
+        (cases_eq (class_of q) (class_of id))

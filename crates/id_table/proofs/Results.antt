@@ -1,6 +1,6 @@
 -- Answers of calls, and of the changes that they make.
 use Rattle.std.proofs.Common.{◌≡◌, None, true, false, sym, ap, subst}
-use Rattle.std.specs.Prelude.{Result, Ok, Err, IfErr, IfOk, IsErrAnd, OnOk}
+use Rattle.std.specs.Prelude.{Result, Ok, Err, IfErr, IfOk, IsErrAnd, OnErr, OnOk}
 use Rattle.page_file.specs.declared.fault.Fault.{Fault}
 use Rattle.page_cache.specs.Calls.{AsksUntil, Changes, ChangesUntil, changes_in_turn, fault_in}
 use Rattle.page_cache.specs.declared.cache.PageCache.{PageCache}
@@ -12,6 +12,10 @@ use Rattle.id_table.specs.Faults.{broken_of}
 pub ok_of : {T E Q : Type 0} {P : T → Type 0} (r : Result T E) → IfOk r P → ((x : T) → P x → Q) → OnOk r Q
 ok_of (Ok x) p f = f x p
 ok_of (Err e) p f = tt
+
+pub on_err : {T E X Y : Type 0} (r : Result T E) → (X → Y) → OnErr r X → OnErr r Y
+on_err (Ok x) f h = tt
+on_err (Err e) f h = f h
 
 -- a change refused by a call before it began
 pub refused_before : {T : Type 0} (r : Result T Broken) (f : Fault) (P : Fault → Type 0) → IsErrAnd r (λ e. e ≡ before f) → P f → IfErr r (λ b. P b.cause)

@@ -8,7 +8,7 @@ use Rattle.std.proofs.lemmas.List.Concat.{flat_map-append}
 use Rattle.std.proofs.lemmas.List.Elements.{All-cons, All-head, All-tail}
 use Rattle.std.specs.FinMap as map
 use Rattle.std.specs.FinMap.{get-remove, nat_cmp-IsAntisymmetric, same_map}
-use Rattle.std.specs.Ordering.{eq_by_cmp, nat_cmp}
+use Rattle.std.specs.Ordering.{nat_cmp}
 use Rattle.bucket_page.specs.Layout.{BucketContent, popped, replaced}
 use Rattle.page_file.specs.Pages.{SameBut}
 use Rattle.bucket_page.proofs.Reading.{count_of_bucket, spells}
@@ -17,54 +17,33 @@ use Rattle.id_table.specs.Changes.{Removes}
 use Rattle.id_table.specs.Pages.{HasAt, IsInChain, Shrinks, Shortens, Unlinks}
 use Rattle.id_table.specs.Table.{Bucket, ChainStands, IdTable, IdsStand, IsFilled, Object, box_in, bucket_in, chain_at, class_of, entries_in, link_at, objects_of, occurs_in_chain, times_in}
 use Rattle.id_table.proofs.BucketLemmas.{some_object}
-use Rattle.id_table.proofs.PlaceLemmas.{here_at, occurs-append}
+use Rattle.id_table.proofs.HolderLemmas.{PutsAt, full_changed, puts_in_chain, regroup}
+use Rattle.id_table.proofs.PlaceLemmas.{here_at, holder_there, occurs-append}
 use Rattle.id_table.proofs.RemoveLemmas.{Takes, split_last, split_set, taken_box, taken_placed, taken_single}
-use Rattle.id_table.proofs.ReplaceLemmas.{Replaces, chain_stays, moves_with, other_chain, stands_with, this_chain, with_chain}
-use Rattle.id_table.proofs.TableLemmas.{chain_in_table, found_by_class, not_there, occurs_here}
+use Rattle.id_table.proofs.ReplaceLemmas.{Replaces, chain_stays, found_with, moves_with, stands_with, with_chain}
+use Rattle.id_table.proofs.TableLemmas.{chain_in_table, not_there, occurs_here, same_key}
 
 is_full : Bucket → Type 0
 is_full b = length b.entries ≡ 100
-
-same_key : (q k : ℕ) → eq_by_cmp nat_cmp q k ≡ eqb k q
-same_key q k = grind (arith, nat_tests)
 
 -- the table with a chain that lost an object
 pub removes : (dims : ℕ) (old new : PageMap) (t : IdTable) (id : ℕ) (chain : List Bucket) → (stands : IdsStand dims old t) → Replaces dims old new t stands.directory (class_of id) chain
     → ((q : ℕ) → box_in q (entries_in chain) ≡ cond (eqb id q) None (box_in q (entries_in (chain_at t (class_of id))))) → Removes dims old new t id
 removes dims old new t id chain stands r less =
     let small : class_of id < 1000 = omega arith in
-    let within : class_of id < length t.chains = omega (arith, small, stands.whole) in
     let after = stands_with dims old new t (class_of id) chain small stands r in
     record {
       table = with_chain t (class_of id) chain;
       page = refl;
       stands = after;
       objects = same_map nat_cmp_total nat_cmp-IsAntisymmetric (objects_of (with_chain t (class_of id) chain)) (map.remove (objects_of t) id) (λ q.
-          let now = found_by_class (with_chain t (class_of id) chain) q after.whole after.filled in
-          let was = found_by_class t q stands.whole stands.filled in
-          now ∙ each within q ∙ ap (λ o. cond (eqb id q) None o) (sym was)
+          found_with dims old new t id chain None stands after less q
           ∙ ap (λ b. cond b None (map.get (objects_of t) q)) (sym (same_key q id)) ∙ sym (get-remove nat_cmp_total (objects_of t) id q));
       moves = moves_with dims old new t (class_of id) chain small stands r;
     }
-  where
-    other_key : (id q : ℕ) → ¬ (class_of q ≡ class_of id) → eqb id q ≡ false
-    other_key id q differ = ⊎_elim (λ (is : id ≡ q). absurd (differ (ap class_of (sym is)))) (λ (no : ¬ (id ≡ q)). is_no id q no) (cases_eq id q)
-      where
-        is_no : (a b : ℕ) → ¬ (a ≡ b) → eqb a b ≡ false
-        is_no a b h = grind (arith, nat_tests)
 
-    each : class_of id < length t.chains → (q : ℕ) → box_in q (entries_in (chain_at (with_chain t (class_of id) chain) (class_of q))) ≡ cond (eqb id q) None (box_in q (entries_in (chain_at t (class_of q))))
-    each within q = ⊎_elim
-        (λ (is : class_of q ≡ class_of id).
-        ap (λ k. box_in q (entries_in (chain_at (with_chain t (class_of id) chain) k))) is ∙ ap (λ c. box_in q (entries_in c)) (this_chain t (class_of id) chain within)
-        ∙ less q ∙ ap (λ k. cond (eqb id q) None (box_in q (entries_in (chain_at t k)))) (sym is))
-        (λ (differ : ¬ (class_of q ≡ class_of id)).
-        ap (λ c. box_in q (entries_in c)) (other_chain t (class_of id) chain within (class_of q) differ)
-        ∙ ap (λ b. cond b None (box_in q (entries_in (chain_at t (class_of q))))) (sym (other_key id q differ)))
-        (cases_eq (class_of q) (class_of id))
-
--- A chain whose first bucket lost its last object: the buckets after it are on the same pages, and stand in the map
--- between.
+-- A chain whose first bucket is to lose its last object: the buckets after it are on the same pages, and stand in the
+-- map between.
 pub record Shrunk (dims : ℕ) (old mid : PageMap) (t : IdTable) (class first : ℕ) (c : BucketContent) : Type 0 where
   pub head : Bucket
   pub tail : List Bucket
@@ -74,7 +53,7 @@ pub record Shrunk (dims : ℕ) (old mid : PageMap) (t : IdTable) (class first : 
   pub low : 2 < first
   pub next : ChainStands dims mid c.next tail_now
   pub same_pages : (n : ℕ) → occurs_in_chain n tail_now ≡ occurs_in_chain n tail
-  pub outside : (n : ℕ) → occurs_in_chain n tail ≡ 0 → mid n ≡ old n
+  pub outside : (n : ℕ) → ¬ (n ≡ first) → occurs_in_chain n tail ≡ 0 → mid n ≡ old n
 
 module _ (dims : ℕ) (old mid new : PageMap) (t : IdTable) (class first : ℕ) (c : BucketContent) (stands : IdsStand dims old t) (small : class < 1000) (link : first ≡ link_at class stands.directory) (s : Shrunk dims old mid t class first c) where
   within : class < length t.chains
@@ -92,23 +71,25 @@ module _ (dims : ℕ) (old mid new : PageMap) (t : IdTable) (class first : ℕ) 
   off_directory : (n : ℕ) → 0 < occurs_in_chain n s.tail → ¬ (n ≡ t.page)
   off_directory n here is = let one : ◌≡◌ {A = ℕ} (cond (eqb t.page n) 1 0) 1 = ap (λ k. cond (eqb t.page k) 1 0) is ∙ occurs_here t.page in omega (arith, one, here, few n)
 
-  directory_kept : ¬ (t.page ≡ first) × (mid t.page ≡ Some stands.directory)
-  directory_kept = (
-    λ is. let one : ◌≡◌ {A = ℕ} (cond (eqb first t.page) 1 0) 1 = ap (λ k. cond (eqb first k) 1 0) is ∙ occurs_here first in omega (arith, one, occurs_here t.page, few t.page),
-    s.outside t.page (omega (arith, occurs_here t.page, few t.page)) ∙ stands.there,
-  )
+  directory_apart : ¬ (t.page ≡ first)
+  directory_apart is = let one : ◌≡◌ {A = ℕ} (cond (eqb first t.page) 1 0) 1 = ap (λ k. cond (eqb first k) 1 0) is ∙ occurs_here first in omega (arith, one, occurs_here t.page, few t.page)
+
+  directory_kept : mid t.page ≡ Some stands.directory
+  directory_kept = s.outside t.page directory_apart (omega (arith, occurs_here t.page, few t.page)) ∙ stands.there
 
   pub shortened : Shortens dims mid new first c → IsFilled class (record { page = first; entries = (popped c).entries } ∷ s.tail_now)
       → Replaces dims old new t stands.directory class (record { page = first; entries = (popped c).entries } ∷ s.tail_now)
   shortened less filled = record {
     directory = stands.directory;
-    there = less.others t.page directory_kept.0 ∙ directory_kept.1;
+    there = less.others t.page directory_apart ∙ directory_kept;
     spelled = stands.spelled;
     first = subst (λ n. ChainStands dims new n (record { page = first; entries = (popped c).entries } ∷ s.tail_now)) link
         (refl, s.low, c.next, less.bucket, chain_stays dims mid new c.next s.tail_now (λ n here. less.others n (off_first n (omega (arith, here, s.same_pages n)))) s.next);
     links = λ other differ. refl;
     filled = filled;
-    others = λ n off gone none. less.others n (λ is. let one : ◌≡◌ {A = ℕ} (cond (eqb first n) 1 0) 1 = ap (λ k. cond (eqb first k) 1 0) is ∙ occurs_here first in omega (arith, one, none)) ∙ s.outside n (omega (arith, gone, counts n));
+    others = λ n off gone none.
+        let off_first : ¬ (n ≡ first) = λ is. let one : ◌≡◌ {A = ℕ} (cond (eqb first n) 1 0) 1 = ap (λ k. cond (eqb first k) 1 0) is ∙ occurs_here first in omega (arith, one, none) in
+        less.others n off_first ∙ s.outside n off_first (omega (arith, gone, counts n));
     came = λ n gone some. absurd (omega (arith, gone, some, counts n, s.same_pages n));
     went = λ n some none. absurd (omega (arith, some, none, counts n, s.same_pages n));
     once = λ n. omega (arith, few n, s.same_pages n);
@@ -123,7 +104,9 @@ module _ (dims : ℕ) (old mid new : PageMap) (t : IdTable) (class first : ℕ) 
         (chain_stays dims mid new c.next s.tail_now (λ n here. less.others n (off_first n (omega (arith, here, s.same_pages n))) (off_directory n (omega (arith, here, s.same_pages n)))) s.next);
     links = less.link.others;
     filled = filled;
-    others = λ n off gone none. less.others n (λ is. let one : ◌≡◌ {A = ℕ} (cond (eqb first n) 1 0) 1 = ap (λ k. cond (eqb first k) 1 0) is ∙ occurs_here first in omega (arith, one, gone, counts n)) off ∙ s.outside n (omega (arith, gone, counts n));
+    others = λ n off gone none.
+        let off_first : ¬ (n ≡ first) = λ is. let one : ◌≡◌ {A = ℕ} (cond (eqb first n) 1 0) 1 = ap (λ k. cond (eqb first k) 1 0) is ∙ occurs_here first in omega (arith, one, gone, counts n) in
+        less.others n off_first off ∙ s.outside n off_first (omega (arith, gone, counts n));
     came = λ n gone some. absurd (omega (arith, gone, some, counts n, s.same_pages n));
     went = λ n some none. ⊎_elim
         (λ (is : first ≡ n). ap new (sym is) ∙ less.gone)
@@ -184,9 +167,6 @@ set_beyond [] place x le = refl
 set_beyond (e ∷ es) zero x le = absurd (omega (arith, le))
 set_beyond (e ∷ es) (suc p) x le = ap (λ l. e ∷ l) (set_beyond es p x (omega (arith, le)))
 
-regroup : (F G A B E : List Object) (y : Object) → F ++ (G ++ ((A ++ y ∷ B) ++ E)) ≡ (F ++ (G ++ A)) ++ y ∷ (B ++ E)
-regroup F G A B E y = simp append_assoc
-
 -- the last object of the first page taken for one of that page
 takes_there : (id place : ℕ) (x : Object) (es rest : List Object) → HasAt id es place → x ≡ get_or es (length es - 1) some_object
     → Takes id x (take (length es - 1) es ++ rest) (take (length (set es place x) - 1) (set es place x) ++ rest)
@@ -216,13 +196,21 @@ takes_there id place x es rest has is =
     ))
     (cases_lt place (length es - 1))
 
-pub removes_from_first : (dims : ℕ) (old mid new : PageMap) (t : IdTable) (id first place : ℕ) (c : BucketContent) (x : Object) → (stands : IdsStand dims old t) → first ≡ link_at (class_of id) stands.directory
-    → IsInChain id (chain_at t (class_of id)) first place → bucket_in dims (old first) ≡ Some c → x ≡ get_or c.entries (length c.entries - 1) some_object → ((n : ℕ) → mid n ≡ old n)
+removes_from_first : (dims : ℕ) (old mid new : PageMap) (t : IdTable) (id first place : ℕ) (c : BucketContent) (x : Object) → (stands : IdsStand dims old t) → first ≡ link_at (class_of id) stands.directory
+    → IsInChain id (chain_at t (class_of id)) first place → bucket_in dims (old first) ≡ Some c → x ≡ get_or c.entries (length c.entries - 1) some_object → SameBut first old mid
     → Shrinks dims mid new t.page (class_of id) first (replaced c place x) stands.directory → Removes dims old new t id
 removes_from_first dims old mid new t id first place c x stands link p there last same shrinks =
     let small : class_of id < 1000 = omega arith in
     go p.before p.is (subst (λ n. ChainStands dims old n (chain_at t (class_of id))) (sym link) (stands.chains (class_of id) small))
   where
+    off_first : (n : ℕ) → 0 < occurs_in_chain n p.after → chain_at t (class_of id) ≡ p.bucket ∷ p.after → ¬ (n ≡ first)
+    off_first n here is at_first =
+        let one = here_at p.bucket.page n (p.page_is ∙ sym at_first) in
+        let small : class_of id < 1000 = omega arith in
+        let part = chain_in_table n (class_of id) t (omega (arith, small, stands.whole)) in
+        let counted = ap (occurs_in_chain n) is in
+        omega (arith, one, here, part, counted, stands.once n)
+
     go : (before : List Bucket) → chain_at t (class_of id) ≡ before ++ p.bucket ∷ p.after → ChainStands dims old first (chain_at t (class_of id)) → Removes dims old new t id
     go [] is chain =
         let small : class_of id < 1000 = omega arith in
@@ -238,9 +226,9 @@ removes_from_first dims old mid new t id first place c x stands link p there las
           is = is;
           page = p.page_is;
           low = h.1;
-          next = chain_stays dims old mid c.next p.after (λ n here. same n) (subst (λ n. ChainStands dims old n p.after) (ap (λ (k : BucketContent). k.next) (sym same_content)) h.4);
+          next = chain_stays dims old mid c.next p.after (λ n here. same n (off_first n here is)) (subst (λ n. ChainStands dims old n p.after) (ap (λ (k : BucketContent). k.next) (sym same_content)) h.4);
           same_pages = λ n. refl;
-          outside = λ n none. same n;
+          outside = λ n off none. same n off;
         })
         shrinks
         (entries ∙ split_last c.entries some_object (omega (arith, has.within)) ∙ ap (λ (o : Object). take (length c.entries - 1) c.entries ++ o ∷ []) (sym last))
@@ -256,39 +244,10 @@ removes_from_first dims old mid new t id first place c x stands link p there las
         let more = occurs-append first bs (p.bucket ∷ p.after) in
         absurd (omega (arith, one, two, part, counted, more, stands.once first))
 
--- a chain stands with another bucket on one of its pages
-stands_changed : (dims : ℕ) (old mid : PageMap) (first : ℕ) (bs : List Bucket) (b : Bucket) (es : List Object) (after : List Bucket) → ((n : ℕ) → occurs_in_chain n (bs ++ b ∷ after) ≤ 1) → SameBut b.page old mid
-    → ((c : BucketContent) → bucket_in dims (old b.page) ≡ Some c → c.entries ≡ b.entries → bucket_in dims (mid b.page) ≡ Some (record { next = c.next; entries = es }))
-    → ChainStands dims old first (bs ++ b ∷ after) → ChainStands dims mid first (bs ++ record { page = b.page; entries = es } ∷ after)
-stands_changed dims old mid first [] b es after once same written h = (
-  h.0,
-  h.1,
-  h.2,
-  written (record { next = h.2; entries = b.entries }) h.3 refl,
-  chain_stays dims old mid h.2 after (λ n here. same n (λ is. let one = here_at b.page n (sym is) in omega (arith, one, here, once n))) h.4,
-)
-stands_changed dims old mid first (a ∷ bs) b es after once same written h = (
-  h.0,
-  h.1,
-  h.2,
-  ap (bucket_in dims) (same a.page (λ is. let one = here_at a.page b.page is in let two = here_at b.page b.page refl in let more = occurs-append b.page bs (b ∷ after) in omega (arith, one, two, more, once b.page))) ∙ h.3,
-  stands_changed dims old mid h.2 bs b es after (λ n. omega (arith, once n)) same written h.4,
-)
-
--- and is as full
-full_changed : (bs : List Bucket) (b : Bucket) (es : List Object) (after : List Bucket) → length es ≡ length b.entries → All (λ (b : Bucket). length b.entries ≡ 100) (bs ++ b ∷ after)
-    → All (λ (b : Bucket). length b.entries ≡ 100) (bs ++ record { page = b.page; entries = es } ∷ after)
-full_changed [] b es after size full =
-    All-cons (λ (b : Bucket). length b.entries ≡ 100) (record { page = b.page; entries = es }) after (size ∙ All-head (λ (b : Bucket). length b.entries ≡ 100) b after full) (All-tail (λ (b : Bucket). length b.entries ≡ 100) b after full)
-full_changed (a ∷ bs) b es after size full =
-    All-cons (λ (b : Bucket). length b.entries ≡ 100) a (bs ++ record { page = b.page; entries = es } ∷ after) (All-head (λ (b : Bucket). length b.entries ≡ 100) a (bs ++ b ∷ after) full)
-    (full_changed bs b es after size (All-tail (λ (b : Bucket). length b.entries ≡ 100) a (bs ++ b ∷ after) full))
-
-pub removes_from_other : (dims : ℕ) (old mid new : PageMap) (t : IdTable) (id first holder place : ℕ) (c : BucketContent) (x : Object) → (stands : IdsStand dims old t) → first ≡ link_at (class_of id) stands.directory
-    → IsInChain id (chain_at t (class_of id)) holder place → ¬ (holder ≡ first) → bucket_in dims (old first) ≡ Some c → x ≡ get_or c.entries (length c.entries - 1) some_object → SameBut holder old mid
-    → ((k : BucketContent) → bucket_in dims (old holder) ≡ Some k → place < length k.entries → bucket_in dims (mid holder) ≡ Some (replaced k place x))
+removes_from_other : (dims : ℕ) (old mid new : PageMap) (t : IdTable) (id first holder place : ℕ) (c : BucketContent) (x : Object) → (stands : IdsStand dims old t) → first ≡ link_at (class_of id) stands.directory
+    → IsInChain id (chain_at t (class_of id)) holder place → ¬ (holder ≡ first) → bucket_in dims (old first) ≡ Some c → x ≡ get_or c.entries (length c.entries - 1) some_object → PutsAt dims old mid holder place x
     → Shrinks dims mid new t.page (class_of id) first c stands.directory → Removes dims old new t id
-removes_from_other dims old mid new t id first holder place c x stands link p apart there last same written shrinks =
+removes_from_other dims old mid new t id first holder place c x stands link p apart there last puts shrinks =
     let small : class_of id < 1000 = omega arith in
     go p.before p.is (subst (λ n. ChainStands dims old n (chain_at t (class_of id))) (sym link) (stands.chains (class_of id) small))
   where
@@ -309,7 +268,6 @@ removes_from_other dims old mid new t id first holder place c x stands link p ap
         let G = entries_in bs in
         let E = entries_in p.after in
         let part : (n : ℕ) → occurs_in_chain n (f ∷ (bs ++ p.bucket ∷ p.after)) ≤ 1 = λ n. let in_table = chain_in_table n (class_of id) t (omega (arith, small, stands.whole)) in let counted = ap (occurs_in_chain n) is in omega (arith, in_table, counted, stands.once n) in
-        let same_b : SameBut p.bucket.page old mid = λ n other. same n (λ at_holder. other (at_holder ∙ sym p.page_is)) in
         let some : 0 < length c.entries = some_entries (old first) c there in
         removes_by dims old mid new t id first c x front stands link
         (record {
@@ -320,12 +278,9 @@ removes_from_other dims old mid new t id first holder place c x stands link p ap
           page = sym h.0;
           low = h.1;
           next = subst (λ n. ChainStands dims mid n (bs ++ b_now ∷ p.after)) (ap (λ (k : BucketContent). k.next) (sym same_content))
-              (stands_changed dims old mid h.2 bs p.bucket es p.after (λ n. omega (arith, part n)) same_b
-              (λ k is_k entries_k. ap (λ n. bucket_in dims (mid n)) p.page_is ∙ written k (ap (λ n. bucket_in dims (old n)) (sym p.page_is) ∙ is_k) (let e = ap length entries_k in omega (arith, e, p.has.within))
-              ∙ ap (λ (l : List Object). Some (record { next = k.next; entries = set l place x })) entries_k)
-              h.4);
+              (puts_in_chain dims old mid h.2 holder place x bs p.bucket p.after p.page_is p.has.within (λ n. omega (arith, part n)) puts h.4);
           same_pages = λ n. occurs-append n bs (b_now ∷ p.after) ∙ sym (occurs-append n bs (p.bucket ∷ p.after));
-          outside = λ n none. same_b n (λ at_page. let one = here_at p.bucket.page n (sym at_page) in let more = occurs-append n bs (p.bucket ∷ p.after) in omega (arith, one, more, none));
+          outside = λ n off none. puts.others n (λ at_holder. let one = here_at p.bucket.page n (p.page_is ∙ sym at_holder) in let more = occurs-append n bs (p.bucket ∷ p.after) in omega (arith, one, more, none));
         })
         shrinks
         (entries ∙ split_last c.entries some_object some ∙ ap (λ (o : Object). front ++ o ∷ []) (sym last))
@@ -343,3 +298,37 @@ removes_from_other dims old mid new t id first holder place c x stands link p ap
         some_entries : (page : Option (List ℕ)) (c : BucketContent) → bucket_in dims page ≡ Some c → 0 < length c.entries
         some_entries None c e = absurd (cc)
         some_entries (Some bytes) c e = let s = spells dims bytes c e in let n = count_of_bucket dims bytes c e in omega (arith, s.head.some, n)
+
+-- ---- one or the other
+
+module _ (dims : ℕ) (old mid : PageMap) (t : IdTable) (id first holder place : ℕ) (c : BucketContent) (x : Object) (stands : IdsStand dims old t) (link : first ≡ link_at (class_of id) stands.directory)
+    (p : IsInChain id (chain_at t (class_of id)) holder place) (there : bucket_in dims (old first) ≡ Some c) (puts : PutsAt dims old mid holder place x) where
+  -- the place is one of the first bucket, if that has it
+  in_first : holder ≡ first → place < length c.entries
+  in_first is =
+      let small : class_of id < 1000 = omega arith in
+      let h = holder_there dims old id (chain_at t (class_of id)) first holder place (subst (λ n. ChainStands dims old n (chain_at t (class_of id))) (sym link) (stands.chains (class_of id) small)) p in
+      let same : h.content ≡ c = let e = ap (λ n. bucket_in dims (old n)) is in cc (e, h.there, there) in
+      subst (λ (k : BucketContent). place < length k.entries) same h.within
+
+  -- what the first bucket has when the object has got its place
+  pub first_now : (now : BucketContent) × (bucket_in dims (mid first) ≡ Some now)
+  first_now = ⊎_elim
+      (λ (is : holder ≡ first). (replaced c place x, ap (λ n. bucket_in dims (mid n)) (sym is) ∙ puts.written c (ap (λ n. bucket_in dims (old n)) is ∙ there) (in_first is)))
+      (λ (other : ¬ (holder ≡ first)). (c, ap (bucket_in dims) (puts.others first (λ is. other (sym is))) ∙ there))
+      (cases_eq holder first)
+
+  pub removes_from : (new : PageMap) → x ≡ get_or c.entries (length c.entries - 1) some_object → (now : BucketContent) → bucket_in dims (mid first) ≡ Some now → Shrinks dims mid new t.page (class_of id) first now stands.directory
+      → Removes dims old new t id
+  removes_from new last now there_now shrinks = ⊎_elim
+      (λ (is : holder ≡ first).
+      let written = ap (λ n. bucket_in dims (mid n)) (sym is) ∙ puts.written c (ap (λ n. bucket_in dims (old n)) is ∙ there) (in_first is) in
+      let same : now ≡ replaced c place x = cc (there_now, written) in
+      removes_from_first dims old mid new t id first place c x stands link (subst (λ n. IsInChain id (chain_at t (class_of id)) n place) is p) there last
+      (subst (λ n. SameBut n old mid) is puts.others) (subst (λ (k : BucketContent). Shrinks dims mid new t.page (class_of id) first k stands.directory) same shrinks))
+      (λ (other : ¬ (holder ≡ first)).
+      let kept = ap (bucket_in dims) (puts.others first (λ is. other (sym is))) ∙ there in
+      let same : now ≡ c = cc (there_now, kept) in
+      removes_from_other dims old mid new t id first holder place c x stands link p other there last puts
+      (subst (λ (k : BucketContent). Shrinks dims mid new t.page (class_of id) first k stands.directory) same shrinks))
+      (cases_eq holder first)

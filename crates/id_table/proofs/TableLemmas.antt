@@ -16,7 +16,7 @@ use Rattle.id_table.specs.Table.{Bucket, ChainStands, IdTable, IdsStand, IsFille
 
 -- ---- what is found
 
-same_key : (q k : ℕ) → eq_by_cmp nat_cmp q k ≡ eqb k q
+pub same_key : (q k : ℕ) → eq_by_cmp nat_cmp q k ≡ eqb k q
 same_key q k = grind (arith, nat_tests)
 
 pub found_is : (q : ℕ) (es : List Object) → find nat_cmp q es ≡ box_in q es

@@ -17,8 +17,8 @@ pub record Makes (dims : ℕ) (old new : PageMap) (directory : ℕ) : Type 0 whe
   pub objects : objects_of table ≡ map.empty
   pub moves : Moves old new no_page (part_of table)
 
--- the table with an object more
-pub record Adds (dims : ℕ) (old new : PageMap) (t : IdTable) (id : ℕ) (bounds : Bounds) : Type 0 where
+-- the table with this box for an identifier: with an object more, or another box of one that it has
+pub record Sets (dims : ℕ) (old new : PageMap) (t : IdTable) (id : ℕ) (bounds : Bounds) : Type 0 where
   pub table : IdTable
   pub page : table.page ≡ t.page
   pub stands : IdsStand dims new table

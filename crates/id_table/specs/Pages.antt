@@ -77,6 +77,13 @@ pub record Unlinks (old new : PageMap) (directory class first : ℕ) (c : Bucket
 abbrev pub Shrinks : ℕ → PageMap → PageMap → ℕ → ℕ → ℕ → BucketContent → List ℕ → Type 0
 Shrinks dims old new directory class first c page = Shortens dims old new first c ⊎ Unlinks old new directory class first c page
 
+-- A bucket page lost its last object, where it has more; where it has one, the next page of its chain was told.
+pub record PopsLast (old new : List ℕ) (told : Option ℕ) : Type 0 where
+  pub popped : told ≡ None → (dims : ℕ) (c : BucketContent) → bucket_at dims old ≡ Some c
+      → (1 < length c.entries) × (bucket_at dims new ≡ Some (popped c))
+  pub only : (next : ℕ) → told ≡ Some next → (dims : ℕ) (c : BucketContent) → bucket_at dims old ≡ Some c
+      → (length c.entries ≡ 1) × (next ≡ c.next)
+
 -- the pages of a part are no longer live, and all others stay
 pub record Frees (old new : PageMap) (part : Part) : Type 0 where
   pub gone : (n : ℕ) → 0 < part n → new n ≡ None

@@ -12,7 +12,7 @@ ghost use Rattle.page_cache.specs.Cache.{Grows, IsHonest, IsLive, IsPageMap, gat
 ghost use Rattle.page_cache.specs.Calls.{Changes};
 ghost use Rattle.node_page.specs.Broken.{Alters};
 ghost use Rattle.node_page.specs.Faults.{IsNoDamage};
-ghost use Rattle.id_table.specs.Changes.{Adds, AreNew, Fills};
+ghost use Rattle.id_table.specs.Changes.{AreNew, Fills, Sets};
 ghost use Rattle.id_table.specs.Pages.{IsRun, IsWholeRun, PushesRun, PutsBefore, first_class, with_more};
 ghost use Rattle.id_table.specs.Table.{IdTable, IdsStand, bucket_in, objects_of};
 
@@ -46,7 +46,7 @@ pub fn add<const D: usize, B: BlockDevice, A: Allocator + Copy>(
         → IsPageMap cache.new }
     ensures added { IsPageMap cache.old → (t : IdTable) → t.page ≡ directory → IdsStand D (pages cache.old) t
         → map.contains_key (objects_of t) id ≡ false
-        → OnOk result (Adds D (pages cache.old) (pages cache.new) t id bounds.now) }
+        → OnOk result (Sets D (pages cache.old) (pages cache.new) t id bounds.now) }
     ensures grows { Grows 1 cache.old cache.new }
     ensures faults { IsPageMap cache.old → (t : IdTable) → t.page ≡ directory → IdsStand D (pages cache.old) t
         → IfErr result (λ b. IsNoDamage cache.new b.cause) }

@@ -10,8 +10,10 @@ mod directory;
 mod filling;
 mod freeing;
 mod making;
+mod places;
 mod removing;
 mod search;
+mod updating;
 
 pub use adding::add;
 pub use check::{TableFacts, check_table};
@@ -20,3 +22,4 @@ pub use freeing::free_all;
 pub use making::make;
 pub use removing::remove;
 pub use search::get;
+pub use updating::update;

@@ -12,7 +12,7 @@ mod many;
 use block_bytes::{read_u16, read_u32};
 use block_device::MemoryDevice;
 use box_math::BBox;
-use id_table::{add, fill, free_all, get, make, remove};
+use id_table::{add, fill, free_all, get, make, remove, update};
 use node_page::Broken;
 use page_file::Fault;
 use std::alloc::Global;
@@ -80,6 +80,14 @@ fn take<const D: usize>(cache: &mut Cache, table: u32, id: u64) -> Result<(), Fa
     remove::<D, _, _>(cache, table, id).map_err(|broken| broken.cause)
 }
 
+fn set<const D: usize>(cache: &mut Cache, table: u32, id: u64, at: i32) -> Result<(), Fault>
+    requires dims { IsDims D }
+    requires open { gate_of cache.old ≡ Open }
+    ensures open { gate_of cache.new ≡ Open }
+{
+    update(cache, table, id, &point::<D>(at)?)
+}
+
 // Whether the identifier leads to the point.
 fn is_at<const D: usize>(cache: &mut Cache, table: u32, id: u64, at: i32) -> Result<bool, Fault>
     requires dims { IsDims D }
@@ -138,6 +146,17 @@ fn one_of_two_in_a_bucket_is_taken_out(rt: HostRuntime) -> Result<(), Fail> {
     take::<2>(&mut cache, table, 7)?;
     assert!(rt; is_missing::<2>(&mut cache, table, 7)?);
     assert!(rt; is_at::<2>(&mut cache, table, 1007, 2)?);
+    Ok(())
+}
+
+#[test]
+fn one_of_two_in_a_bucket_gets_another_box(rt: HostRuntime) -> Result<(), Fail> {
+    let mut cache = scene(rt.alloc())?;
+    let table = table_of_two(&mut cache)?;
+    set::<2>(&mut cache, table, 7, 5)?;
+    assert!(rt; is_at::<2>(&mut cache, table, 7, 5)?);
+    assert!(rt; is_at::<2>(&mut cache, table, 1007, 2)?);
+    assert_eq!(rt; head(&mut cache, 4)?, (2, 0));
     Ok(())
 }
 
@@ -208,6 +227,8 @@ fn a_full_bucket_gets_one_before_it(rt: HostRuntime) -> Result<(), Fail> {
         assert_eq!(rt; head(&mut cache, page)?, want);
     }
     assert!(rt; has_sevens(&mut cache, table)?);
+    set::<3>(&mut cache, table, 7, 9)?;
+    assert!(rt; is_at::<3>(&mut cache, table, 7, 9)?);
     assert!(rt; is_missing::<3>(&mut cache, table, 250_007)?);
     assert!(rt; is_missing::<3>(&mut cache, table, 8)?);
     Ok(())

@@ -4,6 +4,7 @@ pub mod LayerLemmas
 pub mod AnswerLemmas
 pub mod MadeLemmas
 pub mod RemovedLemmas
+pub mod ReplacedLemmas
 pub mod FreeLemmas
 pub mod LoadLemmas
 pub mod CheckLemmas

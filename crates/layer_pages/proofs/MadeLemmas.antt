@@ -7,11 +7,11 @@ use Rattle.page_file.specs.Pages.{SameBut}
 use Rattle.tree_node.specs.Nodes.{NodeContent}
 use Rattle.tree_node.specs.Trees.{Tree, Branch, end, object, occurs_in}
 use Rattle.tree_node.specs.declared.node.Root.{Root}
-use Rattle.node_page.specs.Parts.{Moves, both, no_page, one_page}
+use Rattle.node_page.specs.Parts.{Moves, Part, both, no_page, one_page}
 use Rattle.node_page.specs.Standing.{PageMap, Stands, node_in}
 use Rattle.node_page.proofs.ChangeLemmas.{trees_beside_stand}
 use Rattle.node_page.proofs.PartLemmas.{moves_same, one_page_moves}
-use Rattle.id_table.specs.Changes.{Adds, Makes}
+use Rattle.id_table.specs.Changes.{Makes, Sets}
 use Rattle.id_table.specs.Table.{IdsStand, objects_of, part_of}
 use Rattle.reinsert.specs.Inserted.{CanInsert, InsertsTo}
 use Rattle.reinsert.specs.Kept.{EntryHasShape}
@@ -69,6 +69,12 @@ module _ (dims most : ℕ) (old mid new : PageMap) (page directory : ℕ) (fresh
 
 -- ---- an object more
 
+-- an entry of a leaf has no pages
+pub tree_alone : (dims most : ℕ) (old new : PageMap) (t : Tree) (id : ℕ) (bounds : Bounds) (elsewhere : Part) (after : Root) → (to : InsertsTo dims most old new 0 t (object bounds id) elsewhere after)
+    → Moves old new (λ n. occurs_in n t) (λ n. occurs_in n to.new)
+tree_alone dims most old new t id bounds elsewhere after to =
+    moves_same old new (λ n. occurs_in n t + 0) (λ n. occurs_in n t) (λ n. occurs_in n to.new) (λ n. occurs_in n to.new) (λ n. omega arith) (λ n. refl) to.moves
+
 module _ (dims most : ℕ) (old : PageMap) (root : Root) (directory : ℕ) (l : LayerPages) (objects : Objects) (is : IsLayerAt dims most old root directory l objects) (id : ℕ) (bounds : Bounds) where
   abbrev pub branch : Branch
   branch = object bounds id
@@ -89,7 +95,7 @@ module _ (dims most : ℕ) (old : PageMap) (root : Root) (directory : ℕ) (l : 
 
   module _ (mid : PageMap) (after : Root) (to : InsertsTo dims most old mid 0 l.tree branch (part_of l.ids) after) where
     tree_moves : Moves old mid (λ n. occurs_in n l.tree) (λ n. occurs_in n to.new)
-    tree_moves = moves_same old mid (λ n. occurs_in n l.tree + 0) (λ n. occurs_in n l.tree) (λ n. occurs_in n to.new) (λ n. occurs_in n to.new) (λ n. omega arith) (λ n. refl) to.moves
+    tree_moves = tree_alone dims most old mid l.tree id bounds (part_of l.ids) after to
 
     pub ids_meanwhile : IdsStand dims mid l.ids
     ids_meanwhile = ids_still dims most old root directory l objects is mid (λ n. occurs_in n to.new) tree_moves
@@ -97,7 +103,7 @@ module _ (dims most : ℕ) (old : PageMap) (root : Root) (directory : ℕ) (l : 
     pub absent_meanwhile : map.contains_key objects id ≡ false → map.contains_key (objects_of l.ids) id ≡ false
     absent_meanwhile absent = subst (λ (m : Objects). map.contains_key m id ≡ false) (sym is.table) absent
 
-    pub layer_inserted : (new : PageMap) → Adds dims mid new l.ids id bounds → 2 ≤ most → IsBox dims bounds → map.contains_key objects id ≡ false
+    pub layer_inserted : (new : PageMap) → Sets dims mid new l.ids id bounds → 2 ≤ most → IsBox dims bounds → map.contains_key objects id ≡ false
         → BecomesLayer dims most old new (part_of_layer l) after directory (map.insert objects id bounds) (HasInserted dims most l id bounds)
     layer_inserted new ids two box absent =
         let kept = insertion_keeps_shape dims most (part_of l.ids) branch 0 l.tree to.new to.insertion two (entry_has_shape box) is.boxes is.tree.shape in

@@ -1,5 +1,5 @@
--- Layers with an object fewer, or with one that got another box.
-use Rattle.std.proofs.Common.{◌≡◌, ◌∙◌, ℕ, ◌≤◌, true, Some, ap, subst}
+-- Layers with an object fewer.
+use Rattle.std.proofs.Common.{◌≡◌, ◌∙◌, ℕ, ◌≤◌, true, Some, ap}
 use Rattle.std.specs.FinMap as map
 use Rattle.std.specs.List.{Contains}
 use Rattle.std.specs.Prelude.{is_some}
@@ -7,16 +7,15 @@ use Rattle.box_math.specs.Bounds.{Bounds}
 use Rattle.tree_node.specs.Trees.{objects_in, occurs_in}
 use Rattle.tree_node.specs.declared.node.Root.{Root}
 use Rattle.node_page.specs.Standing.{PageMap}
-use Rattle.node_page.proofs.PartLemmas.{moves_in_turn}
 use Rattle.id_table.specs.Changes.{Removes}
 use Rattle.id_table.specs.Table.{IdsStand, objects_of, part_of}
 use Rattle.condense.specs.Removed.{CanRemove, RemovesTo}
 use Rattle.condense.proofs.ObjectLemmas.{removal_keeps_objects}
 use Rattle.condense.proofs.ShapeLemmas.{removal_keeps_shape}
-use Rattle.layer_pages.specs.Changes.{BecomesLayer, HasInserted, HasRemoved, HasReplaced}
+use Rattle.layer_pages.specs.Changes.{BecomesLayer, HasRemoved}
 use Rattle.layer_pages.specs.Layers.{IsLayerAt, LayerPages, Objects, part_of_layer}
 use Rattle.layer_pages.proofs.LayerLemmas.{ids_live, ids_still, layer_changed, root_of}
-use Rattle.layer_pages.proofs.ObjectLemmas.{fewer_leaves, object_known, object_there, put_anew}
+use Rattle.layer_pages.proofs.ObjectLemmas.{fewer_leaves, object_known, object_there}
 
 -- ---- an object fewer
 
@@ -50,16 +49,3 @@ module _ (dims most : ℕ) (old : PageMap) (root : Root) (directory : ℕ) (l : 
           layer_changed dims most old root directory l objects is mid new to.new ids.table to.moves ids.moves after (map.remove objects id) (HasRemoved dims most l id bounds) to.at to.stands kept.0 kept.1 ids.page ids.stands
           (ids.objects ∙ ap (λ (m : Objects). map.remove m id) is.table)
           (fewer_leaves _ _ objects id bounds (removal_keeps_objects dims most (part_of l.ids) id bounds l.tree to.new to.removal) is.leaves there) to.removal
-
--- ---- another box
-
-pub layer_replaced : (dims most : ℕ) (old mid new : PageMap) (between after : Root) (directory : ℕ) (l : LayerPages) (objects : Objects) (id : ℕ) (was now : Bounds)
-    → (to : BecomesLayer dims most old mid (part_of_layer l) between directory (map.remove objects id) (HasRemoved dims most l id was))
-    → BecomesLayer dims most mid new (part_of_layer to.layer) after directory (map.insert (map.remove objects id) id now) (HasInserted dims most to.layer id now)
-    → BecomesLayer dims most old new (part_of_layer l) after directory (map.insert objects id now) (HasReplaced dims most l id was now)
-layer_replaced dims most old mid new between after directory l objects id was now to into = record {
-  layer = into.layer;
-  stands = subst (λ (m : Objects). IsLayerAt dims most new after directory into.layer m) (put_anew objects id now) into.stands;
-  tree_is = record { between = to.layer; removed = to.tree_is; inserted = into.tree_is };
-  moves = moves_in_turn old mid new (part_of_layer l) (part_of_layer to.layer) (part_of_layer into.layer) to.moves into.moves;
-}

@@ -39,9 +39,9 @@ HasRemoved dims most l id bounds t = IsRemoval dims most (part_of l.ids) id boun
 
 -- the tree of a layer after an object has got another box: by a lawful removal, and then a lawful insertion
 pub record HasReplaced (dims most : ℕ) (l : LayerPages) (id : ℕ) (old new : Bounds) (t : Tree) : Type 0 where
-  pub between : LayerPages
-  pub removed : HasRemoved dims most l id old between.tree
-  pub inserted : HasInserted dims most between id new t
+  pub between : Tree
+  pub removed : HasRemoved dims most l id old between
+  pub inserted : HasInserted dims most (record { tree = between; ids = l.ids }) id new t
 
 -- an object as an entry of a leaf
 abbrev pub item_of_object : ℕ × Bounds → Item
@@ -65,9 +65,9 @@ pub record BecomesTable (dims : ℕ) (old new : PageMap) (was : Part) (directory
 abbrev pub most_inserted_pages : ℕ
 most_inserted_pages = most_new_pages + 1
 
--- an object replaced: it is removed, where only its tree grows, and inserted
+-- an object replaced: its tree grows by a removal and by an insertion
 abbrev pub most_replaced_pages : ℕ
-most_replaced_pages = most_removal_pages + most_inserted_pages
+most_replaced_pages = most_removal_pages + most_new_pages
 
 -- so many objects loaded into a table of 1,000 chains
 abbrev pub most_filled_pages : ℕ → ℕ

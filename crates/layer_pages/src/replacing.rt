@@ -11,24 +11,23 @@ ghost use Rattle.condense.specs.Removed.{IsRefused};
 ghost use Rattle.layer_pages.specs.Changes.{BecomesLayer, HasReplaced, most_replaced_pages};
 ghost use Rattle.layer_pages.specs.Layers.{CanBeRoot, IsLayerAt, LayerPages, Objects, part_of_layer};
 
-use crate::inserting::insert;
-use crate::removing::remove;
 use block_device::BlockDevice;
 use box_math::BBox;
-use condense::Kept;
+use condense::{Kept, remove_with};
 use node_page::{Broken, Entry, Root};
 use page_cache::PageCache;
-use reinsert::Waiting;
+use reinsert::{Waiting, insert_with};
 use std::alloc::Allocator;
 
 /// Gives the object with that identifier, which the layer has with the box `old`, the box `new`, and answers the root
-/// of its tree: by a lawful removal and then a lawful insertion. The gate has to be open.
+/// of its tree: by a lawful removal from the tree, whose nodes have at most `m_max` entries, then a lawful insertion,
+/// and then its other box in the identifier table. The gate has to be open.
 ///
 /// With a sound map, where the pages stand for a layer at that root and directory, a refusal is `Memory` or `Device`,
 /// or `NoPages` where each page number is live. One that is not `touched` leaves the map as it was; each one of the
-/// insertion is touched, since the object was removed before it. Where the layer does not have the object with the box
-/// `old`, that is `Damaged` with the root's page, untouched, unless memory or the device refused before. Also after a
-/// refusal at most `most_replaced_pages` more pages are live.
+/// insertion and of the table is touched, since the object was removed before them. Where the layer does not have the
+/// object with the box `old`, that is `Damaged` with the root's page, untouched, unless memory or the device refused
+/// before. Also after a refusal at most `most_replaced_pages` more pages are live.
 pub fn replace<const D: usize, B: BlockDevice, A: Allocator + Copy>(
     cache: &mut PageCache<B, A>,
     root: Root,
@@ -62,13 +61,20 @@ pub fn replace<const D: usize, B: BlockDevice, A: Allocator + Copy>(
         → IfErr result (λ b. IsNoDamage cache.new b.cause) }
     ensures other_faults { IfErr result (λ b. IsChangeFault b.cause) }
 {
-    let between = remove(cache, root, directory, id, old, m_max, waiting, kept)?;
+    // a box that was looked at is known to be one
+    let _ = new.low();
+    let most = usize::from(m_max);
+    let between = remove_with(cache, root, id, old, most, waiting, kept)?;
     let object = Entry {
         bounds: *new,
         reference: id,
     };
-    match insert(cache, between, directory, &object, m_max, waiting) {
-        Ok(after) => Ok(after),
-        Err(broken) => Err(Broken::midway(broken.cause)),
+    let after = match insert_with(cache, between, &object, 0, most, waiting) {
+        Ok(after) => after,
+        Err(broken) => return Err(Broken::midway(broken.cause)),
+    };
+    match id_table::update(cache, directory, id, new) {
+        Ok(()) => Ok(after),
+        Err(fault) => Err(Broken::midway(fault)),
     }
 }

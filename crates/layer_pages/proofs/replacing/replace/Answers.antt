@@ -1,59 +1,131 @@
--- The object is removed, and then inserted with the other box.
-use Rattle.std.proofs.Common.{◌≡◌, None, false, sym, subst}
+-- The object with another box in the tree, and then in the table.
+use Rattle.std.proofs.Common.{ℕ, ◌≡◌, ◌≤◌, None, false, inl, sym, subst, arith}
 use Rattle.std.specs.FinMap as map
 use Rattle.std.specs.Prelude.{◌⊎◌}
 use Rattle.page_file.specs.Fault.{IsOfDevice}
 use Rattle.page_file.specs.declared.fault.Fault.TheVariants as fault
 use Rattle.page_cache.specs.Cache.{pages}
 use Rattle.page_cache.specs.Calls.{changes_in_turn}
-use Rattle.node_page.specs.Broken.{alters_and_breaks, made_alters}
+use Rattle.tree_node.specs.Trees.{object}
+use Rattle.node_page.specs.Broken.{alters_and_breaks, changes_and_breaks, made_alters}
 use Rattle.node_page.specs.declared.broken.Broken.{Broken}
 use Rattle.node_page.specs.Faults.{IsChangeFault, IsNoDamage}
+use Rattle.node_page.proofs.RootedLemmas.{loose}
+use Rattle.id_table.specs.Table.{part_of}
 use Rattle.reinsert.proofs.BrokenLemmas.{at_broken}
+use Rattle.reinsert.proofs.FaultLemmas.{one_more}
 use Rattle.condense.proofs.RemoveLemmas.{refused_so}
-use Rattle.layer_pages.proofs.ObjectLemmas.{gone}
-use Rattle.layer_pages.proofs.RemovedLemmas.{layer_replaced}
+use Rattle.layer_pages.specs.Changes.{BecomesLayer, HasReplaced}
+use Rattle.layer_pages.specs.Layers.{IsLayerAt, part_of_layer}
+use Rattle.layer_pages.proofs.MadeLemmas.{entry_has_shape}
+use Rattle.layer_pages.proofs.RemovedLemmas.{can_remove, in_a_leaf, in_no_leaf, in_table}
+use Rattle.layer_pages.proofs.ReplacedLemmas.{can_insert_between, ids_unchanged, layer_replaced, shape_between}
 use Rattle.layer_pages.proofs.replacing.replace.Goals as goal
 
 pub returns-in_err-between-clause-absent : goal.returns-in_err-between-clause-absent
 returns-in_err-between-clause-absent g c = λ sound l objects at absent.
+    let D = g.row.D in
+    let m = pages c.args.cache.now in
+    let is = subst (λ (most : ℕ). IsLayerAt D most m c.args.root c.args.directory l objects) (sym c.from-most.ensures) at in
     refused_so c.from_residual.result c.in_err-between.field-0.0 (λ (b : Broken). (b.touched ≡ false) × (IsOfDevice b.cause ⊎ (b.cause ≡ fault.Damaged c.args.root.page))) c.from_residual.ensures.1
-    (c.in_err-between.ensures.absent sound l objects at absent)
+    (c.in_err-between.ensures.absent sound l.tree (part_of l.ids) (can_remove D c.from-most.result m c.args.root c.args.directory l objects is)
+    (in_no_leaf D c.from-most.result m c.args.root c.args.directory l objects is c.args.id c.args.old.now absent))
 
 pub returns-in_err-between-clause-faults : goal.returns-in_err-between-clause-faults
 returns-in_err-between-clause-faults g c = λ sound l objects at there.
-    at_broken c.from_residual.result c.in_err-between.field-0.0 (λ (b : Broken). IsNoDamage c.remove.new.cache b.cause) c.from_residual.ensures.1 (c.in_err-between.ensures.faults sound l objects at there)
-
-pub returns-in-Ok-clause-alters : goal.returns-in-Ok-clause-alters
-returns-in-Ok-clause-alters g c = made_alters c.args.cache.now c.insert.new.cache c.in-Ok.after
-    (changes_in_turn c.args.cache.now c.remove.new.cache c.insert.new.cache None c.in_ok-between.ensures.alters.changes c.in-Ok.ensures.alters.changes)
-
-pub returns-in-Ok-clause-sound : goal.returns-in-Ok-clause-sound
-returns-in-Ok-clause-sound g c = λ sound l objects at there.
-    let to = c.in_ok-between.ensures.removed sound l objects at there in
-    c.in-Ok.ensures.sound (c.in_ok-between.ensures.sound sound l objects at) to.layer (map.remove objects c.args.id) to.stands
-
-pub returns-in-Ok-clause-replaced : goal.returns-in-Ok-clause-replaced
-returns-in-Ok-clause-replaced g c = λ sound l objects at there.
-    let to = c.in_ok-between.ensures.removed sound l objects at there in
-    layer_replaced g.row.D c.args.m_max (pages c.args.cache.now) (pages c.remove.new.cache) (pages c.insert.new.cache) c.in_ok-between.between c.in-Ok.after c.args.directory l objects c.args.id c.args.old.now c.args.new.now to
-    (c.in-Ok.ensures.inserted (c.in_ok-between.ensures.sound sound l objects at) to.layer (map.remove objects c.args.id) to.stands (gone objects c.args.id))
-
-pub returns-in-Ok-clause-absent : goal.returns-in-Ok-clause-absent
-returns-in-Ok-clause-absent g c = λ sound l objects at absent. absurd (c.in_ok-between.ensures.absent sound l objects at absent)
+    let D = g.row.D in
+    let m = pages c.args.cache.now in
+    let is = subst (λ (most : ℕ). IsLayerAt D most m c.args.root c.args.directory l objects) (sym c.from-most.ensures) at in
+    at_broken c.from_residual.result c.in_err-between.field-0.0 (λ (b : Broken). IsNoDamage c.remove_with.new.cache b.cause) c.from_residual.ensures.1
+    (c.in_err-between.ensures.faults sound l.tree (part_of l.ids) (can_remove D c.from-most.result m c.args.root c.args.directory l objects is) is.tree.shape is.boxes
+    (in_a_leaf D c.from-most.result m c.args.root c.args.directory l objects is c.args.id c.args.old.now there))
 
 pub returns-in-Err-clause-alters : goal.returns-in-Err-clause-alters
-returns-in-Err-clause-alters g c =
-    alters_and_breaks c.args.cache.now c.remove.new.cache c.insert.new.cache c.in_ok-between.between c.in-Err.broken _ c.midway.ensures c.in_ok-between.ensures.alters c.in-Err.ensures.alters
+returns-in-Err-clause-alters g c = 
+    alters_and_breaks c.args.cache.now c.remove_with.new.cache c.insert_with.new.cache c.in_ok-between.between c.in-Err.broken _ c.midway.ensures c.in_ok-between.ensures.alters c.in-Err.ensures.alters
 
 pub returns-in-Err-clause-absent : goal.returns-in-Err-clause-absent
-returns-in-Err-clause-absent g c = λ sound l objects at absent. absurd (c.in_ok-between.ensures.absent sound l objects at absent)
+returns-in-Err-clause-absent g c = λ sound l objects at absent.
+    let D = g.row.D in
+    let m = pages c.args.cache.now in
+    let is = subst (λ (most : ℕ). IsLayerAt D most m c.args.root c.args.directory l objects) (sym c.from-most.ensures) at in
+    absurd (c.in_ok-between.ensures.absent sound l.tree (part_of l.ids) (can_remove D c.from-most.result m c.args.root c.args.directory l objects is)
+    (in_no_leaf D c.from-most.result m c.args.root c.args.directory l objects is c.args.id c.args.old.now absent))
 
 pub returns-in-Err-clause-faults : goal.returns-in-Err-clause-faults
 returns-in-Err-clause-faults g c = λ sound l objects at there.
-    let to = c.in_ok-between.ensures.removed sound l objects at there in
-    subst (λ (b : Broken). IsNoDamage c.insert.new.cache b.cause) (sym c.midway.ensures)
-    (c.in-Err.ensures.faults (c.in_ok-between.ensures.sound sound l objects at) to.layer (map.remove objects c.args.id) to.stands)
+    let D = g.row.D in
+    let m = pages c.args.cache.now in
+    let is = subst (λ (most : ℕ). IsLayerAt D most m c.args.root c.args.directory l objects) (sym c.from-most.ensures) at in
+    let four : 4 ≤ c.from-most.result = omega (arith, c.requires.most.0, c.from-most.ensures) in
+    let to = c.in_ok-between.ensures.removed sound l.tree (part_of l.ids) (can_remove D c.from-most.result m c.args.root c.args.directory l objects is) in
+    let shape = shape_between D c.from-most.result m c.args.root c.args.directory l objects is four c.args.id c.args.old.now c.args.new.now (pages c.remove_with.new.cache) c.in_ok-between.between to.1 in
+    subst (λ (b : Broken). IsNoDamage c.insert_with.new.cache b.cause) (sym c.midway.ensures)
+    (c.in-Err.ensures.faults to.0 to.1.new (object c.args.new.now c.args.id) (part_of l.ids) (can_insert_between D c.from-most.result m c.args.root c.args.directory l objects is four c.args.id c.args.old.now c.args.new.now (pages c.remove_with.new.cache) c.in_ok-between.between to.1) (loose D c.from-most.result to.1.new shape.0) shape.1
+    (entry_has_shape D c.from-most.result m c.args.root c.args.directory l objects is c.args.id c.args.new.now c.low.ensures.is_box))
 
 pub returns-in-Err-clause-other_faults : goal.returns-in-Err-clause-other_faults
 returns-in-Err-clause-other_faults g c = subst (λ (b : Broken). IsChangeFault b.cause) (sym c.midway.ensures) c.in-Err.ensures.other_faults
+
+pub returns-in-Ok-update-clause-alters : goal.returns-in-Ok-update-clause-alters
+returns-in-Ok-update-clause-alters g c = made_alters c.args.cache.now c.update.new.cache c.in-Ok.after
+    (changes_in_turn c.args.cache.now c.insert_with.new.cache c.update.new.cache None (changes_in_turn c.args.cache.now c.remove_with.new.cache c.insert_with.new.cache None c.in_ok-between.ensures.alters.changes c.in-Ok.ensures.alters.changes) c.in-Ok-update.ensures.changes)
+
+pub returns-in-Ok-update-clause-sound : goal.returns-in-Ok-update-clause-sound
+returns-in-Ok-update-clause-sound g c = λ sound l objects at there.
+    let D = g.row.D in
+    let m = pages c.args.cache.now in
+    let is = subst (λ (most : ℕ). IsLayerAt D most m c.args.root c.args.directory l objects) (sym c.from-most.ensures) at in
+    let four : 4 ≤ c.from-most.result = omega (arith, c.requires.most.0, c.from-most.ensures) in
+    let to = c.in_ok-between.ensures.removed sound l.tree (part_of l.ids) (can_remove D c.from-most.result m c.args.root c.args.directory l objects is) in
+    let into = c.in-Ok.ensures.inserted to.0 to.1.new (object c.args.new.now c.args.id) (part_of l.ids) (can_insert_between D c.from-most.result m c.args.root c.args.directory l objects is four c.args.id c.args.old.now c.args.new.now (pages c.remove_with.new.cache) c.in_ok-between.between to.1) in
+    let stand = ids_unchanged D c.from-most.result m c.args.root c.args.directory l objects is four c.args.id c.args.old.now c.args.new.now (pages c.remove_with.new.cache) c.in_ok-between.between to.1 (pages c.insert_with.new.cache) c.in-Ok.after into.1 in
+    c.in-Ok-update.ensures.sound into.0 l.ids is.directory_is stand
+
+pub returns-in-Ok-update-clause-replaced : goal.returns-in-Ok-update-clause-replaced
+returns-in-Ok-update-clause-replaced g c = λ sound l objects at there.
+    let D = g.row.D in
+    let m = pages c.args.cache.now in
+    let is = subst (λ (most : ℕ). IsLayerAt D most m c.args.root c.args.directory l objects) (sym c.from-most.ensures) at in
+    let four : 4 ≤ c.from-most.result = omega (arith, c.requires.most.0, c.from-most.ensures) in
+    let to = c.in_ok-between.ensures.removed sound l.tree (part_of l.ids) (can_remove D c.from-most.result m c.args.root c.args.directory l objects is) in
+    let into = c.in-Ok.ensures.inserted to.0 to.1.new (object c.args.new.now c.args.id) (part_of l.ids) (can_insert_between D c.from-most.result m c.args.root c.args.directory l objects is four c.args.id c.args.old.now c.args.new.now (pages c.remove_with.new.cache) c.in_ok-between.between to.1) in
+    let stand = ids_unchanged D c.from-most.result m c.args.root c.args.directory l objects is four c.args.id c.args.old.now c.args.new.now (pages c.remove_with.new.cache) c.in_ok-between.between to.1 (pages c.insert_with.new.cache) c.in-Ok.after into.1 in
+    let set = c.in-Ok-update.ensures.updated into.0 l.ids is.directory_is stand (in_table D c.from-most.result m c.args.root c.args.directory l objects is c.args.id c.args.old.now there) in
+    subst (λ (most : ℕ). BecomesLayer D most m (pages c.update.new.cache) (part_of_layer l) c.in-Ok.after c.args.directory (map.insert objects c.args.id c.args.new.now) (HasReplaced D most l c.args.id c.args.old.now c.args.new.now)) c.from-most.ensures
+    (layer_replaced D c.from-most.result m c.args.root c.args.directory l objects is four c.args.id c.args.old.now c.args.new.now (pages c.remove_with.new.cache) c.in_ok-between.between to.1 (pages c.insert_with.new.cache) c.in-Ok.after into.1 (pages c.update.new.cache) set c.low.ensures.is_box there)
+
+pub returns-in-Ok-update-clause-absent : goal.returns-in-Ok-update-clause-absent
+returns-in-Ok-update-clause-absent g c = λ sound l objects at absent.
+    let D = g.row.D in
+    let m = pages c.args.cache.now in
+    let is = subst (λ (most : ℕ). IsLayerAt D most m c.args.root c.args.directory l objects) (sym c.from-most.ensures) at in
+    absurd (c.in_ok-between.ensures.absent sound l.tree (part_of l.ids) (can_remove D c.from-most.result m c.args.root c.args.directory l objects is)
+    (in_no_leaf D c.from-most.result m c.args.root c.args.directory l objects is c.args.id c.args.old.now absent))
+
+pub returns-in-Err-update-clause-alters : goal.returns-in-Err-update-clause-alters
+returns-in-Err-update-clause-alters g c = 
+    changes_and_breaks c.args.cache.now c.insert_with.new.cache c.update.new.cache c.in-Err-update.fault _ c.midway-in-Err-update.ensures (changes_in_turn c.args.cache.now c.remove_with.new.cache c.insert_with.new.cache None c.in_ok-between.ensures.alters.changes c.in-Ok.ensures.alters.changes) c.in-Err-update.ensures.changes
+
+pub returns-in-Err-update-clause-absent : goal.returns-in-Err-update-clause-absent
+returns-in-Err-update-clause-absent g c = λ sound l objects at absent.
+    let D = g.row.D in
+    let m = pages c.args.cache.now in
+    let is = subst (λ (most : ℕ). IsLayerAt D most m c.args.root c.args.directory l objects) (sym c.from-most.ensures) at in
+    absurd (c.in_ok-between.ensures.absent sound l.tree (part_of l.ids) (can_remove D c.from-most.result m c.args.root c.args.directory l objects is)
+    (in_no_leaf D c.from-most.result m c.args.root c.args.directory l objects is c.args.id c.args.old.now absent))
+
+pub returns-in-Err-update-clause-faults : goal.returns-in-Err-update-clause-faults
+returns-in-Err-update-clause-faults g c = λ sound l objects at there.
+    let D = g.row.D in
+    let m = pages c.args.cache.now in
+    let is = subst (λ (most : ℕ). IsLayerAt D most m c.args.root c.args.directory l objects) (sym c.from-most.ensures) at in
+    let four : 4 ≤ c.from-most.result = omega (arith, c.requires.most.0, c.from-most.ensures) in
+    let to = c.in_ok-between.ensures.removed sound l.tree (part_of l.ids) (can_remove D c.from-most.result m c.args.root c.args.directory l objects is) in
+    let into = c.in-Ok.ensures.inserted to.0 to.1.new (object c.args.new.now c.args.id) (part_of l.ids) (can_insert_between D c.from-most.result m c.args.root c.args.directory l objects is four c.args.id c.args.old.now c.args.new.now (pages c.remove_with.new.cache) c.in_ok-between.between to.1) in
+    let stand = ids_unchanged D c.from-most.result m c.args.root c.args.directory l objects is four c.args.id c.args.old.now c.args.new.now (pages c.remove_with.new.cache) c.in_ok-between.between to.1 (pages c.insert_with.new.cache) c.in-Ok.after into.1 in
+    subst (λ (b : Broken). IsNoDamage c.update.new.cache b.cause) (sym c.midway-in-Err-update.ensures)
+    (inl (c.in-Err-update.ensures.faults into.0 l.ids is.directory_is stand (in_table D c.from-most.result m c.args.root c.args.directory l objects is c.args.id c.args.old.now there)))
+
+pub returns-in-Err-update-clause-other_faults : goal.returns-in-Err-update-clause-other_faults
+returns-in-Err-update-clause-other_faults g c = subst (λ (b : Broken). IsChangeFault b.cause) (sym c.midway-in-Err-update.ensures) (one_more _ _ _ c.in-Err-update.ensures.other_faults)

@@ -5,7 +5,7 @@ use Rattle.page_cache.specs.Calls.{no_call_asks}
 use Rattle.node_page.proofs.NodeLemmas.{at_error}
 use Rattle.id_table.specs.Pages.{IsFoundAt}
 use Rattle.id_table.proofs.PlaceLemmas.{begins_here, found_place, goes_past, not_ended, not_so_long, searches, there_now}
-use Rattle.id_table.proofs.removing.place_in.Goals as goal
+use Rattle.id_table.proofs.places.place_in.Goals as goal
 
 pub loop-walked-init : goal.loop-walked-init
 loop-walked-init g c = searches g.row.D c.args.id c.args.first c.args.cache.now (no_call_asks c.args.cache.now)

@@ -1,6 +1,6 @@
 -- What holds at each turn of the loop of `place_in`.
 use Rattle.id_table.proofs.PlaceLemmas.{Searching}
-use Rattle.id_table.proofs.removing.place_in.Given as goal
+use Rattle.id_table.proofs.places.place_in.Given as goal
 
 -- none of the buckets so far has the identifier
 abbrev pub invariant-loop-walked : goal.invariant-loop-walked

@@ -1,0 +1,45 @@
+-- The goals of `drop_last` that are proved by hand: the first page has an object less, or was unlinked.
+use Rattle.std.proofs.Common.{◌≡◌, ◌∙◌, ap, inl, inr, sym}
+use Rattle.bucket_page.specs.Layout.{bucket_at}
+use Rattle.page_cache.specs.Cache.{pages}
+use Rattle.page_cache.specs.Laws.{a_live_page_is_given}
+use Rattle.node_page.proofs.NodeLemmas.{on_ok}
+use Rattle.id_table.specs.Table.{bucket_in}
+use Rattle.id_table.proofs.BucketLemmas.{bytes_of_bucket, page_of_bucket}
+use Rattle.id_table.proofs.removing.drop_last.Goals as goal
+
+pub returns-in-Some-clause-less : goal.returns-in-Some-clause-less
+returns-in-Some-clause-less g c = λ map differ links there content is.
+    let D = g.row.D in
+    let old = c.args.cache.now in
+    let first = c.args.first in
+    let was = bytes_of_bucket D (pages old first) content is in
+    let live = page_of_bucket D (pages old first) content is in
+    let did = c.in_ok-emptied.ensures.edited map.honest was.0 (a_live_page_is_given old first was.0 was.1) in
+    let only = did.3.met.only c.in-Some.next c.in-Some.is D content (ap (bucket_at D) did.3.shows ∙ was.2) in
+    let others = c.in_ok-emptied.ensures.others map.honest live in
+    on_ok c.unlink.result
+    (λ u. inr (record {
+      only = u.only;
+      gone = u.gone;
+      after = u.after;
+      there = u.there;
+      link = u.link;
+      others = λ k off_first off_d. u.others k off_first off_d ∙ others k off_first;
+    }))
+    (c.unlink.ensures.unlinked (c.in_ok-emptied.ensures.sound map live) (c.in_ok-emptied.ensures.live map.honest live) differ links (others c.args.directory differ ∙ there) content only.0 only.1)
+
+pub returns-in-None-clause-less : goal.returns-in-None-clause-less
+returns-in-None-clause-less g c = λ map differ links there content is.
+    let D = g.row.D in
+    let old = c.args.cache.now in
+    let first = c.args.first in
+    let was = bytes_of_bucket D (pages old first) content is in
+    let live = page_of_bucket D (pages old first) content is in
+    let did = c.in_ok-emptied.ensures.edited map.honest was.0 (a_live_page_is_given old first was.0 was.1) in
+    let less = did.3.met.popped c.in-None.is D content (ap (bucket_at D) did.3.shows ∙ was.2) in
+    inl (record {
+      more = less.0;
+      bucket = ap (bucket_in D) (did.2 live) ∙ ap (bucket_at D) (sym did.3.leaves) ∙ less.1;
+      others = c.in_ok-emptied.ensures.others map.honest live;
+    })

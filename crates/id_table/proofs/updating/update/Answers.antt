@@ -1,0 +1,62 @@
+-- The goals of `update` that are proved by hand: where the object is, and what its chain has then.
+use Rattle.std.proofs.Common.{◌≡◌, ◌∙◌, ◌<◌, None, Some, ap, arith}
+use Rattle.bucket_page.specs.Layout.{BucketContent, replaced}
+use Rattle.page_file.specs.Fault.{IsOfDevice}
+use Rattle.page_cache.specs.Cache.{pages}
+use Rattle.page_cache.specs.Calls.{asks_changes, asks_in_turn, changes_in_turn, fault_in, no_call_asks}
+use Rattle.page_cache.specs.Laws.{the_map_is_kept_in_turn}
+use Rattle.node_page.proofs.NodeLemmas.{at_error, on_ok}
+use Rattle.id_table.specs.Table.{bucket_in, chain_at, class_of, link_at}
+use Rattle.id_table.proofs.AddLemmas.{in_chain}
+use Rattle.id_table.proofs.GetLemmas.{chain_is_short}
+use Rattle.id_table.proofs.ReachLemmas.{reached}
+use Rattle.id_table.proofs.Results.{on_err}
+use Rattle.id_table.proofs.StartLemmas.{starts}
+use Rattle.id_table.proofs.UpdateLemmas.{sets_box}
+use Rattle.id_table.proofs.updating.update.Goals as goal
+
+pub returns-in_err-holder-clause-faults : goal.returns-in_err-holder-clause-faults
+returns-in_err-holder-clause-faults g c = λ map t at stands has.
+    let small : class_of c.args.id < 1000 = omega arith in
+    let s = starts g.row.D c.args.directory (class_of c.args.id) c.in_ok-first.first c.args.cache.now c.read_link.new.cache c.in_ok-first.ensures.asks
+    (λ honest p there spelled. c.in_ok-first.ensures.link honest p there spelled ∙ ap (λ k. link_at k p) c.class_of-class.ensures.value) map.honest small t at stands in
+    let chain = chain_at t (class_of c.args.id) in
+    at_error c.from_residual-in_err-holder.result c.in_err-holder.field-0.0 IsOfDevice c.from_residual-in_err-holder.ensures.1
+    (c.in_err-holder.ensures.there s.honest chain s.begins_now (omega (arith, chain_is_short g.row.D c.args.cache.now t (class_of c.args.id) small stands, c.in_ok-first.ensures.asks.map.next)) (in_chain g.row.D (pages c.args.cache.now) t c.args.id stands has))
+
+pub returns-clause-changes : goal.returns-clause-changes
+returns-clause-changes g c =
+    changes_in_turn c.args.cache.now c.place_in.new.cache c.put_at.new.cache (fault_in c.put_at.result) (asks_changes c.args.cache.now c.place_in.new.cache None (asks_in_turn c.args.cache.now c.read_link.new.cache c.place_in.new.cache None c.in_ok-first.ensures.asks c.in_ok-holder.ensures.asks)) c.put_at.ensures.changes
+
+pub returns-clause-refused : goal.returns-clause-refused
+returns-clause-refused g c =
+    let asked = asks_in_turn c.args.cache.now c.read_link.new.cache c.place_in.new.cache None c.in_ok-first.ensures.asks c.in_ok-holder.ensures.asks in
+    on_err c.put_at.result (the_map_is_kept_in_turn c.args.cache.now c.place_in.new.cache c.put_at.new.cache asked.gate.honest.0 asked.map) c.put_at.ensures.refused
+
+pub returns-clause-sound : goal.returns-clause-sound
+returns-clause-sound g c = λ map t at stands.
+    let r = reached g.row.D c.args.directory c.args.id c.in_ok-first.first c.in_ok-holder.holder c.in_ok-holder.place c.args.cache.now c.read_link.new.cache c.place_in.new.cache c.place_in.new.cache c.in_ok-first.ensures.asks
+    (λ honest p there spelled. c.in_ok-first.ensures.link honest p there spelled ∙ ap (λ k. link_at k p) c.class_of-class.ensures.value)
+    c.in_ok-holder.ensures.asks c.in_ok-holder.ensures.found (no_call_asks c.place_in.new.cache) map t at stands in
+    c.put_at.ensures.sound r.map_is r.holder_live
+
+pub returns-clause-updated : goal.returns-clause-updated
+returns-clause-updated g c = λ map t at stands has.
+    let r = reached g.row.D c.args.directory c.args.id c.in_ok-first.first c.in_ok-holder.holder c.in_ok-holder.place c.args.cache.now c.read_link.new.cache c.place_in.new.cache c.place_in.new.cache c.in_ok-first.ensures.asks
+    (λ honest p there spelled. c.in_ok-first.ensures.link honest p there spelled ∙ ap (λ k. link_at k p) c.class_of-class.ensures.value)
+    c.in_ok-holder.ensures.asks c.in_ok-holder.ensures.found (no_call_asks c.place_in.new.cache) map t at stands in
+    let others = c.put_at.ensures.others r.map_is.honest r.holder_live in
+    let place = c.in_ok-holder.place in
+    on_ok c.put_at.result
+    (λ written. sets_box g.row.D (pages c.args.cache.now) (pages c.put_at.new.cache) t c.args.id c.in_ok-holder.holder place c.args.bounds.now stands r.found (record {
+      others = λ k off. others k off ∙ r.stay k;
+      written = λ k is within. let same : r.held.content ≡ k = cc (is, r.held.there) in written ∙ ap (λ (k : BucketContent). Some (replaced k place (c.args.id, c.args.bounds.now))) same;
+    }))
+    (c.put_at.ensures.written r.map_is.honest r.held.content (ap (bucket_in g.row.D) (r.stay c.in_ok-holder.holder) ∙ r.held.there) r.held.within)
+
+pub returns-clause-faults : goal.returns-clause-faults
+returns-clause-faults g c = λ map t at stands has.
+    let r = reached g.row.D c.args.directory c.args.id c.in_ok-first.first c.in_ok-holder.holder c.in_ok-holder.place c.args.cache.now c.read_link.new.cache c.place_in.new.cache c.place_in.new.cache c.in_ok-first.ensures.asks
+    (λ honest p there spelled. c.in_ok-first.ensures.link honest p there spelled ∙ ap (λ k. link_at k p) c.class_of-class.ensures.value)
+    c.in_ok-holder.ensures.asks c.in_ok-holder.ensures.found (no_call_asks c.place_in.new.cache) map t at stands in
+    c.put_at.ensures.faults r.map_is.honest r.holder_live

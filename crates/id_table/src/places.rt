@@ -1,0 +1,80 @@
+//! The place of an object in its chain: found by a walk along it, and written anew.
+
+ghost use Rattle.std.specs.Prelude.{◌≡◌, ◌≤◌, ◌<◌, ◌⊎◌, List, Some, length, IfErr, IfOk, OnErr, OnOk};
+ghost use Rattle.box_math.specs.Bounds.{IsDims};
+ghost use Rattle.bucket_page.specs.Layout.{BucketContent, bucket_at, replaced};
+ghost use Rattle.page_file.specs.Fault.{IsDamage, IsOfDevice};
+ghost use Rattle.page_file.specs.Pages.{SameBut};
+ghost use Rattle.page_file.specs.declared.gate.Gate.TheVariants.{Open};
+ghost use Rattle.page_cache.specs.Cache.{Grows, IsHonest, IsLive, IsPageMap, KeepsMap, gate_of, next_of, pages};
+ghost use Rattle.page_cache.specs.Calls.{Asks, Changes};
+ghost use Rattle.id_table.specs.Pages.{HasObject, IsInChain};
+ghost use Rattle.id_table.specs.Table.{Bucket, ChainStands, bucket_in};
+
+use crate::bucket::place_at;
+use block_device::BlockDevice;
+use box_math::BBox;
+use bucket_page::set_entry;
+use page_cache::PageCache;
+use page_file::Fault;
+use std::alloc::Allocator;
+
+// The page of a chain whose bucket has the identifier, and the place of the object there.
+pub(crate) fn place_in<const D: usize, B: BlockDevice, A: Allocator + Copy>(
+    cache: &mut PageCache<B, A>,
+    first: u32,
+    id: u64,
+) -> Result<(u32, usize), Fault>
+    requires dims { IsDims D }
+    ensures asks { Asks cache.old cache.new result }
+    ensures found { IsHonest cache.old → (chain : List Bucket) → ChainStands D (pages cache.old) first chain
+        → IfOk result (λ r. IsInChain id chain r.0 r.1) }
+    ensures within { IfOk result (λ r. r.1 < 100) }
+    ensures there { IsHonest cache.old → (chain : List Bucket) → ChainStands D (pages cache.old) first chain
+        → length chain ≤ next_of cache.old → HasObject id chain → IfErr result IsOfDevice }
+    ensures other_faults { IfErr result (λ f. IsOfDevice f ⊎ IsDamage f) }
+{
+    let mut number = first;
+    for walked in 0..cache.next_number() {
+        let (found, next) = place_at::<D, B, A>(cache, number, id)?;
+        if let Some(place) = found {
+            return Ok((number, place));
+        }
+        number = next;
+    }
+    Err(Fault::Damaged(number))
+}
+
+// Writes an object into the place of one of a bucket page, where it lies in memory. After a refusal the map is as
+// before.
+pub(crate) fn put_at<const D: usize, B: BlockDevice, A: Allocator + Copy>(
+    cache: &mut PageCache<B, A>,
+    number: u32,
+    place: usize,
+    object: &(u64, BBox<D>),
+) -> Result<(), Fault>
+    requires dims { IsDims D }
+    requires open { gate_of cache.old ≡ Open }
+    requires within { place < 100 }
+    ensures changes { Changes cache.old cache.new result }
+    ensures refused { OnErr result (KeepsMap cache.old cache.new) }
+    ensures written { IsHonest cache.old → (c : BucketContent) → bucket_in D (pages cache.old number) ≡ Some c
+        → place < length c.entries
+        → OnOk result (bucket_in D (pages cache.new number) ≡ Some (replaced c place object.now)) }
+    ensures live { IsHonest cache.old → IsLive cache.old number → IsLive cache.new number }
+    ensures others { IsHonest cache.old → IsLive cache.old number
+        → SameBut number (pages cache.old) (pages cache.new) }
+    ensures sound { IsPageMap cache.old → IsLive cache.old number → IsPageMap cache.new }
+    ensures grows { Grows 0 cache.old cache.new }
+    ensures faults { IsHonest cache.old → IsLive cache.old number → IfErr result IsOfDevice }
+    ensures other_faults { IfErr result (λ f. IsOfDevice f ⊎ IsDamage f) }
+{
+    cache.edit(
+        number,
+        |page: &mut [u8; 4096]|
+            requires { IsDims D × (place < 100) }
+            ensures { (c : BucketContent) → bucket_at D page.old ≡ Some c → place < length c.entries
+                → bucket_at D page.new ≡ Some (replaced c place object.entry.now) }
+        { set_entry(page, place, object) },
+    )
+}
