@@ -1,13 +1,15 @@
 -- A change of layers is a change of their store.
-use Rattle.std.proofs.Common.{◌≡◌, ◌∙◌, ◌≤◌, ◌^◌, ◌<◌, ℕ, Bool, true, false, not, cond, refl, sym, ap, subst}
+use Rattle.std.proofs.Common.{◌≡◌, ◌∙◌, ◌≤◌, ◌^◌, ◌<◌, ◌⊎◌, ℕ, Bool, true, false, not, cond, inl, inr, refl, sym, ap, subst}
 use Rattle.std.specs.Prelude.{Option, Some, None, is_some, Result, Ok, Err, OnErr, OnOk}
-use Rattle.live_layers.specs.Changes.{IsChangeBy, IsChanged}
+use Rattle.live_layers.specs.Changes.{IsChangeBy, IsChanged, OnRefused}
 use Rattle.live_layers.specs.Faults.{HasRefusalCause, HasUnmadeCause}
 use Rattle.live_layers.specs.Keeping.{IsSound, IsWritten, Leaves}
-use Rattle.live_layers.specs.Unmade.{told}
+use Rattle.live_layers.specs.Staying.{KeepsPagesAndRecords}
+use Rattle.live_layers.specs.Unmade.{is_broken, told}
 use Rattle.live_layers.specs.declared.layers.Layers.{Layers}
 use Rattle.live_layers.specs.declared.unmade.Unmade.{Unmade}
 use Rattle.live_layers.specs.declared.unmade.Unmade.TheVariants as unmade
+use Rattle.live_layers.proofs.KeepLemmas.{nothing_moved}
 use Rattle.page_cache.specs.Cache.{IsHonest}
 use Rattle.plain_table.specs.Answers.{done_answer}
 use Rattle.plain_table.specs.Commands.{Command, MayGiveUp}
@@ -17,12 +19,13 @@ use Rattle.plain_table.specs.Step.Answer.{Done, Refused}
 use Rattle.plain_table.specs.Table.{Table}
 use Rattle.plain_table.specs.declared.refusal.Refusal.{Refusal}
 use Rattle.plain_table.specs.declared.refusal.Refusal.TheVariants as refusal
+use Rattle.store_law.specs.States.StoreState.{Dead}
 use Rattle.store_law.specs.Stops.{Stops, after_change, after_command, is_end, tables_left}
 use Rattle.layer_store.specs.Commands.{Changes, TakesStep, Tells}
-use Rattle.layer_store.specs.Representation.{cache_in, device_in}
+use Rattle.layer_store.specs.Representation.{IsInState, cache_in, device_in}
 use Rattle.layer_store.specs.declared.store.Store.{Store}
 use Rattle.layer_store.proofs.StopLemmas.{OnlyNow, change_leaves, kept_leaves, left_rests}
-use Rattle.layer_store.proofs.StoreLemmas.{alive_in, alive_with, blames_none, change_goes_on, is_dead, is_settled, no_fewer_faults, not_both, settled_so, takes_change, takes_nothing, told_cause, what_is_kept}
+use Rattle.layer_store.proofs.StoreLemmas.{alive_in, alive_with, blames_none, change_goes_on, dead_so, is_dead, is_settled, no_fewer_faults, not_both, settled_so, takes_change, takes_nothing, told_cause, what_is_kept}
 
 -- ---- one of a store that failed
 
@@ -32,6 +35,7 @@ failed_changes {m = m} {store = store} {c = c} failed = record {
   stops = λ s t represents alive. absurd (not_both store.failed failed (alive_in store s t represents alive).0);
   quiet = λ s t represents alive unchanged. absurd (not_both store.failed failed (alive_in store s t represents alive).0);
   settled = λ t represents unchanged was. was;
+  refused = inr (nothing_moved store.layers);
   dead = λ dead. (refl, refl);
   cause = blames_none (m.faults (device_in store)) (Err (refusal.StoreFailed 19)) refl;
 }
@@ -69,6 +73,12 @@ not_refused r e = cc
 pub cause_told : {before after : ℕ} {was now : Bool} {made : Result (Unit {0}) Unmade} {result : Result (Unit {0}) Refusal} → Tells was now made result → HasUnmadeCause before after made → HasRefusalCause before after result
 cause_told {before = before} {after = after} {made = made} tells cause = subst (λ (r : Result (Unit {0}) Refusal). HasRefusalCause before after r) (sym tells.answer) (told_cause before after made cause)
 
+-- what is refused keeps each tree, and what broke off half way ends the store
+refused_so : {D A : Type 0} {m : _} (new : Store D A m) (P : Type 0) (made : Result (Unit {0}) Unmade) → new.failed ≡ is_broken made → OnRefused made P → OnErr (told made) (IsInState new Dead ⊎ P)
+refused_so new P (Ok u) failed kept = tt
+refused_so new P (Err (unmade.Broken f)) failed kept = inl (dead_so new failed)
+refused_so new P (Err (unmade.Refused r)) failed kept = inr kept
+
 module _ {D A : Type 0} {m : _} (old new : Store D A m) {made : Result (Unit {0}) Unmade} {result : Result (Unit {0}) Refusal}
     (going : old.failed ≡ false) (tells : Tells old.failed new.failed made result) where
   -- it is a lawful step
@@ -98,6 +108,8 @@ module _ {D A : Type 0} {m : _} (old new : Store D A m) {made : Result (Unit {0}
         let sound = (alive_with old t represents).1 in
         let settled = is_settled old was in
         settled_so new (((change.lawful t sound).leaves.quiet (no_change_leaves_the_table t c unchanged)).gate ∙ settled.0, written t sound unchanged settled.1);
+    refused = subst (λ (r : Result (Unit {0}) Refusal). OnErr r (IsInState new Dead ⊎ KeepsPagesAndRecords old.layers new.layers)) (sym tells.answer)
+        (refused_so new (KeepsPagesAndRecords old.layers new.layers) made (tells.failed going) change.keeps.refused);
     dead = λ dead. absurd (not_both old.failed (is_dead old dead) going);
     cause = cause_told tells change.keeps.cause;
   }

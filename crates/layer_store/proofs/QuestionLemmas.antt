@@ -5,9 +5,10 @@ use Rattle.live_layers.specs.Changes.{IsAnswered, KeepsInQuestion}
 use Rattle.live_layers.specs.Image.{MayRemain}
 use Rattle.live_layers.specs.Keeping.{IsSound}
 use Rattle.live_layers.specs.declared.layers.Layers.{Layers}
+use Rattle.live_layers.proofs.KeepLemmas.{nothing_moved}
 use Rattle.live_layers.proofs.StopLemmas.{leaves_kept}
 use Rattle.page_cache.specs.Cache.{IsHonest, device_of}
-use Rattle.page_cache.specs.Laws.{no_call_keeps_the_gate, no_call_keeps_the_map}
+use Rattle.page_cache.specs.Laws.{no_call_keeps_the_gate}
 use Rattle.plain_table.specs.Commands.{Command, MayGiveUp}
 use Rattle.plain_table.specs.Laws.{no_change_leaves_the_table}
 use Rattle.plain_table.specs.Step.{Answer, changes, reply_of}
@@ -29,13 +30,13 @@ module _ {D A : Type 0} {m : _} where
   pub keeps_asked : {T : Type 0} {result : Result T Refusal} (old : Store D A m) (mid : Layers D A m) → KeepsInQuestion old.layers mid result → KeepsStore old (record old { layers = mid })
   keeps_asked old mid keeps = record {
     gate = keeps.gate;
-    map = keeps.trees.map;
+    trees = keeps.trees;
     settled = λ was. let settled = is_settled old was in settled_so (record old { layers = mid }) (keeps.gate.gate ∙ settled.0, keeps.trees.written settled.1);
   }
 
   -- nothing was asked
   nothing_asked : (store : Store D A m) → KeepsStore store store
-  nothing_asked store = record { gate = no_call_keeps_the_gate (cache_in store); map = no_call_keeps_the_map (cache_in store); settled = λ was. was }
+  nothing_asked store = record { gate = no_call_keeps_the_gate (cache_in store); trees = nothing_moved store.layers; settled = λ was. was }
 
   -- what stops leave of one
   stops_asked : (old new : Store D A m) → (IsHonest (cache_in old) → OnlyNow (cache_in old)) → KeepsStore old new → (s : SessionState) → Represents old s → StopsLeave old new (MayRemain s.stops.now)

@@ -1,7 +1,8 @@
 -- What each command keeps of the store that it works on: one word for commands that change, and one for those that ask.
-use Rattle.std.specs.Prelude.{◌≡◌, Bool, false, Result, Err}
+use Rattle.std.specs.Prelude.{◌≡◌, ◌⊎◌, Bool, false, Result, Err, OnErr}
 use Rattle.live_layers.specs.Faults.{HasRefusalCause}
 use Rattle.live_layers.specs.Image.{IsRefusedOrImageOf, MayRemain}
+use Rattle.live_layers.specs.Staying.{KeepsPagesAndRecords}
 use Rattle.live_layers.specs.Unmade.{is_broken, told}
 use Rattle.live_layers.specs.declared.unmade.Unmade.{Unmade}
 use Rattle.plain_table.specs.Answers.{done_answer}
@@ -14,7 +15,7 @@ use Rattle.store_law.specs.Sessions.{LawfulStep, SessionState, Takes}
 use Rattle.store_law.specs.States.Request.{Asks}
 use Rattle.store_law.specs.States.StoreState.{Alive, Dead}
 use Rattle.store_law.specs.Stops.{tables_left}
-use Rattle.layer_store.specs.Representation.{IsInState, IsSettled, KeepsStore, Represents, RepresentsTable, StopsLeave, device_in}
+use Rattle.layer_store.specs.Representation.{IsInState, IsSettled, KeepsStore, Represents, RepresentsTable, StopsLeave, device_in, layers_in}
 use Rattle.layer_store.specs.declared.store.Store.{Store}
 
 -- the command was answered so, by one lawful step from whatever state of a session the store was in
@@ -39,6 +40,8 @@ pub record Changes {D A : Type 0} {m : _} (old new : Store D A m) (c : Command) 
   pub quiet : (s : SessionState) (t : Table) → Represents old s → s.state ≡ Alive t → changes t c ≡ false → StopsLeave old new (MayRemain s.stops.now)
   -- and what was settled is so still
   pub settled : (t : Table) → RepresentsTable old t → changes t c ≡ false → IsSettled old → IsSettled new
+  -- refused, it keeps pages and records, so each tree, but where the store has failed
+  pub refused : OnErr result (IsInState new Dead ⊎ KeepsPagesAndRecords (layers_in old) (layers_in new))
   -- a store that had failed stays so
   pub dead : StaysDead old new result
   -- faults of the device are counted
@@ -48,7 +51,7 @@ pub record Changes {D A : Type 0} {m : _} (old new : Store D A m) (c : Command) 
 pub record Answers {D A : Type 0} {m : _} {T : Type 0} (old new : Store D A m) (c : Command) (answer : Result T Refusal → Answer) (result : Result T Refusal) : Type 0 where
   -- it was answered by one lawful step
   pub step : TakesStep old new c (answer result)
-  -- the gate stays with its moment, and the map of pages, and what was settled is so still
+  -- the gate stays with its moment, pages and records, so each tree, and what was settled is so still
   pub kept : KeepsStore old new
   -- a stop leaves nothing else than before
   pub stops : (s : SessionState) → Represents old s → StopsLeave old new (MayRemain s.stops.now)

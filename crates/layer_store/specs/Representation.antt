@@ -3,8 +3,9 @@ use Rattle.std.specs.Prelude.{ℕ, ◌≡◌, true, false, [], ◌∷◌}
 use Rattle.block_device.specs.Device.{Blocks, LeavesOnly}
 use Rattle.live_layers.specs.Keeping as keeping
 use Rattle.live_layers.specs.Keeping.{IsSound, Leaves, cache_of}
+use Rattle.live_layers.specs.Staying.{KeepsPagesAndRecords}
 use Rattle.live_layers.specs.declared.layers.Layers.{Layers}
-use Rattle.page_cache.specs.Cache.{IsHonest, KeepsGate, KeepsMap, blocks_of, device_of, looks_of}
+use Rattle.page_cache.specs.Cache.{IsHonest, KeepsGate, blocks_of, device_of, looks_of}
 use Rattle.page_cache.specs.declared.cache.PageCache.{PageCache}
 use Rattle.plain_table.specs.Table.{Table}
 use Rattle.store_law.specs.Sessions.{Reaches, SessionState}
@@ -88,8 +89,8 @@ HasFailed store = Reaches Represents store (λ s. s.state ≡ Dead)
 abbrev pub StopsLeave : {D A : Type 0} {m : _} → Store D A m → Store D A m → (Blocks → Type 0) → Type 0
 StopsLeave {m = m} old new P = LeavesOnly m.moment m.left_since (device_in old) (device_in new) P
 
--- a question keeps the gate with its moment, and the map of pages; what was settled is so still
+-- a question keeps the gate with its moment, and pages and records, so each tree; what was settled is so still
 pub record KeepsStore {D A : Type 0} {m : _} (old new : Store D A m) : Type 0 where
   pub gate : KeepsGate (cache_in old) (cache_in new)
-  pub map : KeepsMap (cache_in old) (cache_in new)
+  pub trees : KeepsPagesAndRecords (layers_in old) (layers_in new)
   pub settled : IsSettled old → IsSettled new

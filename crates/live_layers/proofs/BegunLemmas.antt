@@ -2,6 +2,7 @@
 use Rattle.std.proofs.Common.{◌≡◌, ◌∙◌, true, false, None, sym, ap, subst, arith}
 use Rattle.std.specs.Prelude.{◌↔◌, Result, Ok, Err, OnOk, IfErr, IsErrAnd}
 use Rattle.block_device.specs.Device.{Blocks, LeavesOnly}
+use Rattle.catalog_page.specs.Layout.{records_of}
 use Rattle.node_page.specs.Broken.{Alters, before, cause_in}
 use Rattle.node_page.specs.declared.broken.Broken.{Broken}
 use Rattle.page_cache.specs.Cache.{IsHonest, IsUnchanged, KeepsMap, blocks_of, device_of, gate_of}
@@ -14,9 +15,10 @@ use Rattle.page_file.specs.declared.fault.Fault.TheVariants as fault
 use Rattle.page_file.specs.declared.gate.Gate.TheVariants.{Open}
 use Rattle.plain_table.specs.Table.{Table}
 use Rattle.live_layers.specs.Begun.{Begins, BeginsChange}
-use Rattle.live_layers.specs.Keeping.{IsSound, IsWritten}
+use Rattle.live_layers.specs.Keeping.{IsSound}
+use Rattle.live_layers.specs.Staying.{KeepsPagesAndRecords}
 use Rattle.live_layers.specs.declared.layers.Layers.{Layers}
-use Rattle.live_layers.proofs.KeepLemmas.{sound_kept}
+use Rattle.live_layers.proofs.KeepLemmas.{nothing_moved, sound_kept, stays_in_turn}
 use Rattle.live_layers.proofs.QuestionLemmas.{IsSameBut}
 use Rattle.live_layers.proofs.Results.{any_err, if_err, on_any_err, the_err}
 use Rattle.live_layers.proofs.StopLemmas.{gate_opened, none_made, pages_written}
@@ -89,30 +91,35 @@ module _ {D A : Type 0} {m : _} {T : Type 0} where
   no_memory kept f result is memory now = record {
     begins = none_begun kept.cache f result is memory (λ honest c left. now (device_of kept.cache) c honest left);
     untouched = λ t sound. any_err result _ (λ b quiet. sound);
+    kept = any_err result _ (λ b quiet. nothing_moved kept);
     written = on_any_err result _ (λ was. was);
   }
 
   -- the gate was not opened
-  pub not_opened : (old new : Layers D A m) (b : Broken) (result : Result T Broken) → IsErrAnd result (λ e. e ≡ b) → Begins {T = T} old.cache new.cache (Err b) → ((t : Table) → IsSound old t → IsSound new t) → (IsWritten old → IsWritten new)
+  pub not_opened : (old new : Layers D A m) (b : Broken) (result : Result T Broken) → IsErrAnd result (λ e. e ≡ b) → Begins {T = T} old.cache new.cache (Err b) → ((t : Table) → IsSound old t → IsSound new t) → KeepsPagesAndRecords old new
       → BeginsChange old new result
-  not_opened old new b result is begins kept written = record {
+  not_opened old new b result is begins sound keeps = record {
     begins = handed_on old.cache new.cache b result is begins;
-    untouched = λ t sound. any_err result _ (λ _ quiet. kept t sound);
-    written = on_any_err result _ written;
+    untouched = λ t was. any_err result _ (λ _ quiet. sound t was);
+    kept = any_err result _ (λ _ quiet. keeps);
+    written = on_any_err result _ keeps.written;
   }
 
   -- it was, and pages were half changed, or changed
   pub broke_behind : {R S : Type 0} (old mid new : Layers D A m) {x : R} (b : Broken) (result : Result T Broken) → IsErrAnd result (λ e. e ≡ b) → IsSameBut mid new → Begins old.cache mid.cache (Ok x)
-      → ((t : Table) → IsSound old t → IsSound mid t) → (IsWritten old → IsWritten mid) → Alters {T = S} mid.cache new.cache (Err b) → BeginsChange old new result
-  broke_behind old mid new {x} b result is same begun kept written alters = record {
+      → ((t : Table) → IsSound old t → IsSound mid t) → KeepsPagesAndRecords old mid → Alters {T = S} mid.cache new.cache (Err b) → BeginsChange old new result
+  broke_behind old mid new {x} b result is same begun sound keeps alters = record {
     begins = begun_and_broke old.cache mid.cache new.cache x b result is begun alters;
-    untouched = λ t sound. the_err result b (λ e. e.touched ≡ false → IsSound new t) is (λ quiet. sound_kept mid new t (alters.untouched quiet) same.0 same.1 (λ w. sym same.2 ∙ w) (kept t sound));
-    written = on_any_err result _ (λ was. same.2 ∙ written was);
+    untouched = λ t was. the_err result b (λ e. e.touched ≡ false → IsSound new t) is (λ quiet. sound_kept mid new t (alters.untouched quiet) same.0 same.1 (λ w. sym same.2 ∙ w) (sound t was));
+    kept = the_err result b (λ e. e.touched ≡ false → KeepsPagesAndRecords old new) is
+        (λ quiet. stays_in_turn old mid new begun.honest.0 keeps (record { map = alters.untouched quiet; records = ap records_of same.0; written = λ was. same.2 ∙ was }));
+    written = on_any_err result _ (λ was. same.2 ∙ keeps.written was);
   }
 
   pub made_behind : {S : Type 0} (old mid new : Layers D A m) (cache : PageCache D A m) {x : S} {y : T} → new.cache ≡ cache → Begins old.cache mid.cache (Ok x) → ChangesUntil mid.cache cache None → BeginsChange old new (Ok y)
   made_behind old mid new cache {x} {y} same begun changes = record {
     begins = subst (λ (c : PageCache D A m). Begins old.cache c (Ok y)) (sym same) (begun_and_made old.cache mid.cache cache x y begun changes);
     untouched = λ t sound. tt;
+    kept = tt;
     written = tt;
   }

@@ -19,16 +19,18 @@ use Rattle.plain_table.specs.declared.refusal.Refusal.TheVariants as refusal
 use Rattle.store_law.specs.Lawful.{IsFault, blames_device}
 use Rattle.tree_node.specs.Trees.{Tree}
 use Rattle.live_layers.specs.Begun.{Begins, BeginsChange}
-use Rattle.live_layers.specs.Changes.{ChangeLeaves, IsBegun, IsChange, IsChangeBy, IsChanged, IsFaultOfChange, KeepsInChange, KeepsInQuestion, Rose}
+use Rattle.live_layers.specs.Changes.{ChangeLeaves, IsBegun, IsChange, IsChangeBy, IsChanged, IsFaultOfChange, KeepsInChange, KeepsInQuestion, OnRefused, Rose}
 use Rattle.live_layers.specs.Faults.{HasUnmadeCause, as_refusal, change_of}
 use Rattle.live_layers.specs.Image.{IsRefusedOrImageOf}
 use Rattle.live_layers.specs.Inserting.{IsAllowedOr}
 use Rattle.live_layers.specs.Keeping.{ChangesTree, IsSound, IsWritten}
+use Rattle.live_layers.specs.Staying.{KeepsPagesAndRecords}
 use Rattle.live_layers.specs.declared.layers.Layers.{Layers}
 use Rattle.live_layers.specs.declared.unmade.Unmade.{Unmade}
 use Rattle.live_layers.specs.declared.unmade.Unmade.TheVariants as unmade
 use Rattle.live_layers.proofs.AskLemmas.{risen_of, same_count}
 use Rattle.live_layers.proofs.BegunLemmas.{OnlyNow}
+use Rattle.live_layers.proofs.KeepLemmas.{stays_in_turn}
 use Rattle.live_layers.proofs.QuestionLemmas.{refuses_unasked}
 use Rattle.live_layers.proofs.ReplaceLemmas.{changes_before}
 use Rattle.live_layers.proofs.Results.{on_ok}
@@ -52,6 +54,7 @@ gate_kept old new t c result now sound keeps unbegun = record {
 module _ {D A : Type 0} {m : _} {T : Type 0} (old new : Layers D A m) where
   pub refused_keeps : (r : Refusal) → KeepsInQuestion {T = T} old new (Err r) → KeepsInChange old new (Err (unmade.Refused r))
   refused_keeps r keeps = record {
+    refused = keeps.trees;
     written = keeps.trees.written;
     honest = keeps.gate.honest.0;
     cause = record { made = tt; unmade = keeps.cause.refused };
@@ -65,7 +68,7 @@ module _ {D A : Type 0} {m : _} {T : Type 0} (old new : Layers D A m) where
 
   -- one that the table does not refuse and that leaves it as it is
   pub unbegun_keeps : {x : T} → KeepsInQuestion old new (Ok x) → KeepsInChange old new (Ok tt)
-  unbegun_keeps keeps = record { written = tt; honest = keeps.gate.honest.0; cause = record { made = keeps.cause.ok; unmade = tt } }
+  unbegun_keeps keeps = record { refused = tt; written = tt; honest = keeps.gate.honest.0; cause = record { made = keeps.cause.ok; unmade = tt } }
 
   pub unbegun_change : (t : Table) (c : Command) {x : T} → OnlyNow old → KeepsInQuestion old new (Ok x) → IsSound old t → refusal_of t c ≡ None → Done ≡ answer_of t c → after t c ≡ t → IsChange old new t c (Ok tt)
   unbegun_change t c now keeps sound none done same = record {
@@ -105,6 +108,15 @@ unmade_so : (P Q : Type 0) (made : Result (Unit {0}) Broken) → (P → Q) → O
 unmade_so P Q (Ok u) f p = p
 unmade_so P Q (Err b) f p = f p
 
+-- and where no page was touched
+refused_so : (P Q : Type 0) (made : Result (Unit {0}) Broken) → (P → Q) → IfErr made (λ b. b.touched ≡ false → P) → OnRefused (change_of made) Q
+refused_so P Q (Ok u) f kept = tt
+refused_so P Q (Err b) f kept = untouched b.touched kept
+  where
+    untouched : (touched : Bool) → (touched ≡ false → P) → OnRefused (Err (cond touched (unmade.Broken b.cause) (unmade.Refused (as_refusal b.cause)))) Q
+    untouched true kept = tt
+    untouched false kept = f (kept refl)
+
 module _ {D A : Type 0} {m : _} {T : Type 0} (old mid new : Layers D A m) {x : T} (asked : KeepsInQuestion old mid (Ok x)) (made : Result (Unit {0}) Broken) (begun : BeginsChange mid new made)
     (result : Result (Unit {0}) Unmade) (is : result ≡ change_of made) where
   counted : m.faults (device_of new.cache) ≡ faults_behind (cause_in made) (m.faults (device_of old.cache))
@@ -112,6 +124,7 @@ module _ {D A : Type 0} {m : _} {T : Type 0} (old mid new : Layers D A m) {x : T
 
   pub begun_keeps : KeepsInChange old new result
   begun_keeps = subst (KeepsInChange old new) (sym is) (record {
+    refused = refused_so (KeepsPagesAndRecords mid new) (KeepsPagesAndRecords old new) made (stays_in_turn old mid new asked.gate.honest.0 asked.trees) begun.kept;
     written = unmade_so (IsWritten mid → IsWritten new) (IsWritten old → IsWritten new) made (λ kept was. kept (asked.trees.written was)) begun.written;
     honest = λ honest. begun.begins.honest.0 (asked.gate.honest.0 honest);
     cause = begun_cause _ _ made counted;

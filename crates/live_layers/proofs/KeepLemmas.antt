@@ -1,14 +1,16 @@
 -- What a live store keeps, where its pages stay.
-use Rattle.std.proofs.Common.{◌≡◌, ◌∙◌, ℕ, ◌≤◌, List, Some, true, sym, ap, subst}
+use Rattle.std.proofs.Common.{◌≡◌, ◌∙◌, ℕ, ◌≤◌, List, Some, true, refl, sym, ap, subst}
 use Rattle.std.specs.Prelude.{option_and_then}
 use Rattle.catalog_page.specs.Layout.{Record, records_at, records_of}
 use Rattle.node_page.specs.Standing.{PageMap}
 use Rattle.page_cache.specs.Cache.{IsHonest, IsLive, IsPageMap, KeepsMap, next_of, pages}
+use Rattle.page_cache.specs.Laws.{no_call_keeps_the_map, the_map_is_kept_in_turn}
 use Rattle.page_cache.specs.declared.cache.PageCache.{PageCache}
 use Rattle.page_file.specs.Pages.{SameBut}
 use Rattle.plain_table.specs.Table.{Table, most_objects}
 use Rattle.live_layers.specs.Layers.{Holds, catalog_in}
 use Rattle.live_layers.specs.Keeping.{IsSound}
+use Rattle.live_layers.specs.Staying.{KeepsPagesAndRecords}
 use Rattle.live_layers.specs.declared.layers.Layers.{Layers}
 use Rattle.live_layers.proofs.HoldLemmas.{catalog_changed}
 
@@ -18,6 +20,17 @@ same_pages_hold old new next next' records t same e h =
     subst (λ (k : ℕ). Holds new k records t) (sym e) (subst (λ (p : PageMap). Holds p next records t) (λ i n. sym (same n) i) h)
 
 module _ {D A : Type 0} {m : _} where
+  -- nothing was done, or one thing after the other
+  pub nothing_moved : (kept : Layers D A m) → KeepsPagesAndRecords kept kept
+  nothing_moved kept = record { map = no_call_keeps_the_map kept.cache; records = refl; written = λ was. was }
+
+  pub stays_in_turn : (old mid new : Layers D A m) → (IsHonest old.cache → IsHonest mid.cache) → KeepsPagesAndRecords old mid → KeepsPagesAndRecords mid new → KeepsPagesAndRecords old new
+  stays_in_turn old mid new honest a b = record {
+    map = the_map_is_kept_in_turn old.cache mid.cache new.cache honest a.map b.map;
+    records = b.records ∙ a.records;
+    written = λ was. b.written (a.written was);
+  }
+
   pub kept_table : (old new : PageCache D A m) (records : List Record) (t : Table) → IsHonest old → KeepsMap old new → Holds (pages old) (next_of old) records t → Holds (pages new) (next_of new) records t
   kept_table old new records t honest keeps h = same_pages_hold (pages old) (pages new) (next_of old) (next_of new) records t (keeps.pages_stay honest) keeps.next h
 

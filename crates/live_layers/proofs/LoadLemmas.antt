@@ -7,8 +7,7 @@ use Rattle.std.proofs.lemmas.Bool.Decides.{nat_tests}
 use Rattle.std.proofs.lemmas.List.{length-map}
 use Rattle.box_math.specs.Bounds.{Bounds}
 use Rattle.catalog_page.specs.Layout.{Record, records_of}
-use Rattle.id_table.proofs.AddLemmas.{same_key}
-use Rattle.page_cache.specs.Laws.{no_call_keeps_the_map}
+use Rattle.id_table.proofs.TableLemmas.{same_key}
 use Rattle.plain_table.specs.Commands.Command.{Load}
 use Rattle.plain_table.specs.Laws.{none_holds}
 use Rattle.plain_table.specs.Loads.{GivenObjects, are_ordered, given_object, have_dims, ids_of, least_repeated, with_objects}
@@ -19,7 +18,6 @@ use Rattle.plain_table.specs.declared.refusal.Refusal.TheVariants as refusal
 use Rattle.store_law.specs.Lawful.{IsFault}
 use Rattle.live_layers.specs.Keeping.{Finds, IsSound}
 use Rattle.live_layers.specs.Loading.{ReachesObjects, boxes_refusals, times_in}
-use Rattle.live_layers.specs.Staying.{KeepsPagesAndRecords}
 use Rattle.live_layers.specs.declared.layers.Layers.{Layers}
 use Rattle.live_layers.proofs.AskLemmas.{named_there}
 use Rattle.live_layers.proofs.FillLemmas.{AreApart, entries_made}
@@ -217,6 +215,3 @@ module _ {D A : Type 0} {m : _} (kept : Layers D A m) (t : Table) (name : List �
   counted_there n by =
       let row : Record = (reading kept t name place sound finds).row in
       len-entries (layer_at t name).objects ∙ sym (count_there kept t name place sound finds) ∙ sym (by row ∙ ap (λ (r : Record). r.count) (row_there kept t name place sound finds row))
-
-pub nothing_moved : {D A : Type 0} {m : _} (kept : Layers D A m) → KeepsPagesAndRecords kept kept
-nothing_moved kept = record { map = no_call_keeps_the_map kept.cache; records = refl; written = λ w. w }

@@ -87,7 +87,7 @@ module _ {D A : Type 0} {m : _} (kept : Layers D A m) (t : Table) (name : List â
       tree_with kept t name place sound finds located by_record dims is_dims cache root (map_insert layer.objects id bounds) (HasReplaced dims located.fanout l id known bounds) became new same count counts can le few records
       (HasMoved layer id bounds)
       (Î» s replaced. record {
-        between = replaced.between.tree;
-        removed = lost layer dims located.fanout is_dims most l id known replaced.between.tree (its_box layer id known there) replaced.removed;
-        inserted = gained layer dims located.fanout is_dims most replaced.between id bounds s replaced.inserted;
+        between = replaced.between;
+        removed = lost layer dims located.fanout is_dims most l id known replaced.between (its_box layer id known there) replaced.removed;
+        inserted = gained layer dims located.fanout is_dims most (record { tree = replaced.between; ids = l.ids }) id bounds s replaced.inserted;
       })

@@ -10,6 +10,7 @@ use Rattle.page_file.specs.declared.gate.Gate.TheVariants.{Open}
 use Rattle.plain_table.specs.Table.{Table}
 use Rattle.live_layers.specs.Image.{IsRefusedOrImageOf}
 use Rattle.live_layers.specs.Keeping.{IsSound, IsWritten, RestLeavesOneOf}
+use Rattle.live_layers.specs.Staying.{KeepsPagesAndRecords}
 use Rattle.live_layers.specs.declared.layers.Layers.{Layers}
 
 -- A change was begun, and then made or broken off. A stop leaves what one at rest leaves. Where pages may be changed the
@@ -25,9 +26,10 @@ pub record Begins {D A : Type 0} {m : _} {T : Type 0} (old new : PageCache D A m
   pub next : next_of old ≤ next_of new
   pub faults : m.faults (device_of new) ≡ faults_behind (cause_in result) (m.faults (device_of old))
 
--- The same of layers, of which it keeps what was written where it broke off, and each table where that was before pages were
--- touched.
+-- The same of layers, of which it keeps what was written where it broke off; and pages, records and each table where that
+-- was before pages were touched.
 pub record BeginsChange {D A : Type 0} {m : _} {T : Type 0} (old new : Layers D A m) (result : Result T Broken) : Type 0 where
   pub begins : Begins old.cache new.cache result
   pub untouched : (t : Table) → IsSound old t → IfErr result (λ b. b.touched ≡ false → IsSound new t)
+  pub kept : IfErr result (λ b. b.touched ≡ false → KeepsPagesAndRecords old new)
   pub written : OnErr result (IsWritten old → IsWritten new)

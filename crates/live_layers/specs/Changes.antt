@@ -56,9 +56,15 @@ pub record IsChange {D A : Type 0} {m : _} (old new : Layers D A m) (t : Table) 
   pub changed : IsChanged old new t c result
   pub leaves : ChangeLeaves old new t c result
 
--- What a change keeps of any layers: what was written, where it was not made; honesty; and the count of the device's
--- faults, which rises by one where its failure ended the change.
+-- of a change that was refused, so that nothing changed
+abbrev pub OnRefused : Result (Unit {0}) Unmade → Type 0 → Type 0
+OnRefused (Err (unmade.Refused r)) P = P
+OnRefused result P = Unit {0}
+
+-- What a change keeps of any layers: pages and records, so each tree, where it was refused; what was written, where it was
+-- not made; honesty; and the count of the device's faults, which rises by one where its failure ended the change.
 pub record KeepsInChange {D A : Type 0} {m : _} (old new : Layers D A m) (result : Result (Unit {0}) Unmade) : Type 0 where
+  pub refused : OnRefused result (KeepsPagesAndRecords old new)
   pub written : OnErr result (IsWritten old → IsWritten new)
   pub honest : IsHonest old.cache → IsHonest new.cache
   pub cause : HasUnmadeCause (m.faults (device_of old.cache)) (m.faults (device_of new.cache)) result

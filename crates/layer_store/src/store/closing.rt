@@ -83,7 +83,7 @@ impl<D: BlockDevice, A: Allocator + Copy> Store<D, A> {
             IfOk result (λ device. Only (D.shown device) (D.may_leave device)) }
 
         // Of one that is settled already the device comes back as it is.
-        ensures quiet { (t : Table) → RepresentsTable self t → IsSettled self → result ≡ Ok (device_in self) }
+        ensures quiet { IsSettled self → IsInState self Dead ⊎ (result ≡ Ok (device_in self)) }
 
         ensures refused { (t : Table) → RepresentsTable self t → IfErr result (λ e. IsMemoryOrDevice e.0) }
         ensures dead { IsInState self Dead → result ≡ Err (refusal.StoreFailed 19, device_in self) }

@@ -16,7 +16,7 @@ use crate::layers::Layers;
 use crate::rooms::Rooms;
 use crate::unmade::Unmade;
 use block_device::BlockDevice;
-use plain_table::{RawBox, Refusal, is_layer_name};
+use plain_table::RawBox;
 use std::alloc::Allocator;
 
 impl<B: BlockDevice, A: Allocator + Copy> Layers<B, A> {
@@ -35,11 +35,9 @@ impl<B: BlockDevice, A: Allocator + Copy> Layers<B, A> {
         ensures tree { (t : Table) → IsSound self.old t → OnOk result (ChangesTree self.old self.new name.now
             (HasGained (layer_at t name.now) id (given_bounds bounds))) }
     {
-        if !is_layer_name(name) {
-            return Err(Unmade::Refused(Refusal::BadName));
-        }
-        let Ok(place) = self.find(name) else {
-            return Err(Unmade::Refused(Refusal::NoLayer));
+        let place = match self.named(name) {
+            Ok(place) => place,
+            Err(refusal) => return Err(Unmade::Refused(refusal)),
         };
         match bounds {
             RawBox::Two(low, high) => self.insert_box::<2>(

@@ -17,7 +17,7 @@ use crate::layers::Layers;
 use crate::objects::{objects_in_plane, objects_in_space};
 use crate::unmade::Unmade;
 use block_device::BlockDevice;
-use plain_table::{RawBox, Refusal, is_layer_name};
+use plain_table::RawBox;
 use std::alloc::Allocator;
 
 impl<B: BlockDevice, A: Allocator + Copy> Layers<B, A> {
@@ -33,11 +33,9 @@ impl<B: BlockDevice, A: Allocator + Copy> Layers<B, A> {
         ensures same { (t : Table) → IsSound self.old t → changes t (Load name.now objects.now) ≡ false →
             KeepsPagesAndRecords self.old self.new }
     {
-        if !is_layer_name(name) {
-            return Err(Unmade::Refused(Refusal::BadName));
-        }
-        let Ok(place) = self.find(name) else {
-            return Err(Unmade::Refused(Refusal::NoLayer));
+        let place = match self.named(name) {
+            Ok(place) => place,
+            Err(refusal) => return Err(Unmade::Refused(refusal)),
         };
         if self.locate(place).dims == 2 {
             match objects_in_plane(self.alloc, objects) {

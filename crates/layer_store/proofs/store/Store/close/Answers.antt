@@ -1,10 +1,10 @@
 -- A live store closes its layers, and one that failed hands the device back.
-use Rattle.std.proofs.Common.{◌≡◌, Result, Ok, Err, ap, sym, subst}
+use Rattle.std.proofs.Common.{◌≡◌, Result, Ok, Err, ap, inl, inr, sym, subst}
 use Rattle.page_cache.specs.Cache.{device_of}
 use Rattle.store_law.specs.Stops.{tables_left}
 use Rattle.layer_store.specs.Faults.{IsMemoryOrDevice}
 use Rattle.layer_store.proofs.ClosingLemmas.{memory_or_device, rests_of_store}
-use Rattle.layer_store.proofs.StoreLemmas.{alive_in, alive_with, failed_so, is_dead, is_settled, not_both}
+use Rattle.layer_store.proofs.StoreLemmas.{alive_in, alive_with, dead_so, failed_so, is_dead, is_settled, not_both}
 use Rattle.layer_store.proofs.store.Store.close.Goals as goal
 
 pub returns-then-failed-clause-refused : goal.returns-then-failed-clause-refused
@@ -14,7 +14,7 @@ pub returns-then-failed-clause-refused_stops : goal.returns-then-failed-clause-r
 returns-then-failed-clause-refused_stops g c = λ s t represents alive. absurd (not_both _ c.if-failed.true (alive_in c.args.self s t represents alive).0)
 
 pub returns-then-failed-clause-quiet : goal.returns-then-failed-clause-quiet
-returns-then-failed-clause-quiet g c = λ t represents settled. absurd (not_both _ c.if-failed.true (alive_with c.args.self t represents).0)
+returns-then-failed-clause-quiet g c = λ settled. inl (dead_so c.args.self c.if-failed.true)
 
 pub returns-in-Ok-clause-closed : goal.returns-in-Ok-clause-closed
 returns-in-Ok-clause-closed g c = λ t represents. c.in-Ok.ensures.closed t (alive_with c.args.self t represents).1
@@ -55,7 +55,7 @@ err_is_not_ok : {T E : Type 0} (e : E) (v : T) → ◌≡◌ {A = Result T E} (E
 err_is_not_ok e v h = cc
 
 pub returns-in-Ok-clause-quiet : goal.returns-in-Ok-clause-quiet
-returns-in-Ok-clause-quiet g c = λ t represents settled. other_ok c.in-Ok.device (device_of c.args.self.layers.cache) (c.in-Ok.ensures.was_settled (is_settled c.args.self settled))
+returns-in-Ok-clause-quiet g c = λ settled. inr (other_ok c.in-Ok.device (device_of c.args.self.layers.cache) (c.in-Ok.ensures.was_settled (is_settled c.args.self settled)))
 
 pub returns-in-Err-clause-quiet : goal.returns-in-Err-clause-quiet
-returns-in-Err-clause-quiet g c = λ t represents settled. absurd (err_is_not_ok _ _ (c.in-Err.ensures.was_settled (is_settled c.args.self settled)))
+returns-in-Err-clause-quiet g c = λ settled. absurd (err_is_not_ok _ _ (c.in-Err.ensures.was_settled (is_settled c.args.self settled)))

@@ -12,11 +12,11 @@ use Rattle.live_layers.proofs.layers.Layers.add_layer.Goals as goal
 
 pub returns-in_err-begin-clause-begins : goal.returns-in_err-begin-clause-begins
 returns-in_err-begin-clause-begins g c =
-    not_opened c.args.self.now c.begin.new.self c.in_err-begin.field-0.0 c.from_residual.result c.from_residual.ensures.1 c.in_err-begin.ensures.begins c.begin.ensures.sound c.begin.ensures.written
+    not_opened c.args.self.now c.begin.new.self c.in_err-begin.field-0.0 c.from_residual.result c.from_residual.ensures.1 c.in_err-begin.ensures.begins c.begin.ensures.sound c.begin.ensures.keeps
 
 pub returns-in_err-root-clause-begins : goal.returns-in_err-root-clause-begins
 returns-in_err-root-clause-begins g c =
-    broke_behind c.args.self.now c.begin.new.self _ c.in_err-root.field-0.0 c.from_residual-in_err-root.result c.from_residual-in_err-root.ensures.1 (refl, refl, refl) c.in_ok-begin.ensures.begins c.begin.ensures.sound c.begin.ensures.written
+    broke_behind c.args.self.now c.begin.new.self _ c.in_err-root.field-0.0 c.from_residual-in_err-root.result c.from_residual-in_err-root.ensures.1 (refl, refl, refl) c.in_ok-begin.ensures.begins c.begin.ensures.sound c.begin.ensures.keeps
     c.in_err-root.ensures.alters
 
 pub returns-in_err-begin-clause-faults : goal.returns-in_err-begin-clause-faults
@@ -26,7 +26,7 @@ pub returns-in_err-root-clause-faults : goal.returns-in_err-root-clause-faults
 returns-in_err-root-clause-faults g c = λ t sound.
     let before = c.begin.ensures.sound t sound in
     the_err c.from_residual-in_err-root.result c.in_err-root.field-0.0 _ c.from_residual-in_err-root.ensures.1
-    (no_page_wanted c.begin.new.self t before (omega (arith, c.requires.room, ap length c.begin.ensures.records)) 2 c.make_pages.new.cache _ (omega (arith)) c.make_pages.ensures.grows
+    (no_page_wanted c.begin.new.self t before (omega (arith, c.requires.room, ap length c.begin.ensures.keeps.records)) 2 c.make_pages.new.cache _ (omega (arith)) c.make_pages.ensures.grows
     (c.in_err-root.ensures.faults before.map))
 
 pub invariant_of-self-2 : goal.invariant_of-self-2
@@ -64,7 +64,7 @@ returns-clause-tree g c = λ t sound belongs.
     let r : LayerRecord = record { name = c.name_of.result; dims = c.args.dims; fanout = c.args.fanout; level = root.level; root = root.page; directory = directory; count = 0 } in
     let row = made_record c.args.name.now c.args.dims c.args.fanout root directory in
     let records = put_in items c.insert.new.self.items c.args.place r row c.insert.ensures.items (λ i. made_record (c.name_of.ensures i) c.args.dims c.args.fanout root directory) in
-    brings_before c.args.self.now kept _ c.args.name.now IsEmptyLeaf (c.begin.ensures.map.pages_stay sound.map.honest) c.begin.ensures.records
+    brings_before c.args.self.now kept _ c.args.name.now IsEmptyLeaf (c.begin.ensures.keeps.map.pages_stay sound.map.honest) c.begin.ensures.keeps.records
     (tree_made kept _ t c.args.name.now c.args.place before belongs c.args.dims c.args.fanout c.requires.may_be c.in_ok-root.root c.in_ok-root.directory (c.in_ok-root.ensures.made before.map c.args.fanout)
     c.in_ok-root.ensures.places.0 c.in_ok-root.ensures.alters.changes.next records)
 

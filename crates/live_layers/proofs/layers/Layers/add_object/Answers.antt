@@ -16,11 +16,11 @@ returns-in_err-waiting-clause-begins g c =
 
 pub returns-in_err-begin-clause-begins : goal.returns-in_err-begin-clause-begins
 returns-in_err-begin-clause-begins g c =
-    not_opened c.args.self.now c.begin.new.self c.in_err-begin.field-0.0 c.from_residual-in_err-begin.result c.from_residual-in_err-begin.ensures.1 c.in_err-begin.ensures.begins c.begin.ensures.sound c.begin.ensures.written
+    not_opened c.args.self.now c.begin.new.self c.in_err-begin.field-0.0 c.from_residual-in_err-begin.result c.from_residual-in_err-begin.ensures.1 c.in_err-begin.ensures.begins c.begin.ensures.sound c.begin.ensures.keeps
 
 pub returns-in_err-root-clause-begins : goal.returns-in_err-root-clause-begins
 returns-in_err-root-clause-begins g c =
-    broke_behind c.args.self.now c.begin.new.self _ c.in_err-root.field-0.0 c.from_residual-in_err-root.result c.from_residual-in_err-root.ensures.1 (refl, refl, refl) c.in_ok-begin.ensures.begins c.begin.ensures.sound c.begin.ensures.written
+    broke_behind c.args.self.now c.begin.new.self _ c.in_err-root.field-0.0 c.from_residual-in_err-root.result c.from_residual-in_err-root.ensures.1 (refl, refl, refl) c.in_ok-begin.ensures.begins c.begin.ensures.sound c.begin.ensures.keeps
     c.in_err-root.ensures.alters
 
 pub returns-in_err-waiting-clause-faults : goal.returns-in_err-waiting-clause-faults
@@ -70,7 +70,7 @@ returns-clause-tree g c = λ t name sound finds dims absent.
     let l = (reading kept t name c.args.place before finds).pages in
     let objects = (layer_at t name).objects in
     let became = c.in_ok-root.ensures.inserted before.map l objects at absent in
-    changes_before c.args.self.now kept _ name (HasGained (layer_at t name) id bounds) (c.begin.ensures.map.pages_stay sound.map.honest) c.begin.ensures.records
+    changes_before c.args.self.now kept _ name (HasGained (layer_at t name) id bounds) (c.begin.ensures.keeps.map.pages_stay sound.map.honest) c.begin.ensures.keeps.records
     (tree_added kept t name c.args.place before finds located by g.row.D dims id bounds absent c.insert.new.cache c.in_ok-root.root became _ c.note.ensures.cache c.count_at.result c.saturating_add-count.result c.count_at.ensures
     c.saturating_add-count.ensures c.in_ok-root.ensures.root c.in_ok-root.ensures.alters.changes.next (omega (arith, c.requires.room, c.begin.ensures.count)) c.note.ensures.records)
 

@@ -28,3 +28,9 @@ returns-clause-begins g c =
 
 pub returns-clause-sound : goal.returns-clause-sound
 returns-clause-sound g c = λ t sound. sound_kept c.args.self.now _ t c.begin_change.ensures.map refl refl (λ w. w) sound
+
+pub returns-in_err-begin_change-clause-keeps : goal.returns-in_err-begin_change-clause-keeps
+returns-in_err-begin_change-clause-keeps g c = record { map = c.begin_change.ensures.map; records = refl; written = λ was. was }
+
+pub returns-clause-keeps : goal.returns-clause-keeps
+returns-clause-keeps g c = record { map = c.begin_change.ensures.map; records = refl; written = λ was. was }

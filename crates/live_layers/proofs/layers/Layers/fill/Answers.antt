@@ -12,11 +12,11 @@ use Rattle.live_layers.proofs.layers.Layers.fill.Goals as goal
 
 pub returns-in_err-begin-clause-begins : goal.returns-in_err-begin-clause-begins
 returns-in_err-begin-clause-begins g c =
-    not_opened c.args.self.now c.begin.new.self c.in_err-begin.field-0.0 c.from_residual.result c.from_residual.ensures.1 c.in_err-begin.ensures.begins c.begin.ensures.sound c.begin.ensures.written
+    not_opened c.args.self.now c.begin.new.self c.in_err-begin.field-0.0 c.from_residual.result c.from_residual.ensures.1 c.in_err-begin.ensures.begins c.begin.ensures.sound c.begin.ensures.keeps
 
 pub returns-in_err-root-clause-begins : goal.returns-in_err-root-clause-begins
 returns-in_err-root-clause-begins g c =
-    broke_behind c.args.self.now c.begin.new.self _ c.in_err-root.field-0.0 c.from_residual-in_err-root.result c.from_residual-in_err-root.ensures.1 (refl, refl, refl) c.in_ok-begin.ensures.begins c.begin.ensures.sound c.begin.ensures.written
+    broke_behind c.args.self.now c.begin.new.self _ c.in_err-root.field-0.0 c.from_residual-in_err-root.result c.from_residual-in_err-root.ensures.1 (refl, refl, refl) c.in_ok-begin.ensures.begins c.begin.ensures.sound c.begin.ensures.keeps
     c.in_err-root.ensures.alters
 
 pub returns-in_err-begin-clause-faults : goal.returns-in_err-begin-clause-faults
@@ -55,7 +55,7 @@ returns-clause-tree g c = λ t name all sound finds dims none same.
     let l = (reading kept t name c.args.place before finds).pages in
     let empty_there = stands_empty kept t name c.args.place before finds located by g.row.D dims none in
     let became = c.in_ok-root.ensures.loaded before.map l located.fanout all empty_there same in
-    changes_before c.args.self.now kept _ name (HasFilled (layer_at t name) c.args.objects.now) (c.begin.ensures.map.pages_stay sound.map.honest) c.begin.ensures.records
+    changes_before c.args.self.now kept _ name (HasFilled (layer_at t name) c.args.objects.now) (c.begin.ensures.keeps.map.pages_stay sound.map.honest) c.begin.ensures.keeps.records
     (tree_filled kept t name c.args.place before finds located by g.row.D dims none c.args.objects.now all same c.load.new.cache c.in_ok-root.root became _ c.note.ensures.cache
     c.in_ok-root.ensures.root c.in_ok-root.ensures.alters.changes.next (omega (arith, c.requires.room, c.begin.ensures.count)) c.note.ensures.records)
 

@@ -1,28 +1,21 @@
 -- The layer is found or not, and it is loaded with the boxes of either dimension.
-use Rattle.std.proofs.Common.{◌≡◌, ◌∙◌, arith, inl, sym, subst, refl}
+use Rattle.std.proofs.Common.{◌≡◌, ◌∙◌, arith, inl, subst}
 use Rattle.std.specs.Prelude.{OnOk}
 use Rattle.plain_table.specs.Commands.Command.{Load}
-use Rattle.plain_table.specs.Table.{layer_at}
-use Rattle.plain_table.specs.declared.refusal.Refusal.TheVariants as refusal
+use Rattle.plain_table.specs.Step.{load_refusals}
+use Rattle.plain_table.specs.Table.{layer_at, object_count}
 use Rattle.live_layers.specs.Keeping.{ChangesTree}
 use Rattle.live_layers.specs.Rules.{HasFilled}
-use Rattle.live_layers.proofs.AskLemmas.{not_there}
 use Rattle.live_layers.proofs.ChangeLemmas.{refused_by}
-use Rattle.live_layers.proofs.LoadLemmas.{all_reach, allowed_anyhow, box_refused_there, no_layer_there, no_name}
+use Rattle.live_layers.proofs.LoadLemmas.{all_reach, allowed_anyhow, box_refused_there}
 use Rattle.live_layers.proofs.layers.Layers.load.Goals as goal
 
-pub returns-then-not-is_layer_name-clause-change : goal.returns-then-not-is_layer_name-clause-change
-returns-then-not-is_layer_name-clause-change g c =
+pub returns-in-Err-clause-change : goal.returns-in-Err-clause-change
+returns-in-Err-clause-change g c =
     let name = c.args.name.now in
-    refused_by c.args.self.now (Load name c.args.objects.now) refusal.BadName g.met.B.BlockDevice.only_now refl
-    (λ t sound. inl (no_name t name c.args.objects.now (sym c.is_layer_name.ensures ∙ c.if-not-is_layer_name.true)))
-
-pub returns-in_default-clause-change : goal.returns-in_default-clause-change
-returns-in_default-clause-change g c =
-    let name = c.args.name.now in
-    let good = sym c.is_layer_name.ensures ∙ c.if-not-is_layer_name.false in
-    refused_by c.args.self.now (Load name c.args.objects.now) refusal.NoLayer g.met.B.BlockDevice.only_now refl
-    (λ t sound. inl (no_layer_there t name c.args.objects.now good (not_there t name c.in_default.field-0 (c.in_default.ensures.belongs t sound))))
+    let given = c.args.objects.now in
+    refused_by c.args.self.now (Load name given) c.in-Err.refusal g.met.B.BlockDevice.only_now c.in-Err.ensures.cause
+    (λ t sound. inl (c.in-Err.ensures.unnamed t sound (load_refusals (layer_at t name) given (object_count t))))
 
 pub returns-in-Ok-objects_in_plane-clause-change : goal.returns-in-Ok-objects_in_plane-clause-change
 returns-in-Ok-objects_in_plane-clause-change g c = record {
@@ -30,7 +23,7 @@ returns-in-Ok-objects_in_plane-clause-change g c = record {
   lawful = λ t sound.
       let name = c.args.name.now in
       let given = c.args.objects.now in
-      let good = sym c.is_layer_name.ensures ∙ c.if-not-is_layer_name.false in
+      let good = c.in-Ok.ensures.good in
       let finds = c.in-Ok.ensures.found t sound in
       let is_2 : c.locate.result.dims ≡ 2 = c.if-locate-eq2.true in
       let axes = (c.locate.ensures.located t name sound finds).dims ∙ is_2 in
@@ -43,7 +36,7 @@ returns-in-Ok-objects_in_plane-clause-tree g c = λ t sound changed.
     let old = c.args.self.now in
     let name = c.args.name.now in
     let given = c.args.objects.now in
-    let good = sym c.is_layer_name.ensures ∙ c.if-not-is_layer_name.false in
+    let good = c.in-Ok.ensures.good in
     let finds = c.in-Ok.ensures.found t sound in
     let is_2 : c.locate.result.dims ≡ 2 = c.if-locate-eq2.true in
     let axes = (c.locate.ensures.located t name sound finds).dims ∙ is_2 in
@@ -55,25 +48,25 @@ returns-in-Ok-objects_in_plane-clause-same g c = λ t sound unchanged.
     let old = c.args.self.now in
     let name = c.args.name.now in
     let given = c.args.objects.now in
-    let good = sym c.is_layer_name.ensures ∙ c.if-not-is_layer_name.false in
+    let good = c.in-Ok.ensures.good in
     let finds = c.in-Ok.ensures.found t sound in
     let is_2 : c.locate.result.dims ≡ 2 = c.if-locate-eq2.true in
     let axes = (c.locate.ensures.located t name sound finds).dims ∙ is_2 in
     let reaches = all_reach t name c.in-Ok.place given 2 c.as_mut_slice.result.now good finds axes c.in-Ok-objects_in_plane.ensures.allowed (c.as_mut_slice.ensures.value ∙ c.in-Ok-objects_in_plane.ensures.boxes) in
     c.load_boxes.ensures.same t name given sound reaches unchanged
 
-pub returns-in-Err-clause-change : goal.returns-in-Err-clause-change
-returns-in-Err-clause-change g c =
+pub returns-in-Err-objects_in_plane-clause-change : goal.returns-in-Err-objects_in_plane-clause-change
+returns-in-Err-objects_in_plane-clause-change g c =
     let name = c.args.name.now in
     let given = c.args.objects.now in
-    let r = c.in-Err.refusal in
-    let good = sym c.is_layer_name.ensures ∙ c.if-not-is_layer_name.false in
+    let r = c.in-Err-objects_in_plane.refusal in
+    let good = c.in-Ok.ensures.good in
     let is_2 : c.locate.result.dims ≡ 2 = c.if-locate-eq2.true in
-    refused_by c.args.self.now (Load name given) r g.met.B.BlockDevice.only_now c.in-Err.ensures.quiet
+    refused_by c.args.self.now (Load name given) r g.met.B.BlockDevice.only_now c.in-Err-objects_in_plane.ensures.quiet
     (λ t sound.
     let finds = c.in-Ok.ensures.found t sound in
     let axes = (c.locate.ensures.located t name sound finds).dims ∙ is_2 in
-    allowed_anyhow _ _ r (box_refused_there t name c.in-Ok.place given 2 good finds axes r c.in-Err.ensures.allowed))
+    allowed_anyhow _ _ r (box_refused_there t name c.in-Ok.place given 2 good finds axes r c.in-Err-objects_in_plane.ensures.allowed))
 
 pub returns-in-Ok-objects_in_space-clause-change : goal.returns-in-Ok-objects_in_space-clause-change
 returns-in-Ok-objects_in_space-clause-change g c = record {
@@ -81,7 +74,7 @@ returns-in-Ok-objects_in_space-clause-change g c = record {
   lawful = λ t sound.
       let name = c.args.name.now in
       let given = c.args.objects.now in
-      let good = sym c.is_layer_name.ensures ∙ c.if-not-is_layer_name.false in
+      let good = c.in-Ok.ensures.good in
       let finds = c.in-Ok.ensures.found t sound in
       let is_3 : c.locate.result.dims ≡ 3 = (omega (arith, c.locate.ensures.dims.0, c.locate.ensures.dims.1, c.if-locate-eq2.false)) in
       let axes = (c.locate.ensures.located t name sound finds).dims ∙ is_3 in
@@ -94,7 +87,7 @@ returns-in-Ok-objects_in_space-clause-tree g c = λ t sound changed.
     let old = c.args.self.now in
     let name = c.args.name.now in
     let given = c.args.objects.now in
-    let good = sym c.is_layer_name.ensures ∙ c.if-not-is_layer_name.false in
+    let good = c.in-Ok.ensures.good in
     let finds = c.in-Ok.ensures.found t sound in
     let is_3 : c.locate.result.dims ≡ 3 = (omega (arith, c.locate.ensures.dims.0, c.locate.ensures.dims.1, c.if-locate-eq2.false)) in
     let axes = (c.locate.ensures.located t name sound finds).dims ∙ is_3 in
@@ -106,7 +99,7 @@ returns-in-Ok-objects_in_space-clause-same g c = λ t sound unchanged.
     let old = c.args.self.now in
     let name = c.args.name.now in
     let given = c.args.objects.now in
-    let good = sym c.is_layer_name.ensures ∙ c.if-not-is_layer_name.false in
+    let good = c.in-Ok.ensures.good in
     let finds = c.in-Ok.ensures.found t sound in
     let is_3 : c.locate.result.dims ≡ 3 = (omega (arith, c.locate.ensures.dims.0, c.locate.ensures.dims.1, c.if-locate-eq2.false)) in
     let axes = (c.locate.ensures.located t name sound finds).dims ∙ is_3 in
@@ -118,7 +111,7 @@ returns-in-Err-objects_in_space-clause-change g c =
     let name = c.args.name.now in
     let given = c.args.objects.now in
     let r = c.in-Err-objects_in_space.refusal in
-    let good = sym c.is_layer_name.ensures ∙ c.if-not-is_layer_name.false in
+    let good = c.in-Ok.ensures.good in
     let is_3 : c.locate.result.dims ≡ 3 = (omega (arith, c.locate.ensures.dims.0, c.locate.ensures.dims.1, c.if-locate-eq2.false)) in
     refused_by c.args.self.now (Load name given) r g.met.B.BlockDevice.only_now c.in-Err-objects_in_space.ensures.quiet
     (λ t sound.

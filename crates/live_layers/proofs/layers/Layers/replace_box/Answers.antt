@@ -22,11 +22,11 @@ returns-in_err-kept-clause-begins g c =
 
 pub returns-in_err-begin-clause-begins : goal.returns-in_err-begin-clause-begins
 returns-in_err-begin-clause-begins g c =
-    not_opened c.args.self.now c.begin.new.self c.in_err-begin.field-0.0 c.from_residual-in_err-begin.result c.from_residual-in_err-begin.ensures.1 c.in_err-begin.ensures.begins c.begin.ensures.sound c.begin.ensures.written
+    not_opened c.args.self.now c.begin.new.self c.in_err-begin.field-0.0 c.from_residual-in_err-begin.result c.from_residual-in_err-begin.ensures.1 c.in_err-begin.ensures.begins c.begin.ensures.sound c.begin.ensures.keeps
 
 pub returns-in_err-root-clause-begins : goal.returns-in_err-root-clause-begins
 returns-in_err-root-clause-begins g c =
-    broke_behind c.args.self.now c.begin.new.self _ c.in_err-root.field-0.0 c.from_residual-in_err-root.result c.from_residual-in_err-root.ensures.1 (refl, refl, refl) c.in_ok-begin.ensures.begins c.begin.ensures.sound c.begin.ensures.written
+    broke_behind c.args.self.now c.begin.new.self _ c.in_err-root.field-0.0 c.from_residual-in_err-root.result c.from_residual-in_err-root.ensures.1 (refl, refl, refl) c.in_ok-begin.ensures.begins c.begin.ensures.sound c.begin.ensures.keeps
     c.in_err-root.ensures.alters
 
 pub returns-in_err-root-clause-faults : goal.returns-in_err-root-clause-faults
@@ -58,7 +58,7 @@ returns-clause-tree g c = λ t name sound finds dims there.
     let by = c.locate-located.ensures.by_record in
     let at = stands_at kept t name c.args.place before finds located by g.row.D dims in
     let l = (reading kept t name c.args.place before finds).pages in
-    changes_before c.args.self.now kept _ name (HasMoved (layer_at t name) c.args.id c.args.bounds.now) (c.begin.ensures.map.pages_stay sound.map.honest) c.begin.ensures.records
+    changes_before c.args.self.now kept _ name (HasMoved (layer_at t name) c.args.id c.args.bounds.now) (c.begin.ensures.keeps.map.pages_stay sound.map.honest) c.begin.ensures.keeps.records
     (tree_moved kept t name c.args.place before finds located by g.row.D dims c.args.id c.args.known.now c.args.bounds.now there c.replace.new.cache c.in_ok-root.root
     (c.in_ok-root.ensures.replaced before.map l (layer_at t name).objects at there) _ c.note.ensures.cache c.count_at-count.result c.count_at-count.ensures c.in_ok-root.ensures.root c.in_ok-root.ensures.alters.changes.next c.note.ensures.records)
 
