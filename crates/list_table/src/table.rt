@@ -1,4 +1,4 @@
-//! The table as a plain list of layers, ascending by name: what the store answers from until layers are trees.
+//! The table as a plain list of layers, ascending by name: the slow reference that tests compare the store with.
 
 ghost use Rattle.std.specs.Prelude.{◌≡◌, IsTrue, nat_le, map as each};
 ghost use Rattle.std.specs.Cmp.Lexicographic.{slice_cmp};

@@ -13,7 +13,7 @@ pub struct Header {
     pub count: u32,
 }
 
-// Whether the numbers of a header agree with each other.
+/// Whether the numbers of a header agree with each other.
 pub fn is_sound(h: &Header) -> bool
     ensures { result ≡ opening.is_sound h.now }
 {

@@ -12,10 +12,9 @@ ghost use Rattle.page_file.specs.Stops.{SameButGate, StopSince};
 
 use block_device::BlockDevice;
 
-/// A stop now leaves what the gate allows: the blocks as read where it is shut, blocks that opening
-/// refuses where it is open, and the blocks as read but for the gate where it is unsure. Where it is not open, all
-/// of the
-/// blocks but the gate are left.
+/// A stop now leaves what the gate allows: the blocks as read where it is shut, blocks that opening refuses where it is
+/// open, and the blocks as read but for the gate where it is unsure. Where it is not open, all of the blocks but the
+/// gate are left.
 #[tactic(auto, using(crate::specs::Laws::laws))]
 pub fn a_stop_follows_the_gate<D: BlockDevice>()
     ensures gate { (file : PageFile D ⟦<D as BlockDevice>⟧) (c : Blocks) → IsHonest file →

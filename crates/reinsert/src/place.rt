@@ -153,7 +153,7 @@ fn read_fitting<const D: usize, B: BlockDevice, A: Allocator + Copy>(
     Ok(())
 }
 
-// Whether a node keeps its entries where the chosen child has settled so: it kept its box, and nothing was split off it.
+// Whether a node keeps its entries where the chosen child has settled so: it kept its box, and nothing was split off.
 fn keeps_entries<const D: usize>(way: &Way<D>, lower: &Settled<D>) -> bool
     ensures { IsTrue result → (lower.now.beside ≡ None) × (lower.now.bounds ≡ way.now.bounds) }
 {

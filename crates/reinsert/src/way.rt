@@ -83,7 +83,7 @@ fn least_holder<const D: usize>(node: &NodeView<D>, bounds: &BBox<D>) -> Option<
     }
 }
 
-// The place of the child that the box goes to. The node is decoded only where none holds the box.
+// The place of the child that the box goes to. The node is decoded where none holds the box, or some entry is flat.
 fn chosen_child<const D: usize>(node: &NodeView<D>, bounds: &BBox<D>) -> usize
     requires dims { IsDims D }
     requires above { 0 < (content_in node.now).level }

@@ -110,7 +110,7 @@ pub fn answer_all<D: BlockDevice, A: Allocator + Copy + Drop>(
     Ok(())
 }
 
-// Puts a change to a store.
+// Puts a change to a store. Here and below the other commands are named too, so that no new one is passed over.
 fn change<D: BlockDevice, A: Allocator + Copy + Drop>(
     store: &mut Store<D, A>,
     change: Command<'_>,
@@ -122,12 +122,22 @@ fn change<D: BlockDevice, A: Allocator + Copy + Drop>(
         Command::Move(name, id, bounds) => store.move_object(name, id, bounds),
         Command::Delete(name, id) => store.delete(name, id),
         Command::Drop(name) => store.drop_layer(name),
-        _ => Ok(()),
+        Command::Get(..)
+        | Command::Count(..)
+        | Command::Window(..)
+        | Command::Inside(..)
+        | Command::Around(..)
+        | Command::Point(..)
+        | Command::Nearest(..)
+        | Command::Join(..)
+        | Command::Layers
+        | Command::Dump
+        | Command::Check
+        | Command::Reopen => Ok(()),
     }
 }
 
-// Puts a command that is no change to a store, and adds the numbers of its answer. The changes are named, so that a
-// new command is not passed over.
+// Puts a command that is no change to a store, and adds the numbers of its answer.
 fn ask<D: BlockDevice, A: Allocator + Copy + Drop>(
     numbers: &mut Vec<i128>,
     store: &mut Store<D, A>,

@@ -173,9 +173,8 @@ impl<D: BlockDevice, A: Allocator + Copy> PageCache<D, A> {
         self.file.free(n)
     }
 
-    /// The free pages, in the order in which they are given out again. `Damaged` where they are no chain of
-    /// free pages as the
-    /// format has it (docs/FORMAT.md, "Pages"), with the number of the page at which it ends to be one.
+    /// The free pages, in the order in which they are given out again. `Damaged` where they are no chain of free pages
+    /// as the format has it (docs/FORMAT.md, "Pages"), with the number of the page at which it ends to be one.
     ///
     /// What was put is written first, and no page is held afterwards. Map and gate stay.
     #[tactic(auto, using(crate::specs::Calls::counted_by_end))]

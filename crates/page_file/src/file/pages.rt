@@ -27,10 +27,9 @@ impl<D: BlockDevice> PageFile<D> {
     /// Gives out a page of zeros that was not live: the first free page where there is one, and else one of a new
     /// number. The gate has to be open.
     ///
-    /// After a refusal one page that was not live may hold any bytes, and may be live; all others are as
-    /// before. `NoPages` comes only where each number from 2 to 2^31 - 1 is live. `Damaged` comes with the
-    /// number of the
-    /// first free page, where its block is not that of a free page (docs/FORMAT.md, "Pages"); nothing has changed then.
+    /// After a refusal one page that was not live may hold any bytes, and may be live; all others are as before.
+    /// `NoPages` comes only where each number from 2 to 2^31 - 1 is live. `Damaged` comes with the number of the first
+    /// free page, where its block is not that of a free page (docs/FORMAT.md, "Pages"); nothing has changed then.
     pub fn allocate(&mut self) -> Result<u32, Fault>
         requires { gate_of self.old ≡ Open }
         ensures gate { KeepsGate self.old self.new }
@@ -152,9 +151,8 @@ impl<D: BlockDevice> PageFile<D> {
         Ok(n)
     }
 
-    // The page that a free page names as the next, where so many are free from it on. `Damaged` with its number
-    // where it
-    // is no free page as the format has it.
+    // The page that a free page names as the next, where so many are free from it on. `Damaged` with its number where
+    // it is no free page as the format has it.
     fn read_link(&mut self, n: u32, count: u32) -> Result<u32, Fault>
         requires within { (3 ≤ n) × (n < next_of self.old) }
         ensures gate { KeepsGate self.old self.new }
@@ -180,11 +178,9 @@ impl<D: BlockDevice> PageFile<D> {
         }
     }
 
-    /// The free pages, in the order in which they are given out again. `Damaged` where they are no chain of
-    /// free pages as the
-    /// format has it (docs/FORMAT.md, "Pages"), with the number of the page at which it ends to be one: where a
-    /// page of it
-    /// is of another kind, where it closes on itself, and where it is longer or shorter than the count.
+    /// The free pages, in the order in which they are given out again. `Damaged` where they are no chain of free pages
+    /// as the format has it (docs/FORMAT.md, "Pages"), with the number of the page at which it ends to be one: where a
+    /// page of it is of another kind, where it closes on itself, and where it is longer or shorter than the count.
     pub fn free_pages<A: Allocator>(&mut self, alloc: A) -> Result<Vec<u32, A>, Fault>
         ensures gate { KeepsGate self.old self.new }
         ensures map { KeepsMap self.old self.new }
