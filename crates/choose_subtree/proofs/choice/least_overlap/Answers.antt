@@ -21,8 +21,7 @@ loop-k-init g c =
     let f = c.least_area-first.result in
     let key : ℕ → List ℕ = λ k. numbers_with (overlap_growth g.row.D e c.args.new.now k) g.row.D e c.args.new.now k in
     let b = c.key_of-best.result in
-    let is : numbers_of b ≡ key f = numbers_of-is g.row.D e c.args.new.now f _ _ _ c.whole_overlap_growth-overlap.ensures.value c.key_of-best.ensures in
-    (
+    let is : numbers_of b ≡ key f = numbers_of-is g.row.D e c.args.new.now f _ _ _ c.whole_overlap_growth-overlap.ensures.value c.key_of-best.ensures in (
       subst (IsBest key count 0 (numbers_of b)) (sym (ap (λ (x : Key). x.position) c.key_of-best.ensures)) (best_of_none key count (numbers_of b) f c.least_area-first.ensures.within is),
       subst (AtMost (numbers_of b)) is (AtMost-itself (numbers_of b)),
     )

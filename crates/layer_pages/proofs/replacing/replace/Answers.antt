@@ -41,7 +41,7 @@ returns-in_err-between-clause-faults g c = λ sound l objects at there.
     (in_a_leaf D c.from-most.result m c.args.root c.args.directory l objects is c.args.id c.args.old.now there))
 
 pub returns-in-Err-clause-alters : goal.returns-in-Err-clause-alters
-returns-in-Err-clause-alters g c = 
+returns-in-Err-clause-alters g c =
     alters_and_breaks c.args.cache.now c.remove_with.new.cache c.insert_with.new.cache c.in_ok-between.between c.in-Err.broken _ c.midway.ensures c.in_ok-between.ensures.alters c.in-Err.ensures.alters
 
 pub returns-in-Err-clause-absent : goal.returns-in-Err-clause-absent
@@ -104,7 +104,7 @@ returns-in-Ok-update-clause-absent g c = λ sound l objects at absent.
     (in_no_leaf D c.from-most.result m c.args.root c.args.directory l objects is c.args.id c.args.old.now absent))
 
 pub returns-in-Err-update-clause-alters : goal.returns-in-Err-update-clause-alters
-returns-in-Err-update-clause-alters g c = 
+returns-in-Err-update-clause-alters g c =
     changes_and_breaks c.args.cache.now c.insert_with.new.cache c.update.new.cache c.in-Err-update.fault _ c.midway-in-Err-update.ensures (changes_in_turn c.args.cache.now c.remove_with.new.cache c.insert_with.new.cache None c.in_ok-between.ensures.alters.changes c.in-Ok.ensures.alters.changes) c.in-Err-update.ensures.changes
 
 pub returns-in-Err-update-clause-absent : goal.returns-in-Err-update-clause-absent
