@@ -1,5 +1,5 @@
 -- An entry with an area grows where it does not hold the new box already; and the child that is chosen where some does.
-use Rattle.std.proofs.Common.{IfNone, IfSome, List, ◌≡◌, ◌≢◌, ℕ, zero, suc, ◌+◌, ◌*◌, ◌<◌, ◌≤◌, ◌⊎◌, ◌∷◌, [], ℤ, ◌-ℤ◌, ◌<ℤ◌, ◌≤ℤ◌, length, unsigned_abs, Option, None, Some, arith, below_more, subst, sym, refl, ap, ◌∙◌, inl, inr}
+use Rattle.std.proofs.Common.{List, ◌≡◌, ◌≢◌, ℕ, zero, suc, ◌*◌, ◌<◌, ◌≤◌, ◌∷◌, [], ℤ, ◌-ℤ◌, ◌<ℤ◌, ◌≤ℤ◌, length, unsigned_abs, arith, below_more, sym, refl, ◌∙◌, inl, inr}
 use Rattle.std.proofs.lemmas.Bool.{cases_Bool, cases_eq}
 use Rattle.std.proofs.lemmas.Int.{ints}
 use Rattle.std.proofs.lemmas.Nat.{mul-le}
@@ -11,10 +11,8 @@ use Rattle.box_math.proofs.BoxLaws.{join_of-encloses, join_of-commutes, join_of-
 use Rattle.tree_node.specs.Nodes.{Item}
 use Rattle.tree_node.specs.Boxes.{box_at}
 use Rattle.tree_node.specs.Keys.{AtMost, IsFirstLeast}
-use Rattle.tree_node.proofs.KeyLemmas.{AtMost-itself}
-use Rattle.choose_subtree.specs.declared.key.Key.{Key}
-use Rattle.choose_subtree.specs.Choice.{IsChosenChild, area_key, growth_of, numbers_of, numbers_with, overlap_growth}
-use Rattle.choose_subtree.proofs.ChoiceLaws.{IsBest, best_keeps, best_takes, chosen_above, chosen_first, first_least-of_placed_area, first_least-of_zero}
+use Rattle.choose_subtree.specs.Choice.{IsChosenChild, area_key, growth_of, overlap_growth}
+use Rattle.choose_subtree.proofs.ChoiceLaws.{chosen_above, chosen_first, first_least-of_placed_area, first_least-of_zero}
 use Rattle.choose_subtree.proofs.OverlapLaws.{overlap_growth-none}
 
 -- a product of factors that are no less, but is not greater and not 0, has the same factors

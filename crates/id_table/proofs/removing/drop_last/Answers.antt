@@ -1,5 +1,5 @@
 -- The goals of `drop_last` that are proved by hand: the first page has an object less, or was unlinked.
-use Rattle.std.proofs.Common.{◌≡◌, ◌∙◌, ap, inl, inr, sym}
+use Rattle.std.proofs.Common.{◌∙◌, ap, inl, inr, sym}
 use Rattle.bucket_page.specs.Layout.{bucket_at}
 use Rattle.page_cache.specs.Cache.{pages}
 use Rattle.page_cache.specs.Laws.{a_live_page_is_given}

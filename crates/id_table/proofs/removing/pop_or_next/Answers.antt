@@ -1,6 +1,5 @@
 -- The goal of `pop_or_next` that is proved by hand: a bucket page has one object, or more.
 use Rattle.std.proofs.Common.{◌≡◌, length, arith}
-use Rattle.bucket_page.specs.Layout.{BucketContent, bucket_at}
 use Rattle.bucket_page.proofs.Reading.{count_of_bucket, spells}
 use Rattle.id_table.proofs.removing.pop_or_next.Goals as goal
 use Rattle.id_table.proofs.removing.pop_or_next.Goals.{then-count-le1-via-then-count-le1, then-count-le1-via-else-count-le1+then-count-gt100}

@@ -1,5 +1,5 @@
 -- The goals of `remove` that are proved by hand: where the object is, and what is left of its chain.
-use Rattle.std.proofs.Common.{◌≡◌, ◌∙◌, ◌-◌, ◌<◌, None, ap, arith, get_or, length, subst, sym}
+use Rattle.std.proofs.Common.{◌∙◌, ◌<◌, None, ap, arith, subst, sym}
 use Rattle.page_file.specs.Fault.{IsOfDevice}
 use Rattle.page_cache.specs.Cache.{pages}
 use Rattle.page_cache.specs.Calls.{asks_changes, asks_in_turn, changes_in_turn, no_call_asks}

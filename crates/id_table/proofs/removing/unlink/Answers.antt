@@ -1,5 +1,5 @@
 -- The goal of `unlink` that is proved by hand.
-use Rattle.std.proofs.Common.{◌≡◌, ◌∙◌, ℕ, IsSome, sym, subst}
+use Rattle.std.proofs.Common.{◌∙◌, ℕ, IsSome, sym, subst}
 use Rattle.page_cache.specs.Cache.{pages}
 use Rattle.node_page.proofs.NodeLemmas.{on_ok}
 use Rattle.id_table.specs.Pages.{SetsLink}
