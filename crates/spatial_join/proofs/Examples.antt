@@ -1,10 +1,11 @@
 -- Worked examples of joins.
-use Rattle.std.proofs.Common.{◌≡◌, ℤ, pos, [], ◌∷◌, refl}
+use Rattle.std.proofs.Common.{◌≡◌, ℤ, List, pos, [], ◌∷◌, refl}
 use Rattle.box_math.specs.Bounds.{Bounds, meets_test}
 use Rattle.tree_node.specs.Trees.{end, more, object, child, Tree}
 use Rattle.tree_node.specs.Boxes.{least_box}
 use Rattle.tree_node.specs.Joins.{admitted_pairs}
-use Rattle.spatial_join.specs.Pairs.{meeting_below}
+use Rattle.tree_node.specs.Nodes.{Item}
+use Rattle.spatial_join.specs.Pairs.{meeting_below, pairs_of}
 
 at : ℤ → ℤ → Bounds
 at from to = record { low = from ∷ pos 0 ∷ []; high = to ∷ pos 0 ∷ [] }
@@ -29,6 +30,14 @@ empty = record { page = 7; level = 0; row = end }
 a_pair : meeting_below 2 tree.row leaf.row ≡ (9, 7) ∷ []
 unfolding tree leaf at meets_test
 a_pair = refl
+
+-- of one object beside others, in their order
+others : List Item
+others = record { bounds = at (pos 2) (pos 9); reference = 7 } ∷ record { bounds = at (pos 4) (pos 5); reference = 3 } ∷ record { bounds = at (pos 1) (pos 1); reference = 2 } ∷ []
+
+of_an_object : pairs_of 2 others (record { bounds = at (pos 0) (pos 2); reference = 9 }) ≡ (9, 7) ∷ (9, 2) ∷ []
+unfolding others at meets_test
+of_an_object = refl
 
 -- with itself all ordered pairs
 with_itself : meeting_below 2 tree.row tree.row ≡ (9, 9) ∷ (9, 2) ∷ (2, 9) ∷ (2, 2) ∷ (5, 5) ∷ []

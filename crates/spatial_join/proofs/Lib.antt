@@ -2,6 +2,7 @@
 pub mod PairLemmas
 pub mod OpeningLemmas
 pub mod MaskLemmas
+pub mod LeafPairs
 pub mod DescentLemmas
 pub mod RootLemmas
 pub mod Examples

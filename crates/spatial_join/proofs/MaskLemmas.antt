@@ -1,5 +1,5 @@
 -- Which entries of a node the mask of its columns names.
-use Rattle.std.proofs.Common.{◌≡◌, ◌∙◌, ℕ, ◌+◌, ◌/◌, ◌%◌, ◌^◌, ◌-◌, ◌<◌, ◌≤◌, ◌&&◌, ◌==◌, nat_lt, ⊎_elim, ℤ, ◌≤ℤ◌, Bool, true, false, List, length, map, get_or, refl, sym, ap, subst, arith}
+use Rattle.std.proofs.Common.{◌≡◌, ◌∙◌, ℕ, zero, suc, ◌+◌, ◌/◌, ◌%◌, ◌^◌, ◌-◌, ◌<◌, ◌≤◌, ◌&&◌, ◌==◌, nat_lt, ⊎_elim, ℤ, ◌≤ℤ◌, Bool, true, false, List, length, map, get_or, refl, sym, ap, subst, arith}
 use Rattle.std.specs.Int.{Width, bit_at, trailing_zeros}
 use mir.Val.{bits}
 use Rattle.std.proofs.lemmas.Bool.{cases_lt, false≢true, lt-ltb}
@@ -17,6 +17,7 @@ use Rattle.tree_node.specs.declared.node.Entry.{Entry}
 use Rattle.tree_node.specs.Nodes.{Item, item_of}
 use Rattle.tree_node.proofs.RowLemmas.{entry_item}
 use Rattle.node_page.specs.Columns.{cell}
+use Rattle.spatial_join.specs.Masks.{Tells}
 
 same_tests : (a b : Bool) → (a ≡ true → b ≡ true) → (b ≡ true → a ≡ true) → a ≡ b
 same_tests true true f g = refl
@@ -37,11 +38,6 @@ column_meets dims b c x low high = same_tests (meets_test dims c x) (meets_test 
     (λ h. (meets_test_true dims c x).1 (λ axis lt.
     let m = (meets_test_true dims x b).0 h axis lt in
     (subst (λ (z : ℤ). z ≤ℤ on_axis x.high axis) (sym (low axis lt)) m.1, subst (λ (z : ℤ). on_axis x.low axis ≤ℤ z) (sym (high axis lt)) m.0)))
-
--- the mask says of each entry whether its box meets the window, and of no other place that one does
-pub record Tells (dims mask : ℕ) (items : List Item) (window : Bounds) : Type 0 where
-  pub met : (k : ℕ) → k < length items → has_bit mask k ≡ meets_test dims window (box_at items k)
-  pub within : (k : ℕ) → has_bit mask k ≡ true → k < length items
 
 pub tells : (dims : ℕ) (lows highs : List (List ℤ)) (items : List Item) (window : Bounds) (mask n : ℕ) → n ≡ length items
     → ((k : ℕ) → has_bit mask k ≡ (nat_lt k n && meets_test dims (box_in_columns dims lows highs k) window))
@@ -76,12 +72,17 @@ tells_entries {dims} lows highs entries window mask n count bits low high =
 pub place_within : {dims : ℕ} (entries all : List (Entry dims)) (place mask : ℕ) (window : Bounds) → Tells dims mask (map item_of all) window → has_bit mask place ≡ true → entries ≡ all → place < length entries
 place_within entries all place mask window tells set same = omega (arith, tells.within place set, length-map all item_of, ap length same)
 
+-- the entry in the place
+pub entry_named : {dims : ℕ} (entries all : List (Entry dims)) (place : ℕ) (e : Entry dims) → entries ≡ all → place < length entries → e ≡ get_or entries place e → item_of e ≡ get_or (map item_of all) place no_item
+entry_named {dims} entries all place e same within is =
+    let here : item_of e ≡ get_or (map item_of all) place (item_of e) = entry_item entries place e within is ∙ ap (λ es. get_or (map item_of es) place (item_of e)) same in
+    here ∙ sym (get_or_default (map item_of all) place no_item (item_of e) (omega (arith, within, length-map all item_of, ap length same)))
+
 pub meets_here : {dims : ℕ} (entries all : List (Entry dims)) (place mask : ℕ) (window : Bounds) (e : Entry dims) → Tells dims mask (map item_of all) window → has_bit mask place ≡ true → entries ≡ all → e ≡ get_or entries place e
     → meets_test dims window (item_of e).bounds ≡ true
 meets_here {dims} entries all place mask window e tells set same is =
     let within = place_within entries all place mask window tells set same in
-    let here : item_of e ≡ get_or (map item_of all) place (item_of e) = entry_item entries place e within is ∙ ap (λ es. get_or (map item_of es) place (item_of e)) same in
-    let box : box_at (map item_of all) place ≡ (item_of e).bounds = ap (λ (x : Item). x.bounds) (get_or_default (map item_of all) place no_item (item_of e) (tells.within place set) ∙ sym here) in
+    let box : box_at (map item_of all) place ≡ (item_of e).bounds = ap (λ (x : Item). x.bounds) (sym (entry_named entries all place e same within is)) in
     ap (λ (b : Bounds). meets_test dims window b) (sym box) ∙ sym (tells.met place (tells.within place set)) ∙ set
 
 -- ---- bits after a place
@@ -101,6 +102,10 @@ is_set n k e = ap (λ (b : ℕ). b == 1) e
 -- none is set where nothing is left
 pub clear_after : (n from : ℕ) → n / 2 ^ from ≡ 0 → (k : ℕ) → from ≤ k → has_bit n k ≡ false
 clear_after n from none k past = is_clear n k (moved n from k past ∙ ap (λ (r : ℕ). bit_at r (k - from)) none ∙ bit_at-zero (k - from))
+
+-- nor is any in a mask of none
+pub none_set : (n : ℕ) → n ≡ 0 → (k : ℕ) → 0 ≤ k → has_bit n k ≡ false
+none_set n none k past = is_clear n k (ap (λ (r : ℕ). bit_at r k) none ∙ bit_at-zero k)
 
 module _ (w : Width) (n from : ℕ) (fits : n < 2 ^ bits w) (some : ¬ (n / 2 ^ from ≡ 0)) where
   zeros : ℕ
@@ -129,3 +134,8 @@ module _ (w : Width) (n from : ℕ) (fits : n < 2 ^ bits w) (some : ¬ (n / 2 ^ 
   pub clear_before : (k : ℕ) → from ≤ k → k < from + trailing_zeros w (n / 2 ^ from) → has_bit n k ≡ false
   unfolding zeros
   clear_before k past before = is_clear n k (moved n from k past ∙ lowest.2 (k - from) (omega (arith, past, before)))
+
+-- where none is set from a place on, and yet some are, the place is not the first
+pub some_before : (w : Width) (n from : ℕ) → n < 2 ^ bits w → ¬ (n ≡ 0) → ((k : ℕ) → from ≤ k → has_bit n k ≡ false) → 1 - from ≡ 0
+some_before w n zero fits some clear = absurd (false≢true (sym (clear (0 + trailing_zeros w (n / 2 ^ 0)) (omega arith)) ∙ first_set w n 0 fits (λ none. some (omega (arith, none)))))
+some_before w n (suc from) fits some clear = omega arith

@@ -1,3 +1,4 @@
 -- The files of definitions.
 pub mod Pairs
 pub mod Opening
+pub mod Masks

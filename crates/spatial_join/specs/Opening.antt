@@ -1,5 +1,5 @@
--- How the nodes of a pair are opened: the higher one, or both of one level (our rule, docs/FORMAT.md, "Trees of pages").
--- A node that is not opened stands for itself, as the only entry of a node above it.
+-- How the nodes of a pair are opened: the higher one, or both of one level (our rule, docs/FORMAT.md, "Trees of
+-- pages"). A node that is not opened stands for itself, as the only entry of a node above it.
 use Rattle.std.specs.Prelude.{◌≡◌, ℕ, ◌+◌, ◌^◌, ◌<◌, nat_le, List, [], ◌∷◌, All, ⊤, Option, Some, None}
 use Rattle.std.specs.Prelude.{if◌then◌else◌}
 use Rattle.box_math.specs.Bounds.{Bounds, Within}
@@ -39,6 +39,10 @@ opened_root dims level other page row =
 -- above the leaves each reference is a number of 32 bits
 abbrev pub HasPages : NodeContent → Type 0
 HasPages c = 0 < c.level → All (λ item. item.reference < 2 ^ 32) c.entries
+
+-- a node with one entry
+abbrev pub sole : ℕ → Item → NodeContent
+sole level item = record { level = level; entries = item ∷ [] }
 
 -- each object lies within the box
 abbrev pub AllWithin : ℕ → Bounds → List (ℕ × Bounds) → Type 0

@@ -6,6 +6,7 @@ use Rattle.std.specs.List.Sorted.{IsSorted}
 use Rattle.std.specs.Ordering.{nat_cmp, ordering_then}
 use Rattle.std.specs.declared.cmp.Ordering.{Ordering}
 use Rattle.box_math.specs.Bounds.{Bounds, meets_test}
+use Rattle.tree_node.specs.Nodes.{Item}
 use Rattle.tree_node.specs.Positions.{total}
 use Rattle.tree_node.specs.Trees.{Row, Tree, objects_in}
 
@@ -21,6 +22,12 @@ meeting dims objects others = flat_map (pairs_with dims others) objects
 -- those of the objects below two nodes
 abbrev pub meeting_below : ℕ → Row → Row → List (ℕ × ℕ)
 meeting_below dims s t = meeting dims (objects_in s) (objects_in t)
+
+-- those of the object in one entry of a leaf and of the objects in others whose boxes meet its box
+abbrev pub pairs_of : ℕ → List Item → Item → List (ℕ × ℕ)
+pairs_of dims others item =
+    map (λ other. (item.reference, other.reference))
+    (filter (λ other. meets_test dims item.bounds other.bounds) others)
 
 -- pairs ascend by the first identifier, and of an equal one by the second
 abbrev pub pair_cmp : ℕ × ℕ → ℕ × ℕ → Ordering

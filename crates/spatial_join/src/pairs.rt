@@ -1,26 +1,29 @@
 //! The descent into the pairs of nodes whose boxes meet.
 
-ghost use Rattle.std.specs.Prelude.{◌≡◌, ◌⊎◌, ◌↔◌, ◌+◌, ◌*◌, ◌≤◌, ℕ, IfErr, OnOk, length};
+ghost use Rattle.std.specs.Prelude.{◌≡◌, ◌⊎◌, ◌↔◌, ◌+◌, ◌*◌, ◌^◌, ◌<◌, ◌≤◌, ◌++◌, ℕ, IfErr, OnOk, length, map};
 ghost use Rattle.box_math.specs.Bounds.{IsDims};
 ghost use Rattle.page_file.specs.Fault.{IsDamage, IsOfDevice};
+ghost use Rattle.page_file.specs.declared.fault.Fault.TheVariants as fault;
 ghost use Rattle.page_cache.specs.Cache.{IsHonest, looks_of, pages};
 ghost use Rattle.page_cache.specs.Calls.{Asks};
 ghost use Rattle.tree_node.specs.Joins.{boxes_below, meeting_pairs};
-ghost use Rattle.tree_node.specs.Nodes.{content_of};
+ghost use Rattle.tree_node.specs.Nodes.{content_of, item_of};
 ghost use Rattle.tree_node.specs.Trees.{Row};
-ghost use Rattle.spatial_join.specs.Opening.{Encloses, HasPages, HasRow};
-ghost use Rattle.spatial_join.specs.Pairs.{GainsPairs};
+ghost use Rattle.spatial_join.specs.Masks.{Tells};
+ghost use Rattle.spatial_join.specs.Opening.{Encloses, HasPages, HasRow, sole};
+ghost use Rattle.spatial_join.specs.Pairs.{GainsPairs, pairs_of};
 
 use crate::columns::{columns_of, next_place};
 use crate::opening::open;
 use block_device::BlockDevice;
 use box_math::meet_mask;
-use node_page::{Node, Root};
+use node_page::{Entry, Node, Root};
 use page_cache::PageCache;
 use page_file::Fault;
 use std::alloc::Allocator;
 
 /// Appends the pairs of objects below two nodes whose boxes meet.
+#[cycle(descent)]
 pub(crate) fn add_pairs<const D: usize, B: BlockDevice, A: Allocator + Copy, H: Allocator>(
     cache: &mut PageCache<B, A>,
     left: &Node<D>,
@@ -48,26 +51,85 @@ pub(crate) fn add_pairs<const D: usize, B: BlockDevice, A: Allocator + Copy, H: 
     let (lows, highs) = columns_of(right);
     for entry in left.entries.as_slice() {
         let mask = meet_mask(&lows, &highs, right.entries.len(), &entry.bounds);
-        let mut from = 0;
-        'other: while let Some(place) = next_place(mask, from) {
-            from = place + 1;
-            let other = right.entries[place];
-            if left.level == 0 {
-                pairs.push((entry.reference, other.reference))?;
-                continue;
-            }
-            let below = Root {
-                page: entry.reference as u32,
-                level: left.level - 1,
-            };
-            let beside = Root {
-                page: other.reference as u32,
-                level: right.level - 1,
-            };
-            let first = open::<D, B, A>(cache, below, &entry.bounds, beside.level)?;
-            let second = open::<D, B, A>(cache, beside, &other.bounds, below.level)?;
-            add_pairs::<D, B, A, H>(cache, &first, &second, pairs)?;
+        if left.level == 0 {
+            push_pairs(entry, right, mask, pairs)?;
+        } else {
+            add_pairs_of_entry::<D, B, A, H>(cache, entry, left.level, right, mask, pairs)?;
         }
+    }
+    Ok(())
+}
+
+// Appends the pairs of objects below an entry of a node of that level and below those of the right node that the mask
+// names, whose boxes meet its box. The node below the entry is opened once for all of them.
+#[cycle(descent)]
+fn add_pairs_of_entry<const D: usize, B: BlockDevice, A: Allocator + Copy, H: Allocator>(
+    cache: &mut PageCache<B, A>,
+    entry: &Entry<D>,
+    level: u8,
+    right: &Node<D>,
+    mask: u128,
+    pairs: &mut Vec<(u64, u64), H>,
+) -> Result<(), Fault>
+    requires dims { IsDims D }
+    requires above { 0 < level }
+    requires right_above { 0 < right.now.level }
+    requires page { entry.now.reference < 2 ^ 32 }
+    requires right_pages { HasPages (content_of right.now) }
+    requires few { length right.now.entries.items ≤ 100 }
+    requires mask { Tells D mask (map item_of right.now.entries.items) (item_of entry.now).bounds }
+    ensures asks { Asks cache.old cache.new result }
+    ensures pairs { IsHonest cache.old → (s t : Row) → HasRow D (pages cache.old) (sole level (item_of entry.now)) s
+        → HasRow D (pages cache.old) (content_of right.now) t → Encloses D s → Encloses D t
+        → OnOk result (GainsPairs D s t pairs.old.items pairs.new.items) }
+    ensures looks { IsHonest cache.old → (s t : Row) → HasRow D (pages cache.old) (sole level (item_of entry.now)) s
+        → HasRow D (pages cache.old) (content_of right.now) t
+        → OnOk result (looks_of cache.new
+        ≤ looks_of cache.old + 2 * meeting_pairs D (boxes_below s) (boxes_below t)) }
+    ensures stands { IsHonest cache.old → (s t : Row) → HasRow D (pages cache.old) (sole level (item_of entry.now)) s
+        → HasRow D (pages cache.old) (content_of right.now) t → IfErr result IsOfDevice }
+    ensures other_faults { IfErr result (λ f. IsOfDevice f ⊎ IsDamage f) }
+{
+    if mask == 0 {
+        return Ok(());
+    }
+    let below = Root {
+        page: entry.reference as u32,
+        level: level - 1,
+    };
+    let first = open::<D, B, A>(cache, below, &entry.bounds, right.level - 1)?;
+    let mut from = 0;
+    'other: while let Some(place) = next_place(mask, from) {
+        from = place + 1;
+        let other = right.entries[place];
+        let beside = Root {
+            page: other.reference as u32,
+            level: right.level - 1,
+        };
+        let second = open::<D, B, A>(cache, beside, &other.bounds, below.level)?;
+        add_pairs::<D, B, A, H>(cache, &first, &second, pairs)?;
+    }
+    Ok(())
+}
+
+// Appends the pairs of an object and those of the right leaf that the mask names, whose boxes meet its box.
+fn push_pairs<const D: usize, H: Allocator>(
+    entry: &Entry<D>,
+    right: &Node<D>,
+    mask: u128,
+    pairs: &mut Vec<(u64, u64), H>,
+) -> Result<(), Fault>
+    requires few { length right.now.entries.items ≤ 100 }
+    requires mask { Tells D mask (map item_of right.now.entries.items) (item_of entry.now).bounds }
+    ensures pairs { OnOk result (pairs.new.items
+        ≡ pairs.old.items ++ pairs_of D (map item_of right.now.entries.items) (item_of entry.now)) }
+    ensures memory { IfErr result (λ f. f ≡ fault.Memory) }
+{
+    let mut from = 0;
+    'other: while let Some(place) = next_place(mask, from) {
+        from = place + 1;
+        let other = right.entries[place];
+        pairs.push((entry.reference, other.reference))?;
     }
     Ok(())
 }

@@ -1,0 +1,12 @@
+-- The pairs of the places that the mask names so far are pushed.
+use Rattle.std.proofs.Common.{◌-◌, ◌≤◌, length, map}
+use Rattle.tree_node.specs.Nodes.{item_of}
+use Rattle.spatial_join.proofs.LeafPairs.{Pushed}
+use Rattle.spatial_join.proofs.pairs.push_pairs.Given as goal
+
+abbrev pub invariant-other : goal.invariant-other
+invariant-other g l = Pushed g.row.D (map item_of l.fn.right.entries.items) (item_of l.fn.entry) l.from l.fn.pairs.items l.pairs.items × (l.from ≤ length l.fn.right.entries.items)
+
+-- each place comes after the one before it
+abbrev pub decreases-other : goal.decreases-other
+decreases-other g l = 128 - l.from
