@@ -1,11 +1,15 @@
 -- What one line makes a store and a writer do.
-use Rattle.std.specs.Prelude.{ℕ, true, List, [], ◌∷◌, Option, Some, None, Result}
+use Rattle.std.specs.Prelude.{ℕ, ◌≡◌, true, List, [], ◌∷◌, Option, Some, None, Result}
 use Rattle.store_law.specs.Sessions.{LawfulStep, SessionState, Session}
 use Rattle.store_law.specs.States.{Request}
+use Rattle.plain_table.specs.Commands.Command.{Check}
 use Rattle.plain_table.specs.Step.{Answer}
+use Rattle.plain_table.specs.Step.Answer.{Done}
+use Rattle.layer_store.specs.Representation.{BeginsWithSome, IsAliveWithSome, IsSettled, device_in}
+use Rattle.layer_store.specs.declared.store.Store.{Store}
 use Rattle.command_shell.specs.TextCommands.{AreCommands, AsksAlone}
 use Rattle.command_shell.specs.Meanings.{Meaning}
-use Rattle.command_shell.specs.Meanings.Meaning.{Loads}
+use Rattle.command_shell.specs.Meanings.Meaning.{Loads, Means}
 use Rattle.command_shell.specs.Serving.{WroteAs}
 use Rattle.command_shell.specs.Texts.{reply_answer}
 use Rattle.command_shell.specs.declared.replies.Reply.{Reply}
@@ -26,7 +30,13 @@ pub record Replies (m : Meaning) (old new : SessionState) (answers : List Answer
   pub asked : AsksAlone m requests
   pub lawful : Session old requests answers new
 
--- the same, and the answers were written
+-- Where the line asks for a check and the reply is that it was done, the store is alive with some table; and where it was
+-- settled before, it begins with one now, as an opened store does.
+abbrev pub SaysChecked : {D A : Type 0} {m : _} → Meaning → Store D A m → Store D A m → List Answer → Type 0
+SaysChecked {m = m} line old new answers =
+    line ≡ Means Check → answers ≡ Done ∷ [] → IsAliveWithSome new × (IsSettled old → BeginsWithSome new (m.moment (device_in new)))
+
+-- what a line of this meaning asks was answered lawfully, and the answers were written
 pub record AnswersLine {E : Type 0} (m : Meaning) (old new : SessionState) (before after : Option (List ℕ)) (result : Result (Unit {0}) E) : Type 0 where
   pub requests : List Request
   pub asked : AsksAlone m requests

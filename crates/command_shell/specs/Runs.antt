@@ -1,5 +1,5 @@
 -- What each end of a run says.
-use Rattle.std.specs.Prelude.{ℕ, ◌≡◌, ◌⊎◌, Bool, true, false, List, [], ◌∷◌, Option, Some, None}
+use Rattle.std.specs.Prelude.{ℕ, ◌≡◌, ◌≤◌, ◌⊎◌, Bool, true, false, List, [], ◌∷◌, Option, Some, None}
 use Rattle.std.specs.Io.KnownBytes.{Keeps}
 use Rattle.block_device.specs.Device.{Blocks}
 use Rattle.live_layers.specs.Image.{IsImage, IsRefusedOrImageOf}
@@ -42,11 +42,13 @@ with_last Dead so_far = so_far
 -- A run of the program, from its first read to the closing of its store. Where it went well, all that there was is
 -- answered, and the blocks are an image of the table at the session's end. However it ended, stops since the session's
 -- beginning, of which `left` tells, left blocks that opening refuses, or an image of one of the tables so far or the last.
-pub record RunsToClose (went_well : Bool) (blocks : Blocks) (left : Blocks → Type 0) (before after : RunState) : Type 0 where
+-- The session counts no fault that the device does not count in the end.
+pub record RunsToClose (went_well : Bool) (blocks : Blocks) (left : Blocks → Type 0) (faults : ℕ) (before after : RunState) : Type 0 where
   pub end : RunEnd
   pub runs : Runs end before after
   pub well : went_well ≡ true → (end ≡ Finished) × (t : Table) × (after.session.state ≡ Alive t) × IsImage blocks t
   pub stops : (c : Blocks) → left c → IsRefusedOrImageOf (with_last after.session.state after.session.stops.so_far) c
+  pub counted : after.session.faults ≤ faults
 
 -- What the program says of the end of a run: nothing where it went well, else a line that says why, or a front of it.
 abbrev pub TellsEnd : Bool → Option (List ℕ) → Option (List ℕ) → Type 0

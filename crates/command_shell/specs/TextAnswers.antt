@@ -8,11 +8,12 @@ use Rattle.command_shell.specs.Lines.{lines_of}
 use Rattle.command_shell.specs.TextCommands.{AreCommands}
 use Rattle.command_shell.specs.Texts.{texts_of}
 
--- all commands of the text were answered, each by a lawful step of a store that began without layers, and the replies
--- are the texts of the answers
+-- All commands of the text were answered, each by a lawful step of a store that began without layers, and the replies
+-- are the texts of the answers. The count of faults never rose from 0, so no answer blames the device.
 pub record AnswersText (text replies : List ℕ) : Type 0 where
   pub requests : List Request
   pub answers : List Answer
   pub asked : AreCommands true (lines_of text) requests
   pub lawful : IsSessionFrom empty requests answers
+  pub faultless : lawful.new.faults ≡ 0
   pub written : replies ≡ texts_of answers

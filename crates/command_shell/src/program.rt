@@ -1,7 +1,7 @@
 //! A run of the program: its session, the closing of its store, and whether it went well.
 #![tactic(auto, using(crate::proofs::WriteLemmas::front_more, crate::proofs::WriteLemmas::writes_then))]
 
-ghost use Rattle.std.specs.Prelude.{◌≡◌, true};
+ghost use Rattle.std.specs.Prelude.{◌≡◌, IsOk, true};
 ghost use Rattle.block_device.specs.Device.{Only};
 ghost use Rattle.store_law.specs.Sessions.{SessionState};
 ghost use Rattle.layer_store.specs.Representation.{Represents};
@@ -32,7 +32,8 @@ pub struct Ended<D: BlockDevice> {
 /// failed, it says so in a line to `errors`, whose own faults are passed over.
 ///
 /// Where all went well, all that the reader had was read, each of its commands was answered by a lawful session, and
-/// the device's blocks are an image of the table at its end; and a stop leaves nothing else.
+/// the device's blocks are an image of the table at its end; and a stop leaves nothing else. The device is blamed in no
+/// reply unless its count of faults rose.
 pub fn run_and_close<D: BlockDevice, A: Allocator + Copy, R: Read, W: Write, E: Write>(
     store: Store<D, A>,
     input: &mut R,
@@ -41,6 +42,7 @@ pub fn run_and_close<D: BlockDevice, A: Allocator + Copy, R: Read, W: Write, E: 
 ) -> Ended<D>
     ensures run { (s : SessionState) → Represents store s → (s' : SessionState) ×
         RunsToClose result.went_well (D.shown result.device) (D.left_since result.device s.stops.since)
+        (D.faults result.device)
         (run_state s (R.remaining input.old) (W.contents output.old))
         (run_state s' (R.remaining input.new) (W.contents output.new)) }
     ensures told { TellsEnd result.went_well (E.contents errors.old) (E.contents errors.new) }
@@ -70,7 +72,7 @@ pub fn run_and_close<D: BlockDevice, A: Allocator + Copy, R: Read, W: Write, E: 
 
 // Whether all was read, and each reply was written.
 fn is_whole(end: RunEnd, flushed: &io::Result<()>) -> bool
-    ensures { result ≡ true → end ≡ RunEnd.Finished }
+    ensures { result ≡ true → (end ≡ RunEnd.Finished) × IsOk flushed.now }
 {
     match end {
         RunEnd::Finished => flushed.is_ok(),

@@ -8,9 +8,9 @@ ghost use Rattle.plain_table.specs.Answers.{dump_answer, layers_answer, pairs_an
 ghost use Rattle.plain_table.specs.Step.Answer.{Refused};
 ghost use Rattle.plain_table.specs.declared.refusal.Refusal.TheVariants as refusal;
 ghost use Rattle.store_law.specs.Sessions.{LawfulStep, Takes};
-ghost use Rattle.layer_store.specs.Representation.{Represents};
+ghost use Rattle.layer_store.specs.Representation.{Represents, device_in};
 ghost use Rattle.command_shell.specs.Answering.{AnswersLast, AnswersLine, IsPlain, Replies, RepliesLast};
-ghost use Rattle.command_shell.specs.Answering.{reply_answers};
+ghost use Rattle.command_shell.specs.Answering.{SaysChecked, reply_answers};
 ghost use Rattle.command_shell.specs.Entries.{objects_in};
 ghost use Rattle.command_shell.specs.Gathering.{IsGathered};
 ghost use Rattle.command_shell.specs.Lines.{IsOneLine, newline};
@@ -269,7 +269,10 @@ fn reply_to<D: BlockDevice, A: Allocator + Copy>(
     line: Line<'_>,
 ) -> Option<Reply<A>>
     requires { IsPlain (said line) }
-    ensures { Takes Represents store.old store.new (λ s s'. Replies (said line.entry) s s' (reply_answers result)) }
+    ensures replies { Takes Represents store.old store.new
+        (λ s s'. Replies (said line.entry) s s' (reply_answers result)) }
+    ensures checked { D.honest (device_in store.old) →
+        SaysChecked (said line.entry) store.old store.new (reply_answers result) }
 {
     match line {
         Line::Blank => None,

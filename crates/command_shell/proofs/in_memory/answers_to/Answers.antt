@@ -1,5 +1,6 @@
 -- A store in memory represents the empty table; a run of it that finished read the whole text.
 use Rattle.std.proofs.Common.{◌≡◌, ◌∙◌, ℕ, true, List, [], ◌++◌, sym, ap, subst, append-nil}
+use Rattle.layer_store.proofs.StopLemmas.{session_state_is}
 use Rattle.command_shell.specs.Lines.{lines_of}
 use Rattle.command_shell.specs.TextCommands.{AreCommands}
 use Rattle.command_shell.specs.Texts.{texts_of}
@@ -21,5 +22,6 @@ returns-in-Finished c =
       answers = serves.answers;
       asked = subst (λ (t : List ℕ). AreCommands true (lines_of t) serves.requests) same serves.asked;
       lawful = record { old = begun.next; new = end.next; begins = begun.so.0; lawful = serves.lawful };
+      faultless = (session_state_is c.run-end.new.store end.next end.represents).faults;
       written = serves.written ∙ ap (λ (xs : List ℕ). xs ++ texts_of serves.answers) c.new-output.ensures.items;
     }

@@ -1,5 +1,5 @@
 -- A closing that is finished leaves an image of the session's table.
-use Rattle.std.proofs.Common.{◌≡◌, ◌∙◌, ap, ℕ, Bool, true, false, List, ◌∷◌, Option, Result, Ok, Err, inl, inr, refl, sym, subst}
+use Rattle.std.proofs.Common.{◌≡◌, ◌∙◌, ap, ℕ, Bool, true, false, List, ◌∷◌, Option, Result, Ok, Err, inl, inr, refl, sym, subst, arith}
 use Rattle.std.proofs.KnownBytes.{Keeps-refl}
 use Rattle.store_law.specs.Sessions.{SessionState}
 use Rattle.store_law.specs.States.{StoreState}
@@ -9,7 +9,8 @@ use Rattle.block_device.specs.Device.{Blocks, LeavesOnly}
 use Rattle.layer_store.specs.Representation.{HasFailed, Represents, RepresentsTable, device_in}
 use Rattle.store_law.specs.Stops.{tables_left}
 use Rattle.layer_store.specs.declared.store.Store.{Store}
-use Rattle.layer_store.proofs.StopLemmas.{left_by_closing, left_so_far}
+use Rattle.layer_store.proofs.StopLemmas.{left_by_closing, left_so_far, session_state_is}
+use Rattle.layer_store.proofs.StoreLemmas.{no_fewer_faults}
 use Rattle.live_layers.specs.Image.{IsRefusedOrImageOf}
 use Rattle.store_law.specs.Laws.{a_session_keeps_its_beginning}
 use Rattle.command_shell.specs.Runs.{Runs, TellsEnd, with_last}
@@ -77,13 +78,14 @@ returns-after-not-went_well-clause-run g c = λ s represents.
       record {
         end = c.run-end.result;
         runs = runs_kept c.run-end.result (run_state s (g.R.Read.remaining c.args.input.now) (g.W.Write.contents c.args.output.now)) (run_state left.next (g.R.Read.remaining c.run-end.new.input) (g.W.Write.contents c.run-end.new.output)) (g.W.Write.contents c.flush-flushed.new.self) left.so c.flush-flushed.ensures.bytes;
-        well = λ well. (c.is_whole-went_well.ensures well, of_table.table, of_table.alive, closed.closed of_table.table of_table.represents);
+        well = λ well. ((c.is_whole-went_well.ensures well).0, of_table.table, of_table.alive, closed.closed of_table.table of_table.represents);
         stops = λ b stop.
             let since = same_beginning c.run-end.result _ _ left.so in
             let tables = left.next.stops.so_far in
             subst (λ (state : StoreState). IsRefusedOrImageOf (with_last state tables) b) (sym of_table.alive)
             (left_by_closing c.run-end.new.store left.next of_table.table c.in-Ok.device left.represents (closed.stops left.next of_table.table left.represents of_table.alive) b
             (subst (λ k. g.D.BlockDevice.left_since c.in-Ok.device k b) (sym since) stop));
+        counted = let of_store = (session_state_is c.run-end.new.store left.next left.represents).faults in let kept = closed.no_fault in omega (arith, of_store, kept);
       },
     )
 
@@ -108,6 +110,11 @@ returns-in-Err-clause-run g c = λ s represents.
             left_when_refused c.run-end.new.store left.next c.in-Err.device left.represents
             (λ t alive. c.in-Err.ensures.refused_stops left.next t left.represents alive)
             (λ failed. refused_device _ _ _ _ _ _ refl refl (c.in-Err.ensures.failed failed)) left.next.state refl b told;
+        counted =
+            let of_store = (session_state_is c.run-end.new.store left.next left.represents).faults in
+            let fits = g.met.D.BlockDevice.faults_fit (device_in c.run-end.new.store) in
+            let grows = no_fewer_faults {T = Unit {0}} _ _ (Err c.in-Err.refusal) fits (record { ok = tt; refused = c.in-Err.ensures.cause }) in
+            omega (arith, of_store, grows);
       },
     )
 

@@ -1,59 +1,72 @@
 -- The goals of `reply_to` that are proved by hand.
-use Rattle.std.proofs.Common.{ap, subst}
+use Rattle.std.proofs.Common.{◌≡◌, [], ◌∷◌, Result, Ok, Err, ap, refl, subst}
 use Rattle.plain_table.specs.Answers.{done_answer, box_answer, boxes_answer, count_answer, distances_answer, dump_answer, layers_answer, pairs_answer}
 use Rattle.plain_table.specs.Commands.Command.{Create, Insert, Move, Delete, Drop, Get, Count, Range, Nearest, Join, Layers, Dump, Check, Reopen}
+use Rattle.plain_table.specs.Step.{Answer}
+use Rattle.plain_table.specs.Step.Answer.{Done}
+use Rattle.plain_table.specs.declared.refusal.Refusal.{Refusal}
 use Rattle.command_shell.specs.Answering.{IsPlain}
 use Rattle.command_shell.specs.Said.{said}
 use Rattle.command_shell.proofs.AnswerLemmas.{replied, replied_bad, replied_blank}
 use Rattle.command_shell.proofs.session.reply_to.Goals as goal
 
-pub returns-in-Blank : goal.returns-in-Blank
-returns-in-Blank g c = replied_blank _ (ap said c.in-Blank.is)
+-- a reply that it is done comes from a check that was done
+checked_done : (result : Result (Unit {0}) Refusal) (answer : Answer) → answer ≡ done_answer result → answer ∷ [] ≡ Done ∷ [] → result ≡ Ok tt
+checked_done (Ok u) answer is done = refl
+checked_done (Err r) answer is done = absurd (cc)
 
-pub returns-in-Bad : goal.returns-in-Bad
-returns-in-Bad g c = replied_bad _ (ap said c.in-Bad.is)
+pub returns-in-Blank-clause-replies : goal.returns-in-Blank-clause-replies
+returns-in-Blank-clause-replies g c = replied_blank _ (ap said c.in-Blank.is)
 
-pub returns-in-Create : goal.returns-in-Create
-returns-in-Create g c = replied _ (Create c.in-Create.layer.now c.in-Create.dims c.in-Create.fanout) (done_answer c.create.result) _ (ap said c.in-Create.is) c.change_reply.ensures c.create.ensures.changes.step
+pub returns-in-Bad-clause-replies : goal.returns-in-Bad-clause-replies
+returns-in-Bad-clause-replies g c = replied_bad _ (ap said c.in-Bad.is)
 
-pub returns-in-Insert : goal.returns-in-Insert
-returns-in-Insert g c = replied _ (Insert c.in-Insert.layer.now c.in-Insert.id c.in-Insert.bounds) (done_answer c.insert.result) _ (ap said c.in-Insert.is) c.change_reply-in-Insert.ensures c.insert.ensures.changes.step
+pub returns-in-Create-clause-replies : goal.returns-in-Create-clause-replies
+returns-in-Create-clause-replies g c = replied _ (Create c.in-Create.layer.now c.in-Create.dims c.in-Create.fanout) (done_answer c.create.result) _ (ap said c.in-Create.is) c.change_reply.ensures c.create.ensures.changes.step
 
-pub returns-in-Get : goal.returns-in-Get
-returns-in-Get g c = replied _ (Get c.in-Get.layer.now c.in-Get.id) (box_answer c.in-Get.id c.get.result) _ (ap said c.in-Get.is) c.object_reply.ensures c.get.ensures.answers.step
+pub returns-in-Insert-clause-replies : goal.returns-in-Insert-clause-replies
+returns-in-Insert-clause-replies g c = replied _ (Insert c.in-Insert.layer.now c.in-Insert.id c.in-Insert.bounds) (done_answer c.insert.result) _ (ap said c.in-Insert.is) c.change_reply-in-Insert.ensures c.insert.ensures.changes.step
 
-pub returns-in-Count : goal.returns-in-Count
-returns-in-Count g c = replied _ (Count c.in-Count.layer.now) (count_answer c.count.result) _ (ap said c.in-Count.is) c.count_reply.ensures c.count.ensures.answers.step
+pub returns-in-Get-clause-replies : goal.returns-in-Get-clause-replies
+returns-in-Get-clause-replies g c = replied _ (Get c.in-Get.layer.now c.in-Get.id) (box_answer c.in-Get.id c.get.result) _ (ap said c.in-Get.is) c.object_reply.ensures c.get.ensures.answers.step
 
-pub returns-in-Range : goal.returns-in-Range
-returns-in-Range g c = replied _ (Range c.in-Range.layer.now c.in-Range.query) (boxes_answer c.range.result) _ (ap said c.in-Range.is) c.range_reply.ensures c.range.ensures.answers.step
+pub returns-in-Count-clause-replies : goal.returns-in-Count-clause-replies
+returns-in-Count-clause-replies g c = replied _ (Count c.in-Count.layer.now) (count_answer c.count.result) _ (ap said c.in-Count.is) c.count_reply.ensures c.count.ensures.answers.step
 
-pub returns-in-Nearest : goal.returns-in-Nearest
-returns-in-Nearest g c = replied _ (Nearest c.in-Nearest.layer.now c.in-Nearest.k c.in-Nearest.point) (distances_answer c.nearest.result) _ (ap said c.in-Nearest.is) c.distances_reply.ensures c.nearest.ensures.answers.step
+pub returns-in-Range-clause-replies : goal.returns-in-Range-clause-replies
+returns-in-Range-clause-replies g c = replied _ (Range c.in-Range.layer.now c.in-Range.query) (boxes_answer c.range.result) _ (ap said c.in-Range.is) c.range_reply.ensures c.range.ensures.answers.step
 
-pub returns-in-Reopen : goal.returns-in-Reopen
-returns-in-Reopen g c = replied _ Reopen (done_answer c.reopen.result) _ (ap said c.in-Reopen.is) c.change_reply-in-Reopen.ensures c.reopen.ensures.step
+pub returns-in-Nearest-clause-replies : goal.returns-in-Nearest-clause-replies
+returns-in-Nearest-clause-replies g c = replied _ (Nearest c.in-Nearest.layer.now c.in-Nearest.k c.in-Nearest.point) (distances_answer c.nearest.result) _ (ap said c.in-Nearest.is) c.distances_reply.ensures c.nearest.ensures.answers.step
 
-pub returns-in-Move : goal.returns-in-Move
-returns-in-Move g c = replied _ (Move c.in-Move.layer.now c.in-Move.id c.in-Move.bounds) (done_answer c.move_object.result) _ (ap said c.in-Move.is) c.change_reply-in-Move.ensures c.move_object.ensures.changes.step
+pub returns-in-Reopen-clause-replies : goal.returns-in-Reopen-clause-replies
+returns-in-Reopen-clause-replies g c = replied _ Reopen (done_answer c.reopen.result) _ (ap said c.in-Reopen.is) c.change_reply-in-Reopen.ensures c.reopen.ensures.step
 
-pub returns-in-Delete : goal.returns-in-Delete
-returns-in-Delete g c = replied _ (Delete c.in-Delete.layer.now c.in-Delete.id) (done_answer c.delete.result) _ (ap said c.in-Delete.is) c.change_reply-in-Delete.ensures c.delete.ensures.changes.step
+pub returns-in-Move-clause-replies : goal.returns-in-Move-clause-replies
+returns-in-Move-clause-replies g c = replied _ (Move c.in-Move.layer.now c.in-Move.id c.in-Move.bounds) (done_answer c.move_object.result) _ (ap said c.in-Move.is) c.change_reply-in-Move.ensures c.move_object.ensures.changes.step
 
-pub returns-in-Drop : goal.returns-in-Drop
-returns-in-Drop g c = replied _ (Drop c.in-Drop.layer.now) (done_answer c.drop_layer.result) _ (ap said c.in-Drop.is) c.change_reply-in-Drop.ensures c.drop_layer.ensures.changes.step
+pub returns-in-Delete-clause-replies : goal.returns-in-Delete-clause-replies
+returns-in-Delete-clause-replies g c = replied _ (Delete c.in-Delete.layer.now c.in-Delete.id) (done_answer c.delete.result) _ (ap said c.in-Delete.is) c.change_reply-in-Delete.ensures c.delete.ensures.changes.step
 
-pub returns-in-Join : goal.returns-in-Join
-returns-in-Join g c = replied _ (Join c.in-Join.first.now c.in-Join.second.now) (pairs_answer c.join.result) _ (ap said c.in-Join.is) c.pairs_reply.ensures c.join.ensures.answers.step
+pub returns-in-Drop-clause-replies : goal.returns-in-Drop-clause-replies
+returns-in-Drop-clause-replies g c = replied _ (Drop c.in-Drop.layer.now) (done_answer c.drop_layer.result) _ (ap said c.in-Drop.is) c.change_reply-in-Drop.ensures c.drop_layer.ensures.changes.step
 
-pub returns-in-Layers : goal.returns-in-Layers
-returns-in-Layers g c = replied _ Layers (layers_answer c.layers.result) _ (ap said c.in-Layers.is) c.layers_reply.ensures c.layers.ensures.answers.step
+pub returns-in-Join-clause-replies : goal.returns-in-Join-clause-replies
+returns-in-Join-clause-replies g c = replied _ (Join c.in-Join.first.now c.in-Join.second.now) (pairs_answer c.join.result) _ (ap said c.in-Join.is) c.pairs_reply.ensures c.join.ensures.answers.step
 
-pub returns-in-Dump : goal.returns-in-Dump
-returns-in-Dump g c = replied _ Dump (dump_answer c.dump.result) _ (ap said c.in-Dump.is) c.dump_reply.ensures c.dump.ensures.answers.step
+pub returns-in-Layers-clause-replies : goal.returns-in-Layers-clause-replies
+returns-in-Layers-clause-replies g c = replied _ Layers (layers_answer c.layers.result) _ (ap said c.in-Layers.is) c.layers_reply.ensures c.layers.ensures.answers.step
 
-pub returns-in-Check : goal.returns-in-Check
-returns-in-Check g c = replied _ Check (done_answer c.check.result) _ (ap said c.in-Check.is) c.change_reply-in-Check.ensures c.check.ensures.answers.step
+pub returns-in-Dump-clause-replies : goal.returns-in-Dump-clause-replies
+returns-in-Dump-clause-replies g c = replied _ Dump (dump_answer c.dump.result) _ (ap said c.in-Dump.is) c.dump_reply.ensures c.dump.ensures.answers.step
 
-pub returns-in-Load : goal.returns-in-Load
-returns-in-Load g c = absurd (subst IsPlain (ap said c.in-Load.is) c.requires)
+pub returns-in-Check-clause-replies : goal.returns-in-Check-clause-replies
+returns-in-Check-clause-replies g c = replied _ Check (done_answer c.check.result) _ (ap said c.in-Check.is) c.change_reply-in-Check.ensures c.check.ensures.answers.step
+
+pub returns-in-Load-clause-replies : goal.returns-in-Load-clause-replies
+returns-in-Load-clause-replies g c = absurd (subst IsPlain (ap said c.in-Load.is) c.requires)
+
+pub returns-in-Check-clause-checked : goal.returns-in-Check-clause-checked
+returns-in-Check-clause-checked g c = λ honest asks answered.
+    let done = checked_done c.check.result _ c.change_reply-in-Check.ensures answered in
+    ((rw done at c.check.ensures.sound) honest, λ settled. (rw done at c.check.ensures.begins) honest settled)
