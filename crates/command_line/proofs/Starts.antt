@@ -1,8 +1,8 @@
 -- A store that was made or opened, or was refused.
-use Rattle.std.proofs.Common.{◌≡◌, ◌==◌, ap, ℕ, List, [], ◌∷◌, length, Option, Result, Ok, Err, refl, sym, subst, arith}
+use Rattle.std.proofs.Common.{◌≡◌, ◌==◌, ◌⊎◌, ap, ℕ, List, Option, Result, Ok, Err, inl, inr, refl, sym, subst, arith}
 use Rattle.block_device.specs.Device.{Blocks, LeavesOnly}
 use Rattle.plain_table.specs.Table.{Table}
-use Rattle.command_line.specs.Serving.{HasAnswered, HasServed, IsRefusedStart}
+use Rattle.command_line.specs.Serving.{HasAnswered, HasNotBegun, HasServed, IsRefusedStart}
 use Rattle.command_line.specs.declared.program.Served.{Served}
 
 -- one or the other
@@ -21,20 +21,25 @@ refused_start moment left_since P device d r r' w w' left so stops = record {
   stops = subst (λ x. LeavesOnly moment left_since device x P) (sym so.1) stops;
 }
 
--- a run to the closing answers what it read
-pub has_answered : {D : Type 0} (shown : D → Blocks) (moment : D → ℕ) (left_since : D → ℕ → Blocks → Type 0) (may_leave : D → Blocks → Type 0) (t : Table) (device : D)
-    (unread unread' written written' : Option (List ℕ)) (left : Served D) → HasServed shown moment left_since may_leave t device unread unread' written written' left
-    → HasAnswered t unread unread' written written' left.status
-has_answered shown moment left_since may_leave t device unread unread' written written' left h = record {
+-- a run to the closing answers what it read, and blames no device where it had no fault
+has_answered : {D : Type 0} (shown : D → Blocks) (moment : D → ℕ) (left_since : D → ℕ → Blocks → Type 0) (may_leave : D → Blocks → Type 0) (faults : D → ℕ) (t : Table) (device : D)
+    (unread unread' written written' : Option (List ℕ)) (left : Served D) → HasServed shown moment left_since may_leave faults t device unread unread' written written' left
+    → faults left.device ≡ 0 → HasAnswered t unread unread' written written' left.status
+has_answered shown moment left_since may_leave faults t device unread unread' written written' left h none = record {
   old = h.old;
   new = h.new;
   begins = h.begins;
   end = h.runs.end;
   runs = h.runs.runs;
   well = λ zero. (h.runs.well (ap (λ (k : ℕ). k == 0) zero)).0;
+  faultless = let counted = h.runs.counted in omega (arith, counted, none);
 }
 
--- a device whose blocks count 0 has none
-pub no_blocks : (blocks : Blocks) → length blocks ≡ 0 → blocks ≡ []
-no_blocks [] none = refl
-no_blocks (b ∷ bs) none = absurd (omega (arith, none))
+-- a start that was refused has not begun, and a run to the closing answers
+pub begun_or_answered : {D R W : Type 0} (shown : D → Blocks) (moment : D → ℕ) (left_since : D → ℕ → Blocks → Type 0) (may_leave : D → Blocks → Type 0) (faults : D → ℕ) (P : Blocks → Type 0) (t : Table) (device : D) (r r' : R) (w w' : W)
+    (unread unread' written written' : Option (List ℕ)) (left : Served D) → IsRefusedStart moment left_since P device r r' w w' left ⊎ HasServed shown moment left_since may_leave faults t device unread unread' written written' left
+    → faults left.device ≡ 0 → HasNotBegun r r' w w' left.status ⊎ HasAnswered t unread unread' written written' left.status
+begun_or_answered shown moment left_since may_leave faults P t device r r' w w' unread unread' written written' left (inl refused) none =
+    inl (record { failed = refused.failed; unread = refused.unread; unwritten = refused.unwritten })
+begun_or_answered shown moment left_since may_leave faults P t device r r' w w' unread unread' written written' left (inr served) none =
+    inr (has_answered shown moment left_since may_leave faults t device unread unread' written written' left served none)

@@ -1,8 +1,9 @@
 -- What a run of the program over a device leaves.
-use Rattle.std.specs.Prelude.{ℕ, ◌≡◌, ◌⊎◌, ◌==◌, Bool, true, false, List, [], Option}
+use Rattle.std.specs.Prelude.{ℕ, ◌≡◌, ◌<◌, ◌⊎◌, ◌==◌, Bool, true, false, List, length, Option, Result, Ok, Err}
 use Rattle.std.specs.FinMap.{empty}
 use Rattle.block_device.specs.Device.{Blocks, LeavesOnly, Only}
 use Rattle.block_device.specs.declared.device.BlockDevice as device
+use Rattle.block_device.specs.declared.device.DeviceError.{DeviceError}
 use Rattle.page_file.specs.Opening.{IsRefused}
 use Rattle.page_file.specs.declared.fault.Fault.{Fault}
 use Rattle.live_layers.specs.Image.{IsImage, OpeningRefuses}
@@ -10,8 +11,11 @@ use Rattle.layer_store.specs.Representation.{closed_since}
 use Rattle.store_law.specs.Sessions.{SessionState}
 use Rattle.store_law.specs.States.StoreState.{Alive}
 use Rattle.plain_table.specs.Table.{Table}
+use Rattle.plain_table.specs.declared.refusal.Refusal.TheVariants as refusal
 use Rattle.command_shell.specs.Runs.{Runs, RunsToClose}
 use Rattle.command_shell.specs.Serving.{run_state}
+use Rattle.command_shell.specs.Texts.{told_refusal}
+use Rattle.command_shell.specs.Writing.{AppendsSome}
 use Rattle.command_shell.specs.declared.session.RunEnd.{RunEnd}
 use Rattle.command_shell.specs.declared.session.RunEnd.TheVariants.{Finished}
 use Rattle.command_line.specs.declared.program.Served.{Served}
@@ -30,8 +34,9 @@ IsRefusedOpening shown moment left_since may_leave device r r' w w' left = IsRef
 -- Commands were answered by a lawful session that begins with this table. With status 0 all that the reader had was read,
 -- each reply was written, and the blocks are an image of the table at the session's end, also after a stop. With any
 -- status a stop until the store stood left what one before the run might have left, and one since then blocks that opening
--- refuses, or an image of this table or of one that was closed, or was to be closed, since.
-pub record HasServed {D : Type 0} (shown : D → Blocks) (moment : D → ℕ) (left_since : D → ℕ → Blocks → Type 0) (may_leave : D → Blocks → Type 0) (t : Table) (device : D)
+-- refuses, or an image of this table or of one that was closed, or was to be closed, since. The faults that the session
+-- counts are those of the device, from those that it had to those that it has.
+pub record HasServed {D : Type 0} (shown : D → Blocks) (moment : D → ℕ) (left_since : D → ℕ → Blocks → Type 0) (may_leave : D → Blocks → Type 0) (faults : D → ℕ) (t : Table) (device : D)
     (unread unread' written written' : Option (List ℕ)) (left : Served D) : Type 0 where
   pub opened : D
   pub opening : LeavesOnly moment left_since device opened (may_leave device)
@@ -39,7 +44,8 @@ pub record HasServed {D : Type 0} (shown : D → Blocks) (moment : D → ℕ) (l
   pub new : SessionState
   pub begins : old.state ≡ Alive t
   pub stops : old.stops ≡ closed_since (moment opened) t
-  pub runs : RunsToClose (left.status == 0) (shown left.device) (left_since left.device (moment opened)) (run_state old unread written) (run_state new unread' written')
+  pub counted : old.faults ≡ faults device
+  pub runs : RunsToClose (left.status == 0) (shown left.device) (left_since left.device (moment opened)) (faults left.device) (run_state old unread written) (run_state new unread' written')
   pub durable : left.status ≡ 0 → Only (shown left.device) (may_leave left.device)
 
 -- No line was read and no reply written, and the status is that of a run that failed.
@@ -48,8 +54,13 @@ pub record HasNotBegun {R W : Type 0} (r r' : R) (w w' : W) (status : ℕ) : Typ
   pub unread : r' ≡ r
   pub unwritten : w' ≡ w
 
+-- There was no memory for the words: nothing has begun, and it was said so, or the line that says it was written in part.
+pub record HasNoMemory {R W : Type 0} (r r' : R) (w w' : W) (said said' : Option (List ℕ)) (status : ℕ) : Type 0 where
+  pub begun : HasNotBegun r r' w w' status
+  pub told : AppendsSome said said' (told_refusal refusal.Memory)
+
 -- Commands were answered by a lawful session that begins with this table. With status 0 all that the reader had was
--- read, and each reply was written.
+-- read, and each reply was written. The count of faults never rose from 0, so no reply blames a device.
 pub record HasAnswered (t : Table) (unread unread' written written' : Option (List ℕ)) (status : ℕ) : Type 0 where
   pub old : SessionState
   pub new : SessionState
@@ -57,19 +68,28 @@ pub record HasAnswered (t : Table) (unread unread' written written' : Option (Li
   pub end : RunEnd
   pub runs : Runs end (run_state old unread written) (run_state new unread' written')
   pub well : status ≡ 0 → end ≡ Finished
+  pub faultless : new.faults ≡ 0
 
--- A store was made on an honest device without blocks, or else opened on it, its commands were answered and it was
--- closed, with this status; or its making or its opening was refused.
+-- What was done on a device that was opened, and what is left of it. Where a store was to be made and there are blocks,
+-- nothing has begun, and the device is left as it was opened. Where it is honest, a store was made on it, or opened, its
+-- commands were answered and it was closed; or its making or its opening was refused.
 pub record HasServedOn {D R W : Type 0} (m : device.Ghosts D) (create : Bool) (device : D) (r r' : R) (w w' : W)
-    (unread unread' written written' : Option (List ℕ)) (status : ℕ) : Type 0 where
-  pub left : Served D
-  pub status_is : left.status ≡ status
-  pub made : create ≡ true → m.honest device →
-      (m.shown device ≡ [])
-      × (IsRefusedStart m.moment m.left_since (λ c. IsRefused c ⊎ IsImage c empty) device r r' w w' left
-      ⊎ HasServed m.shown m.moment m.left_since m.may_leave empty device unread unread' written written' left)
+    (unread unread' written written' : Option (List ℕ)) (left : Served D) : Type 0 where
+  pub kept : create ≡ true → 0 < length (m.shown device) → HasNotBegun r r' w w' left.status × (left.device ≡ device)
+  pub made : create ≡ true → m.honest device → length (m.shown device) ≡ 0 →
+      IsRefusedStart m.moment m.left_since (λ c. IsRefused c ⊎ IsImage c empty) device r r' w w' left
+      ⊎ HasServed m.shown m.moment m.left_since m.may_leave m.faults empty device unread unread' written written' left
   pub opened : create ≡ false → m.honest device → (t : Table) → IsImage (m.shown device) t →
       IsRefusedOpening m.shown m.moment m.left_since m.may_leave device r r' w w' left
-      ⊎ HasServed m.shown m.moment m.left_since m.may_leave t device unread unread' written written' left
+      ⊎ HasServed m.shown m.moment m.left_since m.may_leave m.faults t device unread unread' written written' left
   pub refused : create ≡ false → m.honest device → (f : Fault) → OpeningRefuses (m.shown device) f →
       IsRefusedOpening m.shown m.moment m.left_since m.may_leave device r r' w w' left
+
+-- A file was opened, of which `opens` tells, and with this status there is left what was done on it; or its opening was
+-- refused, and nothing has begun.
+abbrev pub OpensAndServes : {D R W : Type 0} → device.Ghosts D → (Result D DeviceError → Type 0) → Bool → R → R → W → W
+    → Option (List ℕ) → Option (List ℕ) → Option (List ℕ) → Option (List ℕ) → ℕ → Type 0
+OpensAndServes {D} m opens create r r' w w' unread unread' written written' status =
+    ((e : DeviceError) × opens (Err e) × HasNotBegun r r' w w' status)
+    ⊎ ((device : D) × (left : Served D) × opens (Ok device) × (left.status ≡ status)
+    × HasServedOn m create device r r' w w' unread unread' written written' left)
