@@ -1,14 +1,17 @@
 -- Worked examples of whole runs: what may be said of one, and what may not.
 -- No other proof rests on them. A reader is the bytes that it has left, and a writer the bytes that it was given.
-use Rattle.std.proofs.Common.{◌≡◌, ℕ, List, [], ◌∷◌, ◌++◌, true, false, refl, sym, ap, ◌∙◌, Option, Some, codes, length, length-append, get_or, append_assoc, arith, subst, inl, inr}
+use Rattle.std.proofs.Common.{◌≡◌, ◌≤◌, ℕ, List, [], ◌∷◌, ◌++◌, true, false, refl, sym, ap, ◌∙◌, Option, Some, codes, length, length-append, get_or, append_assoc, arith, subst, inl, inr}
 use Rattle.std.specs.Fmt.{digits}
 use Rattle.std.specs.FinMap.{empty}
 use Rattle.store_law.specs.Sessions.{SessionState, Session}
-use Rattle.store_law.specs.States.{Request}
+use Rattle.block_device.specs.Device.{HasRisen}
+use Rattle.store_law.specs.Lawful.{Lawful, LawfulFrom}
+use Rattle.store_law.specs.States.{Request, StoreState}
 use Rattle.store_law.specs.Laws.{a_bad_line_is_lawful}
-use Rattle.store_law.specs.States.Request.{BadCommand}
+use Rattle.store_law.specs.States.Request.{Asks, BadCommand}
 use Rattle.store_law.specs.Stops.AfterStop.{Surely}
 use Rattle.store_law.specs.States.StoreState.{Alive}
+use Rattle.plain_table.specs.Commands.Command.{Dump}
 use Rattle.plain_table.specs.Step.{Answer}
 use Rattle.plain_table.specs.Step.Answer.{Refused}
 use Rattle.plain_table.specs.declared.refusal.Refusal.TheVariants as refusal
@@ -19,6 +22,7 @@ use Rattle.command_shell.specs.Lines.{lines_of, IsWhole}
 use Rattle.command_shell.specs.Lines.IsWhole.{none as nothing, ends}
 use Rattle.command_shell.specs.Runs.{Runs}
 use Rattle.command_shell.specs.Serving.{BreaksOff, RunState, run_state}
+use Rattle.command_shell.specs.TextAnswers.{AnswersText}
 use Rattle.command_shell.specs.Texts.{texts_of}
 use Rattle.command_shell.specs.declared.session.RunEnd.TheVariants.{Finished, ReadFault, WriteFault}
 use Rattle.command_shell.proofs.CommandLemmas.{append_none}
@@ -162,3 +166,36 @@ a_read_fault_answers_no_unfinished_line s s' left written (unread, part, run) =
     let text = whole_front (unread ++ left) run.reads.stops all in
     let answered = no_answers s s' run.requests run.answers run.lawful (one_reading (subst (λ t. AreCommands false (lines_of t) run.requests) text run.asked) none) in
     (run.written ∙ ap texts_of answered.0, answered.1)
+
+-- ---- a device without faults
+
+not_risen : (before now : ℕ) → before ≤ now → now ≡ 0 → HasRisen before now → ⊥
+not_risen before now grows faultless (inl more) = absurd (omega (arith, more, faultless))
+not_risen before now grows faultless (inr most) = absurd (omega (arith, most, faultless))
+
+other_code : (place : ℕ) (xs ys : List ℕ) → xs ≡ ys → (get_or xs place 0 ≡ get_or ys place 0 → ⊥) → ⊥
+other_code place xs ys e other = other (ap (λ t. get_or t place 0) e)
+
+-- an empty table's dump is not answered with a fault of the device where it had none
+dump_blames_none : (rose : Type 0) (a : Answer) (new : StoreState) → (rose → ⊥) → LawfulFrom rose empty Dump a new → texts_of (a ∷ []) ≡ codes "fail 17 Device\n" → ⊥
+unfolding digits
+dump_blames_none rose a new unrisen (inl (is, _)) e = other_code 0 _ _ (sym (ap (λ x. texts_of (x ∷ [])) is) ∙ e) (λ k. absurd (omega (arith, k)))
+dump_blames_none rose (Refused refusal.Memory) new unrisen (inr (inl gave)) e = other_code 6 _ _ e (λ k. absurd (omega (arith, k)))
+dump_blames_none rose (Refused refusal.Device) new unrisen (inr (inl gave)) e = absurd (unrisen gave.0)
+dump_blames_none rose a new unrisen (inr (inl gave)) e = absurd gave.0
+dump_blames_none rose a new unrisen (inr (inr (_, inl reopens, _))) e = absurd (cc)
+dump_blames_none rose a new unrisen (inr (inr (_, inr changes, _))) e = absurd (changes refl)
+
+one_dump : (s s' : SessionState) (answers : List Answer) → s.state ≡ Alive empty → Session s (Asks Dump ∷ []) answers s' → s'.faults ≡ 0 → texts_of answers ≡ codes "fail 17 Device\n" → ⊥
+one_dump s s' [] begins h faultless e = absurd h
+one_dump s s' (a ∷ b ∷ as') begins h faultless e = absurd h.2
+one_dump s s' (a ∷ []) begins (mid, step, same) faultless e =
+    let count = ap (λ (x : SessionState). x.faults) same in
+    dump_blames_none (HasRisen s.faults mid.faults) a mid.state (not_risen s.faults mid.faults step.faults (sym count ∙ faultless))
+    (subst (λ state. Lawful (HasRisen s.faults mid.faults) state (Asks Dump) a mid.state) begins step.answer) e
+
+-- a store in memory blames no device
+memory_is_not_blamed : AnswersText (codes "dump") (codes "fail 17 Device\n") → ⊥
+memory_is_not_blamed h =
+    let asked = one_reading h.asked (one (Asks Dump ∷ []) refl none) in
+    one_dump h.lawful.old h.lawful.new h.answers h.lawful.begins (subst (λ rs. Session h.lawful.old rs h.answers h.lawful.new) asked h.lawful.lawful) h.faultless (sym h.written)

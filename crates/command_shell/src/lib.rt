@@ -5,6 +5,7 @@
 //! `run_and_close` is what the program does.
 #![tactic(auto)]
 
+mod flushing;
 mod in_memory;
 mod lines;
 mod loading;
@@ -16,6 +17,7 @@ mod rows;
 mod session;
 mod words;
 
+pub use flushing::FlushedWrite;
 pub use in_memory::answers_to;
 pub use parse::{Line, MAX_LINE, parse_entry, parse_line};
 pub use program::{Ended, run_and_close, tell_refusal};

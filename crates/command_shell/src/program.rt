@@ -10,6 +10,7 @@ ghost use Rattle.command_shell.specs.Serving.{run_state};
 ghost use Rattle.command_shell.specs.Texts.{told_refusal};
 ghost use Rattle.command_shell.specs.Writing.{Writes};
 
+use crate::flushing::FlushedWrite;
 use crate::replies::{Reply, write_reply};
 use crate::reply_line::put;
 use crate::session::{RunEnd, run};
@@ -34,7 +35,7 @@ pub struct Ended<D: BlockDevice> {
 /// Where all went well, all that the reader had was read, each of its commands was answered by a lawful session, and
 /// the device's blocks are an image of the table at its end; and a stop leaves nothing else. The device is blamed in no
 /// reply unless its count of faults rose.
-pub fn run_and_close<D: BlockDevice, A: Allocator + Copy, R: Read, W: Write, E: Write>(
+pub fn run_and_close<D: BlockDevice, A: Allocator + Copy, R: Read, W: FlushedWrite, E: Write>(
     store: Store<D, A>,
     input: &mut R,
     output: &mut W,
@@ -45,13 +46,14 @@ pub fn run_and_close<D: BlockDevice, A: Allocator + Copy, R: Read, W: Write, E: 
         (D.faults result.device)
         (run_state s (R.remaining input.old) (W.contents output.old))
         (run_state s' (R.remaining input.new) (W.contents output.new)) }
+    ensures flushed { result.went_well ≡ true → W.is_flushed output.new }
     ensures told { TellsEnd result.went_well (E.contents errors.old) (E.contents errors.new) }
     ensures durable { (s : SessionState) → Represents store s → result.went_well ≡ true →
         Only (D.shown result.device) (D.may_leave result.device) }
 {
     let mut store = store;
     let end = run(&mut store, input, output);
-    let flushed = output.flush();
+    let flushed = output.flush_out();
     match store.close() {
         Ok(device) => {
             let went_well = is_whole(end, &flushed);

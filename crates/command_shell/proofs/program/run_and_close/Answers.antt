@@ -77,7 +77,7 @@ returns-after-not-went_well-clause-run g c = λ s represents.
       left.next,
       record {
         end = c.run-end.result;
-        runs = runs_kept c.run-end.result (run_state s (g.R.Read.remaining c.args.input.now) (g.W.Write.contents c.args.output.now)) (run_state left.next (g.R.Read.remaining c.run-end.new.input) (g.W.Write.contents c.run-end.new.output)) (g.W.Write.contents c.flush-flushed.new.self) left.so c.flush-flushed.ensures.bytes;
+        runs = runs_kept c.run-end.result (run_state s (g.R.Read.remaining c.args.input.now) (g.W.Write.contents c.args.output.now)) (run_state left.next (g.R.Read.remaining c.run-end.new.input) (g.W.Write.contents c.run-end.new.output)) (g.W.Write.contents c.flush_out-flushed.new.self) left.so c.flush_out-flushed.ensures.bytes;
         well = λ well. ((c.is_whole-went_well.ensures well).0, of_table.table, of_table.alive, closed.closed of_table.table of_table.represents);
         stops = λ b stop.
             let since = same_beginning c.run-end.result _ _ left.so in
@@ -102,7 +102,7 @@ returns-in-Err-clause-run g c = λ s represents.
       left.next,
       record {
         end = c.run-end.result;
-        runs = runs_kept c.run-end.result (run_state s (g.R.Read.remaining c.args.input.now) (g.W.Write.contents c.args.output.now)) (run_state left.next (g.R.Read.remaining c.run-end.new.input) (g.W.Write.contents c.run-end.new.output)) (g.W.Write.contents c.flush-flushed.new.self) left.so c.flush-flushed.ensures.bytes;
+        runs = runs_kept c.run-end.result (run_state s (g.R.Read.remaining c.args.input.now) (g.W.Write.contents c.args.output.now)) (run_state left.next (g.R.Read.remaining c.run-end.new.input) (g.W.Write.contents c.run-end.new.output)) (g.W.Write.contents c.flush_out-flushed.new.self) left.so c.flush_out-flushed.ensures.bytes;
         well = λ well. absurd (false_is_not_true well);
         stops = λ b stop.
             let since = same_beginning c.run-end.result _ _ left.so in
