@@ -199,3 +199,11 @@ memory_is_not_blamed : AnswersText (codes "dump") (codes "fail 17 Device\n") →
 memory_is_not_blamed h =
     let asked = one_reading h.asked (one (Asks Dump ∷ []) refl none) in
     one_dump h.lawful.old h.lawful.new h.answers h.lawful.begins (subst (λ rs. Session h.lawful.old rs h.answers h.lawful.new) asked h.lawful.lawful) h.faultless (sym h.written)
+
+-- nor does a run where the count of faults did not rise
+a_run_without_faults_blames_no_device : (s s' : SessionState) (left : List ℕ) → s.state ≡ Alive empty → s'.faults ≡ 0 → Runs Finished (at s (codes "dump") []) (at s' left (codes "fail 17 Device\n")) → ⊥
+a_run_without_faults_blames_no_device s s' left begins faultless run =
+    let more : codes "dump" ≡ run.reads.read.more = run.reads.read.read ∙ ap (λ l. run.reads.read.more ++ l) run.reads.stops.1 ∙ append_none _ in
+    let text : run.text ≡ codes "dump" = sym (append_none run.text) ∙ sym run.reads.read.so ∙ sym more in
+    let asked = one_reading (subst (λ t. AreCommands true (lines_of t) run.requests) text run.asked) (one (Asks Dump ∷ []) refl none) in
+    one_dump s s' run.answers begins (subst (λ rs. Session s rs run.answers s') asked run.lawful) faultless (sym run.written)
