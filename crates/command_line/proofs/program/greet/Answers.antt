@@ -1,7 +1,6 @@
 -- One write appends a front of the line, or nothing.
-use Rattle.std.proofs.Common.{◌≡◌, ℕ, List, [], ◌++◌, take, Option, Some, None, Result, Ok, Err, append-nil, refl, sym, ◌∙◌}
+use Rattle.std.proofs.Common.{ℕ, List, [], take, Option, Some, None, Result, Ok, Err, append-nil, refl, sym, ◌∙◌}
 use Rattle.std.specs.Io.KnownBytes.{Appends, Keeps, WriteAppends}
-use Rattle.command_line.proofs.program.greet.Goals as goal
 
 nothing : (a b : Option (List ℕ)) → Keeps a b → Appends a b []
 nothing None b h = tt

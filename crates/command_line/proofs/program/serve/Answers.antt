@@ -1,5 +1,5 @@
 -- The words lead to a store in memory, whose device has no fault, or to the file that they name.
-use Rattle.std.proofs.Common.{◌≡◌, ◌∙◌, ℕ, List, Option, Some, ap, inr, refl, sym}
+use Rattle.std.proofs.Common.{◌≡◌, ◌∙◌, ℕ, List, Some, ap, inr, refl, sym}
 use Rattle.std.specs.Prelude.{option_map}
 use Rattle.command_line.proofs.Starts.{begun_or_answered}
 use Rattle.command_line.proofs.program.serve.Goals as goal
