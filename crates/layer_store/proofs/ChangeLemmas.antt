@@ -1,5 +1,5 @@
 -- A change of layers is a change of their store.
-use Rattle.std.proofs.Common.{◌≡◌, ◌∙◌, ◌≤◌, ◌^◌, ◌<◌, ◌⊎◌, ℕ, Bool, true, false, not, cond, inl, inr, refl, sym, ap, subst}
+use Rattle.std.proofs.Common.{◌≡◌, ◌∙◌, ◌^◌, ◌<◌, ◌⊎◌, ℕ, Bool, true, false, not, cond, inl, inr, refl, sym, ap, subst}
 use Rattle.std.specs.Prelude.{Option, Some, None, is_some, Result, Ok, Err, OnErr, OnOk}
 use Rattle.live_layers.specs.Changes.{IsChangeBy, IsChanged, OnRefused}
 use Rattle.live_layers.specs.Faults.{HasRefusalCause, HasUnmadeCause}

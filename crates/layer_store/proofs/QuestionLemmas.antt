@@ -1,5 +1,5 @@
 -- A question of layers is a question of their store.
-use Rattle.std.proofs.Common.{◌≡◌, ◌∙◌, ◌<◌, ◌^◌, true, false, refl, sym, subst, arith}
+use Rattle.std.proofs.Common.{◌≡◌, ◌∙◌, ◌<◌, ◌^◌, true, false, refl, sym, subst}
 use Rattle.std.specs.Prelude.{Result, Err, IfErr}
 use Rattle.live_layers.specs.Changes.{IsAnswered, KeepsInQuestion}
 use Rattle.live_layers.specs.Image.{MayRemain}

@@ -1,5 +1,5 @@
 -- What the layers promise of a change that was made, refused or broken off.
-use Rattle.std.proofs.Common.{◌≡◌, ◌∙◌, ◌⊎◌, ℕ, ◌^◌, ◌≤◌, Bool, true, false, cond, List, Option, None, Some, refl, sym, ap, subst, arith, inl, inr, ⊎_elim}
+use Rattle.std.proofs.Common.{◌≡◌, ◌∙◌, ℕ, Bool, true, false, cond, List, Option, None, Some, refl, sym, ap, subst, inl, inr, ⊎_elim}
 use Rattle.std.specs.Prelude.{Result, Ok, Err, OnErr, OnOk, IfErr}
 use Rattle.block_device.specs.Moments.{leaves_then}
 use Rattle.node_page.specs.Broken.{cause_in}
@@ -15,7 +15,6 @@ use Rattle.plain_table.specs.Step.{after, answer_of, changed, kept_or, refusal_o
 use Rattle.plain_table.specs.Step.Answer.{Done, Refused}
 use Rattle.plain_table.specs.Table.{Table}
 use Rattle.plain_table.specs.declared.refusal.Refusal.{Refusal}
-use Rattle.plain_table.specs.declared.refusal.Refusal.TheVariants as refusal
 use Rattle.store_law.specs.Lawful.{IsFault, blames_device}
 use Rattle.tree_node.specs.Trees.{Tree}
 use Rattle.live_layers.specs.Begun.{Begins, BeginsChange}

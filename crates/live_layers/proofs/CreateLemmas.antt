@@ -1,5 +1,5 @@
 -- A layer that is made: the table has one more, and the pages hold it.
-use Rattle.std.proofs.Common.{◌≡◌, ◌∙◌, ℕ, ◌+◌, ◌<◌, ◌≤◌, ◌^◌, List, length, get_or, map, true, false, cond, Bool, ◌&&◌, refl, sym, ap, subst, arith, ⊎_elim}
+use Rattle.std.proofs.Common.{◌≡◌, ◌∙◌, ℕ, ◌+◌, ◌<◌, ◌≤◌, ◌^◌, List, length, map, true, false, cond, Bool, ◌&&◌, refl, sym, ap, subst, arith, ⊎_elim}
 use Rattle.std.specs.Prelude.{None, Some, IsSome, sum_by}
 use Rattle.std.specs.Cmp.Derive.{both_true}
 use Rattle.std.specs.Cmp.Lexicographic.{nat_list_cmp_total}
@@ -7,7 +7,7 @@ use Rattle.std.specs.FinMap.{contains_key, empty, entries, insert as map_insert,
 use Rattle.std.specs.List.{Contains, insert}
 use Rattle.std.specs.Ordering.{nat_cmp}
 use Rattle.std.proofs.lemmas.Bool.{cases_lt}
-use Rattle.std.proofs.lemmas.List.{get_or-map, length-map}
+use Rattle.std.proofs.lemmas.List.{length-map}
 use Rattle.std.proofs.lemmas.List.Edits.{get_or-insert_above, get_or-insert_at, get_or-insert_below, length-insert}
 use Rattle.std.proofs.lemmas.List.Sums.{sum_by-insert}
 use Rattle.box_math.specs.Bounds.{Bounds}
@@ -27,7 +27,7 @@ use Rattle.tree_node.specs.declared.node.Root.{Root}
 use Rattle.live_layers.specs.Catalog.{AreLayers, is_layer, is_layer_record}
 use Rattle.live_layers.specs.Creating.{BringsTree, MayBeLayer, new_layer}
 use Rattle.live_layers.specs.Keeping.{Belongs, IsSound}
-use Rattle.live_layers.specs.Layers.{Holds, IsTreeOf, LayerStands, Reading, entry_of, of_layers, root_of, row_of}
+use Rattle.live_layers.specs.Layers.{Holds, IsTreeOf, LayerStands, Reading, entry_of, of_layers, row_of}
 use Rattle.live_layers.specs.declared.layers.Layers.{Layers}
 use Rattle.live_layers.proofs.CatalogGood.{All-insert, a_page, from_parts}
 use Rattle.live_layers.proofs.HoldLemmas.{all_stay, holds_more, map-insert, trees_stay}

@@ -1,5 +1,4 @@
 -- A reopening of the layers is a step of the store, and a closing.
-use Rattle.std.proofs.Common.{arith}
 use Rattle.plain_table.specs.Commands.Command.{Reopen}
 use Rattle.layer_store.specs.Representation.{device_in}
 use Rattle.layer_store.proofs.ChangeLemmas.{cause_told, not_refused, refused_goes_on, step_told}

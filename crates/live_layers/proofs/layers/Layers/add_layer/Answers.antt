@@ -1,5 +1,5 @@
 -- The pages are made, and the record is in its place; or the change was refused, or broke off.
-use Rattle.std.proofs.Common.{length, refl, ap, arith, inl}
+use Rattle.std.proofs.Common.{length, refl, ap, arith}
 use Rattle.catalog_page.specs.Layout.{records_of}
 use Rattle.catalog_page.specs.declared.layer_record.LayerRecord.{LayerRecord}
 use Rattle.layer_pages.specs.Changes.{IsEmptyLeaf}

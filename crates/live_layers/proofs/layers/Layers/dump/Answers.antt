@@ -2,8 +2,7 @@
 use Rattle.std.proofs.Common.{◌≡◌, ◌∙◌, map, flat_map, refl, sym, ap, subst, inl, inr}
 use Rattle.block_device.specs.Device.{HasRisen}
 use Rattle.catalog_page.specs.Layout.{record_of}
-use Rattle.page_cache.specs.Cache.{device_of, next_of}
-use Rattle.plain_table.specs.Commands.Command.{Dump}
+use Rattle.page_cache.specs.Cache.{device_of}
 use Rattle.plain_table.specs.Listings.{all_lines, dump_lines}
 use Rattle.plain_table.specs.Step.Answer.{Dumped}
 use Rattle.plain_table.specs.declared.refusal.Refusal.{Refusal}

@@ -1,7 +1,6 @@
 -- The layers of both names are found or not, and then the pairs are those of the table.
 use Rattle.std.proofs.Common.{◌≡◌, ◌∙◌, ℕ, arith, inl, subst, sym}
 use Rattle.std.specs.Prelude.{None, OnOk, ◌*◌}
-use Rattle.page_cache.specs.Cache.{next_of}
 use Rattle.plain_table.specs.Answers.{pairs_answer}
 use Rattle.plain_table.specs.Commands.Command.{Join}
 use Rattle.plain_table.specs.Step.{join_rows}

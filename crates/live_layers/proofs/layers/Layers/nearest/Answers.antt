@@ -10,7 +10,6 @@ use Rattle.plain_table.specs.Table.{layer_at}
 use Rattle.plain_table.specs.declared.boxes.RawPoint.{RawPoint}
 use Rattle.plain_table.specs.declared.boxes.RawPoint.TheVariants as raw
 use Rattle.tree_node.specs.Searches.{admitted}
-use Rattle.page_cache.specs.Cache.{next_of}
 use Rattle.live_layers.specs.Changes.{IsAnswered, Rose}
 use Rattle.live_layers.specs.Keeping.{LooksAtTree}
 use Rattle.live_layers.proofs.ReplyLemmas.{err_distances, refused, replied}

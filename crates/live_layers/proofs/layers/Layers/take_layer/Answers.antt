@@ -1,5 +1,5 @@
 -- The pages are free, and the record is out; or the change was refused, or broke off.
-use Rattle.std.proofs.Common.{length, ap, arith, refl, inl}
+use Rattle.std.proofs.Common.{length, ap, arith, refl}
 use Rattle.catalog_page.specs.Layout.{records_of}
 use Rattle.plain_table.specs.Table.{layer_at}
 use Rattle.live_layers.proofs.AddLemmas.{stands_at}
