@@ -45,7 +45,8 @@ pub record HasServed {D : Type 0} (shown : D → Blocks) (moment : D → ℕ) (l
   pub begins : old.state ≡ Alive t
   pub stops : old.stops ≡ closed_since (moment opened) t
   pub counted : old.faults ≡ faults device
-  pub runs : RunsToClose (left.status == 0) (shown left.device) (left_since left.device (moment opened)) (faults left.device) (run_state old unread written) (run_state new unread' written')
+  pub runs : RunsToClose (left.status == 0) (shown left.device) (left_since left.device (moment opened)) (faults left.device)
+      (run_state old unread written) (run_state new unread' written')
   pub durable : left.status ≡ 0 → Only (shown left.device) (may_leave left.device)
 
 -- No line was read and no reply written, and the status is that of a run that failed.
@@ -54,7 +55,7 @@ pub record HasNotBegun {R W : Type 0} (r r' : R) (w w' : W) (status : ℕ) : Typ
   pub unread : r' ≡ r
   pub unwritten : w' ≡ w
 
--- There was no memory for the words: nothing has begun, and it was said so, or the line that says it was written in part.
+-- There was no memory for the words: nothing has begun, and it was said so, or a front of the line that says it.
 pub record HasNoMemory {R W : Type 0} (r r' : R) (w w' : W) (said said' : Option (List ℕ)) (status : ℕ) : Type 0 where
   pub begun : HasNotBegun r r' w w' status
   pub told : AppendsSome said said' (told_refusal refusal.Memory)
@@ -70,9 +71,9 @@ pub record HasAnswered (t : Table) (unread unread' written written' : Option (Li
   pub well : status ≡ 0 → end ≡ Finished
   pub faultless : new.faults ≡ 0
 
--- What was done on a device that was opened, and what is left of it. Where a store was to be made and there are blocks,
--- nothing has begun, and the device is left as it was opened. Where it is honest, a store was made on it, or opened, its
--- commands were answered and it was closed; or its making or its opening was refused.
+-- What was done on a device that was opened, and what is left of it. Where a store was to be made and there are
+-- blocks, nothing has begun, and the device is left as it was opened. Where it is honest, a store was made on it, or
+-- opened, its commands were answered and it was closed; or its making or its opening was refused.
 pub record HasServedOn {D R W : Type 0} (m : device.Ghosts D) (create : Bool) (device : D) (r r' : R) (w w' : W)
     (unread unread' written written' : Option (List ℕ)) (left : Served D) : Type 0 where
   pub kept : create ≡ true → 0 < length (m.shown device) → HasNotBegun r r' w w' left.status × (left.device ≡ device)

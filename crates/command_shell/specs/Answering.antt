@@ -30,11 +30,12 @@ pub record Replies (m : Meaning) (old new : SessionState) (answers : List Answer
   pub asked : AsksAlone m requests
   pub lawful : Session old requests answers new
 
--- Where the line asks for a check and the reply is that it was done, the store is alive with some table; and where it was
--- settled before, it begins with one now, as an opened store does.
+-- Where the line asks for a check and the reply is that it was done, the store is alive with some table; and where it
+-- was settled before, it begins with one now, as an opened store does.
 abbrev pub SaysChecked : {D A : Type 0} {m : _} → Meaning → Store D A m → Store D A m → List Answer → Type 0
 SaysChecked {m = m} line old new answers =
-    line ≡ Means Check → answers ≡ Done ∷ [] → IsAliveWithSome new × (IsSettled old → BeginsWithSome new (m.moment (device_in new)))
+    line ≡ Means Check → answers ≡ Done ∷ []
+    → IsAliveWithSome new × (IsSettled old → BeginsWithSome new (m.moment (device_in new)))
 
 -- what a line of this meaning asks was answered lawfully, and the answers were written
 pub record AnswersLine {E : Type 0} (m : Meaning) (old new : SessionState) (before after : Option (List ℕ)) (result : Result (Unit {0}) E) : Type 0 where

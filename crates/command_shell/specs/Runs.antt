@@ -43,7 +43,8 @@ with_last Dead so_far = so_far
 -- answered, and the blocks are an image of the table at the session's end. However it ended, stops since the session's
 -- beginning, of which `left` tells, left blocks that opening refuses, or an image of one of the tables so far or the last.
 -- The session counts no fault that the device does not count in the end.
-pub record RunsToClose (went_well : Bool) (blocks : Blocks) (left : Blocks → Type 0) (faults : ℕ) (before after : RunState) : Type 0 where
+pub record RunsToClose (went_well : Bool) (blocks : Blocks) (left : Blocks → Type 0) (faults : ℕ)
+    (before after : RunState) : Type 0 where
   pub end : RunEnd
   pub runs : Runs end before after
   pub well : went_well ≡ true → (end ≡ Finished) × (t : Table) × (after.session.state ≡ Alive t) × IsImage blocks t
