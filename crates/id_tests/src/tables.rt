@@ -227,10 +227,20 @@ fn a_full_bucket_gets_one_before_it(rt: HostRuntime) -> Result<(), Fail> {
         assert_eq!(rt; head(&mut cache, page)?, want);
     }
     assert!(rt; has_sevens(&mut cache, table)?);
-    set::<3>(&mut cache, table, 7, 9)?;
-    assert!(rt; is_at::<3>(&mut cache, table, 7, 9)?);
     assert!(rt; is_missing::<3>(&mut cache, table, 250_007)?);
     assert!(rt; is_missing::<3>(&mut cache, table, 8)?);
+    Ok(())
+}
+
+#[test]
+fn an_object_of_the_last_bucket_gets_another_box(rt: HostRuntime) -> Result<(), Fail> {
+    let mut cache = scene(rt.alloc())?;
+    let table = new_table::<3>(&mut cache)?;
+    add_sevens(&mut cache, table)?;
+    set::<3>(&mut cache, table, 7, 9)?;
+    assert!(rt; is_at::<3>(&mut cache, table, 7, 9)?);
+    assert!(rt; is_at::<3>(&mut cache, table, 1007, 1)?);
+    assert_eq!(rt; head(&mut cache, 4)?, (100, 0));
     Ok(())
 }
 
