@@ -353,14 +353,19 @@ fn refuses_a_layer_too_many(rt: HostRuntime) -> Result<(), Fail> {
 // What a window over the layer answers where it has one object.
 const ONE: &[u8] = b"ok 1\n1 0 0 9 9\n";
 
-// Lines, and what a window over the layer answers before each.
-fn lines() -> [Row; 13] {
+// And where it has two.
+const TWO_BOXES: &[u8] = b"ok 2\n1 0 0 9 9\n2 0 0 9 9\n";
+
+// Lines, and what a window over the layer answers before each. After a reopening no page is held, so that a move wants
+// memory.
+fn lines() -> [Row; 14] {
     [
         (b"create a 2 4", b"fail 3 NoLayer\n"),
         (b"load a 2\n5 9 0 9 0\n1 0 0 9 9", b"ok 0\n"),
         (b"delete a 5", b"ok 2\n1 0 0 9 9\n5 9 0 9 0\n"),
         (b"insert a 2 0 0 9 9", ONE),
-        (b"move a 2 20 20 30 30", b"ok 2\n1 0 0 9 9\n2 0 0 9 9\n"),
+        (b"reopen", TWO_BOXES),
+        (b"move a 2 20 20 30 30", TWO_BOXES),
         (b"window a 0 0 9 9", ONE),
         (b"point a 9 9", ONE),
         (b"nearest a 1 9 9", ONE),
