@@ -85,6 +85,11 @@ for made in "$program" "$program.by-rattle"; do
     refused _ _ store "$made" --create store
     ends 1 "$failed" "$made" store <<<'insert a 1 0 0 1 1' >/dev/full
     ends 0 '' "$made" store <<<'window a 0 0 1 1' >replies
+    # no file takes the place of a standard stream that is closed
+    before=$(cksum store)
+    ends 1 "$failed" "$made" store <<<'window a 0 0 1 1' >&-
+    ends 1 "$failed" "$made" store <&- >replies
+    [ "$before" = "$(cksum store)" ] || wrong "a closed stream's place was taken by the file"
     if [ "$(id -u)" -ne 0 ]; then
         chmod 000 store
         line=$unopened
