@@ -1,8 +1,8 @@
 -- Worked examples of what the tests do not reach: the tests of points and boxes on their edges, joins, and distances.
 -- No other proof rests on them.
 use Rattle.std.proofs.Common.{◌≡◌, ℕ, List, [], ◌∷◌, true, false, refl, ℤ, pos, negsuc, map}
-use Rattle.box_math.specs.Bounds.{Bounds, ordered_test, holds_test, meets_test, within_test, join_of, meet_of}
-use Rattle.box_math.specs.Measures.{volume_of, margin_of, overlap_of, dist2, point_dist2_of, centre2_of, centre_dist2_of}
+use Rattle.box_math.specs.Bounds.{Bounds, ordered_test, holds_test, meets_test, within_test, join_of, meet_of, widened_of}
+use Rattle.box_math.specs.Measures.{volume_of, margin_of, overlap_of, dist2, point_dist2_of, centre2_of, centre_dist2_of, box_dist2_of, near_test}
 
 abbrev at : ℕ → ℕ → List ℤ
 at x y = pos x ∷ pos y ∷ []
@@ -83,3 +83,17 @@ centres_are_doubled = refl
 -- from (2, 3.5) to (6, 7)
 distance_of_doubled_centres : centre_dist2_of 2 rectangle corner ≡ 113
 distance_of_doubled_centres = refl
+
+-- beside, above and to the upper right of it, and one that touches it
+distance_of_boxes_is_that_of_their_nearest_points : map (box_dist2_of 2 rectangle) (bounds (at 5 3) (at 7 9) ∷ bounds (at 2 8) (at 2 9) ∷ bounds (at 6 9) (at 6 9) ∷ bounds (at 3 5) (at 9 9) ∷ []) ≡ 4 ∷ 9 ∷ 25 ∷ 0 ∷ []
+distance_of_boxes_is_that_of_their_nearest_points = refl
+
+points_at_the_ends : box_dist2_of 3 (bounds (lowest ∷ lowest ∷ lowest ∷ []) (lowest ∷ lowest ∷ lowest ∷ [])) (bounds (highest ∷ highest ∷ highest ∷ []) (highest ∷ highest ∷ highest ∷ [])) ≡ 55340232195358851075
+points_at_the_ends = refl
+
+a_distance_that_is_reached_counts : map (λ within. near_test 2 within rectangle (bounds (at 5 3) (at 7 9))) (3 ∷ 4 ∷ 5 ∷ []) ≡ false ∷ true ∷ true ∷ []
+unfolding near_test
+a_distance_that_is_reached_counts = refl
+
+a_widened_box_ends_where_integers_do : widened_of 2 3 (bounds (lowest ∷ pos 7 ∷ []) (highest ∷ pos 8 ∷ [])) ≡ bounds (lowest ∷ pos 4 ∷ []) (highest ∷ pos 11 ∷ [])
+a_widened_box_ends_where_integers_do = refl

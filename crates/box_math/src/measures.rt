@@ -1,8 +1,22 @@
 //! The measures of boxes, exact up to the ends of `i32`.
 
-ghost use Rattle.std.specs.Prelude.{◌≡◌, ℕ, ◌*◌, ◌^◌, ◌<◌, ◌≤◌, unsigned_abs};
+ghost use Rattle.std.specs.Prelude.{◌≡◌, ℕ, ◌*◌, ◌^◌, ◌<◌, ◌≤◌, ◌-ℤ◌, pos, unsigned_abs};
+ghost use Rattle.std.specs.Int.{int_max};
 
 use crate::bounds::BBox;
+
+/// How far the second number lies above the first, 0 where it does not.
+#[inline]
+fn rise(from: i32, to: i32) -> u64
+    ensures value { result ≡ unsigned_abs (int_max (pos 0) (to -ℤ from)) }
+    ensures bound { result < 2 ^ 32 }
+{
+    if from < to {
+        u64::from(to.abs_diff(from))
+    } else {
+        0
+    }
+}
 
 #[inline]
 fn square(n: u64) -> u128
@@ -15,7 +29,7 @@ fn square(n: u64) -> u128
 impl<const D: usize> BBox<D> {
     ghost use Rattle.box_math.specs.Bounds.{on_axis, IsDims};
     ghost use Rattle.box_math.specs.Measures.{volume_of, overlap_of, margin_of};
-    ghost use Rattle.box_math.specs.Measures.{point_dist2_of, centre2_of, centre_dist2_of};
+    ghost use Rattle.box_math.specs.Measures.{point_dist2_of, centre2_of, centre_dist2_of, box_dist2_of, near_test};
 
     /// The product of the sides, high less low: 0 where some side is 0.
     pub fn volume(&self) -> u128
@@ -101,5 +115,30 @@ impl<const D: usize> BBox<D> {
             sum += square(from[axis].abs_diff(to[axis]));
         }
         sum
+    }
+
+    /// The square of the distance between the nearest points of the boxes: the sum over the axes of the squared gap,
+    /// the low of one less the high of the other where it lies above it, and 0 where they meet.
+    pub fn box_dist2(&self, other: &BBox<D>) -> u128
+        requires { IsDims D }
+        ensures value { result ≡ box_dist2_of D self.now other.now }
+        ensures bound { result < 2 ^ 66 }
+    {
+        let mut sum = 0u128;
+        for axis in 0..D {
+            let above = rise(self.high[axis], other.low[axis]);
+            let below = rise(other.high[axis], self.low[axis]);
+            let gap = above.max(below);
+            sum += square(gap);
+        }
+        sum
+    }
+
+    /// Whether the squared distance of the boxes is at most so much: at most 0 where they meet.
+    pub fn is_near(&self, other: &BBox<D>, within: u64) -> bool
+        requires { IsDims D }
+        ensures { result ≡ near_test D within self.now other.now }
+    {
+        self.box_dist2(other) <= u128::from(within)
     }
 }

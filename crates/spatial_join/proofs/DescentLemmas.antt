@@ -3,7 +3,8 @@ use Rattle.std.proofs.Common.{◌≡◌, ◌∙◌, ℕ, zero, suc, ◌+◌, ◌
 use Rattle.std.specs.Prelude.{◌↔◌}
 use Rattle.std.proofs.lemmas.List.{get_or_default, length-map}
 use Rattle.std.proofs.lemmas.List.Elements.{All-get_or}
-use Rattle.box_math.specs.Bounds.{Bounds, meets_test}
+use Rattle.box_math.specs.Bounds.{Bounds}
+use Rattle.box_math.specs.Measures.{near_test}
 use Rattle.box_math.specs.Masks.{has_bit}
 use Rattle.page_file.specs.Fault.{faults_after}
 use Rattle.page_file.specs.declared.fault.Fault.{Fault}
@@ -21,12 +22,12 @@ use Rattle.tree_node.proofs.RowLemmas.{all_dropped, entry_item, items_from, row_
 use Rattle.node_page.specs.Standing.{PageMap, RowStands, StandsAt}
 use Rattle.node_page.proofs.LeafLemmas.{dropped_stands, stands_on}
 use Rattle.node_page.proofs.StandingLemmas.{row_stays}
-use Rattle.spatial_join.specs.Pairs.{GainsPairs, meeting, pairs_of}
+use Rattle.spatial_join.specs.Pairs.{GainsPairs, near_objects, pairs_of}
 use Rattle.spatial_join.specs.Opening.{Encloses, HasRow, opened, opened_level, sole}
 use Rattle.spatial_join.specs.Masks.{Tells}
 use Rattle.spatial_join.proofs.LeafPairs.{leaf_sum}
 use Rattle.spatial_join.proofs.OpeningLemmas.{fewer_pairs, objects_opened, only, opened_encloses, opened_stands}
-use Rattle.spatial_join.proofs.PairLemmas.{heads_apart, meeting_sum, meeting_sum-left, meeting_sum-none, meeting_sum-right, pairs_below, pairs_below-left, pairs_below-right, row_head}
+use Rattle.spatial_join.proofs.PairLemmas.{heads_apart, near_sum, near_sum-left, near_sum-none, near_sum-right, pairs_below, pairs_below-left, pairs_below-right, row_head}
 
 -- ---- entries from a place on
 
@@ -66,31 +67,31 @@ pub all_passed : {dims : ℕ} (entries all : List (Entry dims)) (i : ℕ) → en
 all_passed entries all i value past = omega (arith, ap length value, length-map all item_of, past)
 
 -- those left from entry i on
-abbrev pub left_from : ℕ → ℕ → (ℕ × ℕ → ℕ) → Row → Row → ℕ
-left_from dims i f s t = meeting_sum dims f (row_drop i s) t
+abbrev pub left_from : ℕ → ℕ → ℕ → (ℕ × ℕ → ℕ) → Row → Row → ℕ
+left_from dims limit i f s t = near_sum dims limit f (row_drop i s) t
 
-abbrev pub nodes_from : ℕ → ℕ → Row → Row → ℕ
-nodes_from dims i s t = pairs_below dims (row_drop i s) t
+abbrev pub nodes_from : ℕ → ℕ → ℕ → Row → Row → ℕ
+nodes_from dims limit i s t = pairs_below dims limit (row_drop i s) t
 
 -- of one entry, those left from entry j of the other node on
-abbrev pub left_beside : ℕ → ℕ → (ℕ × ℕ → ℕ) → Row → Row → ℕ
-left_beside dims j f s t = meeting_sum dims f (row_head s) (row_drop j t)
+abbrev pub left_beside : ℕ → ℕ → ℕ → (ℕ × ℕ → ℕ) → Row → Row → ℕ
+left_beside dims limit j f s t = near_sum dims limit f (row_head s) (row_drop j t)
 
 -- and the pairs of nodes
-abbrev pub nodes_beside : ℕ → ℕ → Row → Row → ℕ
-nodes_beside dims j s t = pairs_below dims (row_head s) (row_drop j t)
+abbrev pub nodes_beside : ℕ → ℕ → ℕ → Row → Row → ℕ
+nodes_beside dims limit j s t = pairs_below dims limit (row_head s) (row_drop j t)
 
 -- one entry of the other node
-left_next : (dims j : ℕ) (f : ℕ × ℕ → ℕ) (s t : Row) → left_beside dims j f s t ≡ meeting_sum dims f (row_head s) (row_head (row_drop j t)) + left_beside dims (j + 1) f s t
-left_next dims j f s t =
-    let all = meeting_sum-right dims f (row_head s) (row_drop j t) in
-    let rest = ap (λ (r : Row). meeting_sum dims f (row_head s) r) (next_place j t) in
+left_next : (dims limit j : ℕ) (f : ℕ × ℕ → ℕ) (s t : Row) → left_beside dims limit j f s t ≡ near_sum dims limit f (row_head s) (row_head (row_drop j t)) + left_beside dims limit (j + 1) f s t
+left_next dims limit j f s t =
+    let all = near_sum-right dims limit f (row_head s) (row_drop j t) in
+    let rest = ap (λ (r : Row). near_sum dims limit f (row_head s) r) (next_place j t) in
     omega (arith, all, rest)
 
-nodes_next : (dims j : ℕ) (s t : Row) → nodes_beside dims j s t ≡ pairs_below dims (row_head s) (row_head (row_drop j t)) + nodes_beside dims (j + 1) s t
-nodes_next dims j s t =
-    let all = pairs_below-right dims (row_head s) (row_drop j t) in
-    let rest = ap (λ (r : Row). pairs_below dims (row_head s) r) (next_place j t) in
+nodes_next : (dims limit j : ℕ) (s t : Row) → nodes_beside dims limit j s t ≡ pairs_below dims limit (row_head s) (row_head (row_drop j t)) + nodes_beside dims limit (j + 1) s t
+nodes_next dims limit j s t =
+    let all = pairs_below-right dims limit (row_head s) (row_drop j t) in
+    let rest = ap (λ (r : Row). pairs_below dims limit (row_head s) r) (next_place j t) in
     omega (arith, all, rest)
 
 -- ---- the first entry alone
@@ -133,19 +134,19 @@ below_first dims m level (more (child bounds page below) rest) x xs same above s
     }
 
 -- what is opened of two first entries has the pairs that are below them
-opened_meeting : (dims : ℕ) (f : ℕ × ℕ → ℕ) (l o : ℕ) (s t : Row) (x y : Item) (below beside : Row) → row_head s ≡ only x.bounds x.reference below → row_head t ≡ only y.bounds y.reference beside
-    → meeting_sum dims f (row_head s) (row_head t) ≡ meeting_sum dims f (opened l o x.bounds x.reference below) (opened o l y.bounds y.reference beside)
-opened_meeting dims f l o s t x y below beside first second =
-    ap (λ (r : Row). meeting_sum dims f r (row_head t)) first
-    ∙ ap (λ (r : Row). meeting_sum dims f (only x.bounds x.reference below) r) second
-    ∙ ap (λ (xs : List (ℕ × Bounds)). total f (meeting dims xs (objects_in (only y.bounds y.reference beside)))) (objects_opened l o x.bounds x.reference below)
-    ∙ ap (λ (ys : List (ℕ × Bounds)). total f (meeting dims (objects_in (opened l o x.bounds x.reference below)) ys)) (objects_opened o l y.bounds y.reference beside)
+opened_sum : (dims limit : ℕ) (f : ℕ × ℕ → ℕ) (l o : ℕ) (s t : Row) (x y : Item) (below beside : Row) → row_head s ≡ only x.bounds x.reference below → row_head t ≡ only y.bounds y.reference beside
+    → near_sum dims limit f (row_head s) (row_head t) ≡ near_sum dims limit f (opened l o x.bounds x.reference below) (opened o l y.bounds y.reference beside)
+opened_sum dims limit f l o s t x y below beside first second =
+    ap (λ (r : Row). near_sum dims limit f r (row_head t)) first
+    ∙ ap (λ (r : Row). near_sum dims limit f (only x.bounds x.reference below) r) second
+    ∙ ap (λ (xs : List (ℕ × Bounds)). total f (near_objects dims limit xs (objects_in (only y.bounds y.reference beside)))) (objects_opened l o x.bounds x.reference below)
+    ∙ ap (λ (ys : List (ℕ × Bounds)). total f (near_objects dims limit (objects_in (opened l o x.bounds x.reference below)) ys)) (objects_opened o l y.bounds y.reference beside)
 
-opened_pairs : (dims l o : ℕ) (s t : Row) (x y : Item) (below beside : Row) → row_head s ≡ only x.bounds x.reference below → row_head t ≡ only y.bounds y.reference beside → meets_test dims x.bounds y.bounds ≡ true
-    → 1 + pairs_below dims (opened l o x.bounds x.reference below) (opened o l y.bounds y.reference beside) ≤ pairs_below dims (row_head s) (row_head t)
-opened_pairs dims l o s t x y below beside first second meets =
-    let same = ap (λ (r : Row). pairs_below dims r (row_head t)) first ∙ ap (λ (r : Row). pairs_below dims (only x.bounds x.reference below) r) second in
-    omega (arith, same, fewer_pairs dims l o x.bounds x.reference below y.bounds y.reference beside meets)
+opened_pairs : (dims limit l o : ℕ) (s t : Row) (x y : Item) (below beside : Row) → row_head s ≡ only x.bounds x.reference below → row_head t ≡ only y.bounds y.reference beside → near_test dims limit x.bounds y.bounds ≡ true
+    → 1 + pairs_below dims limit (opened l o x.bounds x.reference below) (opened o l y.bounds y.reference beside) ≤ pairs_below dims limit (row_head s) (row_head t)
+opened_pairs dims limit l o s t x y below beside first second meets =
+    let same = ap (λ (r : Row). pairs_below dims limit r (row_head t)) first ∙ ap (λ (r : Row). pairs_below dims limit (only x.bounds x.reference below) r) second in
+    omega (arith, same, fewer_pairs dims limit l o x.bounds x.reference below y.bounds y.reference beside meets)
 
 -- ---- what the loops have done
 
@@ -166,50 +167,50 @@ module _ {B A : Type 0} {m : _} where
   still_has {dims} old new c row asks h has = record { items = has.items; below = row_stays dims (pages old) (pages new) c.level row (λ n there. asks.map.pages_stay h n) has.below }
 
   -- so many pairs of objects are left to add, and so many pairs of nodes to look at, and some looks were taken ahead
-  pub record Progress (dims : ℕ) (old now : PageCache B A m) (left right : NodeContent) (objects_left : (ℕ × ℕ → ℕ) → Row → Row → ℕ) (nodes_left : Row → Row → ℕ) (ahead : ℕ) (pairs pairs_now : List (ℕ × ℕ)) : Type 0 where
+  pub record Progress (dims limit : ℕ) (old now : PageCache B A m) (left right : NodeContent) (objects_left : (ℕ × ℕ → ℕ) → Row → Row → ℕ) (nodes_left : Row → Row → ℕ) (ahead : ℕ) (pairs pairs_now : List (ℕ × ℕ)) : Type 0 where
     pub asks : AsksUntil old now None
-    pub added : IsHonest old → (s t : Row) → HasRow dims (pages old) left s → HasRow dims (pages old) right t → Encloses dims s → Encloses dims t → (f : ℕ × ℕ → ℕ) → total f pairs_now + objects_left f s t ≡ total f pairs + meeting_sum dims f s t
-    pub looked : IsHonest old → (s t : Row) → HasRow dims (pages old) left s → HasRow dims (pages old) right t → looks_of now + 2 * nodes_left s t ≤ looks_of old + 2 * pairs_below dims s t + ahead
+    pub added : IsHonest old → (s t : Row) → HasRow dims (pages old) left s → HasRow dims (pages old) right t → Encloses dims s → Encloses dims t → (f : ℕ × ℕ → ℕ) → total f pairs_now + objects_left f s t ≡ total f pairs + near_sum dims limit f s t
+    pub looked : IsHonest old → (s t : Row) → HasRow dims (pages old) left s → HasRow dims (pages old) right t → looks_of now + 2 * nodes_left s t ≤ looks_of old + 2 * pairs_below dims limit s t + ahead
 
   -- ---- the entries of the left node in turn
 
   -- nothing was done
-  pub begins : (dims : ℕ) (old : PageCache B A m) (left right : NodeContent) (pairs : List (ℕ × ℕ)) → Progress dims old old left right (left_from dims 0) (nodes_from dims 0) 0 pairs pairs
-  begins dims old left right pairs = record {
+  pub begins : (dims limit : ℕ) (old : PageCache B A m) (left right : NodeContent) (pairs : List (ℕ × ℕ)) → Progress dims limit old old left right (left_from dims limit 0) (nodes_from dims limit 0) 0 pairs pairs
+  begins dims limit old left right pairs = record {
     asks = no_call_asks old;
     added = λ h s t first second e e' f. refl;
     looked = λ h s t first second. omega arith;
   }
 
-  module _ {dims : ℕ} {old now : PageCache B A m} {left right : NodeContent} {pairs pairs_now : List (ℕ × ℕ)} (i : ℕ) (so_far : Progress dims old now left right (left_from dims i) (nodes_from dims i) 0 pairs pairs_now) where
+  module _ {dims limit : ℕ} {old now : PageCache B A m} {left right : NodeContent} {pairs pairs_now : List (ℕ × ℕ)} (i : ℕ) (so_far : Progress dims limit old now left right (left_from dims limit i) (nodes_from dims limit i) 0 pairs pairs_now) where
     -- all is done
     pub all_added : length left.entries ≤ i → IsHonest old → (s t : Row) → HasRow dims (pages old) left s → HasRow dims (pages old) right t
-        → Encloses dims s → Encloses dims t → GainsPairs dims s t pairs pairs_now
+        → Encloses dims s → Encloses dims t → GainsPairs dims limit s t pairs pairs_now
     all_added past h s t first second e e' f =
         let done = all_dropped i s (omega (arith, ap length first.items, past)) in
-        let none : meeting_sum dims f (row_drop i s) t ≡ 0 = ap (λ (r : Row). meeting_sum dims f r t) done in
+        let none : near_sum dims limit f (row_drop i s) t ≡ 0 = ap (λ (r : Row). near_sum dims limit f r t) done in
         omega (arith, so_far.added h s t first second e e' f, none)
 
     pub all_looked : IsHonest old → (s t : Row) → HasRow dims (pages old) left s → HasRow dims (pages old) right t
-        → looks_of now ≤ looks_of old + 2 * pairs_below dims s t
+        → looks_of now ≤ looks_of old + 2 * pairs_below dims limit s t
     all_looked h s t first second = omega (arith, so_far.looked h s t first second)
 
     module _ (x : Item) (xs : List Item) (here : (s : Row) → row_items s ≡ left.entries → row_items (row_drop i s) ≡ x ∷ xs) where
       -- the pairs of an object are added
-      pub object_added : left.level ≡ 0 → right.level ≡ 0 → (pairs_next : List (ℕ × ℕ)) → pairs_next ≡ pairs_now ++ pairs_of dims right.entries x
-          → Progress dims old now left right (left_from dims (i + 1)) (nodes_from dims (i + 1)) 0 pairs pairs_next
+      pub object_added : left.level ≡ 0 → right.level ≡ 0 → (pairs_next : List (ℕ × ℕ)) → pairs_next ≡ pairs_now ++ pairs_of dims limit right.entries x
+          → Progress dims limit old now left right (left_from dims limit (i + 1)) (nodes_from dims limit (i + 1)) 0 pairs pairs_next
       object_added leaf leaf' pairs_next pushed = record {
         asks = so_far.asks;
         added = λ h s t first second e e' f.
             let stands = dropped_stands dims (pages old) 0 i s (subst (λ (l : ℕ). RowStands dims (pages old) l s) leaf first.below) in
             let stands' = subst (λ (l : ℕ). RowStands dims (pages old) l t) leaf' second.below in
-            let one = leaf_sum dims (pages old) f (row_drop i s) t x xs right.entries (here s first.items) second.items stands stands' in
-            let more_pairs = ap (total f) pushed ∙ total-append f pairs_now (pairs_of dims right.entries x) in
-            let rest = ap (λ (r : Row). meeting_sum dims f r t) (next_place i s) in
-            omega (arith, so_far.added h s t first second e e' f, meeting_sum-left dims f (row_drop i s) t, rest, one, more_pairs);
+            let one = leaf_sum dims limit (pages old) f (row_drop i s) t x xs right.entries (here s first.items) second.items stands stands' in
+            let more_pairs = ap (total f) pushed ∙ total-append f pairs_now (pairs_of dims limit right.entries x) in
+            let rest = ap (λ (r : Row). near_sum dims limit f r t) (next_place i s) in
+            omega (arith, so_far.added h s t first second e e' f, near_sum-left dims limit f (row_drop i s) t, rest, one, more_pairs);
         looked = λ h s t first second.
-            let rest = ap (λ (r : Row). pairs_below dims r t) (next_place i s) in
-            omega (arith, so_far.looked h s t first second, pairs_below-left dims (row_drop i s) t, rest);
+            let rest = ap (λ (r : Row). pairs_below dims limit r t) (next_place i s) in
+            omega (arith, so_far.looked h s t first second, pairs_below-left dims limit (row_drop i s) t, rest);
       }
 
       -- the entry alone, as the pages are now
@@ -226,50 +227,50 @@ module _ {B A : Type 0} {m : _} where
 
       -- the pairs below the entry are added
       pub entry_added : (next : PageCache B A m) (pairs_next : List (ℕ × ℕ)) → AsksUntil now next None
-          → (IsHonest now → (s t : Row) → HasRow dims (pages now) (sole left.level x) s → HasRow dims (pages now) right t → Encloses dims s → Encloses dims t → GainsPairs dims s t pairs_now pairs_next)
-          → (IsHonest now → (s t : Row) → HasRow dims (pages now) (sole left.level x) s → HasRow dims (pages now) right t → looks_of next ≤ looks_of now + 2 * pairs_below dims s t)
-          → Progress dims old next left right (left_from dims (i + 1)) (nodes_from dims (i + 1)) 0 pairs pairs_next
+          → (IsHonest now → (s t : Row) → HasRow dims (pages now) (sole left.level x) s → HasRow dims (pages now) right t → Encloses dims s → Encloses dims t → GainsPairs dims limit s t pairs_now pairs_next)
+          → (IsHonest now → (s t : Row) → HasRow dims (pages now) (sole left.level x) s → HasRow dims (pages now) right t → looks_of next ≤ looks_of now + 2 * pairs_below dims limit s t)
+          → Progress dims limit old next left right (left_from dims limit (i + 1)) (nodes_from dims limit (i + 1)) 0 pairs pairs_next
       entry_added next pairs_next asks adds looked = record {
         asks = asks_in_turn old now next None so_far.asks asks;
         added = λ h s t first second e e' f.
             let found = adds (so_far.asks.gate.honest.0 h) (row_head (row_drop i s)) t (here_alone h s first) (right_here h t second) (Encloses-row_head dims (row_drop i s) (Encloses-row_drop dims i s e)) e' f in
-            let rest = ap (λ (r : Row). meeting_sum dims f r t) (next_place i s) in
-            omega (arith, so_far.added h s t first second e e' f, meeting_sum-left dims f (row_drop i s) t, rest, found);
+            let rest = ap (λ (r : Row). near_sum dims limit f r t) (next_place i s) in
+            omega (arith, so_far.added h s t first second e e' f, near_sum-left dims limit f (row_drop i s) t, rest, found);
         looked = λ h s t first second.
             let found = looked (so_far.asks.gate.honest.0 h) (row_head (row_drop i s)) t (here_alone h s first) (right_here h t second) in
-            let rest = ap (λ (r : Row). pairs_below dims r t) (next_place i s) in
-            omega (arith, so_far.looked h s t first second, pairs_below-left dims (row_drop i s) t, rest, found);
+            let rest = ap (λ (r : Row). pairs_below dims limit r t) (next_place i s) in
+            omega (arith, so_far.looked h s t first second, pairs_below-left dims limit (row_drop i s) t, rest, found);
       }
 
   -- ---- the entries of the right node beside one of the left
 
-  module _ {dims : ℕ} {old now : PageCache B A m} {level : ℕ} {x : Item} {right : NodeContent} {pairs pairs_now : List (ℕ × ℕ)} {ahead : ℕ} where
+  module _ {dims limit : ℕ} {old now : PageCache B A m} {level : ℕ} {x : Item} {right : NodeContent} {pairs pairs_now : List (ℕ × ℕ)} {ahead : ℕ} where
     -- nothing was added, and at most the left node looked at
-    pub beside_begins : AsksUntil old now None → looks_of now ≤ looks_of old + ahead → pairs_now ≡ pairs → Progress dims old now (sole level x) right (left_beside dims 0) (nodes_beside dims 0) ahead pairs pairs_now
+    pub beside_begins : AsksUntil old now None → looks_of now ≤ looks_of old + ahead → pairs_now ≡ pairs → Progress dims limit old now (sole level x) right (left_beside dims limit 0) (nodes_beside dims limit 0) ahead pairs pairs_now
     beside_begins asks looks same = record {
       asks = asks;
-      added = λ h s t first second e e' f. omega (arith, ap (λ (r : Row). meeting_sum dims f r t) (sole_head s x first.items), ap (total f) same);
-      looked = λ h s t first second. omega (arith, ap (λ (r : Row). pairs_below dims r t) (sole_head s x first.items), looks);
+      added = λ h s t first second e e' f. omega (arith, ap (λ (r : Row). near_sum dims limit f r t) (sole_head s x first.items), ap (total f) same);
+      looked = λ h s t first second. omega (arith, ap (λ (r : Row). pairs_below dims limit r t) (sole_head s x first.items), looks);
     }
 
-    module _ (j : ℕ) (so_far : Progress dims old now (sole level x) right (left_beside dims j) (nodes_beside dims j) ahead pairs pairs_now) where
+    module _ (j : ℕ) (so_far : Progress dims limit old now (sole level x) right (left_beside dims limit j) (nodes_beside dims limit j) ahead pairs pairs_now) where
       -- all is done
       beside_added : length right.entries ≤ j → IsHonest old → (s t : Row) → HasRow dims (pages old) (sole level x) s → HasRow dims (pages old) right t
-          → Encloses dims s → Encloses dims t → GainsPairs dims s t pairs pairs_now
+          → Encloses dims s → Encloses dims t → GainsPairs dims limit s t pairs pairs_now
       beside_added past h s t first second e e' f =
           let done = all_dropped j t (omega (arith, ap length second.items, past)) in
-          let none = ap (meeting_sum dims f (row_head s)) done ∙ meeting_sum-none dims f (row_head s) in
+          let none = ap (near_sum dims limit f (row_head s)) done ∙ near_sum-none dims limit f (row_head s) in
           omega (arith, so_far.added h s t first second e e' f, none)
 
       -- an entry whose box does not meet is passed over
-      passed_over : (y : Item) (ys : List Item) → ((t : Row) → row_items t ≡ right.entries → row_items (row_drop j t) ≡ y ∷ ys) → meets_test dims x.bounds y.bounds ≡ false
-          → Progress dims old now (sole level x) right (left_beside dims (j + 1)) (nodes_beside dims (j + 1)) ahead pairs pairs_now
+      passed_over : (y : Item) (ys : List Item) → ((t : Row) → row_items t ≡ right.entries → row_items (row_drop j t) ≡ y ∷ ys) → near_test dims limit x.bounds y.bounds ≡ false
+          → Progress dims limit old now (sole level x) right (left_beside dims limit (j + 1)) (nodes_beside dims limit (j + 1)) ahead pairs pairs_now
       passed_over y ys there fails = record {
         asks = so_far.asks;
         added = λ h s t first second e e' f.
-            let none = heads_apart dims f s (row_drop j t) x y [] ys first.items (there t second.items) e (Encloses-row_drop dims j t e') fails in
-            omega (arith, so_far.added h s t first second e e' f, left_next dims j f s t, none);
-        looked = λ h s t first second. omega (arith, so_far.looked h s t first second, nodes_next dims j s t);
+            let none = heads_apart dims limit f s (row_drop j t) x y [] ys first.items (there t second.items) e (Encloses-row_drop dims j t e') fails in
+            omega (arith, so_far.added h s t first second e e' f, left_next dims limit j f s t, none);
+        looked = λ h s t first second. omega (arith, so_far.looked h s t first second, nodes_next dims limit j s t);
       }
 
       module _ (y : Item) (ys : List Item) (there : (t : Row) → row_items t ≡ right.entries → row_items (row_drop j t) ≡ y ∷ ys) (above : 0 < level) (above' : 0 < right.level) where
@@ -316,11 +317,11 @@ module _ {B A : Type 0} {m : _} where
           honest_two h = asks.gate.honest.0 (so_far.asks.gate.honest.0 h)
 
           -- the look at the left one was taken ahead, and the first pair makes up for it
-          pub went_below : meets_test dims x.bounds y.bounds ≡ true → ahead ≤ 1 → (next : PageCache B A m) (pairs_next : List (ℕ × ℕ)) → AsksUntil two next None
+          pub went_below : near_test dims limit x.bounds y.bounds ≡ true → ahead ≤ 1 → (next : PageCache B A m) (pairs_next : List (ℕ × ℕ)) → AsksUntil two next None
               → looks_of two ≤ looks_of now + 1
-              → (IsHonest two → (s t : Row) → HasRow dims (pages two) opening s → HasRow dims (pages two) opening' t → Encloses dims s → Encloses dims t → GainsPairs dims s t pairs_now pairs_next)
-              → (IsHonest two → (s t : Row) → HasRow dims (pages two) opening s → HasRow dims (pages two) opening' t → looks_of next ≤ looks_of two + 2 * pairs_below dims s t)
-              → Progress dims old next (sole level x) right (left_beside dims (j + 1)) (nodes_beside dims (j + 1)) (1 - (j + 1)) pairs pairs_next
+              → (IsHonest two → (s t : Row) → HasRow dims (pages two) opening s → HasRow dims (pages two) opening' t → Encloses dims s → Encloses dims t → GainsPairs dims limit s t pairs_now pairs_next)
+              → (IsHonest two → (s t : Row) → HasRow dims (pages two) opening s → HasRow dims (pages two) opening' t → looks_of next ≤ looks_of two + 2 * pairs_below dims limit s t)
+              → Progress dims limit old next (sole level x) right (left_beside dims limit (j + 1)) (nodes_beside dims limit (j + 1)) (1 - (j + 1)) pairs pairs_next
           went_below meets few next pairs_next asks' looks adds looked = record {
             asks = asks_in_turn old now next None so_far.asks (asks_in_turn now two next None asks asks');
             added = λ h s t first second e e' f.
@@ -332,23 +333,23 @@ module _ {B A : Type 0} {m : _} where
                 (opened_encloses dims (level - 1) (right.level - 1) x.bounds x.reference b.below inner)
                 (opened_encloses dims (right.level - 1) (level - 1) y.bounds y.reference c.below outer)
                 f in
-                let same = opened_meeting dims f (level - 1) (right.level - 1) s (row_drop j t) x y b.below c.below b.head_is c.head_is in
-                omega (arith, so_far.added h s t first second e e' f, left_next dims j f s t, found, same);
+                let same = opened_sum dims limit f (level - 1) (right.level - 1) s (row_drop j t) x y b.below c.below b.head_is c.head_is in
+                omega (arith, so_far.added h s t first second e e' f, left_next dims limit j f s t, found, same);
             looked = λ h s t first second.
                 let b = below_of s first in
                 let c = beside_of t second in
                 let found = looked (honest_two h) _ _ (opened_first h s first) (opened_second h t second) in
-                let fewer = opened_pairs dims (level - 1) (right.level - 1) s (row_drop j t) x y b.below c.below b.head_is c.head_is meets in
-                omega (arith, so_far.looked h s t first second, nodes_next dims j s t, found, fewer, looks, few);
+                let fewer = opened_pairs dims limit (level - 1) (right.level - 1) s (row_drop j t) x y b.below c.below b.head_is c.head_is meets in
+                omega (arith, so_far.looked h s t first second, nodes_next dims limit j s t, found, fewer, looks, few);
           }
 
     -- so are all entries from one place on to another
-    passed_to : (j k n : ℕ) → j + n ≡ k → Progress dims old now (sole level x) right (left_beside dims j) (nodes_beside dims j) ahead pairs pairs_now
-        → k ≤ length right.entries → ((p : ℕ) → j ≤ p → p < k → meets_test dims x.bounds (box_at right.entries p) ≡ false)
-        → Progress dims old now (sole level x) right (left_beside dims k) (nodes_beside dims k) ahead pairs pairs_now
+    passed_to : (j k n : ℕ) → j + n ≡ k → Progress dims limit old now (sole level x) right (left_beside dims limit j) (nodes_beside dims limit j) ahead pairs pairs_now
+        → k ≤ length right.entries → ((p : ℕ) → j ≤ p → p < k → near_test dims limit x.bounds (box_at right.entries p) ≡ false)
+        → Progress dims limit old now (sole level x) right (left_beside dims limit k) (nodes_beside dims limit k) ahead pairs pairs_now
     passed_to j k zero reach so_far within apart =
         let same : j ≡ k = omega (arith, reach) in
-        subst (λ (p : ℕ). Progress dims old now (sole level x) right (left_beside dims p) (nodes_beside dims p) ahead pairs pairs_now) same so_far
+        subst (λ (p : ℕ). Progress dims limit old now (sole level x) right (left_beside dims limit p) (nodes_beside dims limit p) ahead pairs pairs_now) same so_far
     passed_to j k (suc n) reach so_far within apart =
         let last : j + n < k = omega (arith, reach) in
         let before = passed_to j (j + n) n refl so_far (omega (arith, within, last)) (λ p low high. apart p low (omega (arith, high, last))) in
@@ -357,25 +358,25 @@ module _ {B A : Type 0} {m : _} where
         λ t same. items_from t right.entries (j + n) y same (omega (arith, within, last)) (get_or_default right.entries (j + n) no_item y (omega (arith, within, last))) in
         let step = passed_over (j + n) before y (drop (j + n + 1) right.entries) there (apart (j + n) (omega arith) last) in
         let next : j + n + 1 ≡ k = omega (arith, reach) in
-        subst (λ (p : ℕ). Progress dims old now (sole level x) right (left_beside dims p) (nodes_beside dims p) ahead pairs pairs_now) next step
+        subst (λ (p : ℕ). Progress dims limit old now (sole level x) right (left_beside dims limit p) (nodes_beside dims limit p) ahead pairs pairs_now) next step
 
     -- the next entry that a mask names, after which the loop goes on, and the end of them
-    module _ (j mask : ℕ) (so_far : Progress dims old now (sole level x) right (left_beside dims j) (nodes_beside dims j) ahead pairs pairs_now) (told : Tells dims mask right.entries x.bounds) where
-      pub next_reached : (k : ℕ) → j ≤ k → k ≤ length right.entries → ((p : ℕ) → j ≤ p → p < k → has_bit mask p ≡ false) → Progress dims old now (sole level x) right (left_beside dims k) (nodes_beside dims k) ahead pairs pairs_now
+    module _ (j mask : ℕ) (so_far : Progress dims limit old now (sole level x) right (left_beside dims limit j) (nodes_beside dims limit j) ahead pairs pairs_now) (told : Tells (near_test dims limit x.bounds) mask right.entries) where
+      pub next_reached : (k : ℕ) → j ≤ k → k ≤ length right.entries → ((p : ℕ) → j ≤ p → p < k → has_bit mask p ≡ false) → Progress dims limit old now (sole level x) right (left_beside dims limit k) (nodes_beside dims limit k) ahead pairs pairs_now
       next_reached k order within clear =
-          passed_to j k (k - j) (omega (arith, order)) so_far within (λ p low high. sym (told.met p (omega (arith, within, high))) ∙ clear p low high)
+          passed_to j k (k - j) (omega (arith, order)) so_far within (λ p low high. sym (told.told p (omega (arith, within, high))) ∙ clear p low high)
 
       pub end_added : j ≤ length right.entries → ((p : ℕ) → j ≤ p → has_bit mask p ≡ false) → IsHonest old → (s t : Row) → HasRow dims (pages old) (sole level x) s → HasRow dims (pages old) right t
-          → Encloses dims s → Encloses dims t → GainsPairs dims s t pairs pairs_now
+          → Encloses dims s → Encloses dims t → GainsPairs dims limit s t pairs pairs_now
       end_added within clear = beside_added (length right.entries) (next_reached (length right.entries) within (omega arith) (λ p low high. clear p low)) (omega arith)
 
       pub end_looked : ahead ≡ 0 → IsHonest old → (s t : Row) → HasRow dims (pages old) (sole level x) s → HasRow dims (pages old) right t
-          → looks_of now ≤ looks_of old + 2 * pairs_below dims s t
+          → looks_of now ≤ looks_of old + 2 * pairs_below dims limit s t
       end_looked none h s t first second = omega (arith, so_far.looked h s t first second, none)
 
   -- an entry whose box meets none of the other node's has no pairs below it
-  pub nothing_met : {dims : ℕ} (old : PageCache B A m) (level : ℕ) (x : Item) (right : NodeContent) (pairs : List (ℕ × ℕ)) (mask : ℕ) → Tells dims mask right.entries x.bounds → ((p : ℕ) → 0 ≤ p → has_bit mask p ≡ false)
-      → IsHonest old → (s t : Row) → HasRow dims (pages old) (sole level x) s → HasRow dims (pages old) right t → Encloses dims s → Encloses dims t → GainsPairs dims s t pairs pairs
-  nothing_met {dims} old level x right pairs mask told clear =
-      let so_far : Progress dims old old (sole level x) right (left_beside dims 0) (nodes_beside dims 0) 0 pairs pairs = beside_begins (no_call_asks old) (omega arith) refl in
+  pub nothing_near : {dims : ℕ} (limit : ℕ) (old : PageCache B A m) (level : ℕ) (x : Item) (right : NodeContent) (pairs : List (ℕ × ℕ)) (mask : ℕ) → Tells (near_test dims limit x.bounds) mask right.entries → ((p : ℕ) → 0 ≤ p → has_bit mask p ≡ false)
+      → IsHonest old → (s t : Row) → HasRow dims (pages old) (sole level x) s → HasRow dims (pages old) right t → Encloses dims s → Encloses dims t → GainsPairs dims limit s t pairs pairs
+  nothing_near {dims} limit old level x right pairs mask told clear =
+      let so_far : Progress dims limit old old (sole level x) right (left_beside dims limit 0) (nodes_beside dims limit 0) 0 pairs pairs = beside_begins (no_call_asks old) (omega arith) refl in
       end_added 0 mask so_far told (omega arith) clear

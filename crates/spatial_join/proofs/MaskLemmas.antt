@@ -1,23 +1,25 @@
 -- Which entries of a node the mask of its columns names.
-use Rattle.std.proofs.Common.{◌≡◌, ◌∙◌, ℕ, zero, suc, ◌+◌, ◌/◌, ◌%◌, ◌^◌, ◌-◌, ◌<◌, ◌≤◌, ◌&&◌, ◌==◌, nat_lt, ⊎_elim, ℤ, ◌≤ℤ◌, Bool, true, false, List, length, map, get_or, refl, sym, ap, subst, arith}
-use Rattle.std.specs.Int.{Width, bit_at, trailing_zeros}
+use Rattle.std.proofs.Common.{◌≡◌, ◌≢◌, ◌∙◌, ℕ, zero, suc, ◌+◌, ◌*◌, ◌/◌, ◌%◌, ◌^◌, ◌-◌, ◌<◌, ◌≤◌, ◌&&◌, ◌==◌, nat_lt, ⊎_elim, inl, inr, ℤ, ◌≤ℤ◌, Bool, true, false, bit_and, List, length, map, get_or, get_or-set_other, get_or-set_same, set, below_more, refl, sym, ap, subst, arith}
+use Rattle.std.specs.Int.{Width, bit_at, bit_not, trailing_zeros}
 use mir.Val.{bits}
-use Rattle.std.proofs.lemmas.Bool.{cases_lt, false≢true, lt-ltb}
+use Rattle.std.proofs.lemmas.Bool.{cases_eq, cases_lt, false≢true, lt-ltb}
 use Rattle.std.proofs.lemmas.Bool.Decides.{nat_tests}
 use Rattle.std.proofs.lemmas.List.{get_or_default, length-map}
 use Rattle.std.proofs.lemmas.Nat.{shr-shr}
-use Rattle.std.proofs.lemmas.Nat.Bits.{bit_at-trailing_zeros, bit_at-zero, bit_at_above}
+use Rattle.std.proofs.lemmas.Nat.Bits.{bit_at-trailing_zeros, bit_at-zero, bit_at_above, bit_at_and, bit_at_clear_other}
 use Rattle.std.proofs.Math.Nat.{div-le_self}
-use Rattle.box_math.specs.Bounds.{Bounds, meets_test, on_axis}
+use Rattle.box_math.specs.Bounds.{Bounds, IsBox, meets_test, on_axis, widened_of}
 use Rattle.box_math.specs.Masks.{box_in_columns, has_bit}
 use Rattle.box_math.proofs.BoxLaws.{on_axis-each_axis}
+use Rattle.box_math.specs.Measures.{near_test}
+use Rattle.box_math.proofs.Distances.{box_dist2_of-zero, near-widened, near_test_true}
 use Rattle.box_math.proofs.TestLaws.{meets_test_true}
 use Rattle.tree_node.specs.Boxes.{box_at, no_item}
 use Rattle.tree_node.specs.declared.node.Entry.{Entry}
 use Rattle.tree_node.specs.Nodes.{Item, item_of}
 use Rattle.tree_node.proofs.RowLemmas.{entry_item}
 use Rattle.node_page.specs.Columns.{cell}
-use Rattle.spatial_join.specs.Masks.{Tells}
+use Rattle.spatial_join.specs.Masks.{HaveBoxes, Tells}
 
 same_tests : (a b : Bool) → (a ≡ true → b ≡ true) → (b ≡ true → a ≡ true) → a ≡ b
 same_tests true true f g = refl
@@ -43,9 +45,9 @@ pub tells : (dims : ℕ) (lows highs : List (List ℤ)) (items : List Item) (win
     → ((k : ℕ) → has_bit mask k ≡ (nat_lt k n && meets_test dims (box_in_columns dims lows highs k) window))
     → ((axis place : ℕ) → axis < dims → place < length items → cell lows axis place ≡ on_axis (box_at items place).low axis)
     → ((axis place : ℕ) → axis < dims → place < length items → cell highs axis place ≡ on_axis (box_at items place).high axis)
-    → Tells dims mask items window
+    → Tells (meets_test dims window) mask items
 tells dims lows highs items window mask n count bits low high = record {
-  met = λ k lt.
+  told = λ k lt.
       let within : k < n = omega (arith, lt, count) in
       let same = column_meets dims (box_at items k) (box_in_columns dims lows highs k) window
       (λ axis less. on_axis-each_axis dims (λ a. cell lows a k) axis less ∙ low axis k less lt)
@@ -61,16 +63,16 @@ pub tells_entries : {dims : ℕ} (lows highs : List (List ℤ)) (entries : List 
     → ((k : ℕ) → has_bit mask k ≡ (nat_lt k n && meets_test dims (box_in_columns dims lows highs k) window))
     → ((axis place : ℕ) → axis < dims → place < length entries → cell lows axis place ≡ on_axis (box_at (map item_of entries) place).low axis)
     → ((axis place : ℕ) → axis < dims → place < length entries → cell highs axis place ≡ on_axis (box_at (map item_of entries) place).high axis)
-    → Tells dims mask (map item_of entries) window
+    → Tells (meets_test dims window) mask (map item_of entries)
 tells_entries {dims} lows highs entries window mask n count bits low high =
     let many = length-map entries item_of in
     tells dims lows highs (map item_of entries) window mask n (count ∙ sym many) bits
     (λ axis place lt less. low axis place lt (omega (arith, less, many)))
     (λ axis place lt less. high axis place lt (omega (arith, less, many)))
 
--- a place that it names is one of an entry, whose box meets the window
-pub place_within : {dims : ℕ} (entries all : List (Entry dims)) (place mask : ℕ) (window : Bounds) → Tells dims mask (map item_of all) window → has_bit mask place ≡ true → entries ≡ all → place < length entries
-place_within entries all place mask window tells set same = omega (arith, tells.within place set, length-map all item_of, ap length same)
+-- a place that it names is one of an entry, whose box passes
+pub place_within : {dims : ℕ} {test : Bounds → Bool} (entries all : List (Entry dims)) (place mask : ℕ) → Tells test mask (map item_of all) → has_bit mask place ≡ true → entries ≡ all → place < length entries
+place_within entries all place mask tells set same = omega (arith, tells.within place set, length-map all item_of, ap length same)
 
 -- the entry in the place
 pub entry_named : {dims : ℕ} (entries all : List (Entry dims)) (place : ℕ) (e : Entry dims) → entries ≡ all → place < length entries → e ≡ get_or entries place e → item_of e ≡ get_or (map item_of all) place no_item
@@ -78,12 +80,46 @@ entry_named {dims} entries all place e same within is =
     let here : item_of e ≡ get_or (map item_of all) place (item_of e) = entry_item entries place e within is ∙ ap (λ es. get_or (map item_of es) place (item_of e)) same in
     here ∙ sym (get_or_default (map item_of all) place no_item (item_of e) (omega (arith, within, length-map all item_of, ap length same)))
 
-pub meets_here : {dims : ℕ} (entries all : List (Entry dims)) (place mask : ℕ) (window : Bounds) (e : Entry dims) → Tells dims mask (map item_of all) window → has_bit mask place ≡ true → entries ≡ all → e ≡ get_or entries place e
-    → meets_test dims window (item_of e).bounds ≡ true
-meets_here {dims} entries all place mask window e tells set same is =
-    let within = place_within entries all place mask window tells set same in
-    let box : box_at (map item_of all) place ≡ (item_of e).bounds = ap (λ (x : Item). x.bounds) (sym (entry_named entries all place e same within is)) in
-    ap (λ (b : Bounds). meets_test dims window b) (sym box) ∙ sym (tells.met place (tells.within place set)) ∙ set
+pub box_named : {dims : ℕ} (entries all : List (Entry dims)) (place : ℕ) (e : Entry dims) → entries ≡ all → place < length entries → e ≡ get_or entries place e → box_at (map item_of all) place ≡ (item_of e).bounds
+box_named entries all place e same within is = ap (λ (x : Item). x.bounds) (sym (entry_named entries all place e same within is))
+
+pub box_read : {dims : ℕ} (entries all : List (Entry dims)) (place : ℕ) (e : Entry dims) → entries ≡ all → place < length entries → e ≡ get_or entries place e → box_at (map item_of all) place ≡ (get_or entries place e).bounds
+box_read {dims} entries all place e same within is = box_named entries all place e same within is ∙ ap (λ (x : Entry dims). x.bounds) is
+
+-- so far the entries have boxes, and so has the next one
+pub one_box_more : {dims : ℕ} (entries all : List (Entry dims)) (place : ℕ) (e : Entry dims) → entries ≡ all → place < length entries → e ≡ get_or entries place e → IsBox dims (get_or entries place e).bounds
+    → ((k : ℕ) → k < place → IsBox dims (box_at (map item_of all) k)) → (k : ℕ) → k < place + 1 → IsBox dims (box_at (map item_of all) k)
+one_box_more {dims} entries all place e same within is box so_far = below_more (λ k. IsBox dims (box_at (map item_of all) k)) place so_far
+    (subst (IsBox dims) (sym (box_read entries all place e same within is)) box)
+
+-- so far a column holds a number of each box, and so it does with the next one
+pub one_cell_more : {dims : ℕ} (entries all : List (Entry dims)) (place : ℕ) (e : Entry dims) (pick : Bounds → ℤ) (column : List ℤ) (v : ℤ) → entries ≡ all → place < length entries → e ≡ get_or entries place e
+    → v ≡ pick (get_or entries place e).bounds → place < length column
+    → ((k : ℕ) → k < place → on_axis column k ≡ pick (box_at (map item_of all) k)) → (k : ℕ) → k < place + 1 → on_axis (set column place v) k ≡ pick (box_at (map item_of all) k)
+one_cell_more entries all place e pick column v same within is value room so_far = below_more (λ k. on_axis (set column place v) k ≡ pick (box_at (map item_of all) k)) place
+    (λ k lt. let other : k ≢ place = omega (arith, lt) in rw get_or-set_other (so_far k lt))
+    (rw get_or-set_same (value ∙ ap pick (sym (box_read entries all place e same within is))))
+
+pub near_here : {dims : ℕ} (test : Bounds → Bool) (entries all : List (Entry dims)) (place mask : ℕ) (e : Entry dims) → Tells test mask (map item_of all) → has_bit mask place ≡ true → entries ≡ all → e ≡ get_or entries place e
+    → test (item_of e).bounds ≡ true
+near_here {dims} test entries all place mask e tells set same is =
+    let within = place_within entries all place mask tells set same in
+    ap test (sym (box_named entries all place e same within is)) ∙ sym (tells.told place (tells.within place set)) ∙ set
+
+-- boxes that meet are those at no distance
+pub near_where_they_meet : (dims : ℕ) (window : Bounds) (mask limit : ℕ) (items : List Item) → limit ≡ 0 → Tells (meets_test dims window) mask items → Tells (near_test dims limit window) mask items
+near_where_they_meet dims window mask limit items none met = record {
+  told = λ k lt. met.told k lt ∙ same_tests (meets_test dims window (box_at items k)) (near_test dims limit window (box_at items k))
+      (λ m. (near_test_true dims limit window (box_at items k)).1 (omega (arith, (box_dist2_of-zero dims window (box_at items k)).1 ((meets_test_true dims window (box_at items k)).0 m))))
+      (λ n. (meets_test_true dims window (box_at items k)).1 ((box_dist2_of-zero dims window (box_at items k)).0 (omega (arith, none, (near_test_true dims limit window (box_at items k)).0 n))));
+  within = met.within;
+}
+
+-- boxes that are near meet where one of them is widened by a root of the distance
+pub near_meets_widened : (dims root limit : ℕ) (a : Bounds) (items : List Item) → limit < (root + 1) * (root + 1) → HaveBoxes dims items
+    → (k : ℕ) → k < length items → near_test dims limit a (box_at items k) ≡ true → meets_test dims (widened_of dims root a) (box_at items k) ≡ true
+near_meets_widened dims root limit a items enough boxes k lt near =
+    (meets_test_true dims (widened_of dims root a) (box_at items k)).1 (near-widened dims root a (box_at items k) (boxes k lt) (omega (arith, enough, (near_test_true dims limit a (box_at items k)).0 near)))
 
 -- ---- bits after a place
 
@@ -139,3 +175,73 @@ module _ (w : Width) (n from : ℕ) (fits : n < 2 ^ bits w) (some : ¬ (n / 2 ^ 
 pub some_before : (w : Width) (n from : ℕ) → n < 2 ^ bits w → ¬ (n ≡ 0) → ((k : ℕ) → from ≤ k → has_bit n k ≡ false) → 1 - from ≡ 0
 some_before w n zero fits some clear = absurd (false≢true (sym (clear (0 + trailing_zeros w (n / 2 ^ 0)) (omega arith)) ∙ first_set w n 0 fits (λ none. some (omega (arith, none)))))
 some_before w n (suc from) fits some clear = omega arith
+
+-- ---- entries that a mask names, of which those stay that pass another test
+
+-- of the places before this one those are left that pass, and of the others all
+pub record Sifted (test : Bounds → Bool) (named near : ℕ) (items : List Item) (place : ℕ) : Type 0 where
+  pub before : (k : ℕ) → k < place → k < length items → has_bit near k ≡ test (box_at items k)
+  pub after : (k : ℕ) → place ≤ k → has_bit near k ≡ has_bit named k
+  pub fewer : (k : ℕ) → has_bit near k ≡ true → has_bit named k ≡ true
+
+pub sifting_begins : (test : Bounds → Bool) (named : ℕ) (items : List Item) → Sifted test named named items 0
+sifting_begins test named items = record { before = λ k lt within. absurd (omega arith); after = λ k past. refl; fewer = λ k set. set }
+
+fails : (s t : Bool) → (s ≡ true → t ≡ true) → t ≡ false → s ≡ false
+fails true t passes none = absurd (false≢true (sym none ∙ passes refl))
+fails false t passes none = refl
+
+module _ (test wide : Bounds → Bool) (named near : ℕ) (items : List Item) (told : Tells wide named items)
+    (passes : (k : ℕ) → k < length items → test (box_at items k) ≡ true → wide (box_at items k) ≡ true) (from : ℕ) (so_far : Sifted test named near items from) where
+  -- places that are not named fail, and are not set
+  sifted_to : (place : ℕ) → ((k : ℕ) → from ≤ k → k < place → has_bit named k ≡ false) → (k : ℕ) → k < place → k < length items → has_bit near k ≡ test (box_at items k)
+  sifted_to place clear k lt within = elim (cases_lt k from) [
+    | inl early ↦ so_far.before k early within
+    | inr late ↦
+        let none = clear k late lt in
+        so_far.after k late ∙ none ∙ sym (fails (test (box_at items k)) (wide (box_at items k)) (passes k within) (sym (told.told k within) ∙ none))
+  ]
+
+  -- one that is named and passes is kept
+  pub one_kept : (place : ℕ) → from ≤ place → has_bit named place ≡ true → ((k : ℕ) → from ≤ k → k < place → has_bit named k ≡ false) → test (box_at items place) ≡ true
+      → Sifted test named near items (place + 1)
+  one_kept place order set clear pass = record {
+    before = λ k lt within. elim (cases_lt k place) [
+      | inl early ↦ sifted_to place clear k early within
+      | inr late ↦ let same : k ≡ place = omega (arith, lt, late) in rw same (so_far.after place order ∙ set ∙ sym pass)
+    ];
+    after = λ k past. so_far.after k (omega (arith, past, order));
+    fewer = so_far.fewer;
+  }
+
+  -- one that fails is cleared
+  pub one_cleared : (place next : ℕ) → from ≤ place → has_bit named place ≡ true → ((k : ℕ) → from ≤ k → k < place → has_bit named k ≡ false) → test (box_at items place) ≡ false
+      → bit_at next place ≡ 0 → ((k : ℕ) → k ≢ place → bit_at next k ≡ bit_at near k)
+      → Sifted test named next items (place + 1)
+  one_cleared place next order set clear fail cleared others = record {
+    before = λ k lt within. elim (cases_lt k place) [
+      | inl early ↦ ap (λ (b : ℕ). b == 1) (others k (omega (arith, early))) ∙ sifted_to place clear k early within
+      | inr late ↦ let same : k ≡ place = omega (arith, lt, late) in rw same (is_clear next place cleared ∙ sym fail)
+    ];
+    after = λ k past. ap (λ (b : ℕ). b == 1) (others k (omega (arith, past))) ∙ so_far.after k (omega (arith, past, order));
+    fewer = λ k still. elim (cases_eq k place) [
+      | inl same ↦ rw same set
+      | inr other ↦ so_far.fewer k (sym (ap (λ (b : ℕ). b == 1) (others k other)) ∙ still)
+    ];
+  }
+
+  -- where none is named any more, all are sifted
+  pub all_sifted : ((k : ℕ) → from ≤ k → has_bit named k ≡ false) → Tells test near items
+  all_sifted clear = record {
+    told = λ k within. sifted_to (length items) (λ j past lt. clear j past) k within within;
+    within = λ k set. told.within k (so_far.fewer k set);
+  }
+
+-- a bit cleared leaves the others
+pub cleared_elsewhere : (w : Width) (n place : ℕ) → n < 2 ^ bits w → place < bits w → (k : ℕ) → k ≢ place → bit_at (bit_and n (bit_not w (1 * 2 ^ place % 2 ^ bits w))) k ≡ bit_at n k
+cleared_elsewhere w n place fits within k other = elim (cases_lt k (bits w)) [
+  | inl lt ↦ bit_at_clear_other w n place within k lt other
+  | inr past ↦
+      let none = bit_at_above n (bits w) k fits past in
+      omega (arith, none, bit_at_and n (bit_not w (1 * 2 ^ place % 2 ^ bits w)) k)
+]

@@ -3,8 +3,9 @@ use Rattle.std.proofs.Common.{◌≡◌, ◌∙◌, ℕ, zero, suc, ◌+◌, ◌
 use Rattle.std.specs.Prelude.{◌↔◌}
 use Rattle.std.proofs.lemmas.Bool.Decides.{nat_tests}
 use Rattle.std.proofs.lemmas.List.{append-nil}
-use Rattle.box_math.specs.Bounds.{Bounds, meets_test}
-use Rattle.tree_node.specs.Joins.{boxes_below, count_passing, meeting_pairs}
+use Rattle.box_math.specs.Bounds.{Bounds}
+use Rattle.box_math.specs.Measures.{near_test}
+use Rattle.tree_node.specs.Joins.{boxes_below, count_passing, near_pairs}
 use Rattle.tree_node.specs.Nodes.{Item, NodeContent}
 use Rattle.tree_node.specs.Trees.{Row, end, more, child, objects_in, row_items}
 use Rattle.node_page.specs.Layout.{IsSpellable}
@@ -43,9 +44,9 @@ opened_encloses dims level other b page row encloses =
     ]
 
 -- of two nodes whose boxes meet, fewer pairs are left than the nodes had
-pub fewer_pairs : (dims l o : ℕ) (b : Bounds) (p : ℕ) (s : Row) (c : Bounds) (q : ℕ) (t : Row) → meets_test dims b c ≡ true
-    → 1 + pairs_below dims (opened l o b p s) (opened o l c q t) ≤ pairs_below dims (only b p s) (only c q t)
-fewer_pairs dims l o b p s c q t meets = at (nat_le o l) (nat_le l o) refl refl
+pub fewer_pairs : (dims limit l o : ℕ) (b : Bounds) (p : ℕ) (s : Row) (c : Bounds) (q : ℕ) (t : Row) → near_test dims limit b c ≡ true
+    → 1 + pairs_below dims limit (opened l o b p s) (opened o l c q t) ≤ pairs_below dims limit (only b p s) (only c q t)
+fewer_pairs dims limit l o b p s c q t meets = at (nat_le o l) (nat_le l o) refl refl
   where
     A : List Bounds
     A = boxes_below s
@@ -53,17 +54,17 @@ fewer_pairs dims l o b p s c q t meets = at (nat_le o l) (nat_le l o) refl refl
     B : List Bounds
     B = boxes_below t
 
-    one_beside : (ys : List Bounds) → meeting_pairs dims (b ∷ (A ++ [])) ys ≡ count_passing (meets_test dims b) ys + meeting_pairs dims A ys
-    one_beside ys = ap (λ (l : List Bounds). meeting_pairs dims (b ∷ l) ys) (append-nil A)
+    one_beside : (ys : List Bounds) → near_pairs dims limit (b ∷ (A ++ [])) ys ≡ count_passing (near_test dims limit b) ys + near_pairs dims limit A ys
+    one_beside ys = ap (λ (l : List Bounds). near_pairs dims limit (b ∷ l) ys) (append-nil A)
 
-    beside_one : meeting_pairs dims A (c ∷ (B ++ [])) ≡ meeting_pairs dims A (c ∷ []) + meeting_pairs dims A B
-    beside_one = ap (λ (l : List Bounds). meeting_pairs dims A (c ∷ l)) (append-nil B) ∙ pairs-right dims A (c ∷ []) B
+    beside_one : near_pairs dims limit A (c ∷ (B ++ [])) ≡ near_pairs dims limit A (c ∷ []) + near_pairs dims limit A B
+    beside_one = ap (λ (l : List Bounds). near_pairs dims limit A (c ∷ l)) (append-nil B) ∙ pairs-right dims limit A (c ∷ []) B
 
-    met : count_passing (meets_test dims b) (c ∷ (B ++ [])) ≡ 1 + count_passing (meets_test dims b) B
-    met = ap (λ (l : List Bounds). count_passing (meets_test dims b) (c ∷ l)) (append-nil B) ∙ ap (λ (t : Bool). cond t 1 0 + count_passing (meets_test dims b) B) meets
+    met : count_passing (near_test dims limit b) (c ∷ (B ++ [])) ≡ 1 + count_passing (near_test dims limit b) B
+    met = ap (λ (l : List Bounds). count_passing (near_test dims limit b) (c ∷ l)) (append-nil B) ∙ ap (λ (t : Bool). cond t 1 0 + count_passing (near_test dims limit b) B) meets
 
-    both : meeting_pairs dims (b ∷ (A ++ [])) (c ∷ (B ++ [])) ≡ 1 + count_passing (meets_test dims b) B + (meeting_pairs dims A (c ∷ []) + meeting_pairs dims A B)
-    both = one_beside (c ∷ (B ++ [])) ∙ ap (λ (n : ℕ). n + meeting_pairs dims A (c ∷ (B ++ []))) met ∙ ap (λ (n : ℕ). 1 + count_passing (meets_test dims b) B + n) beside_one
+    both : near_pairs dims limit (b ∷ (A ++ [])) (c ∷ (B ++ [])) ≡ 1 + count_passing (near_test dims limit b) B + (near_pairs dims limit A (c ∷ []) + near_pairs dims limit A B)
+    both = one_beside (c ∷ (B ++ [])) ∙ ap (λ (n : ℕ). n + near_pairs dims limit A (c ∷ (B ++ []))) met ∙ ap (λ (n : ℕ). 1 + count_passing (near_test dims limit b) B + n) beside_one
 
     fewer : (n x y z all : ℕ) → all ≡ 1 + x + (y + z) → (n ≡ z) → 1 + n ≤ all
     fewer n x y z all is rest = omega arith
@@ -74,7 +75,7 @@ fewer_pairs dims l o b p s c q t meets = at (nat_le o l) (nat_le l o) refl refl
     fewer_left : (n x y z all : ℕ) → all ≡ 1 + x + (y + z) → (n ≡ x + z) → 1 + n ≤ all
     fewer_left n x y z all is rest = omega arith
 
-    at : (d e : Bool) → nat_le o l ≡ d → nat_le l o ≡ e → 1 + pairs_below dims (cond d s (only b p s)) (cond e t (only c q t)) ≤ pairs_below dims (only b p s) (only c q t)
+    at : (d e : Bool) → nat_le o l ≡ d → nat_le l o ≡ e → 1 + pairs_below dims limit (cond d s (only b p s)) (cond e t (only c q t)) ≤ pairs_below dims limit (only b p s) (only c q t)
     at false false f g = absurd (grind (arith, nat_tests))
     at true true f g = fewer _ _ _ _ _ both refl
     at true false f g = fewer_right _ _ _ _ _ both beside_one

@@ -5,10 +5,11 @@ use Rattle.std.proofs.lemmas.Bool.{false≢true}
 use Rattle.std.proofs.lemmas.Bool.Decides.{nat_tests}
 use Rattle.std.proofs.lemmas.List.{append-nil, map-append}
 use Rattle.std.proofs.lemmas.List.Elements.{filter-append}
-use Rattle.box_math.specs.Bounds.{Bounds, Within, meets_test}
-use Rattle.box_math.proofs.BoxLaws.{Meets-grows, Meets-sym, Within-refl, Within-trans}
-use Rattle.box_math.proofs.TestLaws.{meets_test_true}
-use Rattle.tree_node.specs.Joins.{boxes_below, meeting_pairs}
+use Rattle.box_math.specs.Bounds.{Bounds, Within}
+use Rattle.box_math.specs.Measures.{near_test}
+use Rattle.box_math.proofs.BoxLaws.{Within-refl, Within-trans}
+use Rattle.box_math.proofs.Distances.{box_dist2_of-commutes, box_dist2_of-falls, near_test_true}
+use Rattle.tree_node.specs.Joins.{boxes_below, near_pairs}
 use Rattle.tree_node.specs.Nodes.{Item}
 use Rattle.tree_node.specs.Positions.{total}
 use Rattle.tree_node.specs.Shape.{RowHasShape, RowWithin}
@@ -17,7 +18,7 @@ use Rattle.tree_node.proofs.JoinLemmas.{pairs_append, pairs_turned}
 use Rattle.tree_node.proofs.ObjectLemmas.{permutation_of_sums}
 use Rattle.tree_node.proofs.PositionLemmas.{total-append}
 use Rattle.tree_node.proofs.RowLemmas.{row_tail}
-use Rattle.spatial_join.specs.Pairs.{meeting, meeting_below, pairs_with}
+use Rattle.spatial_join.specs.Pairs.{near_objects, near_below, pairs_with}
 use Rattle.spatial_join.specs.Opening.{AllWithin, Encloses}
 
 -- ---- lists of pairs of which each sum is the same have the same pairs
@@ -39,33 +40,33 @@ equal_sums_permute xs ys sums = permutation_of_sums same_pair same_pair-is same_
 
 -- ---- pairs of objects
 
-pairs_with-append : (dims : ℕ) (o : ℕ × Bounds) (xs ys : List (ℕ × Bounds)) → pairs_with dims (xs ++ ys) o ≡ pairs_with dims xs o ++ pairs_with dims ys o
-pairs_with-append dims o xs ys =
-    let test : ℕ × Bounds → Bool = λ other. meets_test dims o.1 other.1 in
+pairs_with-append : (dims limit : ℕ) (o : ℕ × Bounds) (xs ys : List (ℕ × Bounds)) → pairs_with dims limit (xs ++ ys) o ≡ pairs_with dims limit xs o ++ pairs_with dims limit ys o
+pairs_with-append dims limit o xs ys =
+    let test : ℕ × Bounds → Bool = λ other. near_test dims limit o.1 other.1 in
     let pair : ℕ × Bounds → ℕ × ℕ = λ other. (o.0, other.0) in
     ap (map pair) (filter-append test xs ys) ∙ map-append pair (filter test xs) (filter test ys)
 
-sum-left : (dims : ℕ) (f : ℕ × ℕ → ℕ) (xs ys zs : List (ℕ × Bounds)) → total f (meeting dims (xs ++ ys) zs) ≡ total f (meeting dims xs zs) + total f (meeting dims ys zs)
-sum-left dims f [] ys zs = omega arith
-sum-left dims f (x ∷ xs) ys zs =
+sum-left : (dims limit : ℕ) (f : ℕ × ℕ → ℕ) (xs ys zs : List (ℕ × Bounds)) → total f (near_objects dims limit (xs ++ ys) zs) ≡ total f (near_objects dims limit xs zs) + total f (near_objects dims limit ys zs)
+sum-left dims limit f [] ys zs = omega arith
+sum-left dims limit f (x ∷ xs) ys zs =
     omega (
       arith,
-      total-append f (pairs_with dims zs x) (meeting dims (xs ++ ys) zs),
-      total-append f (pairs_with dims zs x) (meeting dims xs zs),
-      sum-left dims f xs ys zs,
+      total-append f (pairs_with dims limit zs x) (near_objects dims limit (xs ++ ys) zs),
+      total-append f (pairs_with dims limit zs x) (near_objects dims limit xs zs),
+      sum-left dims limit f xs ys zs,
     )
 
-sum-right : (dims : ℕ) (f : ℕ × ℕ → ℕ) (xs ys zs : List (ℕ × Bounds)) → total f (meeting dims xs (ys ++ zs)) ≡ total f (meeting dims xs ys) + total f (meeting dims xs zs)
-sum-right dims f [] ys zs = omega arith
-sum-right dims f (x ∷ xs) ys zs =
-    let here = ap (total f) (pairs_with-append dims x ys zs) ∙ total-append f (pairs_with dims ys x) (pairs_with dims zs x) in
+sum-right : (dims limit : ℕ) (f : ℕ × ℕ → ℕ) (xs ys zs : List (ℕ × Bounds)) → total f (near_objects dims limit xs (ys ++ zs)) ≡ total f (near_objects dims limit xs ys) + total f (near_objects dims limit xs zs)
+sum-right dims limit f [] ys zs = omega arith
+sum-right dims limit f (x ∷ xs) ys zs =
+    let here = ap (total f) (pairs_with-append dims limit x ys zs) ∙ total-append f (pairs_with dims limit ys x) (pairs_with dims limit zs x) in
     omega (
       arith,
       here,
-      total-append f (pairs_with dims (ys ++ zs) x) (meeting dims xs (ys ++ zs)),
-      total-append f (pairs_with dims ys x) (meeting dims xs ys),
-      total-append f (pairs_with dims zs x) (meeting dims xs zs),
-      sum-right dims f xs ys zs,
+      total-append f (pairs_with dims limit (ys ++ zs) x) (near_objects dims limit xs (ys ++ zs)),
+      total-append f (pairs_with dims limit ys x) (near_objects dims limit xs ys),
+      total-append f (pairs_with dims limit zs x) (near_objects dims limit xs zs),
+      sum-right dims limit f xs ys zs,
     )
 
 -- ---- the first entry of a node, and the others
@@ -80,19 +81,19 @@ objects_split (more (object bounds id) rest) = refl
 objects_split (more (child bounds page below) rest) = ap (λ (l : List (ℕ × Bounds)). l ++ objects_in rest) (sym (append-nil (objects_in below)))
 
 -- the sum of a number of each pair of objects below two nodes whose boxes meet
-abbrev pub meeting_sum : ℕ → (ℕ × ℕ → ℕ) → Row → Row → ℕ
-meeting_sum dims f s t = total f (meeting_below dims s t)
+abbrev pub near_sum : ℕ → ℕ → (ℕ × ℕ → ℕ) → Row → Row → ℕ
+near_sum dims limit f s t = total f (near_below dims limit s t)
 
-pub meeting_sum-left : (dims : ℕ) (f : ℕ × ℕ → ℕ) (s t : Row) → meeting_sum dims f s t ≡ meeting_sum dims f (row_head s) t + meeting_sum dims f (row_tail s) t
-meeting_sum-left dims f s t = ap (λ (l : List (ℕ × Bounds)). total f (meeting dims l (objects_in t))) (objects_split s) ∙ sum-left dims f (objects_in (row_head s)) (objects_in (row_tail s)) (objects_in t)
+pub near_sum-left : (dims limit : ℕ) (f : ℕ × ℕ → ℕ) (s t : Row) → near_sum dims limit f s t ≡ near_sum dims limit f (row_head s) t + near_sum dims limit f (row_tail s) t
+near_sum-left dims limit f s t = ap (λ (l : List (ℕ × Bounds)). total f (near_objects dims limit l (objects_in t))) (objects_split s) ∙ sum-left dims limit f (objects_in (row_head s)) (objects_in (row_tail s)) (objects_in t)
 
-pub meeting_sum-right : (dims : ℕ) (f : ℕ × ℕ → ℕ) (s t : Row) → meeting_sum dims f s t ≡ meeting_sum dims f s (row_head t) + meeting_sum dims f s (row_tail t)
-meeting_sum-right dims f s t = ap (λ (l : List (ℕ × Bounds)). total f (meeting dims (objects_in s) l)) (objects_split t) ∙ sum-right dims f (objects_in s) (objects_in (row_head t)) (objects_in (row_tail t))
+pub near_sum-right : (dims limit : ℕ) (f : ℕ × ℕ → ℕ) (s t : Row) → near_sum dims limit f s t ≡ near_sum dims limit f s (row_head t) + near_sum dims limit f s (row_tail t)
+near_sum-right dims limit f s t = ap (λ (l : List (ℕ × Bounds)). total f (near_objects dims limit (objects_in s) l)) (objects_split t) ∙ sum-right dims limit f (objects_in s) (objects_in (row_head t)) (objects_in (row_tail t))
 
-pub meeting_sum-none : (dims : ℕ) (f : ℕ × ℕ → ℕ) (s : Row) → meeting_sum dims f s end ≡ 0
-meeting_sum-none dims f s = at (objects_in s)
+pub near_sum-none : (dims limit : ℕ) (f : ℕ × ℕ → ℕ) (s : Row) → near_sum dims limit f s end ≡ 0
+near_sum-none dims limit f s = at (objects_in s)
   where
-    at : (xs : List (ℕ × Bounds)) → total f (meeting dims xs []) ≡ 0
+    at : (xs : List (ℕ × Bounds)) → total f (near_objects dims limit xs []) ≡ 0
     at [] = refl
     at (x ∷ xs) = at xs
 
@@ -103,42 +104,45 @@ boxes_split end = refl
 boxes_split (more (object bounds id) rest) = refl
 boxes_split (more (child bounds page below) rest) = ap (λ (l : List Bounds). bounds ∷ (l ++ boxes_below rest)) (sym (append-nil (boxes_below below)))
 
-pub pairs-right : (dims : ℕ) (xs ys zs : List Bounds) → meeting_pairs dims xs (ys ++ zs) ≡ meeting_pairs dims xs ys + meeting_pairs dims xs zs
-pairs-right dims xs ys zs = omega (arith, pairs_turned dims xs (ys ++ zs), pairs_append dims ys zs xs, pairs_turned dims ys xs, pairs_turned dims zs xs)
+pub pairs-right : (dims limit : ℕ) (xs ys zs : List Bounds) → near_pairs dims limit xs (ys ++ zs) ≡ near_pairs dims limit xs ys + near_pairs dims limit xs zs
+pairs-right dims limit xs ys zs = omega (arith, pairs_turned dims limit xs (ys ++ zs), pairs_append dims limit ys zs xs, pairs_turned dims limit ys xs, pairs_turned dims limit zs xs)
 
 -- the pairs of nodes below two nodes whose boxes meet
-abbrev pub pairs_below : ℕ → Row → Row → ℕ
-pairs_below dims s t = meeting_pairs dims (boxes_below s) (boxes_below t)
+abbrev pub pairs_below : ℕ → ℕ → Row → Row → ℕ
+pairs_below dims limit s t = near_pairs dims limit (boxes_below s) (boxes_below t)
 
-pub pairs_below-left : (dims : ℕ) (s t : Row) → pairs_below dims s t ≡ pairs_below dims (row_head s) t + pairs_below dims (row_tail s) t
-pairs_below-left dims s t = ap (λ (l : List Bounds). meeting_pairs dims l (boxes_below t)) (boxes_split s) ∙ pairs_append dims (boxes_below (row_head s)) (boxes_below (row_tail s)) (boxes_below t)
+pub pairs_below-left : (dims limit : ℕ) (s t : Row) → pairs_below dims limit s t ≡ pairs_below dims limit (row_head s) t + pairs_below dims limit (row_tail s) t
+pairs_below-left dims limit s t = ap (λ (l : List Bounds). near_pairs dims limit l (boxes_below t)) (boxes_split s) ∙ pairs_append dims limit (boxes_below (row_head s)) (boxes_below (row_tail s)) (boxes_below t)
 
-pub pairs_below-right : (dims : ℕ) (s t : Row) → pairs_below dims s t ≡ pairs_below dims s (row_head t) + pairs_below dims s (row_tail t)
-pairs_below-right dims s t = ap (λ (l : List Bounds). meeting_pairs dims (boxes_below s) l) (boxes_split t) ∙ pairs-right dims (boxes_below s) (boxes_below (row_head t)) (boxes_below (row_tail t))
+pub pairs_below-right : (dims limit : ℕ) (s t : Row) → pairs_below dims limit s t ≡ pairs_below dims limit s (row_head t) + pairs_below dims limit s (row_tail t)
+pairs_below-right dims limit s t = ap (λ (l : List Bounds). near_pairs dims limit (boxes_below s) l) (boxes_split t) ∙ pairs-right dims limit (boxes_below s) (boxes_below (row_head t)) (boxes_below (row_tail t))
 
--- ---- boxes that do not meet have nothing within them that does
+-- ---- boxes that are too far apart have nothing within them that is nearer
 
-fails_below : (dims : ℕ) (a b c d : Bounds) → Within dims a b → Within dims c d → meets_test dims b d ≡ false → meets_test dims a c ≡ false
-fails_below dims a b c d inner outer fails = at (meets_test dims a c) refl
+fails_below : (dims limit : ℕ) (a b c d : Bounds) → Within dims a b → Within dims c d → near_test dims limit b d ≡ false → near_test dims limit a c ≡ false
+fails_below dims limit a b c d inner outer fails = at (near_test dims limit a c) refl
   where
-    at : (t : Bool) → meets_test dims a c ≡ t → t ≡ false
+    at : (t : Bool) → near_test dims limit a c ≡ t → t ≡ false
     at false e = refl
     at true e =
-        let grown = Meets-grows dims a c b inner ((meets_test_true dims a c).0 e) in
-        let both = Meets-sym dims d b (Meets-grows dims c b d outer (Meets-sym dims b c grown)) in
-        absurd (false≢true (sym fails ∙ (meets_test_true dims b d).1 both))
+        let near = (near_test_true dims limit a c).0 e in
+        let grown = box_dist2_of-falls dims a c b inner in
+        let turned = box_dist2_of-commutes dims b c in
+        let both = box_dist2_of-falls dims c b d outer in
+        let back = box_dist2_of-commutes dims d b in
+        absurd (false≢true (sym fails ∙ (near_test_true dims limit b d).1 (omega (arith, near, grown, turned, both, back))))
 
-none_with : (dims : ℕ) (o : ℕ × Bounds) (b d : Bounds) (ys : List (ℕ × Bounds)) → Within dims o.1 b → AllWithin dims d ys → meets_test dims b d ≡ false → pairs_with dims ys o ≡ []
-none_with dims o b d [] inner all fails = refl
-none_with dims o b d (y ∷ ys) inner all fails =
-    let out = fails_below dims o.1 b y.1 d inner all.0 fails in
-    let others : List (ℕ × Bounds) = filter (λ other. meets_test dims o.1 other.1) ys in
-    ap (λ (t : Bool). map (λ (other : ℕ × Bounds). (o.0, other.0)) (cond t (y ∷ others) others)) out ∙ none_with dims o b d ys inner all.1 fails
+none_with : (dims limit : ℕ) (o : ℕ × Bounds) (b d : Bounds) (ys : List (ℕ × Bounds)) → Within dims o.1 b → AllWithin dims d ys → near_test dims limit b d ≡ false → pairs_with dims limit ys o ≡ []
+none_with dims limit o b d [] inner all fails = refl
+none_with dims limit o b d (y ∷ ys) inner all fails =
+    let out = fails_below dims limit o.1 b y.1 d inner all.0 fails in
+    let others : List (ℕ × Bounds) = filter (λ other. near_test dims limit o.1 other.1) ys in
+    ap (λ (t : Bool). map (λ (other : ℕ × Bounds). (o.0, other.0)) (cond t (y ∷ others) others)) out ∙ none_with dims limit o b d ys inner all.1 fails
 
-none_meet : (dims : ℕ) (b d : Bounds) (xs ys : List (ℕ × Bounds)) → AllWithin dims b xs → AllWithin dims d ys → meets_test dims b d ≡ false → meeting dims xs ys ≡ []
-none_meet dims b d [] ys inner outer fails = refl
-none_meet dims b d (x ∷ xs) ys inner outer fails =
-    ap (λ (l : List (ℕ × ℕ)). l ++ meeting dims xs ys) (none_with dims x b d ys inner.0 outer fails) ∙ none_meet dims b d xs ys inner.1 outer fails
+none_near : (dims limit : ℕ) (b d : Bounds) (xs ys : List (ℕ × Bounds)) → AllWithin dims b xs → AllWithin dims d ys → near_test dims limit b d ≡ false → near_objects dims limit xs ys ≡ []
+none_near dims limit b d [] ys inner outer fails = refl
+none_near dims limit b d (x ∷ xs) ys inner outer fails =
+    ap (λ (l : List (ℕ × ℕ)). l ++ near_objects dims limit xs ys) (none_with dims limit x b d ys inner.0 outer fails) ∙ none_near dims limit b d xs ys inner.1 outer fails
 
 -- what lies below the first entry lies within its box
 head_within : (dims : ℕ) (s : Row) (x : Item) (xs : List Item) → row_items s ≡ x ∷ xs → Encloses dims s → AllWithin dims x.bounds (objects_in (row_head s))
@@ -151,10 +155,10 @@ head_within dims (more (child bounds page below) rest) x xs same encloses =
     subst (λ (l : List (ℕ × Bounds)). AllWithin dims x.bounds l) (sym (append-nil (objects_in below))) (subst (λ (b : Bounds). AllWithin dims b (objects_in below)) (ap (λ (y : Item). y.bounds) item) encloses.0)
 
 -- so below first entries whose boxes do not meet no pair does
-pub heads_apart : (dims : ℕ) (f : ℕ × ℕ → ℕ) (s t : Row) (x y : Item) (xs ys : List Item) → row_items s ≡ x ∷ xs → row_items t ≡ y ∷ ys → Encloses dims s → Encloses dims t → meets_test dims x.bounds y.bounds ≡ false
-    → meeting_sum dims f (row_head s) (row_head t) ≡ 0
-heads_apart dims f s t x y xs ys same same' encloses encloses' fails =
-    ap (total f) (none_meet dims x.bounds y.bounds (objects_in (row_head s)) (objects_in (row_head t)) (head_within dims s x xs same encloses) (head_within dims t y ys same' encloses') fails)
+pub heads_apart : (dims limit : ℕ) (f : ℕ × ℕ → ℕ) (s t : Row) (x y : Item) (xs ys : List Item) → row_items s ≡ x ∷ xs → row_items t ≡ y ∷ ys → Encloses dims s → Encloses dims t → near_test dims limit x.bounds y.bounds ≡ false
+    → near_sum dims limit f (row_head s) (row_head t) ≡ 0
+heads_apart dims limit f s t x y xs ys same same' encloses encloses' fails =
+    ap (total f) (none_near dims limit x.bounds y.bounds (objects_in (row_head s)) (objects_in (row_head t)) (head_within dims s x xs same encloses) (head_within dims t y ys same' encloses') fails)
 
 -- ---- in a tree with least boxes each box encloses what lies below it
 

@@ -9,7 +9,7 @@ use Rattle.page_cache.specs.Cache.{IsHonest, pages}
 use Rattle.page_cache.specs.Calls.{AsksUntil, asks_in_turn}
 use Rattle.page_cache.specs.declared.cache.PageCache.{PageCache}
 use Rattle.tree_node.specs.Boxes.{box_round, least_box}
-use Rattle.tree_node.specs.Joins.{admitted_pairs, boxes_below, meeting_pairs, root_box}
+use Rattle.tree_node.specs.Joins.{admitted_pairs, boxes_below, near_pairs, root_box}
 use Rattle.tree_node.specs.Nodes.{NodeContent}
 use Rattle.tree_node.specs.Positions.{total}
 use Rattle.tree_node.specs.Shape.{RowHasShape, RowWithin}
@@ -20,7 +20,7 @@ use Rattle.tree_node.proofs.JoinLemmas.{pairs_append}
 use Rattle.tree_node.proofs.PositionLemmas.{total-none}
 use Rattle.node_page.specs.Rooted.{IsTreeAt}
 use Rattle.node_page.specs.Standing.{PageMap, RowStands, StandsAt}
-use Rattle.spatial_join.specs.Pairs.{GainsPairs, IsJoinAnswer, meeting, meeting_below, pair_cmp}
+use Rattle.spatial_join.specs.Pairs.{GainsPairs, IsJoinAnswer, near_objects, near_below, pair_cmp}
 use Rattle.spatial_join.specs.Opening.{Encloses, HasRow, alone, node_box, opened_level, opened_root}
 use Rattle.spatial_join.proofs.DescentLemmas.{still_stands}
 use Rattle.spatial_join.proofs.OpeningLemmas.{only_stands}
@@ -92,16 +92,16 @@ root_objects dims other page level row =
 
 -- ---- the answer
 
-pub answers : (dims : ℕ) (s t : Tree) (l o p q : ℕ) (old added sorted : List (ℕ × ℕ)) → old ≡ [] → GainsPairs dims (opened_root dims l o p s.row) (opened_root dims o l q t.row) old added → IsPermutation added sorted → IsSorted pair_cmp sorted → IsJoinAnswer dims s t sorted
-answers dims s t l o p q old added sorted empty adds moved ordered =
-    let same : (f : ℕ × ℕ → ℕ) → total f (meeting_below dims s.row t.row) ≡ total f added =
+pub answers : (dims limit : ℕ) (s t : Tree) (l o p q : ℕ) (old added sorted : List (ℕ × ℕ)) → old ≡ [] → GainsPairs dims limit (opened_root dims l o p s.row) (opened_root dims o l q t.row) old added → IsPermutation added sorted → IsSorted pair_cmp sorted → IsJoinAnswer dims limit s t sorted
+answers dims limit s t l o p q old added sorted empty adds moved ordered =
+    let same : (f : ℕ × ℕ → ℕ) → total f (near_below dims limit s.row t.row) ≡ total f added =
     λ f.
     let none : total f old ≡ 0 = ap (total f) empty in
-    let left = ap (λ (xs : List (ℕ × Bounds)). total f (meeting dims xs (objects_in (opened_root dims o l q t.row)))) (root_objects dims o p l s.row) in
-    let right = ap (λ (ys : List (ℕ × Bounds)). total f (meeting dims (objects_in s.row) ys)) (root_objects dims l q o t.row) in
+    let left = ap (λ (xs : List (ℕ × Bounds)). total f (near_objects dims limit xs (objects_in (opened_root dims o l q t.row)))) (root_objects dims o p l s.row) in
+    let right = ap (λ (ys : List (ℕ × Bounds)). total f (near_objects dims limit (objects_in s.row) ys)) (root_objects dims l q o t.row) in
     omega (arith, adds f, none, left, right) in
     record {
-      all = IsPermutation-trans (meeting_below dims s.row t.row) added sorted (equal_sums_permute (meeting_below dims s.row t.row) added same) moved;
+      all = IsPermutation-trans (near_below dims limit s.row t.row) added sorted (equal_sums_permute (near_below dims limit s.row t.row) added same) moved;
       order = ordered;
     }
 
@@ -116,8 +116,8 @@ root_box_is dims (more (object bounds id) rest) = refl
 root_box_is dims (more (child bounds page below) rest) = refl
 
 -- below two roots no more pairs of nodes meet than are admitted beside the roots
-pub roots_admitted : (dims l o p q : ℕ) (s t : Tree) → 1 + pairs_below dims (opened_root dims l o p s.row) (opened_root dims o l q t.row) ≤ admitted_pairs dims s t
-roots_admitted dims l o p q s t = rw (root_box_is dims s.row, root_box_is dims t.row) (by_level (nat_le o l) (nat_le l o) (node_box dims (row_items s.row)) (node_box dims (row_items t.row)) refl refl)
+pub roots_admitted : (dims limit l o p q : ℕ) (s t : Tree) → 1 + pairs_below dims limit (opened_root dims l o p s.row) (opened_root dims o l q t.row) ≤ admitted_pairs dims limit s t
+roots_admitted dims limit l o p q s t = rw (root_box_is dims s.row, root_box_is dims t.row) (by_level (nat_le o l) (nat_le l o) (node_box dims (row_items s.row)) (node_box dims (row_items t.row)) refl refl)
   where
     A : List Bounds
     A = boxes_below s.row
@@ -125,13 +125,13 @@ roots_admitted dims l o p q s t = rw (root_box_is dims s.row, root_box_is dims t
     B : List Bounds
     B = boxes_below t.row
 
-    beside_root : (c : Bounds) → meeting_pairs dims A (c ∷ (B ++ [])) ≡ meeting_pairs dims A (c ∷ []) + meeting_pairs dims A B
-    beside_root c = ap (λ (l : List Bounds). meeting_pairs dims A (c ∷ l)) (append-nil B) ∙ pairs-right dims A (c ∷ []) B
+    beside_root : (c : Bounds) → near_pairs dims limit A (c ∷ (B ++ [])) ≡ near_pairs dims limit A (c ∷ []) + near_pairs dims limit A B
+    beside_root c = ap (λ (l : List Bounds). near_pairs dims limit A (c ∷ l)) (append-nil B) ∙ pairs-right dims limit A (c ∷ []) B
 
-    root_beside : (b : Bounds) → meeting_pairs dims (b ∷ (A ++ [])) B ≡ meeting_pairs dims (b ∷ []) B + meeting_pairs dims A B
-    root_beside b = ap (λ (l : List Bounds). meeting_pairs dims (b ∷ l) B) (append-nil A) ∙ pairs_append dims (b ∷ []) A B
+    root_beside : (b : Bounds) → near_pairs dims limit (b ∷ (A ++ [])) B ≡ near_pairs dims limit (b ∷ []) B + near_pairs dims limit A B
+    root_beside b = ap (λ (l : List Bounds). near_pairs dims limit (b ∷ l) B) (append-nil A) ∙ pairs_append dims limit (b ∷ []) A B
 
-    no_pair : meeting_pairs dims A [] ≡ 0
+    no_pair : near_pairs dims limit A [] ≡ 0
     no_pair = total-none A
 
     few : (n x y z : ℕ) → n ≤ z → 1 + n ≤ 1 + x + y + z
@@ -144,13 +144,13 @@ roots_admitted dims l o p q s t = rw (root_box_is dims s.row, root_box_is dims t
     few_right n x y z h = omega arith
 
     by_level : (d e : Bool) (b c : Option Bounds) → nat_le o l ≡ d → nat_le l o ≡ e
-        → 1 + pairs_below dims (cond d s.row (alone b p s.row)) (cond e t.row (alone c q t.row)) ≤ 1 + meeting_pairs dims (if_any b) B + meeting_pairs dims A (if_any c) + meeting_pairs dims A B
+        → 1 + pairs_below dims limit (cond d s.row (alone b p s.row)) (cond e t.row (alone c q t.row)) ≤ 1 + near_pairs dims limit (if_any b) B + near_pairs dims limit A (if_any c) + near_pairs dims limit A B
     by_level false false b c f g = absurd (grind (arith, nat_tests))
-    by_level true true b c f g = few (meeting_pairs dims A B) (meeting_pairs dims (if_any b) B) (meeting_pairs dims A (if_any c)) (meeting_pairs dims A B) (omega arith)
-    by_level true false b None f g = few (meeting_pairs dims A []) (meeting_pairs dims (if_any b) B) (meeting_pairs dims A []) (meeting_pairs dims A B) (omega (arith, no_pair))
-    by_level true false b (Some c) f g = few_right (meeting_pairs dims A (c ∷ (B ++ []))) (meeting_pairs dims (if_any b) B) (meeting_pairs dims A (c ∷ [])) (meeting_pairs dims A B) (beside_root c)
-    by_level false true None c f g = few 0 (meeting_pairs dims [] B) (meeting_pairs dims A (if_any c)) (meeting_pairs dims A B) (omega arith)
-    by_level false true (Some b) c f g = few_left (meeting_pairs dims (b ∷ (A ++ [])) B) (meeting_pairs dims (b ∷ []) B) (meeting_pairs dims A (if_any c)) (meeting_pairs dims A B) (root_beside b)
+    by_level true true b c f g = few (near_pairs dims limit A B) (near_pairs dims limit (if_any b) B) (near_pairs dims limit A (if_any c)) (near_pairs dims limit A B) (omega arith)
+    by_level true false b None f g = few (near_pairs dims limit A []) (near_pairs dims limit (if_any b) B) (near_pairs dims limit A []) (near_pairs dims limit A B) (omega (arith, no_pair))
+    by_level true false b (Some c) f g = few_right (near_pairs dims limit A (c ∷ (B ++ []))) (near_pairs dims limit (if_any b) B) (near_pairs dims limit A (c ∷ [])) (near_pairs dims limit A B) (beside_root c)
+    by_level false true None c f g = few 0 (near_pairs dims limit [] B) (near_pairs dims limit A (if_any c)) (near_pairs dims limit A B) (omega arith)
+    by_level false true (Some b) c f g = few_left (near_pairs dims limit (b ∷ (A ++ [])) B) (near_pairs dims limit (b ∷ []) B) (near_pairs dims limit A (if_any c)) (near_pairs dims limit A B) (root_beside b)
 
 -- ---- two roots opened in turn
 

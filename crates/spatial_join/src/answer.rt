@@ -12,33 +12,35 @@ ghost use Rattle.spatial_join.specs.Pairs.{IsJoinAnswer};
 
 use crate::opening::open_root;
 use crate::pairs::add_pairs;
+use crate::reach::Reach;
 use block_device::BlockDevice;
 use node_page::Root;
 use page_cache::PageCache;
 use page_file::Fault;
 use std::alloc::Allocator;
 
-/// All pairs of identifiers of an object of each tree whose boxes meet, also where they only touch, by the first and
-/// then by the second. The trees may be one and the same, and their nodes may have different greatest counts of
-/// entries.
+/// All pairs of identifiers of an object of each tree whose boxes have at most this squared distance, by the first and
+/// then by the second. Within 0 are boxes that meet, also where they only touch. The trees may be one and the same, and
+/// their nodes may have different greatest counts of entries.
 ///
 /// On an honest device, where both trees stand in the pages with the shape of an R-tree, a refusal is `Memory` or
 /// `Device`, and at most two pages are looked at for the pair of roots, and for each other pair of a node of each tree
-/// whose boxes meet. On other pages a refusal may be `Damaged` too. Map and gate stay, also after a refusal.
+/// whose boxes are so near. On other pages a refusal may be `Damaged` too. Map and gate stay, also after a refusal.
 pub fn join<const D: usize, B: BlockDevice, A: Allocator + Copy, H: Allocator>(
     alloc: H,
     cache: &mut PageCache<B, A>,
     a: Root,
     b: Root,
+    within: u64,
 ) -> Result<Vec<(u64, u64), H>, Fault>
     requires { IsDims D }
     ensures asks { Asks cache.old cache.new result }
     ensures pairs { IsHonest cache.old → (s t : Tree) (most other_most : ℕ)
         → IsTreeAt D most (pages cache.old) a s → IsTreeAt D other_most (pages cache.old) b t
-        → IfOk result (λ pairs. IsJoinAnswer D s t pairs.items) }
+        → IfOk result (λ pairs. IsJoinAnswer D within s t pairs.items) }
     ensures looks { IsHonest cache.old → (s t : Tree) (most other_most : ℕ)
         → IsTreeAt D most (pages cache.old) a s → IsTreeAt D other_most (pages cache.old) b t
-        → OnOk result (looks_of cache.new ≤ looks_of cache.old + 2 * admitted_pairs D s t) }
+        → OnOk result (looks_of cache.new ≤ looks_of cache.old + 2 * admitted_pairs D within s t) }
     ensures stands { IsHonest cache.old → (s t : Tree) (most other_most : ℕ)
         → IsTreeAt D most (pages cache.old) a s → IsTreeAt D other_most (pages cache.old) b t
         → IfErr result IsOfDevice }
@@ -47,7 +49,7 @@ pub fn join<const D: usize, B: BlockDevice, A: Allocator + Copy, H: Allocator>(
     let mut pairs = Vec::new(alloc);
     let left = open_root::<D, B, A>(cache, a, b.level)?;
     let right = open_root::<D, B, A>(cache, b, a.level)?;
-    add_pairs::<D, B, A, H>(cache, &left, &right, &mut pairs)?;
+    add_pairs::<D, B, A, H>(cache, &left, &right, Reach::of(within), &mut pairs)?;
     pairs.sort_unstable();
     Ok(pairs)
 }

@@ -1,18 +1,21 @@
 //! The boxes of a node in columns, as `meet_mask` takes them, and the places that a mask names.
 
 ghost use Rattle.std.specs.Prelude.{◌≡◌, ℕ, ◌<◌, ◌≤◌, true, false, IfSome, IfNone, length};
-ghost use Rattle.box_math.specs.Bounds.{on_axis};
+ghost use Rattle.box_math.specs.Bounds.{IsDims, on_axis};
 ghost use Rattle.box_math.specs.Masks.{has_bit};
 ghost use Rattle.tree_node.specs.Boxes.{box_at};
 ghost use Rattle.tree_node.specs.Nodes.{items_of};
 ghost use Rattle.node_page.specs.Columns.{cell};
+ghost use Rattle.spatial_join.specs.Masks.{HaveBoxes};
 
 use node_page::Node;
 
 /// The lows and the highs of a node's entries, 100 at most: a column for each axis, each number in the place of its
 /// entry.
 pub(crate) fn columns_of<const D: usize>(node: &Node<D>) -> ([[i32; 100]; D], [[i32; 100]; D])
-    requires { length node.now.entries.items ≤ 100 }
+    requires dims { IsDims D }
+    requires few { length node.now.entries.items ≤ 100 }
+    ensures boxes { HaveBoxes D (items_of node.now.entries.items) }
     ensures lows { (axis place : ℕ) → axis < D → place < length node.now.entries.items
         → cell result.0 axis place ≡ on_axis (box_at (items_of node.now.entries.items) place).low axis }
     ensures highs { (axis place : ℕ) → axis < D → place < length node.now.entries.items
@@ -31,7 +34,8 @@ pub(crate) fn columns_of<const D: usize>(node: &Node<D>) -> ([[i32; 100]; D], [[
 fn low_column<const D: usize>(node: &Node<D>, axis: usize) -> [i32; 100]
     requires axis { axis < D }
     requires few { length node.now.entries.items ≤ 100 }
-    ensures { (place : ℕ) → place < length node.now.entries.items
+    ensures boxes { HaveBoxes D (items_of node.now.entries.items) }
+    ensures lows { (place : ℕ) → place < length node.now.entries.items
         → on_axis result place ≡ on_axis (box_at (items_of node.now.entries.items) place).low axis }
 {
     let mut column = [0; 100];

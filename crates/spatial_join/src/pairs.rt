@@ -1,12 +1,13 @@
-//! The descent into the pairs of nodes whose boxes meet.
+//! The descent into the pairs of nodes whose boxes are near enough.
 
 ghost use Rattle.std.specs.Prelude.{◌≡◌, ◌⊎◌, ◌↔◌, ◌+◌, ◌*◌, ◌^◌, ◌<◌, ◌≤◌, ◌++◌, ℕ, IfErr, OnOk, length, map};
 ghost use Rattle.box_math.specs.Bounds.{IsDims};
+ghost use Rattle.box_math.specs.Measures.{near_test};
 ghost use Rattle.page_file.specs.Fault.{IsDamage, IsOfDevice};
 ghost use Rattle.page_file.specs.declared.fault.Fault.TheVariants as fault;
 ghost use Rattle.page_cache.specs.Cache.{IsHonest, looks_of, pages};
 ghost use Rattle.page_cache.specs.Calls.{Asks};
-ghost use Rattle.tree_node.specs.Joins.{boxes_below, meeting_pairs};
+ghost use Rattle.tree_node.specs.Joins.{boxes_below, near_pairs};
 ghost use Rattle.tree_node.specs.Nodes.{content_of, item_of};
 ghost use Rattle.tree_node.specs.Trees.{Row};
 ghost use Rattle.spatial_join.specs.Masks.{Tells};
@@ -15,19 +16,20 @@ ghost use Rattle.spatial_join.specs.Pairs.{GainsPairs, pairs_of};
 
 use crate::columns::{columns_of, next_place};
 use crate::opening::open;
+use crate::reach::Reach;
 use block_device::BlockDevice;
-use box_math::meet_mask;
 use node_page::{Entry, Node, Root};
 use page_cache::PageCache;
 use page_file::Fault;
 use std::alloc::Allocator;
 
-/// Appends the pairs of objects below two nodes whose boxes meet.
+/// Appends the pairs of objects below two nodes whose boxes are in the reach of each other.
 #[cycle(descent)]
 pub(crate) fn add_pairs<const D: usize, B: BlockDevice, A: Allocator + Copy, H: Allocator>(
     cache: &mut PageCache<B, A>,
     left: &Node<D>,
     right: &Node<D>,
+    reach: Reach,
     pairs: &mut Vec<(u64, u64), H>,
 ) -> Result<(), Fault>
     requires dims { IsDims D }
@@ -38,11 +40,11 @@ pub(crate) fn add_pairs<const D: usize, B: BlockDevice, A: Allocator + Copy, H: 
     ensures asks { Asks cache.old cache.new result }
     ensures pairs { IsHonest cache.old → (s t : Row) → HasRow D (pages cache.old) (content_of left.now) s
         → HasRow D (pages cache.old) (content_of right.now) t → Encloses D s → Encloses D t
-        → OnOk result (GainsPairs D s t pairs.old.items pairs.new.items) }
+        → OnOk result (GainsPairs D reach.limit s t pairs.old.items pairs.new.items) }
     ensures looks { IsHonest cache.old → (s t : Row) → HasRow D (pages cache.old) (content_of left.now) s
         → HasRow D (pages cache.old) (content_of right.now) t
         → OnOk result (looks_of cache.new
-        ≤ looks_of cache.old + 2 * meeting_pairs D (boxes_below s) (boxes_below t)) }
+        ≤ looks_of cache.old + 2 * near_pairs D reach.limit (boxes_below s) (boxes_below t)) }
     ensures stands { IsHonest cache.old → (s t : Row) → HasRow D (pages cache.old) (content_of left.now) s
         → HasRow D (pages cache.old) (content_of right.now) t → IfErr result IsOfDevice }
     ensures other_faults { IfErr result (λ f. IsOfDevice f ⊎ IsDamage f) }
@@ -50,24 +52,25 @@ pub(crate) fn add_pairs<const D: usize, B: BlockDevice, A: Allocator + Copy, H: 
     // The boxes are in columns, so that an entry is compared with eight of them at once.
     let (lows, highs) = columns_of(right);
     for entry in left.entries.as_slice() {
-        let mask = meet_mask(&lows, &highs, right.entries.len(), &entry.bounds);
+        let mask = reach.mask(&lows, &highs, right, &entry.bounds);
         if left.level == 0 {
-            push_pairs(entry, right, mask, pairs)?;
+            push_pairs(entry, right, reach, mask, pairs)?;
         } else {
-            add_pairs_of_entry::<D, B, A, H>(cache, entry, left.level, right, mask, pairs)?;
+            add_pairs_of_entry::<D, B, A, H>(cache, entry, left.level, right, reach, mask, pairs)?;
         }
     }
     Ok(())
 }
 
 // Appends the pairs of objects below an entry of a node of that level and below those of the right node that the mask
-// names, whose boxes meet its box. The node below the entry is opened once for all of them.
+// names, whose boxes are in its reach. The node below the entry is opened once for all of them.
 #[cycle(descent)]
 fn add_pairs_of_entry<const D: usize, B: BlockDevice, A: Allocator + Copy, H: Allocator>(
     cache: &mut PageCache<B, A>,
     entry: &Entry<D>,
     level: u8,
     right: &Node<D>,
+    reach: Reach,
     mask: u128,
     pairs: &mut Vec<(u64, u64), H>,
 ) -> Result<(), Fault>
@@ -77,15 +80,16 @@ fn add_pairs_of_entry<const D: usize, B: BlockDevice, A: Allocator + Copy, H: Al
     requires page { entry.now.reference < 2 ^ 32 }
     requires right_pages { HasPages (content_of right.now) }
     requires few { length right.now.entries.items ≤ 100 }
-    requires mask { Tells D mask (map item_of right.now.entries.items) (item_of entry.now).bounds }
+    requires mask { Tells (near_test D reach.limit (item_of entry.now).bounds) mask
+        (map item_of right.now.entries.items) }
     ensures asks { Asks cache.old cache.new result }
     ensures pairs { IsHonest cache.old → (s t : Row) → HasRow D (pages cache.old) (sole level (item_of entry.now)) s
         → HasRow D (pages cache.old) (content_of right.now) t → Encloses D s → Encloses D t
-        → OnOk result (GainsPairs D s t pairs.old.items pairs.new.items) }
+        → OnOk result (GainsPairs D reach.limit s t pairs.old.items pairs.new.items) }
     ensures looks { IsHonest cache.old → (s t : Row) → HasRow D (pages cache.old) (sole level (item_of entry.now)) s
         → HasRow D (pages cache.old) (content_of right.now) t
         → OnOk result (looks_of cache.new
-        ≤ looks_of cache.old + 2 * meeting_pairs D (boxes_below s) (boxes_below t)) }
+        ≤ looks_of cache.old + 2 * near_pairs D reach.limit (boxes_below s) (boxes_below t)) }
     ensures stands { IsHonest cache.old → (s t : Row) → HasRow D (pages cache.old) (sole level (item_of entry.now)) s
         → HasRow D (pages cache.old) (content_of right.now) t → IfErr result IsOfDevice }
     ensures other_faults { IfErr result (λ f. IsOfDevice f ⊎ IsDamage f) }
@@ -107,22 +111,24 @@ fn add_pairs_of_entry<const D: usize, B: BlockDevice, A: Allocator + Copy, H: Al
             level: right.level - 1,
         };
         let second = open::<D, B, A>(cache, beside, &other.bounds, below.level)?;
-        add_pairs::<D, B, A, H>(cache, &first, &second, pairs)?;
+        add_pairs::<D, B, A, H>(cache, &first, &second, reach, pairs)?;
     }
     Ok(())
 }
 
-// Appends the pairs of an object and those of the right leaf that the mask names, whose boxes meet its box.
+// Appends the pairs of an object and those of the right leaf that the mask names, whose boxes are in its reach.
 fn push_pairs<const D: usize, H: Allocator>(
     entry: &Entry<D>,
     right: &Node<D>,
+    reach: Reach,
     mask: u128,
     pairs: &mut Vec<(u64, u64), H>,
 ) -> Result<(), Fault>
     requires few { length right.now.entries.items ≤ 100 }
-    requires mask { Tells D mask (map item_of right.now.entries.items) (item_of entry.now).bounds }
+    requires mask { Tells (near_test D reach.limit (item_of entry.now).bounds) mask
+        (map item_of right.now.entries.items) }
     ensures pairs { OnOk result (pairs.new.items
-        ≡ pairs.old.items ++ pairs_of D (map item_of right.now.entries.items) (item_of entry.now)) }
+        ≡ pairs.old.items ++ pairs_of D reach.limit (map item_of right.now.entries.items) (item_of entry.now)) }
     ensures memory { IfErr result (λ f. f ≡ fault.Memory) }
 {
     let mut from = 0;

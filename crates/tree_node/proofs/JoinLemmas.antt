@@ -1,8 +1,9 @@
 -- How many nodes, and pairs of them, a search and a join admit.
-use Rattle.std.proofs.Common.{◌≡◌, ◌∙◌, ◌↔◌, ℕ, zero, suc, ◌+◌, ◌*◌, ◌≤◌, Bool, true, false, cond, List, ◌++◌, length, refl, sym, ap, arith}
-use Rattle.box_math.specs.Bounds.{Bounds, Meets, meets_test}
-use Rattle.box_math.proofs.TestLaws.{meets_test_true}
-use Rattle.tree_node.specs.Joins.{boxes_below, count_passing, meeting_pairs, root_box}
+use Rattle.std.proofs.Common.{◌≡◌, ◌∙◌, ℕ, zero, suc, ◌+◌, ◌*◌, ◌≤◌, nat_le, Bool, true, false, cond, List, ◌++◌, length, refl, ap, arith}
+use Rattle.box_math.specs.Bounds.{Bounds}
+use Rattle.box_math.specs.Measures.{near_test}
+use Rattle.box_math.proofs.Distances.{box_dist2_of-commutes}
+use Rattle.tree_node.specs.Joins.{boxes_below, count_passing, near_pairs, root_box}
 use Rattle.tree_node.specs.Laws.{AdmittedAreCounted, PairsAreOfNodes, PairsGoBothWays}
 use Rattle.tree_node.specs.Positions.{total}
 use Rattle.tree_node.specs.Searches.{passing}
@@ -21,25 +22,19 @@ admitted_are_counted t test = ap (λ (n : ℕ). 1 + n) (passing_is test t.row)
 
 -- ---- pairs
 
-same_tests : (a b : Bool) (P : Type 0) → ((a ≡ true) ↔ P) → ((b ≡ true) ↔ P) → a ≡ b
-same_tests true true P p q = refl
-same_tests true false P p q = sym (q.1 (p.0 refl))
-same_tests false true P p q = p.1 (q.0 refl)
-same_tests false false P p q = refl
+near_turned : (dims within : ℕ) (a b : Bounds) → near_test dims within a b ≡ near_test dims within b a
+unfolding near_test
+near_turned dims within a b = ap (λ (n : ℕ). nat_le n within) (box_dist2_of-commutes dims a b)
 
-meets_turned : (dims : ℕ) (a b : Bounds) → meets_test dims a b ≡ meets_test dims b a
-meets_turned dims a b = same_tests (meets_test dims a b) (meets_test dims b a) (Meets dims a b) (meets_test_true dims a b)
-    (λ h. λ axis lt. let m = (meets_test_true dims b a).0 h axis lt in (m.1, m.0), λ h. (meets_test_true dims b a).1 (λ axis lt. let m = h axis lt in (m.1, m.0)))
-
-pub pairs_turned : (dims : ℕ) (bs cs : List Bounds) → meeting_pairs dims bs cs ≡ meeting_pairs dims cs bs
-pairs_turned dims bs cs =
-    total-turned (λ (b c : Bounds). cond (meets_test dims b c) 1 0) bs cs
-    ∙ total-same (λ (c : Bounds). total (λ (b : Bounds). cond (meets_test dims b c) 1 0) bs) (λ (c : Bounds). total (λ (b : Bounds). cond (meets_test dims c b) 1 0) bs) cs
-    (λ c. total-same (λ (b : Bounds). cond (meets_test dims b c) 1 0) (λ (b : Bounds). cond (meets_test dims c b) 1 0) bs (λ b. ap (λ (t : Bool). cond t 1 0) (meets_turned dims b c)))
+pub pairs_turned : (dims within : ℕ) (bs cs : List Bounds) → near_pairs dims within bs cs ≡ near_pairs dims within cs bs
+pairs_turned dims within bs cs =
+    total-turned (λ (b c : Bounds). cond (near_test dims within b c) 1 0) bs cs
+    ∙ total-same (λ (c : Bounds). total (λ (b : Bounds). cond (near_test dims within b c) 1 0) bs) (λ (c : Bounds). total (λ (b : Bounds). cond (near_test dims within c b) 1 0) bs) cs
+    (λ c. total-same (λ (b : Bounds). cond (near_test dims within b c) 1 0) (λ (b : Bounds). cond (near_test dims within c b) 1 0) bs (λ b. ap (λ (t : Bool). cond t 1 0) (near_turned dims within b c)))
 
 -- those of two lists after one another are those of each
-pub pairs_append : (dims : ℕ) (bs cs others : List Bounds) → meeting_pairs dims (bs ++ cs) others ≡ meeting_pairs dims bs others + meeting_pairs dims cs others
-pairs_append dims bs cs others = total-append (λ (b : Bounds). count_passing (meets_test dims b) others) bs cs
+pub pairs_append : (dims within : ℕ) (bs cs others : List Bounds) → near_pairs dims within (bs ++ cs) others ≡ near_pairs dims within bs others + near_pairs dims within cs others
+pairs_append dims within bs cs others = total-append (λ (b : Bounds). count_passing (near_test dims within b) others) bs cs
 
 one_at_most : (t : Bool) → cond t 1 0 ≤ 1
 one_at_most true = omega arith
@@ -48,8 +43,8 @@ one_at_most false = omega arith
 pub some_of_all : (test : Bounds → Bool) (boxes : List Bounds) → count_passing test boxes ≤ length boxes
 some_of_all test boxes = omega (arith, total-at_most (λ (b : Bounds). cond (test b) 1 0) 1 boxes (λ b. one_at_most (test b)))
 
-pub pairs_at_most : (dims : ℕ) (bs cs : List Bounds) → meeting_pairs dims bs cs ≤ length bs * length cs
-pairs_at_most dims bs cs = total-at_most (λ (b : Bounds). count_passing (meets_test dims b) cs) (length cs) bs (λ b. some_of_all (meets_test dims b) cs)
+pub pairs_at_most : (dims within : ℕ) (bs cs : List Bounds) → near_pairs dims within bs cs ≤ length bs * length cs
+pairs_at_most dims within bs cs = total-at_most (λ (b : Bounds). count_passing (near_test dims within b) cs) (length cs) bs (λ b. some_of_all (near_test dims within b) cs)
 
 one_root : (dims : ℕ) (row : Row) → length (root_box dims row) ≤ 1
 one_root dims end = omega arith
@@ -68,19 +63,19 @@ together : (p q a b c : ℕ) → a ≤ q → b ≤ p → c ≤ p * q → 1 + a +
 together p q a b c ha hb hc = let e : (1 + p) * (1 + q) ≡ 1 + p + q + p * q = grind arith in omega arith
 
 pub pairs_go_both_ways : PairsGoBothWays
-pairs_go_both_ways dims s t =
-    omega (arith, pairs_turned dims (root_box dims s.row) (boxes_below t.row), pairs_turned dims (boxes_below s.row) (root_box dims t.row), pairs_turned dims (boxes_below s.row) (boxes_below t.row))
+pairs_go_both_ways dims within s t =
+    omega (arith, pairs_turned dims within (root_box dims s.row) (boxes_below t.row), pairs_turned dims within (boxes_below s.row) (root_box dims t.row), pairs_turned dims within (boxes_below s.row) (boxes_below t.row))
 
 pub pairs_are_of_nodes : PairsAreOfNodes
-pairs_are_of_nodes dims s t =
+pairs_are_of_nodes dims within s t =
     let p = length (boxes_below s.row) in
     let q = length (boxes_below t.row) in
-    let first = meeting_pairs dims (root_box dims s.row) (boxes_below t.row) in
-    let second = meeting_pairs dims (boxes_below s.row) (root_box dims t.row) in
-    rw (all_below s.row, all_below t.row) (together p q first second (meeting_pairs dims (boxes_below s.row) (boxes_below t.row))
-    (at_most_of_one (length (root_box dims s.row)) q first (one_root dims s.row) (pairs_at_most dims (root_box dims s.row) (boxes_below t.row)))
+    let first = near_pairs dims within (root_box dims s.row) (boxes_below t.row) in
+    let second = near_pairs dims within (boxes_below s.row) (root_box dims t.row) in
+    rw (all_below s.row, all_below t.row) (together p q first second (near_pairs dims within (boxes_below s.row) (boxes_below t.row))
+    (at_most_of_one (length (root_box dims s.row)) q first (one_root dims s.row) (pairs_at_most dims within (root_box dims s.row) (boxes_below t.row)))
     (at_most_of_one (length (root_box dims t.row)) p second (one_root dims t.row)
-    (omega (arith, pairs_turned dims (boxes_below s.row) (root_box dims t.row), pairs_at_most dims (root_box dims t.row) (boxes_below s.row))))
-    (pairs_at_most dims (boxes_below s.row) (boxes_below t.row)))
+    (omega (arith, pairs_turned dims within (boxes_below s.row) (root_box dims t.row), pairs_at_most dims within (root_box dims t.row) (boxes_below s.row))))
+    (pairs_at_most dims within (boxes_below s.row) (boxes_below t.row)))
 
 pub ruleset join_laws = (admitted_are_counted, pairs_go_both_ways, pairs_are_of_nodes)

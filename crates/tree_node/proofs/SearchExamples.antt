@@ -1,6 +1,7 @@
 -- Worked examples of searches and joins. No lemma rests on them.
 use Rattle.std.proofs.Common.{Bool, ◌≡◌, [], ◌∷◌, refl}
 use Rattle.box_math.specs.Bounds.{Bounds, meets_test}
+use Rattle.box_math.specs.Measures.{near_test}
 use Rattle.tree_node.specs.Boxes.{least_box}
 use Rattle.tree_node.specs.Joins.{admitted_pairs}
 use Rattle.tree_node.specs.Searches.{admitted, nodes_in, objects_reached, passing_objects, reached}
@@ -21,8 +22,8 @@ unfolding meets_test
 finds = (refl, refl)
 
 -- the tree with itself: the roots, each root with each leaf, and each leaf with itself; an empty root gives one pair
-pairs : (admitted_pairs 2 tree tree ≡ 7) × (admitted_pairs 2 tree (record { page = 9; level = 0; row = end }) ≡ 1)
-unfolding meets_test least_box
+pairs : (admitted_pairs 2 0 tree tree ≡ 7) × (admitted_pairs 2 0 tree (record { page = 9; level = 0; row = end }) ≡ 1)
+unfolding near_test least_box
 pairs = (refl, refl)
 
 its_box : (least_box 2 (row_items tree.row) ≡ box 0 0 3 2) × (reached (window (box 3 0 9 9)) tree.row ≡ 1)

@@ -1,7 +1,8 @@
 -- The pairs of nodes that a join of two trees has to look at (the spatial join of Brinkhoff, Kriegel and Seeger 1993; which pairs
 -- are admitted is our rule, docs/FORMAT.md, "Trees of pages").
 use Rattle.std.specs.Prelude.{ℕ, ◌+◌, Bool, if◌then◌else◌, List, [], ◌∷◌, ◌++◌}
-use Rattle.box_math.specs.Bounds.{Bounds, meets_test}
+use Rattle.box_math.specs.Bounds.{Bounds}
+use Rattle.box_math.specs.Measures.{near_test}
 use Rattle.tree_node.specs.Boxes.{least_box}
 use Rattle.tree_node.specs.Positions.{total}
 use Rattle.tree_node.specs.Trees.{Row, end, more, object, child, Tree, row_items}
@@ -21,12 +22,13 @@ root_box dims (more branch rest) = least_box dims (row_items (more branch rest))
 abbrev pub count_passing : (Bounds → Bool) → List Bounds → ℕ
 count_passing test boxes = total (λ b. if test b then 1 else 0) boxes
 
--- how many pairs of a box of each list meet
-abbrev pub meeting_pairs : ℕ → List Bounds → List Bounds → ℕ
-meeting_pairs dims boxes others = total (λ b. count_passing (meets_test dims b) others) boxes
+-- how many pairs of a box of each list have at most that squared distance
+abbrev pub near_pairs : ℕ → ℕ → List Bounds → List Bounds → ℕ
+near_pairs dims within boxes others = total (λ b. count_passing (near_test dims within b) others) boxes
 
--- the pairs that a join admits: the two roots, and each other pair of a node of each tree whose boxes meet
-abbrev pub admitted_pairs : ℕ → Tree → Tree → ℕ
-admitted_pairs dims s t =
-    1 + meeting_pairs dims (root_box dims s.row) (boxes_below t.row) + meeting_pairs dims (boxes_below s.row) (root_box dims t.row)
-    + meeting_pairs dims (boxes_below s.row) (boxes_below t.row)
+-- the pairs that a join within that squared distance admits: the two roots, and each other pair of a node of each tree
+-- whose boxes are that near
+abbrev pub admitted_pairs : ℕ → ℕ → Tree → Tree → ℕ
+admitted_pairs dims within s t =
+    1 + near_pairs dims within (root_box dims s.row) (boxes_below t.row) + near_pairs dims within (boxes_below s.row) (root_box dims t.row)
+    + near_pairs dims within (boxes_below s.row) (boxes_below t.row)

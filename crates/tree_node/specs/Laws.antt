@@ -35,11 +35,11 @@ NoObjectIsMissed = (dims most : ℕ) (t : Tree) (guard test : Bounds → Bool) �
 
 -- a join admits as many pairs either way round
 abbrev pub PairsGoBothWays : Type 0
-PairsGoBothWays = (dims : ℕ) (s t : Tree) → admitted_pairs dims s t ≡ admitted_pairs dims t s
+PairsGoBothWays = (dims within : ℕ) (s t : Tree) → admitted_pairs dims within s t ≡ admitted_pairs dims within t s
 
 -- and no more than there are
 abbrev pub PairsAreOfNodes : Type 0
-PairsAreOfNodes = (dims : ℕ) (s t : Tree) → admitted_pairs dims s t ≤ nodes_in s * nodes_in t
+PairsAreOfNodes = (dims within : ℕ) (s t : Tree) → admitted_pairs dims within s t ≤ nodes_in s * nodes_in t
 
 -- ---- counts up to the greatest u64
 

@@ -1,10 +1,13 @@
 -- The goals of `join` that are proved by hand.
-use Rattle.std.proofs.Common.{None, arith}
+use Rattle.std.proofs.Common.{None, ℕ, ap, arith, subst}
 use Rattle.page_file.specs.Fault.{IsOfDevice}
 use Rattle.page_cache.specs.Calls.{AsksUntil, asks_and_refuses, asks_in_turn}
 use Rattle.page_cache.specs.Cache.{pages}
 use Rattle.tree_node.specs.Nodes.{content_of}
+use Rattle.tree_node.specs.Joins.{admitted_pairs}
 use Rattle.node_page.proofs.NodeLemmas.{at_error}
+use Rattle.spatial_join.specs.Opening.{opened_root}
+use Rattle.spatial_join.specs.Pairs.{GainsPairs}
 use Rattle.spatial_join.proofs.DescentLemmas.{still_stands}
 use Rattle.spatial_join.proofs.RootLemmas.{answers, roots_admitted, roots_opened, tree_at}
 use Rattle.spatial_join.proofs.answer.join.Goals as goal
@@ -38,11 +41,12 @@ returns-clause-pairs g c = λ h s t most other_most is is'.
     let opened = roots_opened g.row.D most other_most c.args.cache.now c.open_root.new.cache c.open_root-2.new.cache c.args.a c.args.b s t (content_of c.in_ok-left.left) (content_of c.in_ok-right.right) h c.in_ok-left.ensures.asks c.in_ok-right.ensures.asks is is'
     c.in_ok-left.ensures.level (λ h row at. c.in_ok-left.ensures.entries h row at) c.in_ok-right.ensures.level (λ h row at. c.in_ok-right.ensures.entries h row at) in
     let adds = c.in_ok-add_pairs.ensures.pairs opened.honest _ _ opened.left_row opened.right_row opened.left_encloses opened.right_encloses in
-    answers g.row.D s t c.args.a.level c.args.b.level c.args.a.page c.args.b.page c.new-pairs.result.items c.add_pairs.new.pairs.items c.sort_unstable.new.self.items c.new-pairs.ensures.items adds c.sort_unstable.ensures.permutation c.sort_unstable.ensures.sorted
+    let adds_within = subst (λ (l : ℕ). GainsPairs g.row.D l (opened_root g.row.D c.args.a.level c.args.b.level c.args.a.page s.row) (opened_root g.row.D c.args.b.level c.args.a.level c.args.b.page t.row) c.new-pairs.result.items c.add_pairs.new.pairs.items) c.of.ensures adds in
+    answers g.row.D c.args.within s t c.args.a.level c.args.b.level c.args.a.page c.args.b.page c.new-pairs.result.items c.add_pairs.new.pairs.items c.sort_unstable.new.self.items c.new-pairs.ensures.items adds_within c.sort_unstable.ensures.permutation c.sort_unstable.ensures.sorted
 
 pub returns-clause-looks : goal.returns-clause-looks
 returns-clause-looks g c = λ h s t most other_most is is'.
     let opened = roots_opened g.row.D most other_most c.args.cache.now c.open_root.new.cache c.open_root-2.new.cache c.args.a c.args.b s t (content_of c.in_ok-left.left) (content_of c.in_ok-right.right) h c.in_ok-left.ensures.asks c.in_ok-right.ensures.asks is is'
     c.in_ok-left.ensures.level (λ h row at. c.in_ok-left.ensures.entries h row at) c.in_ok-right.ensures.level (λ h row at. c.in_ok-right.ensures.entries h row at) in
     let looked = c.in_ok-add_pairs.ensures.looks opened.honest _ _ opened.left_row opened.right_row in
-    omega (arith, looked, c.in_ok-left.ensures.looks, c.in_ok-right.ensures.looks, roots_admitted g.row.D c.args.a.level c.args.b.level c.args.a.page c.args.b.page s t)
+    omega (arith, looked, c.in_ok-left.ensures.looks, c.in_ok-right.ensures.looks, ap (λ (l : ℕ). admitted_pairs g.row.D l s t) c.of.ensures, roots_admitted g.row.D c.of.result.limit c.args.a.level c.args.b.level c.args.a.page c.args.b.page s t)

@@ -2,13 +2,14 @@
 use Rattle.std.proofs.Common.{◌≡◌, ◌∙◌, ◌+◌, ◌-◌, ◌<◌, None, ap, length, map, refl, sym, arith, rules}
 use Rattle.std.specs.Int.{w128}
 use Rattle.std.proofs.lemmas.List.{length-map}
+use Rattle.box_math.specs.Measures.{near_test}
 use Rattle.page_file.specs.Fault.{IsOfDevice}
 use Rattle.page_cache.specs.Calls.{AsksUntil, asks_and_refuses, asks_in_turn, no_call_asks}
 use Rattle.tree_node.specs.Nodes.{content_of, item_of}
 use Rattle.node_page.proofs.NodeLemmas.{at_error}
 use Rattle.spatial_join.specs.Masks.{Tells}
-use Rattle.spatial_join.proofs.DescentLemmas.{all_added, all_looked, all_passed, asks_and_runs_out, begins, beside_begins, both_above, end_added, end_looked, entry_added, entry_here, here_alone, next_reached, nothing_met, object_added, opened_first, opened_second, page_fits, right_here, second_stands, went_below}
-use Rattle.spatial_join.proofs.MaskLemmas.{meets_here, none_set, place_within, some_before, tells_entries}
+use Rattle.spatial_join.proofs.DescentLemmas.{all_added, all_looked, all_passed, asks_and_runs_out, begins, beside_begins, both_above, end_added, end_looked, entry_added, entry_here, here_alone, next_reached, nothing_near, object_added, opened_first, opened_second, page_fits, right_here, second_stands, went_below}
+use Rattle.spatial_join.proofs.MaskLemmas.{near_here, none_set, place_within, some_before, tells_entries}
 use Rattle.spatial_join.proofs.OpeningLemmas.{leaves_together, levels_fall}
 use Rattle.spatial_join.proofs.pairs.+descent.Goals as goal
 use Rattle.spatial_join.proofs.pairs.+descent.Goals.{add_pairs-then-left-eq0+in_ok-push_pairs, add_pairs-else-left-eq0+in_ok-add_pairs_of_entry}
@@ -16,7 +17,7 @@ use Rattle.spatial_join.proofs.pairs.+descent.Goals.{add_pairs-then-left-eq0+in_
 -- ---- the entries of the left node
 
 pub add_pairs-loop-entry-init : goal.add_pairs-loop-entry-init
-add_pairs-loop-entry-init g t c = begins g.row.D c.args.cache.now (content_of c.args.left.now) (content_of c.args.right.now) c.args.pairs.now.items
+add_pairs-loop-entry-init g t c = begins g.row.D c.args.reach.limit c.args.cache.now (content_of c.args.left.now) (content_of c.args.right.now) c.args.pairs.now.items
 
 pub add_pairs-push_pairs-requires : goal.add_pairs-push_pairs-requires
 add_pairs-push_pairs-requires g t c = (
@@ -25,7 +26,7 @@ add_pairs-push_pairs-requires g t c = (
     search rules,
     (
       c.requires.few,
-      tells_entries c.columns_of-lows.result.0 c.columns_of-lows.result.1 c.args.right.now.entries.items (item_of c.entry-item.result).bounds c.meet_mask-mask.result c.len.result c.len.ensures.value c.meet_mask-mask.ensures c.columns_of-lows.ensures.lows c.columns_of-lows.ensures.highs,
+      c.mask-mask.ensures,
     ),
   ),
 )
@@ -37,7 +38,7 @@ pub add_pairs-add_pairs_of_entry-requires : goal.add_pairs-add_pairs_of_entry-re
 add_pairs-add_pairs_of_entry-requires g t c κs within =
     let above : 0 < c.args.left.now.level = omega (arith, c.if-left-eq0.false) in
     let fits = page_fits c.args.left.now.entries.items c.as_slice-entry-items.result.now c.loop-entry.entry-index c.entry-item.result (c.requires.left_pages above) c.as_slice-entry-items.ensures.value (omega (arith, c.loop-entry-test.true)) c.entry-item.is in
-    let told : Tells g.row.D c.meet_mask-mask.result (map item_of c.args.right.now.entries.items) (item_of c.entry-item.result).bounds = tells_entries c.columns_of-lows.result.0 c.columns_of-lows.result.1 c.args.right.now.entries.items (item_of c.entry-item.result).bounds c.meet_mask-mask.result c.len.result c.len.ensures.value c.meet_mask-mask.ensures c.columns_of-lows.ensures.lows c.columns_of-lows.ensures.highs in
+    let told = c.mask-mask.ensures in
     (omega (arith, c.decreases), (search rules, (within.0, (within.1.0, (within.1.1, (search rules, (search rules, (c.requires.dims, (above, (both_above c.args.left.now.level c.args.right.now.level c.requires.leaves above, (fits, (c.requires.right_pages, (c.requires.few, told)))))))))))))
 
 pub add_pairs-returns-in_err-add_pairs_of_entry-clause-asks : goal.add_pairs-returns-in_err-add_pairs_of_entry-clause-asks
@@ -79,7 +80,7 @@ add_pairs-returns-clause-looks g t c = λ h s r first second. all_looked c.loop-
 
 pub add_pairs_of_entry-returns-then-mask-eq0-clause-pairs : goal.add_pairs_of_entry-returns-then-mask-eq0-clause-pairs
 add_pairs_of_entry-returns-then-mask-eq0-clause-pairs g t c = λ h s r first second e e'.
-    nothing_met c.args.cache.now c.args.level (item_of c.args.entry.now) (content_of c.args.right.now) c.args.pairs.now.items c.args.mask c.requires.mask (none_set c.args.mask c.if-mask-eq0.true) h s r first second e e'
+    nothing_near c.args.reach.limit c.args.cache.now c.args.level (item_of c.args.entry.now) (content_of c.args.right.now) c.args.pairs.now.items c.args.mask c.requires.mask (none_set c.args.mask c.if-mask-eq0.true) h s r first second e e'
 
 pub add_pairs_of_entry-other-init : goal.add_pairs_of_entry-other-init
 add_pairs_of_entry-other-init g t c = (beside_begins c.in_ok-first.ensures.asks c.in_ok-first.ensures.looks refl, omega arith)
@@ -93,7 +94,7 @@ add_pairs_of_entry-returns-in_err-second-clause-asks g t c = asks_and_refuses c.
 pub add_pairs_of_entry-returns-in_err-second-clause-stands : goal.add_pairs_of_entry-returns-in_err-second-clause-stands
 add_pairs_of_entry-returns-in_err-second-clause-stands g t c = λ h s r first second.
     let set = c.in-Some.ensures.set.2 in
-    let within = place_within c.deref.result.now c.args.right.now.entries.items c.in-Some.place c.args.mask (item_of c.args.entry.now).bounds c.requires.mask set c.deref.ensures.0 in
+    let within = place_within c.deref.result.now c.args.right.now.entries.items c.in-Some.place c.args.mask c.requires.mask set c.deref.ensures.0 in
     let reached = next_reached c.other.from c.args.mask c.other.invariant.0 c.requires.mask c.in-Some.place c.in-Some.ensures.set.0 (omega (arith, c.requires.mask.within c.in-Some.place set)) c.in-Some.ensures.first in
     let b = second_stands c.in-Some.place reached (item_of c.index-deref-place.result) _
     (λ r same. entry_here r c.deref.result.now c.args.right.now.entries.items c.in-Some.place c.index-deref-place.result same c.deref.ensures.0 within c.index-deref-place.is)
@@ -117,14 +118,14 @@ add_pairs_of_entry-other-smaller g t c = omega (arith, c.in-Some.ensures.set.0, 
 pub add_pairs_of_entry-other-preserved : goal.add_pairs_of_entry-other-preserved
 add_pairs_of_entry-other-preserved g t c =
     let set = c.in-Some.ensures.set.2 in
-    let within = place_within c.deref.result.now c.args.right.now.entries.items c.in-Some.place c.args.mask (item_of c.args.entry.now).bounds c.requires.mask set c.deref.ensures.0 in
+    let within = place_within c.deref.result.now c.args.right.now.entries.items c.in-Some.place c.args.mask c.requires.mask set c.deref.ensures.0 in
     let reached = next_reached c.other.from c.args.mask c.other.invariant.0 c.requires.mask c.in-Some.place c.in-Some.ensures.set.0 (omega (arith, c.requires.mask.within c.in-Some.place set)) c.in-Some.ensures.first in (
       went_below c.in-Some.place reached (item_of c.index-deref-place.result) _
           (λ r same. entry_here r c.deref.result.now c.args.right.now.entries.items c.in-Some.place c.index-deref-place.result same c.deref.ensures.0 within c.index-deref-place.is)
           c.requires.above c.requires.right_above c.open-in-Some.new.cache c.in_ok-second.ensures.asks
           (content_of c.in_ok-first.first) (content_of c.in_ok-second.second) c.in_ok-first.ensures.level c.in_ok-second.ensures.level
           (λ h row at. c.in_ok-first.ensures.entries h row at) (λ h row at. c.in_ok-second.ensures.entries h row at)
-          (meets_here c.deref.result.now c.args.right.now.entries.items c.in-Some.place c.args.mask (item_of c.args.entry.now).bounds c.index-deref-place.result c.requires.mask set c.deref.ensures.0 c.index-deref-place.is)
+          (near_here (near_test g.row.D c.args.reach.limit (item_of c.args.entry.now).bounds) c.deref.result.now c.args.right.now.entries.items c.in-Some.place c.args.mask c.index-deref-place.result c.requires.mask set c.deref.ensures.0 c.index-deref-place.is)
           (omega arith) c.add_pairs.new.cache c.add_pairs.new.pairs.items c.in_ok-add_pairs.ensures.asks c.in_ok-second.ensures.looks
           (λ h s r first second e e'. c.in_ok-add_pairs.ensures.pairs h s r first second e e')
           (λ h s r first second. c.in_ok-add_pairs.ensures.looks h s r first second),
@@ -139,7 +140,7 @@ add_pairs_of_entry-returns-in_err-add_pairs-clause-asks g t c =
 pub add_pairs_of_entry-returns-in_err-add_pairs-clause-stands : goal.add_pairs_of_entry-returns-in_err-add_pairs-clause-stands
 add_pairs_of_entry-returns-in_err-add_pairs-clause-stands g t c = λ h s r first second.
     let set = c.in-Some.ensures.set.2 in
-    let within = place_within c.deref.result.now c.args.right.now.entries.items c.in-Some.place c.args.mask (item_of c.args.entry.now).bounds c.requires.mask set c.deref.ensures.0 in
+    let within = place_within c.deref.result.now c.args.right.now.entries.items c.in-Some.place c.args.mask c.requires.mask set c.deref.ensures.0 in
     let reached = next_reached c.other.from c.args.mask c.other.invariant.0 c.requires.mask c.in-Some.place c.in-Some.ensures.set.0 (omega (arith, c.requires.mask.within c.in-Some.place set)) c.in-Some.ensures.first in
     let one = opened_first c.in-Some.place reached (item_of c.index-deref-place.result) _
     (λ r same. entry_here r c.deref.result.now c.args.right.now.entries.items c.in-Some.place c.index-deref-place.result same c.deref.ensures.0 within c.index-deref-place.is)

@@ -1,0 +1,78 @@
+//! How near two boxes are that a join pairs.
+
+ghost use Rattle.std.specs.Prelude.{◌≡◌, ◌+◌, ◌*◌, ◌<◌, ◌≤◌, ℕ, length};
+ghost use Rattle.box_math.specs.Bounds.{IsDims, meets_test, on_axis, widened_of};
+ghost use Rattle.box_math.specs.Measures.{near_test};
+ghost use Rattle.tree_node.specs.Boxes.{box_at};
+ghost use Rattle.tree_node.specs.Nodes.{items_of};
+ghost use Rattle.node_page.specs.Columns.{cell};
+ghost use Rattle.spatial_join.specs.Masks.{HaveBoxes, Tells};
+
+use crate::columns::next_place;
+use box_math::{BBox, meet_mask};
+use node_page::Node;
+
+/// The greatest squared distance of two boxes that are paired, and its root: each gap between such boxes is at most that,
+/// so that a box that is widened by it meets them all.
+#[derive(Clone, Copy)]
+pub(crate) struct Reach {
+    pub(crate) limit: u64,
+    root: u32,
+    ghost enough: { limit < (root + 1) * (root + 1) },
+}
+
+impl Reach {
+    /// The reach of this squared distance.
+    pub(crate) fn of(limit: u64) -> Reach
+        ensures { result.limit ≡ limit }
+    {
+        Reach {
+            limit,
+            root: limit.isqrt() as u32,
+        }
+    }
+
+    /// Which entries of a node, whose boxes stand in the columns, have a box in this reach of the given one.
+    pub(crate) fn mask<const D: usize>(
+        self,
+        lows: &[[i32; 100]; D],
+        highs: &[[i32; 100]; D],
+        node: &Node<D>,
+        bounds: &BBox<D>,
+    ) -> u128
+        requires dims { IsDims D }
+        requires few { length node.now.entries.items ≤ 100 }
+        requires boxes { HaveBoxes D (items_of node.now.entries.items) }
+        requires lows { (axis place : ℕ) → axis < D → place < length node.now.entries.items
+            → cell lows.now axis place ≡ on_axis (box_at (items_of node.now.entries.items) place).low axis }
+        requires highs { (axis place : ℕ) → axis < D → place < length node.now.entries.items
+            → cell highs.now axis place ≡ on_axis (box_at (items_of node.now.entries.items) place).high axis }
+        ensures { Tells (near_test D self.limit bounds.now) result (items_of node.now.entries.items) }
+    {
+        let count = node.entries.len();
+        if self.limit == 0 {
+            return meet_mask(lows, highs, count, bounds);
+        }
+        let named = meet_mask(lows, highs, count, &bounds.widened(self.root));
+        self.nearer(named, node, bounds)
+    }
+
+    // Those of the entries that the mask names whose boxes are in this reach of the given one.
+    fn nearer<const D: usize>(self, named: u128, node: &Node<D>, bounds: &BBox<D>) -> u128
+        requires dims { IsDims D }
+        requires few { length node.now.entries.items ≤ 100 }
+        requires boxes { HaveBoxes D (items_of node.now.entries.items) }
+        requires named { Tells (λ b. meets_test D (widened_of D self.root bounds.now) b) named (items_of node.now.entries.items) }
+        ensures { Tells (near_test D self.limit bounds.now) result (items_of node.now.entries.items) }
+    {
+        let mut near = named;
+        let mut from = 0;
+        'entry: while let Some(place) = next_place(named, from) {
+            from = place + 1;
+            if !bounds.is_near(&node.entries[place].bounds, self.limit) {
+                near &= !(1u128 << place);
+            }
+        }
+        near
+    }
+}
