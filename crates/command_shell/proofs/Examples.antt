@@ -149,13 +149,19 @@ drop_names_a_layer = refl
 bad_changes : map meaning_of (codes "move a 1" ∷ codes "move a 1 0 0 0" ∷ codes "move a -1 0 0 0 0" ∷ codes "delete a" ∷ codes "delete a 1 2" ∷ codes "delete a +1" ∷ codes "drop" ∷ codes "drop a b" ∷ []) ≡ replicate 8 Bad
 bad_changes = refl
 
-join_names_two_layers : map meaning_of (codes "join a b" ∷ codes "join a a" ∷ []) ≡ Means (Join a b) ∷ Means (Join a a) ∷ []
+join_names_two_layers : map meaning_of (codes "join a b" ∷ codes "join a a" ∷ []) ≡ Means (Join a b 0) ∷ Means (Join a a 0) ∷ []
 join_names_two_layers = refl
+
+join_may_have_a_distance : map meaning_of (codes "join a b 007" ∷ codes "join a b 18446744073709551615" ∷ []) ≡ Means (Join a b 7) ∷ Means (Join a b 18446744073709551615) ∷ []
+join_may_have_a_distance = refl
+
+bad_distances : map meaning_of (codes "join a b c" ∷ codes "join a b 18446744073709551616" ∷ codes "join a b -1" ∷ codes "join a b +1" ∷ codes "join a b 1 2" ∷ []) ≡ replicate 5 Bad
+bad_distances = refl
 
 layers_dump_and_check_are_one_word : map meaning_of (codes "layers" ∷ codes " dump\t" ∷ codes "check\r" ∷ []) ≡ Means Layers ∷ Means Dump ∷ Means Check ∷ []
 layers_dump_and_check_are_one_word = refl
 
-bad_questions : map meaning_of (codes "join" ∷ codes "join a" ∷ codes "join a b c" ∷ codes "layers a" ∷ codes "dump a" ∷ codes "check a" ∷ codes "Layers" ∷ codes "dumps" ∷ []) ≡ replicate 8 Bad
+bad_questions : map meaning_of (codes "join" ∷ codes "join a" ∷ codes "layers a" ∷ codes "dump a" ∷ codes "check a" ∷ codes "Layers" ∷ codes "dumps" ∷ []) ≡ replicate 7 Bad
 bad_questions = refl
 
 reopen_is_one_word : map meaning_of (codes "reopen" ∷ codes "\t reopen \r" ∷ []) ≡ replicate 2 (Means Reopen)

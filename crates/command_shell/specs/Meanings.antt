@@ -66,9 +66,10 @@ abbrev pub nearest_of : List (List ℕ) → Option Command
 nearest_of (layer ∷ k ∷ ws) = option_and_then (λ n. option_map (λ p. Nearest layer n p) (point_of ws)) (number_in k)
 nearest_of ws = None
 
--- `join LAYER LAYER`
+-- `join LAYER LAYER [NUM]`: the greatest squared distance, 0 where none is given
 abbrev pub join_of : List (List ℕ) → Option Command
-join_of (first ∷ second ∷ []) = Some (Join first second)
+join_of (first ∷ second ∷ []) = Some (Join first second 0)
+join_of (first ∷ second ∷ within ∷ []) = option_map (λ n. Join first second n) (number_in within)
 join_of ws = None
 
 -- a command of one word

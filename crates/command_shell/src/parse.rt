@@ -103,12 +103,14 @@ pub enum Line<'a> {
         /// The point.
         point: RawPoint,
     },
-    /// `join LAYER LAYER`: asks for the pairs of objects whose boxes meet.
+    /// `join LAYER LAYER [NUM]`: asks for the pairs of objects whose boxes meet, or are so near.
     Join {
         /// The first layer's name.
         first: &'a [u8],
         /// The second layer's name.
         second: &'a [u8],
+        /// The greatest squared distance, 0 where none is given.
+        within: u64,
     },
     /// `layers`: asks which layers there are.
     Layers,
@@ -354,14 +356,26 @@ fn nearest(mut words: Words<'_>) -> Option<Line<'_>>
     Some(Line::Nearest { layer, k, point })
 }
 
-// `LAYER LAYER`
+// `LAYER LAYER [NUM]`
 fn join(mut words: Words<'_>) -> Option<Line<'_>>
     ensures { said_or_bad result ≡ asked (join_of words.entry) }
 {
     let first = words.next()?;
     let second = words.next()?;
+    let Some(word) = words.next() else {
+        return Some(Line::Join {
+            first,
+            second,
+            within: 0,
+        });
+    };
+    let within = number(word)?;
     if words.is_done() {
-        Some(Line::Join { first, second })
+        Some(Line::Join {
+            first,
+            second,
+            within,
+        })
     } else {
         None
     }

@@ -294,7 +294,11 @@ fn reply_to<D: BlockDevice, A: Allocator + Copy>(
         Line::Count { layer } => Some(count_reply(store.count(layer))),
         Line::Range { layer, query } => Some(range_reply(store.range(layer, query))),
         Line::Nearest { layer, k, point } => Some(distances_reply(store.nearest(layer, k, point))),
-        Line::Join { first, second } => Some(pairs_reply(store.join(first, second))),
+        Line::Join {
+            first,
+            second,
+            within,
+        } => Some(pairs_reply(store.join(first, second, within))),
         Line::Layers => Some(layers_reply(store.layers())),
         Line::Dump => Some(dump_reply(store.dump())),
         Line::Check => Some(change_reply(store.check())),

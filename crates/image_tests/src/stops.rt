@@ -58,7 +58,7 @@ const REMOVALS: [Command; 15] = [
     Command::Create(b"m", 3, 4),
     Command::Insert(b"m", 1, RawBox::Three([0; 3], [1; 3])),
     Command::Reopen,
-    Command::Join(b"l", b"l"),
+    Command::Join(b"l", b"l", 0),
     Command::Move(b"l", 3, RawBox::Two([2, 0], [2, 0])),
     Command::Check,
     Command::Reopen,

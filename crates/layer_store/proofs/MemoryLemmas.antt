@@ -42,7 +42,7 @@ module _ {D A : Type 0} {m : _} (cache : PageCache D A m) (t : Table) (stops : S
   wanting_leaves (Count name) = was
   wanting_leaves (Range name query) = was
   wanting_leaves (Nearest name k point) = was
-  wanting_leaves (Join first second) = was
+  wanting_leaves (Join first second within) = was
   wanting_leaves Layers = was
   wanting_leaves Dump = was
   wanting_leaves Check = was

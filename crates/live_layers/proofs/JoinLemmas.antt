@@ -11,7 +11,8 @@ use Rattle.std.proofs.lemmas.Bool.{cases_eq, cases_lt}
 use Rattle.std.proofs.lemmas.Bool.Decides.{nat_tests}
 use Rattle.std.proofs.lemmas.List.{map-append}
 use Rattle.std.proofs.lemmas.List.Sorted.{IsPermutation-map}
-use Rattle.box_math.specs.Bounds.{Bounds, meets_test}
+use Rattle.box_math.specs.Bounds.{Bounds}
+use Rattle.box_math.specs.Measures.{near_test}
 use Rattle.bulk_load.proofs.RowWords.{total-permutation}
 use Rattle.layer_pages.specs.Layers.{IsLayerAt, LayerPages}
 use Rattle.layer_pages.proofs.ObjectLemmas.{filter_permuted, filter_sorted}
@@ -25,7 +26,7 @@ use Rattle.plain_table.specs.Step.Answer.{Pairs}
 use Rattle.plain_table.specs.Table.{Layer, Table, is_layer_name, layer_at}
 use Rattle.plain_table.specs.declared.refusal.Refusal.{Refusal}
 use Rattle.plain_table.specs.declared.refusal.Refusal.TheVariants as refusal
-use Rattle.spatial_join.specs.Pairs.{IsJoinAnswer, meeting, pair_cmp, pairs_with}
+use Rattle.spatial_join.specs.Pairs.{IsJoinAnswer, near_objects, pair_cmp, pairs_with}
 use Rattle.store_law.specs.Lawful.{IsFault}
 use Rattle.tree_node.specs.Positions.{total}
 use Rattle.tree_node.specs.Trees.{Tree, objects_in}
@@ -115,79 +116,79 @@ module _ (o : ℕ × Bounds) where
   after_each z [] lt = tt
   after_each z (e ∷ es) lt = (nearer_first z (e.0, o.0) lt, after_each z es lt)
 
-module _ (dims : ℕ) (ys : List (ℕ × Bounds)) where
+module _ (dims within : ℕ) (ys : List (ℕ × Bounds)) where
   -- the others that an object meets
   abbrev met : ℕ × Bounds → List (ℕ × Bounds)
-  met o = filter (λ other. meets_test dims o.1 other.1) ys
+  met o = filter (λ other. near_test dims within o.1 other.1) ys
 
-  later_lead : (z : ℕ × ℕ) (xs : List (ℕ × Bounds)) → T (below_all nat_cmp z.1 xs) → Heads z (map turned (meeting dims xs ys))
+  later_lead : (z : ℕ × ℕ) (xs : List (ℕ × Bounds)) → T (below_all nat_cmp z.1 xs) → Heads z (map turned (near_objects dims within xs ys))
   later_lead z [] h = tt
   later_lead z (x ∷ xs) h =
-      subst (Heads z) (sym (map-append turned (pairs_with dims ys x) (meeting dims xs ys)))
-      (Heads-append z (map turned (pairs_with dims ys x)) (map turned (meeting dims xs ys))
+      subst (Heads z) (sym (map-append turned (pairs_with dims within ys x) (near_objects dims within xs ys)))
+      (Heads-append z (map turned (pairs_with dims within ys x)) (map turned (near_objects dims within xs ys))
       (after_each x z (met x) (rises z.1 x.0 (left_of (is_lt (nat_cmp z.1 x.0)) (below_all nat_cmp z.1 xs) h)))
       (later_lead z xs (right_of (is_lt (nat_cmp z.1 x.0)) (below_all nat_cmp z.1 xs) h)))
 
-  meeting_ascends : (xs : List (ℕ × Bounds)) → T (is_sorted nat_cmp xs) → T (is_sorted nat_cmp ys) → Ascends (map turned (meeting dims xs ys))
-  meeting_ascends [] s s' = tt
-  meeting_ascends (x ∷ xs) s s' =
-      let block = map turned (pairs_with dims ys x) in
+  near_ascend : (xs : List (ℕ × Bounds)) → T (is_sorted nat_cmp xs) → T (is_sorted nat_cmp ys) → Ascends (map turned (near_objects dims within xs ys))
+  near_ascend [] s s' = tt
+  near_ascend (x ∷ xs) s s' =
+      let block = map turned (pairs_with dims within ys x) in
       let after : T (below_all nat_cmp x.0 xs) = left_of (below_all nat_cmp x.0 xs) (is_sorted nat_cmp xs) s in
-      subst Ascends (sym (map-append turned (pairs_with dims ys x) (meeting dims xs ys)))
-      (Ascends-append block (map turned (meeting dims xs ys)) (each_ascends x (met x) (filter_sorted (λ other. meets_test dims x.1 other.1) ys s'))
-      (meeting_ascends xs (right_of (below_all nat_cmp x.0 xs) (is_sorted nat_cmp xs) s) s')
+      subst Ascends (sym (map-append turned (pairs_with dims within ys x) (near_objects dims within xs ys)))
+      (Ascends-append block (map turned (near_objects dims within xs ys)) (each_ascends x (met x) (filter_sorted (λ other. near_test dims within x.1 other.1) ys s'))
+      (near_ascend xs (right_of (below_all nat_cmp x.0 xs) (is_sorted nat_cmp xs) s) s')
       (λ z there. later_lead z xs (subst (λ (n : ℕ). T (below_all nat_cmp n xs)) (sym (each_has x z (met x) there)) after)))
 
 -- ---- the pairs of the same objects in another order
 
-sum_meeting : (dims : ℕ) (f : ℕ × ℕ → ℕ) (xs ys : List (ℕ × Bounds)) → total f (meeting dims xs ys) ≡ total (λ x. total f (pairs_with dims ys x)) xs
-sum_meeting dims f [] ys = refl
-sum_meeting dims f (x ∷ xs) ys = total-append f (pairs_with dims ys x) (meeting dims xs ys) ∙ ap (λ (n : ℕ). total f (pairs_with dims ys x) + n) (sum_meeting dims f xs ys)
+sum_near : (dims within : ℕ) (f : ℕ × ℕ → ℕ) (xs ys : List (ℕ × Bounds)) → total f (near_objects dims within xs ys) ≡ total (λ x. total f (pairs_with dims within ys x)) xs
+sum_near dims within f [] ys = refl
+sum_near dims within f (x ∷ xs) ys = total-append f (pairs_with dims within ys x) (near_objects dims within xs ys) ∙ ap (λ (n : ℕ). total f (pairs_with dims within ys x) + n) (sum_near dims within f xs ys)
 
-same_sums : (dims : ℕ) (f : ℕ × ℕ → ℕ) (xs xs' ys ys' : List (ℕ × Bounds)) → IsPermutation xs xs' → IsPermutation ys ys' → total f (meeting dims xs ys) ≡ total f (meeting dims xs' ys')
-same_sums dims f xs xs' ys ys' same same' =
-    sum_meeting dims f xs ys
-    ∙ total-same (λ x. total f (pairs_with dims ys x)) (λ x. total f (pairs_with dims ys' x)) xs
-    (λ x. sym (total-permutation f (pairs_with dims ys x) (pairs_with dims ys' x)
-    (IsPermutation-map (λ other. (x.0, other.0)) (filter (λ other. meets_test dims x.1 other.1) ys) (filter (λ other. meets_test dims x.1 other.1) ys') (filter_permuted (λ other. meets_test dims x.1 other.1) ys ys' same'))))
-    ∙ sym (total-permutation (λ x. total f (pairs_with dims ys' x)) xs xs' same)
-    ∙ sym (sum_meeting dims f xs' ys')
+same_sums : (dims within : ℕ) (f : ℕ × ℕ → ℕ) (xs xs' ys ys' : List (ℕ × Bounds)) → IsPermutation xs xs' → IsPermutation ys ys' → total f (near_objects dims within xs ys) ≡ total f (near_objects dims within xs' ys')
+same_sums dims within f xs xs' ys ys' same same' =
+    sum_near dims within f xs ys
+    ∙ total-same (λ x. total f (pairs_with dims within ys x)) (λ x. total f (pairs_with dims within ys' x)) xs
+    (λ x. sym (total-permutation f (pairs_with dims within ys x) (pairs_with dims within ys' x)
+    (IsPermutation-map (λ other. (x.0, other.0)) (filter (λ other. near_test dims within x.1 other.1) ys) (filter (λ other. near_test dims within x.1 other.1) ys') (filter_permuted (λ other. near_test dims within x.1 other.1) ys ys' same'))))
+    ∙ sym (total-permutation (λ x. total f (pairs_with dims within ys' x)) xs xs' same)
+    ∙ sym (sum_near dims within f xs' ys')
 
 -- ---- the answer
 
-pub joins_answer : (dims : ℕ) (s t : Tree) (xs ys : List (ℕ × Bounds)) (pairs : List (ℕ × ℕ)) → IsPermutation (objects_in s.row) xs → IsPermutation (objects_in t.row) ys → T (is_sorted nat_cmp xs) → T (is_sorted nat_cmp ys)
-    → IsJoinAnswer dims s t pairs → pairs ≡ meeting dims xs ys
-joins_answer dims s t xs ys pairs same same' sorted sorted' answer =
-    let all = meeting dims xs ys in
-    let below = meeting dims (objects_in s.row) (objects_in t.row) in
-    let once : map turned pairs ≡ map turned all = one_order (map turned pairs) (map turned all) (sorted_ascend pairs answer.order) (meeting_ascends dims ys xs sorted sorted')
+pub joins_answer : (dims within : ℕ) (s t : Tree) (xs ys : List (ℕ × Bounds)) (pairs : List (ℕ × ℕ)) → IsPermutation (objects_in s.row) xs → IsPermutation (objects_in t.row) ys → T (is_sorted nat_cmp xs) → T (is_sorted nat_cmp ys)
+    → IsJoinAnswer dims within s t pairs → pairs ≡ near_objects dims within xs ys
+joins_answer dims within s t xs ys pairs same same' sorted sorted' answer =
+    let all = near_objects dims within xs ys in
+    let below = near_objects dims within (objects_in s.row) (objects_in t.row) in
+    let once : map turned pairs ≡ map turned all = one_order (map turned pairs) (map turned all) (sorted_ascend pairs answer.order) (near_ascend dims within ys xs sorted sorted')
     (λ z.
     let f : ℕ × ℕ → ℕ = λ p. cond (same_row z (turned p)) 1 0 in
-    listed_turned z pairs ∙ total-permutation f below pairs answer.all ∙ same_sums dims f (objects_in s.row) xs (objects_in t.row) ys same same' ∙ sym (listed_turned z all)) in
+    listed_turned z pairs ∙ total-permutation f below pairs answer.all ∙ same_sums dims within f (objects_in s.row) xs (objects_in t.row) ys same same' ∙ sym (listed_turned z all)) in
     sym (turned_back pairs) ∙ ap (map turned) once ∙ turned_back all
 
 -- what a join of the trees of two layers answers are the pairs of the table
-pub pairs_are : (dims most other_most : ℕ) (pages : PageMap) (root other_root : Root) (directory other_directory : ℕ) (l o : LayerPages) (first second : Layer) (pairs : List (ℕ × ℕ)) → first.dims ≡ dims
-    → IsLayerAt dims most pages root directory l first.objects → IsLayerAt dims other_most pages other_root other_directory o second.objects → IsJoinAnswer dims l.tree o.tree pairs → pairs ≡ join_rows first second
-pairs_are dims most other_most pages root other_root directory other_directory l o first second pairs same at at' answer =
-    joins_answer dims l.tree o.tree (entries first.objects) (entries second.objects) pairs at.leaves at'.leaves (entries_sorted first.objects) (entries_sorted second.objects) answer
-    ∙ ap (λ (d : ℕ). meeting d (entries first.objects) (entries second.objects)) (sym same)
+pub pairs_are : (dims within most other_most : ℕ) (pages : PageMap) (root other_root : Root) (directory other_directory : ℕ) (l o : LayerPages) (first second : Layer) (pairs : List (ℕ × ℕ)) → first.dims ≡ dims
+    → IsLayerAt dims most pages root directory l first.objects → IsLayerAt dims other_most pages other_root other_directory o second.objects → IsJoinAnswer dims within l.tree o.tree pairs → pairs ≡ join_rows first second within
+pairs_are dims within most other_most pages root other_root directory other_directory l o first second pairs same at at' answer =
+    joins_answer dims within l.tree o.tree (entries first.objects) (entries second.objects) pairs at.leaves at'.leaves (entries_sorted first.objects) (entries_sorted second.objects) answer
+    ∙ ap (λ (d : ℕ). near_objects d within (entries first.objects) (entries second.objects)) (sym same)
 
 -- ---- refusals and replies
 
-module _ (t : Table) (first second : List ℕ) (named : is_layer_name first ≡ true) (named' : is_layer_name second ≡ true) where
-  pub no_first : (place : ℕ) → Belongs t first place → refusal_of t (Join first second) ≡ Some refusal.NoLayer
+module _ (t : Table) (first second : List ℕ) (within : ℕ) (named : is_layer_name first ≡ true) (named' : is_layer_name second ≡ true) where
+  pub no_first : (place : ℕ) → Belongs t first place → refusal_of t (Join first second within) ≡ Some refusal.NoLayer
   no_first place belongs = let absent = not_there t first place belongs in rw (named, named', absent) refl
 
   module _ (place : ℕ) (finds : Finds t first place) where
-    pub no_second : (other : ℕ) → Belongs t second other → refusal_of t (Join first second) ≡ Some refusal.NoLayer
+    pub no_second : (other : ℕ) → Belongs t second other → refusal_of t (Join first second within) ≡ Some refusal.NoLayer
     no_second other belongs = let there = named_there t first place finds in let absent = not_there t second other belongs in rw (named, named', there, absent) refl
 
     module _ (other : ℕ) (finds' : Finds t second other) where
-      pub dims_differ : ((layer_at t first).dims == (layer_at t second).dims) ≡ false → refusal_of t (Join first second) ≡ Some refusal.DimsDiffer
+      pub dims_differ : ((layer_at t first).dims == (layer_at t second).dims) ≡ false → refusal_of t (Join first second within) ≡ Some refusal.DimsDiffer
       dims_differ e = let there = named_there t first place finds in let there' = named_there t second other finds' in rw (named, named', there, there', e) refl
 
-      pub joins : ((layer_at t first).dims == (layer_at t second).dims) ≡ true → refusal_of t (Join first second) ≡ None
+      pub joins : ((layer_at t first).dims == (layer_at t second).dims) ≡ true → refusal_of t (Join first second within) ≡ None
       joins e = let there = named_there t first place finds in let there' = named_there t second other finds' in rw (named, named', there, there', e) refl
 
 pub pairs_replied : {A : Type 0} (rose : Type 0) (rows : List (ℕ × ℕ)) (result : Result (Vec (ℕ × ℕ) A) Refusal) → IfOk result (λ pairs. pairs.items ≡ rows) → IfErr result (IsFault rose) → IsReply rose None (Pairs rows) (pairs_answer result)

@@ -8,6 +8,7 @@ use Rattle.std.specs.FinMap.{IsAntisymmetric, put, is_sorted, find, from_entries
 use Rattle.std.specs.FinMap.Entries.{find-where_key, is_sorted-where_key, where_key}
 use Rattle.std.specs.declared.cmp.Ordering.{Ordering}
 use Rattle.box_math.specs.Bounds.{Bounds, holds_test, meets_test, ordered_test, within_test}
+use Rattle.box_math.specs.Measures.{near_test}
 use Rattle.plain_table.specs.Commands.Command.{Create, Insert, Load, Move, Delete, Drop, Get, Count, Range, Nearest, Join, Layers, Dump, Check, Reopen}
 use Rattle.plain_table.specs.Listings.DumpLine.{CreateLine, InsertLine}
 use Rattle.plain_table.specs.Loads.{given_object}
@@ -538,25 +539,29 @@ points_at : get (table three_layers) (codes "l") ≡ Some (layer 2 4 loaded_poin
 points_at = get-from_sorted (slice_cmp nat_cmp) three_layers (codes "l") tt
 
 -- each pair in both orders
-join_of_a_layer_with_itself : reply_of (table three_layers) (Join a a) ≡ Pairs ((1, 1) ∷ (1, 2) ∷ (2, 1) ∷ (2, 2) ∷ [])
-unfolding meets_test
+join_of_a_layer_with_itself : reply_of (table three_layers) (Join a a 0) ≡ Pairs ((1, 1) ∷ (1, 2) ∷ (2, 1) ∷ (2, 2) ∷ [])
+unfolding near_test
 join_of_a_layer_with_itself = rw (squares_at, entries-from_sorted nat_cmp squares tt) refl
 
-join_of_points_and_squares : reply_of (table three_layers) (Join (codes "l") a) ≡ Pairs ((1, 1) ∷ (2, 1) ∷ [])
-unfolding meets_test
+join_of_points_and_squares : reply_of (table three_layers) (Join (codes "l") a 0) ≡ Pairs ((1, 1) ∷ (2, 1) ∷ [])
+unfolding near_test
 join_of_points_and_squares = rw (points_at, squares_at, entries-from_sorted nat_cmp squares tt, entries-from_sorted nat_cmp loaded_points tt) refl
 
-join_of_squares_and_points : reply_of (table three_layers) (Join a (codes "l")) ≡ Pairs ((1, 1) ∷ (1, 2) ∷ [])
-unfolding meets_test
+join_of_squares_and_points : reply_of (table three_layers) (Join a (codes "l") 0) ≡ Pairs ((1, 1) ∷ (1, 2) ∷ [])
+unfolding near_test
 join_of_squares_and_points = rw (points_at, squares_at, entries-from_sorted nat_cmp squares tt, entries-from_sorted nat_cmp loaded_points tt) refl
 
-join_of_plane_and_space : reply_of (table three_layers) (Join a (codes "c")) ≡ Refused refusal.DimsDiffer
+join_within_a_distance : reply_of (table three_layers) (Join (codes "l") a 1) ≡ Pairs ((1, 1) ∷ (2, 1) ∷ (2, 2) ∷ (3, 1) ∷ (3, 2) ∷ [])
+unfolding near_test
+join_within_a_distance = rw (points_at, squares_at, entries-from_sorted nat_cmp squares tt, entries-from_sorted nat_cmp loaded_points tt) refl
+
+join_of_plane_and_space : reply_of (table three_layers) (Join a (codes "c") 0) ≡ Refused refusal.DimsDiffer
 join_of_plane_and_space = rw (squares_at, extremes_at) refl
 
-join_with_no_layer : reply_of (table touching) (Join a (codes "q")) ≡ Refused refusal.NoLayer
+join_with_no_layer : reply_of (table touching) (Join a (codes "q") 0) ≡ Refused refusal.NoLayer
 join_with_no_layer = rw (touching_at, get-from_sorted (slice_cmp nat_cmp) touching (codes "q") tt) refl
 
-join_bad_name_before_no_layer : (t : Table) → reply_of t (Join (codes "q") (codes "A")) ≡ Refused refusal.BadName
+join_bad_name_before_no_layer : (t : Table) → reply_of t (Join (codes "q") (codes "A") 0) ≡ Refused refusal.BadName
 join_bad_name_before_no_layer t = refl
 
 -- ---- layers and dump

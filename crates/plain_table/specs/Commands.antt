@@ -16,7 +16,7 @@ pub data Command : Type 0 where
   Count : List ℕ → Command
   Range : List ℕ → RawQuery → Command
   Nearest : List ℕ → ℕ → RawPoint → Command
-  Join : List ℕ → List ℕ → Command
+  Join : List ℕ → List ℕ → ℕ → Command
   Layers : Command
   Dump : Command
   Check : Command

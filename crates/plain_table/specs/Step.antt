@@ -1,7 +1,8 @@
 -- What a command answers and what it changes, on the plain table. Our rule, docs/COMMANDS.md.
 use Rattle.std.specs.Prelude.{ℕ, ◌+◌, Bool, false, not, ◌&&◌, ◌==◌, nat_le, nat_lt, List, [], ◌∷◌, length, if◌then◌else◌, Option, Some, None, is_some, filter, flat_map, map as each, take, unwrap_or}
 use Rattle.std.specs.FinMap as map
-use Rattle.box_math.specs.Bounds.{Bounds, meets_test}
+use Rattle.box_math.specs.Bounds.{Bounds}
+use Rattle.box_math.specs.Measures.{near_test}
 use Rattle.box_math.specs.Nearest.{by_distance}
 use Rattle.plain_table.specs.Boxes.{dims_of, given_bounds, given_point, is_ordered, point_dims, same_bounds}
 use Rattle.plain_table.specs.Commands.{Command}
@@ -96,7 +97,7 @@ refusals_of t (Get name id) = layer_refusals t name (missing_refusals (layer_at 
 refusals_of t (Count name) = layer_refusals t name []
 refusals_of t (Range name query) = layer_refusals t name (query_refusals (layer_at t name).dims query)
 refusals_of t (Nearest name k point) = layer_refusals t name (nearest_refusals (layer_at t name).dims k point)
-refusals_of t (Join first second) = join_refusals t first second
+refusals_of t (Join first second within) = join_refusals t first second
 refusals_of t Layers = []
 refusals_of t Dump = []
 refusals_of t Check = []
@@ -133,11 +134,11 @@ range_rows layer query = filter (λ row. is_sought layer.dims query row.1) (map.
 abbrev pub nearest_rows : Layer → ℕ → RawPoint → List (ℕ × ℕ)
 nearest_rows layer k point = take k (by_distance layer.dims (given_point point) (map.entries layer.objects))
 
--- all pairs of an object of one layer and an object of another whose boxes meet: their identifiers, ascending by the first and
--- then by the second
-abbrev pub join_rows : Layer → Layer → List (ℕ × ℕ)
-join_rows first second =
-    flat_map (λ object. each (λ other. (object.0, other.0)) (filter (λ other. meets_test first.dims object.1 other.1) (map.entries second.objects)))
+-- all pairs of an object of one layer and an object of another whose boxes have at most this squared distance: their
+-- identifiers, ascending by the first and then by the second
+abbrev pub join_rows : Layer → Layer → ℕ → List (ℕ × ℕ)
+join_rows first second within =
+    flat_map (λ object. each (λ other. (object.0, other.0)) (filter (λ other. near_test first.dims within object.1 other.1) (map.entries second.objects)))
     (map.entries first.objects)
 
 -- the answer to a command that was not refused
@@ -152,7 +153,7 @@ answer_of t (Get name id) = Boxes (object_row (layer_at t name) id ∷ [])
 answer_of t (Count name) = Counted (map.len (layer_at t name).objects)
 answer_of t (Range name query) = Boxes (range_rows (layer_at t name) query)
 answer_of t (Nearest name k point) = Distances (nearest_rows (layer_at t name) k point)
-answer_of t (Join first second) = Pairs (join_rows (layer_at t first) (layer_at t second))
+answer_of t (Join first second within) = Pairs (join_rows (layer_at t first) (layer_at t second) within)
 answer_of t Layers = Listed (all_layers t)
 answer_of t Dump = Dumped (all_lines t)
 answer_of t Check = Done

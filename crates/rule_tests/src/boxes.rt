@@ -59,6 +59,10 @@ fn measures_reach_the_ends_of_i32(rt: HostRuntime) -> Result<(), Fail> {
     assert_eq!(rt; whole.centre2(), [-1; 3]);
     assert_eq!(rt; lowest.point_dist2(&[i32::MAX; 3]), 55340232195358851075);
     assert_eq!(rt; lowest.centre_dist2(&highest), 221360928781435404300);
+    assert_eq!(rt; lowest.box_dist2(&highest), 55340232195358851075);
+    assert!(rt; !lowest.is_near(&highest, u64::MAX) && lowest.is_near(&lowest, 0));
+    assert_eq!(rt; highest.widened(u32::MAX), whole);
+    assert_eq!(rt; lowest.widened(3).high(), [i32::MIN + 3; 3]);
     assert_eq!(rt; lowest.join(&highest), whole);
     let plane = BBox::try_new([i32::MIN; 2], [i32::MAX; 2]).ok_or(NoBox)?;
     assert_eq!(rt; plane.volume(), 18446744065119617025);

@@ -43,16 +43,16 @@ fn scene(alloc: Global) -> Result<MemoryDevice, Fault> {
 }
 
 // The pairs of a join, of which there are few, and how many pages were looked at.
-fn joined(alloc: Global, a: Root, b: Root) -> Result<(Vec<(u64, u64)>, u64), Fault> {
+fn joined(alloc: Global, a: Root, b: Root, within: u64) -> Result<(Vec<(u64, u64)>, u64), Fault> {
     let file = open_pages(scene(alloc)?).map_err(|(fault, _)| fault)?;
     let mut cache = PageCache::over(alloc, file, 8).map_err(|(fault, _)| fault)?;
-    let pairs = join::<2, _, _, _>(alloc, &mut cache, a, b)?;
+    let pairs = join::<2, _, _, _>(alloc, &mut cache, a, b, within)?;
     Ok((pairs, cache.looks()))
 }
 
 #[test]
 fn touching_boxes_are_joined(rt: HostRuntime) -> Result<(), Fail> {
-    let (pairs, looks) = joined(rt.alloc(), TOUCHING, TOUCHING)?;
+    let (pairs, looks) = joined(rt.alloc(), TOUCHING, TOUCHING, 0)?;
     assert_eq!(rt;
         pairs.as_slice(),
         [(1, 1), (1, 2), (2, 1), (2, 2)].as_slice()
@@ -63,19 +63,38 @@ fn touching_boxes_are_joined(rt: HostRuntime) -> Result<(), Fail> {
 
 #[test]
 fn trees_of_different_heights_are_joined(rt: HostRuntime) -> Result<(), Fail> {
-    let (pairs, looks) = joined(rt.alloc(), TALL, TOUCHING)?;
+    let (pairs, looks) = joined(rt.alloc(), TALL, TOUCHING, 0)?;
     assert_eq!(rt; pairs.as_slice(), [(1, 1), (2, 1)].as_slice());
     // the roots, and each leaf beside the other root, whose box meets both of theirs
     assert!(rt; looks <= 6);
-    let (pairs, looks) = joined(rt.alloc(), TOUCHING, TALL)?;
+    let (pairs, looks) = joined(rt.alloc(), TOUCHING, TALL, 0)?;
     assert_eq!(rt; pairs.as_slice(), [(1, 1), (1, 2)].as_slice());
     assert!(rt; looks <= 6);
     Ok(())
 }
 
+// A squared distance of 1 and of 2 of the squares, one of which touches the first two points.
+#[test]
+fn boxes_that_are_near_are_joined(rt: HostRuntime) -> Result<(), Fail> {
+    let (pairs, looks) = joined(rt.alloc(), TALL, TOUCHING, 1)?;
+    assert_eq!(rt;
+        pairs.as_slice(),
+        [(1, 1), (2, 1), (2, 2), (3, 1), (3, 2)].as_slice()
+    );
+    assert!(rt; looks <= 6);
+    let (pairs, _) = joined(rt.alloc(), TALL, TOUCHING, 2)?;
+    assert_eq!(rt;
+        pairs.as_slice(),
+        [(1, 1), (1, 2), (2, 1), (2, 2), (3, 1), (3, 2), (4, 2)].as_slice()
+    );
+    let (pairs, _) = joined(rt.alloc(), TALL, TOUCHING, u64::MAX)?;
+    assert_eq!(rt; pairs.len(), 10);
+    Ok(())
+}
+
 #[test]
 fn a_tree_is_joined_with_itself(rt: HostRuntime) -> Result<(), Fail> {
-    let (pairs, looks) = joined(rt.alloc(), TALL, TALL)?;
+    let (pairs, looks) = joined(rt.alloc(), TALL, TALL, 0)?;
     assert_eq!(rt;
         pairs.as_slice(),
         [(1, 1), (2, 2), (3, 3), (4, 4), (5, 5)].as_slice()
@@ -88,7 +107,7 @@ fn a_tree_is_joined_with_itself(rt: HostRuntime) -> Result<(), Fail> {
 #[test]
 fn an_empty_root_meets_nothing(rt: HostRuntime) -> Result<(), Fail> {
     for (a, b) in [(TALL, EMPTY), (EMPTY, TALL), (EMPTY, EMPTY)] {
-        let (pairs, looks) = joined(rt.alloc(), a, b)?;
+        let (pairs, looks) = joined(rt.alloc(), a, b, u64::MAX)?;
         assert!(rt; pairs.is_empty());
         assert!(rt; looks <= 2);
     }
@@ -98,7 +117,7 @@ fn an_empty_root_meets_nothing(rt: HostRuntime) -> Result<(), Fail> {
 #[test]
 fn pages_of_no_tree_are_damaged(rt: HostRuntime) -> Result<(), Fail> {
     for (a, b) in [(HOSTILE, TALL), (TOUCHING, HOSTILE), (HOSTILE, HOSTILE)] {
-        assert!(rt; joined(rt.alloc(), a, b).err() == Some(Fault::Damaged(8)));
+        assert!(rt; joined(rt.alloc(), a, b, 0).err() == Some(Fault::Damaged(8)));
     }
     Ok(())
 }

@@ -96,6 +96,15 @@ const GOOD: [(&[u8], Line<'static>); 25] = [
         Line::Join {
             first: b"a",
             second: b"b",
+            within: 0,
+        },
+    ),
+    (
+        b"join a b 18446744073709551615",
+        Line::Join {
+            first: b"a",
+            second: b"b",
+            within: u64::MAX,
         },
     ),
     (b"layers", Line::Layers),
@@ -164,6 +173,10 @@ const BAD: [&[u8]; 52] = [
     b"drop a b",
     b"join a",
     b"join a b c",
+    b"join a b +1",
+    b"join a b -1",
+    b"join a b 1 2",
+    b"join a b 18446744073709551616",
     b"layers a",
     b"reopen a",
     b"REOPEN",

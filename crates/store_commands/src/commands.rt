@@ -47,8 +47,8 @@ pub enum Command<'a> {
     Point(&'a [u8], RawPoint),
     /// So many objects nearest to a point.
     Nearest(&'a [u8], u64, RawPoint),
-    /// The pairs of objects of two layers that meet.
-    Join(&'a [u8], &'a [u8]),
+    /// The pairs of objects of two layers that are so near.
+    Join(&'a [u8], &'a [u8], u64),
     /// All layers.
     Layers,
     /// All layers and objects.
@@ -153,7 +153,9 @@ fn ask<D: BlockDevice, A: Allocator + Copy + Drop>(
         Command::Nearest(name, k, point) => {
             push_distances(numbers, &store.nearest(name, k, point)?)?
         }
-        Command::Join(first, second) => push_pairs(numbers, &store.join(first, second)?)?,
+        Command::Join(first, second, within) => {
+            push_pairs(numbers, &store.join(first, second, within)?)?
+        }
         Command::Layers => push_infos(numbers, &store.layers()?)?,
         Command::Dump => push_dump(numbers, &store.dump()?)?,
         Command::Check => store.check()?,
@@ -206,8 +208,11 @@ fn list_answer(alloc: Global, table: &ListTable<Global>, question: Command<'_>) 
         Command::Nearest(name, k, point) => {
             push_distances(&mut numbers, &table.nearest(name, k, point)?)?
         }
-        Command::Join(first, second) => {
-            push_pairs(&mut numbers, &all_pairs(alloc, table, first, second)?)?
+        Command::Join(first, second, within) => {
+            push_pairs(
+                &mut numbers,
+                &all_pairs(alloc, table, first, second, within)?,
+            )?
         }
         Command::Layers => push_infos(&mut numbers, &infos(alloc, table)?)?,
         Command::Dump => push_dump(&mut numbers, &dumped(alloc, table)?)?,

@@ -151,12 +151,22 @@ pub fn loaded(
     Ok(copy)
 }
 
-/// All pairs of objects of two layers that meet.
+// Whether two boxes of as many axes have at most this squared distance.
+fn are_near(bounds: &AnyBox, other: &AnyBox, within: u64) -> bool {
+    match (bounds, other) {
+        (AnyBox::Two(bounds), AnyBox::Two(other)) => bounds.is_near(other, within),
+        (AnyBox::Three(bounds), AnyBox::Three(other)) => bounds.is_near(other, within),
+        _ => false,
+    }
+}
+
+/// All pairs of objects of two layers that are so near.
 pub fn all_pairs(
     alloc: Global,
     table: &Table,
     first: &[u8],
     second: &[u8],
+    within: u64,
 ) -> Result<Vec<(u64, u64)>, Refusal> {
     let counts = [table.count(first), table.count(second)];
     for refusal in [Refusal::BadName, Refusal::NoLayer] {
@@ -177,12 +187,12 @@ pub fn all_pairs(
         return Err(Refusal::DimsDiffer);
     }
     let mut pairs = Vec::new(alloc);
+    let others = objects_of(table, second, dims[1])?;
     for (id, bounds) in objects_of(table, first, dims[0])?.iter() {
-        for row in table
-            .range(second, RawQuery::Window(given(*bounds)))?
-            .iter()
-        {
-            pairs.push((*id, row.0))?;
+        for (other_id, other) in others.iter() {
+            if are_near(bounds, other, within) {
+                pairs.push((*id, *other_id))?;
+            }
         }
     }
     Ok(pairs)

@@ -269,15 +269,26 @@ pub const JOINED: Scene = Scene {
     ],
     asked: &[
         (
-            Command::Join(b"a", b"a"),
+            Command::Join(b"a", b"a", 0),
             Ok(&[1, 1, 1, 2, 2, 1, 2, 2]),
             None,
         ),
-        (Command::Join(b"l", b"a"), Ok(&[1, 1, 2, 1]), None),
-        (Command::Join(b"a", b"l"), Ok(&[1, 1, 1, 2]), None),
-        (Command::Join(b"a", b"c"), Err(Refusal::DimsDiffer), None),
-        (Command::Join(b"q", b"C"), Err(Refusal::BadName), None),
-        (Command::Join(b"a", b"q"), Err(Refusal::NoLayer), None),
+        (Command::Join(b"l", b"a", 0), Ok(&[1, 1, 2, 1]), None),
+        (Command::Join(b"a", b"l", 0), Ok(&[1, 1, 1, 2]), None),
+        (
+            Command::Join(b"l", b"a", 1),
+            Ok(&[1, 1, 2, 1, 2, 2, 3, 1, 3, 2]),
+            None,
+        ),
+        (
+            Command::Join(b"l", b"a", 2),
+            Ok(&[1, 1, 1, 2, 2, 1, 2, 2, 3, 1, 3, 2, 4, 2]),
+            None,
+        ),
+        (Command::Join(b"c", b"c", u64::MAX), Ok(&[2, 2]), None),
+        (Command::Join(b"a", b"c", 5), Err(Refusal::DimsDiffer), None),
+        (Command::Join(b"q", b"C", 0), Err(Refusal::BadName), None),
+        (Command::Join(b"a", b"q", 0), Err(Refusal::NoLayer), None),
         (
             Command::Layers,
             Ok(&[97, 2, 4, 2, 99, 3, 4, 1, 108, 2, 4, 5]),

@@ -82,16 +82,18 @@ fn changes_are_answered_as_worked_out(rt: HostRuntime) -> Result<(), Fail> {
     Ok(())
 }
 
-// Three pairs of nodes meet, at most two looks each.
+// Three pairs of nodes meet, or are at most 1 apart, at most two looks each.
 #[test]
 fn a_join_looks_at_six_nodes_at_most(rt: HostRuntime) -> Result<(), Fail> {
-    let mut store = new_store(rt.alloc(), 64)?;
-    answer_all(rt.alloc(), &mut store, &TWO)?;
-    answer_all(rt.alloc(), &mut store, &FIVE)?;
-    let before = store.looks();
-    answer_all(rt.alloc(), &mut store, &[Command::Join(b"l", b"a")])?;
-    let looks = store.looks().wrapping_sub(before);
-    assert!(rt; 0 < looks && looks <= 6, "{looks} looks");
+    for within in [0, 1] {
+        let mut store = new_store(rt.alloc(), 64)?;
+        answer_all(rt.alloc(), &mut store, &TWO)?;
+        answer_all(rt.alloc(), &mut store, &FIVE)?;
+        let before = store.looks();
+        answer_all(rt.alloc(), &mut store, &[Command::Join(b"l", b"a", within)])?;
+        let looks = store.looks().wrapping_sub(before);
+        assert!(rt; 0 < looks && looks <= 6, "{looks} looks");
+    }
     Ok(())
 }
 

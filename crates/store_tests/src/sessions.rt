@@ -127,11 +127,21 @@ fn any_question(dice: &mut Dice, place: usize) -> Command<'static>
         6 => Command::Around(name, bounds),
         7 | 8 => Command::Point(name, point),
         9 | 10 => Command::Nearest(name, u64::from(dice.below(12)), point),
-        11 => Command::Join(name, NAMES[any_place(dice)]),
+        11 => Command::Join(name, NAMES[any_place(dice)], any_distance(dice)),
         12 if dice.below(4) == 0 => Command::Dump,
         12 if dice.below(2) == 0 => Command::Check,
         12 => Command::Layers,
         _ => Command::Window(name, bounds),
+    }
+}
+
+// A squared distance: none, one of neighbours, and the greatest that can be asked.
+fn any_distance(dice: &mut Dice) -> u64 {
+    match dice.below(4) {
+        0 => 0,
+        1 => u64::from(dice.below(12)),
+        2 => u64::from(dice.below(1 << 30)).wrapping_mul(u64::from(dice.below(1 << 30))),
+        _ => u64::MAX,
     }
 }
 

@@ -59,12 +59,12 @@ fn the_nearest_are_the_first_of_a_sort(rt: HostRuntime) -> Result<(), Fail> {
     Ok(())
 }
 
-// Whether the pairs are those of all objects whose boxes meet, in the order of both lists.
-fn are_pairs(pairs: &[(u64, u64)], left: &[Entry<2>], right: &[Entry<2>]) -> bool {
+// Whether the pairs are those of all objects whose boxes are so near, in the order of both lists.
+fn are_pairs(pairs: &[(u64, u64)], left: &[Entry<2>], right: &[Entry<2>], within: u64) -> bool {
     let mut rest = pairs.iter();
     for a in left {
         for b in right {
-            if a.bounds.meets(&b.bounds)
+            if a.bounds.is_near(&b.bounds, within)
                 && rest.next().copied() != Some((a.reference, b.reference))
             {
                 return false;
@@ -83,13 +83,15 @@ fn joins_are_those_of_a_double_loop(rt: HostRuntime) -> Result<(), Fail> {
         let tall = insert_tree::<2>(rt.alloc(), &mut cache, few.as_slice(), 4)?;
         let low = load_boxes(rt.alloc(), &mut cache, spread, MANY, 100)?;
         assert!(rt; low.level < tall.level);
-        let pairs = join::<2, _, _, _>(rt.alloc(), &mut cache, tall, low)?;
-        assert!(rt; !pairs.is_empty());
-        assert!(rt; are_pairs(pairs.as_slice(), few.as_slice(), many.as_slice()));
-        let pairs = join::<2, _, _, _>(rt.alloc(), &mut cache, low, tall)?;
-        assert!(rt; are_pairs(pairs.as_slice(), many.as_slice(), few.as_slice()));
-        let pairs = join::<2, _, _, _>(rt.alloc(), &mut cache, low, low)?;
-        assert!(rt; are_pairs(pairs.as_slice(), many.as_slice(), many.as_slice()));
+        for within in [0, 1_000_003] {
+            let pairs = join::<2, _, _, _>(rt.alloc(), &mut cache, tall, low, within)?;
+            assert!(rt; !pairs.is_empty());
+            assert!(rt; are_pairs(pairs.as_slice(), few.as_slice(), many.as_slice(), within));
+            let pairs = join::<2, _, _, _>(rt.alloc(), &mut cache, low, tall, within)?;
+            assert!(rt; are_pairs(pairs.as_slice(), many.as_slice(), few.as_slice(), within));
+        }
+        let pairs = join::<2, _, _, _>(rt.alloc(), &mut cache, low, low, 0)?;
+        assert!(rt; are_pairs(pairs.as_slice(), many.as_slice(), many.as_slice(), 0));
     }
     Ok(())
 }

@@ -133,22 +133,27 @@ impl<D: BlockDevice, A: Allocator + Copy> Store<D, A> {
         self.range(layer, RawQuery::Point(point))
     }
 
-    /// All pairs of an object of the first layer and an object of the second whose boxes meet: their identifiers,
-    /// ascending by the first and then by the second. It looks at no more than twice as many nodes as there are pairs
+    /// All pairs of an object of the first layer and an object of the second whose boxes have at most this squared
+    /// distance, and within 0 meet: their identifiers, ascending by the first and then by the second. It looks at no more than twice as many nodes as there are pairs
     /// of nodes of the two trees that a join admits.
     ///
     /// Refused, in this order, by BadName, NoLayer and DimsDiffer. Both names are tried before it is asked whether
     /// there are such layers.
-    pub fn join(&mut self, first: &[u8], second: &[u8]) -> Result<Vec<(u64, u64), A>, Refusal>
-        ensures answers { Answers self.old self.new (Join first.now second.now) pairs_answer result }
+    pub fn join(
+        &mut self,
+        first: &[u8],
+        second: &[u8],
+        within: u64,
+    ) -> Result<Vec<(u64, u64), A>, Refusal>
+        ensures answers { Answers self.old self.new (Join first.now second.now within) pairs_answer result }
         ensures looks { (t : Table) → RepresentsTable self.old t →
             OnOk result (LooksAtTrees (layers_in self.old) (layers_in self.new) first.now second.now
-            (λ tree other. 2 * admitted_pairs (layer_at t first.now).dims tree other)) }
+            (λ tree other. 2 * admitted_pairs (layer_at t first.now).dims within tree other)) }
     {
         if self.failed {
             return Err(FAILED);
         }
-        self.layers.join(first, second)
+        self.layers.join(first, second, within)
     }
 
     /// How many nodes questions have looked at so far, with the pages that other commands have. The count stays at

@@ -101,17 +101,22 @@ impl<B: BlockDevice, A: Allocator + Copy> Layers<B, A> {
         }
     }
 
-    /// All pairs of an object of the first layer and an object of the second whose boxes meet: their identifiers,
-    /// ascending by the first and then by the second. At most twice as many nodes are looked at as there are pairs of
+    /// All pairs of an object of the first layer and an object of the second whose boxes have at most this squared
+    /// distance, and within 0 meet: their identifiers, ascending by the first and then by the second. At most twice as many nodes are looked at as there are pairs of
     /// nodes of the two trees that have to be.
     ///
     /// Refused, in this order, by BadName, NoLayer and DimsDiffer. Both names are tried before it is asked whether
     /// there are such layers.
-    pub fn join(&mut self, first: &[u8], second: &[u8]) -> Result<Vec<(u64, u64), A>, Refusal>
+    pub fn join(
+        &mut self,
+        first: &[u8],
+        second: &[u8],
+        within: u64,
+    ) -> Result<Vec<(u64, u64), A>, Refusal>
         ensures answered { (t : Table) → IsSound self.old t →
-            IsAnswered self.old self.new t (Join first.now second.now) (pairs_answer result) }
+            IsAnswered self.old self.new t (Join first.now second.now within) (pairs_answer result) }
         ensures looks { (t : Table) → IsSound self.old t → OnOk result (LooksAtTrees self.old self.new first.now
-            second.now (λ tree other. 2 * admitted_pairs (layer_at t first.now).dims tree other)) }
+            second.now (λ tree other. 2 * admitted_pairs (layer_at t first.now).dims within tree other)) }
         ensures keeps { KeepsInQuestion self.old self.new result }
     {
         if !is_layer_name(first) || !is_layer_name(second) {
@@ -129,9 +134,9 @@ impl<B: BlockDevice, A: Allocator + Copy> Layers<B, A> {
             return Err(Refusal::DimsDiffer);
         }
         if left.dims == 2 {
-            self.pairs_in::<2>(&left, &right)
+            self.pairs_in::<2>(&left, &right, within)
         } else {
-            self.pairs_in::<3>(&left, &right)
+            self.pairs_in::<3>(&left, &right, within)
         }
     }
 

@@ -52,7 +52,7 @@ pub returns-in-Drop-clause-replies : goal.returns-in-Drop-clause-replies
 returns-in-Drop-clause-replies g c = replied _ (Drop c.in-Drop.layer.now) (done_answer c.drop_layer.result) _ (ap said c.in-Drop.is) c.change_reply-in-Drop.ensures c.drop_layer.ensures.changes.step
 
 pub returns-in-Join-clause-replies : goal.returns-in-Join-clause-replies
-returns-in-Join-clause-replies g c = replied _ (Join c.in-Join.first.now c.in-Join.second.now) (pairs_answer c.join.result) _ (ap said c.in-Join.is) c.pairs_reply.ensures c.join.ensures.answers.step
+returns-in-Join-clause-replies g c = replied _ (Join c.in-Join.first.now c.in-Join.second.now c.in-Join.within) (pairs_answer c.join.result) _ (ap said c.in-Join.is) c.pairs_reply.ensures c.join.ensures.answers.step
 
 pub returns-in-Layers-clause-replies : goal.returns-in-Layers-clause-replies
 returns-in-Layers-clause-replies g c = replied _ Layers (layers_answer c.layers.result) _ (ap said c.in-Layers.is) c.layers_reply.ensures c.layers.ensures.answers.step

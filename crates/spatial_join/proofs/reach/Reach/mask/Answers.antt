@@ -13,6 +13,20 @@ returns-then-self-eq0 g c =
     (tells_entries c.args.lows.now c.args.highs.now c.args.node.now.entries.items c.args.bounds.now c.meet_mask.result c.len-count.result c.len-count.ensures.value c.meet_mask.ensures c.requires.lows c.requires.highs)
 
 pub nearer-requires : goal.nearer-requires
-nearer-requires g c = (search rules, (search rules, (c.requires.dims, (c.requires.few, (c.requires.boxes, 
-    subst (λ (w : Bounds). Tells (meets_test g.row.D w) c.meet_mask-named.result (items_of c.args.node.now.entries.items)) c.widened.ensures.value
-    (tells_entries c.args.lows.now c.args.highs.now c.args.node.now.entries.items c.widened.result c.meet_mask-named.result c.len-count.result c.len-count.ensures.value c.meet_mask-named.ensures c.requires.lows c.requires.highs))))))
+nearer-requires g c = (
+  search rules,
+  (
+    search rules,
+    (
+      c.requires.dims,
+      (
+        c.requires.few,
+        (
+          c.requires.boxes,
+          subst (λ (w : Bounds). Tells (meets_test g.row.D w) c.meet_mask-named.result (items_of c.args.node.now.entries.items)) c.widened.ensures.value
+              (tells_entries c.args.lows.now c.args.highs.now c.args.node.now.entries.items c.widened.result c.meet_mask-named.result c.len-count.result c.len-count.ensures.value c.meet_mask-named.ensures c.requires.lows c.requires.highs),
+        ),
+      ),
+    ),
+  ),
+)
