@@ -77,6 +77,7 @@ def scene(folder, boxes, shape="uniform", axes="2", fanout="100"):
         "delete": (changes, (text("delete a", place) for place in shuffled(boxes)[:changes])),
         "load": (boxes, (text(place, at.box()) for place in shuffled(boxes))),
         "join": (boxes, ["join a b"]),
+        "join within": (boxes, [text("join a b", int(at.width(1) / 2) ** 2)]),
     }
     before = {"insert": f"create a {axes} {fanout}", "load": f"create b {axes} {fanout}\nload b {boxes}"}
     with open(f"{folder}/counts", "w") as counts:
@@ -110,7 +111,7 @@ def small_command(axes, there, words):
         sides = random.randrange(20) if word != "around" else -random.randrange(4)
         return text(word, layer, box[:axes], [max(low, high + sides) for low, high in zip(box, box[axes:])])
     if word == "join":
-        return text(word, layer, random.choice([layer, f"packed{axes}"]))
+        return text(word, layer, random.choice([layer, f"packed{axes}"]), random.choice([[], random.randrange(200)]))
     tail = {"point": box[:axes], "nearest": [random.choice([1, 3, 1000]), *box[:axes]], "count": [], "reopen": []}
     return text(word, layer, tail[word]) if word in tail else "reopen"
 

@@ -3,6 +3,7 @@
 // usage: peer PAGES [FILE], the commands on standard input. Without FILE the index is in memory, and Boost's always is.
 #include <algorithm>
 #include <charconv>
+#include <cmath>
 #include <cstdint>
 #include <cstdio>
 #include <cstdlib>
@@ -43,6 +44,24 @@ static uint64_t distance(const Row &row, const int32_t *point, int axes) {
     return sum;
 }
 
+// The squared distance of two boxes, that of their nearest points.
+static unsigned __int128 distance(const Row &row, const Row &other, int axes) {
+    unsigned __int128 sum = 0;
+    for (int k = 0; k < axes; k++) {
+        int64_t gap = std::max({int64_t(row.at[k]) - other.at[axes + k], int64_t(other.at[k]) - row.at[axes + k], int64_t(0)});
+        sum += (unsigned __int128)(gap) * gap;
+    }
+    return sum;
+}
+
+// The box with its sides moved out by so much, but not past the ends of 32-bit numbers.
+static void widen(const Row &row, int64_t by, int axes, int32_t *box) {
+    for (int k = 0; k < axes; k++) {
+        box[k] = int32_t(std::max(int64_t(row.at[k]) - by, int64_t(INT32_MIN)));
+        box[axes + k] = int32_t(std::min(int64_t(row.at[axes + k]) + by, int64_t(INT32_MAX)));
+    }
+}
+
 struct Layer {
     const int axes;
     size_t size = 0;
@@ -64,16 +83,21 @@ struct Layer {
         for (const Row &row : rows) insert(row);
     }
 
-    // A window of one tree for each object of the other, in the order of its leaves.
-    virtual void join(Layer &other, Pairs &found) {
+    // A window of one tree for each object of the other, in the order of its leaves; within a squared distance a window
+    // of its box widened by the root, and then the distance of each.
+    virtual void join(Layer &other, uint64_t within, Pairs &found) {
         Rows all, met;
         const int32_t least = INT32_MIN, most = INT32_MAX;
         const int32_t space[6] = {least, least, axes == 2 ? most : least, most, most, most};
+        const int64_t root = int64_t(std::sqrt((long double)within));
+        int32_t box[6];
         search(WINDOW, space, all);
         for (const Row &row : all) {
             met.clear();
-            other.search(WINDOW, row.at, met);
-            for (const Row &each : met) found.emplace_back(row.id, each.id);
+            widen(row, root, axes, box);
+            other.search(WINDOW, box, met);
+            for (const Row &each : met)
+                if (within == 0 || distance(row, each, axes) <= within) found.emplace_back(row.id, each.id);
         }
     }
 };
@@ -208,7 +232,8 @@ struct Table : Layer {
         must(sqlite3_reset(near));
     }
 
-    void join(Layer &other, Pairs &found) override {
+    void join(Layer &other, uint64_t within, Pairs &found) override {
+        if (within > 0) return Layer::join(other, within, found);
         sqlite3_stmt *both = statement("SELECT p.id, q.id FROM " + name + " p CROSS JOIN " + static_cast<Table &>(other).name +
             " q WHERE " + all("q.h# >= p.l# AND q.l# <= p.h#", " AND "));
         while (sqlite3_step(both) == SQLITE_ROW)
@@ -491,6 +516,11 @@ struct Words {
         return {from, size_t(at - from)};
     }
 
+    bool is_done() {
+        while (at < end && *at == ' ') at++;
+        return at == end;
+    }
+
     template <class T> T number() {
         T value = 0;
         std::string_view text = word();
@@ -555,9 +585,10 @@ static void answer_nearest(Layer &layer, Words &words) {
     answer(found, std::min(count, found.size()));
 }
 
-static void answer_join(Layer &layer, Layer &other) {
+static void answer_join(Layer &layer, Words &words) {
     Pairs found;
-    layer.join(other, found);
+    Layer &other = words.layer();
+    layer.join(other, words.is_done() ? 0 : words.number<uint64_t>(), found);
     std::sort(found.begin(), found.end());
     answer(found, found.size());
 }
@@ -574,7 +605,7 @@ static bool question(std::string_view name, Layer &layer, Words &words) {
     } else if (name == "nearest") {
         answer_nearest(layer, words);
     } else if (name == "join") {
-        answer_join(layer, words.layer());
+        answer_join(layer, words);
     } else if (name == "count") {
         out += "ok 1\n";
         print(layer.size, '\n');

@@ -10,7 +10,7 @@ const CREATE: Line<'static> = Line::Create {
     fanout: 4,
 };
 
-const GOOD: [(&[u8], Line<'static>); 25] = [
+const GOOD: [(&[u8], Line<'static>); 26] = [
     (b"create a 2 4", CREATE),
     (b" \t\rcreate\ta  0002 4\t \r", CREATE),
     (
@@ -125,7 +125,7 @@ fn reads_good_lines(rt: HostRuntime) -> Result<(), Fail> {
     Ok(())
 }
 
-const BAD: [&[u8]; 52] = [
+const BAD: [&[u8]; 56] = [
     b"create",
     b"create a 2",
     b"create a 2 4 4",

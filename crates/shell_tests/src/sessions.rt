@@ -156,7 +156,7 @@ fn layer_rows() -> [Row; 16] {
 }
 
 // Lines with their replies: what there is, and joins.
-fn listing_rows() -> [Row; 12] {
+fn listing_rows() -> [Row; 15] {
     [
         (b"# all that there is", b""),
         (b"layers", b"ok 4\na 2 4 2\nb 2 100 3\nc 3 4 2\nn 2 4 5\n"),
