@@ -1,4 +1,4 @@
 -- The files of lemmas.
 pub mod EntryLemmas
 pub mod StepLemmas
--- pub mod Examples
+pub mod Examples
