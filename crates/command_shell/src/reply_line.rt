@@ -80,13 +80,26 @@ impl ReplyLine {
     /// Appends the lows of a box, and then its highs.
     pub fn push_box(&mut self, bounds: &AnyBox)
         requires { length self.old ≤ 55 }
-        ensures text { self.new ≡ self.old ++ bounds_text (bounds_of bounds.now) }
+        ensures text { self.new ≡ self.old ++ bounds_text (shown_bounds bounds.now) }
         ensures room { length self.new ≤ length self.old + 72 }
     {
         match bounds {
             AnyBox::Two(bounds) => self.push_corners(&bounds.low(), &bounds.high()),
             AnyBox::Three(bounds) => self.push_corners(&bounds.low(), &bounds.high()),
         }
+    }
+
+    /// Appends the tag of an object behind its box: a space, the word and the number, or nothing where it is 0.
+    pub fn push_tag(&mut self, tag: u32)
+        requires { length self.old ≤ 127 }
+        ensures text { self.new ≡ self.old ++ tag_text tag }
+        ensures room { length self.new ≤ length self.old + 15 }
+    {
+        if tag == 0 {
+            return;
+        }
+        self.push(b" tag ");
+        self.push_number(u64::from(tag));
     }
 
     fn push_corners(&mut self, low: &[i32], high: &[i32])

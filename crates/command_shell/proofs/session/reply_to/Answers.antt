@@ -1,6 +1,6 @@
 -- The goals of `reply_to` that are proved by hand.
 use Rattle.std.proofs.Common.{◌≡◌, [], ◌∷◌, Result, Ok, Err, ap, refl, subst}
-use Rattle.plain_table.specs.Answers.{done_answer, box_answer, boxes_answer, count_answer, distances_answer, dump_answer, layers_answer, pairs_answer}
+use Rattle.plain_table.specs.Answers.{done_answer, object_answer, boxes_answer, count_answer, distances_answer, dump_answer, layers_answer, pairs_answer}
 use Rattle.plain_table.specs.Commands.Command.{Create, Insert, Move, Delete, Drop, Get, Count, Range, Nearest, Join, Layers, Dump, Check, Reopen}
 use Rattle.plain_table.specs.Step.{Answer}
 use Rattle.plain_table.specs.Step.Answer.{Done}
@@ -28,7 +28,7 @@ pub returns-in-Insert-clause-replies : goal.returns-in-Insert-clause-replies
 returns-in-Insert-clause-replies g c = replied _ (Insert c.in-Insert.layer.now c.in-Insert.id c.in-Insert.bounds) (done_answer c.insert.result) _ (ap said c.in-Insert.is) c.change_reply-in-Insert.ensures c.insert.ensures.changes.step
 
 pub returns-in-Get-clause-replies : goal.returns-in-Get-clause-replies
-returns-in-Get-clause-replies g c = replied _ (Get c.in-Get.layer.now c.in-Get.id) (box_answer c.in-Get.id c.get.result) _ (ap said c.in-Get.is) c.object_reply.ensures c.get.ensures.answers.step
+returns-in-Get-clause-replies g c = replied _ (Get c.in-Get.layer.now c.in-Get.id) (object_answer c.in-Get.id c.get.result) _ (ap said c.in-Get.is) c.object_reply.ensures c.get.ensures.answers.step
 
 pub returns-in-Count-clause-replies : goal.returns-in-Count-clause-replies
 returns-in-Count-clause-replies g c = replied _ (Count c.in-Count.layer.now) (count_answer c.count.result) _ (ap said c.in-Count.is) c.count_reply.ensures c.count.ensures.answers.step
