@@ -52,9 +52,9 @@ pub fn set_entry<const D: usize>(page: &mut [u8; 4096], place: usize, entry: &(u
     write_entry(page, place, entry);
 }
 
-/// Takes the last object from a bucket page of 2 to 100: it is no longer counted, and its bytes are zeros. All others
-/// stay, but where the page is one of format 1: its bucket is encoded anew first. So a page with zeros in all bytes that
-/// it does not name stays one.
+/// Takes the last object from a bucket page of 2 to 100: it is no longer counted, and its bytes are zeros.
+/// All others stay, but where the page is one of format 1: its bucket is encoded anew first. So a page with
+/// zeros in all bytes that it does not name stays one.
 pub fn pop_entry<const D: usize>(page: &mut [u8; 4096])
     requires dims { IsDims D }
     requires some { 1 < number_at 2 2 page.old }

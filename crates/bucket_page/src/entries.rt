@@ -1,5 +1,5 @@
-//! One object in its place of a bucket page: its identifier, then its lows, then its highs, then its tag, which pages of
-//! format 1 have not.
+//! One object in its place of a bucket page: its identifier, then its lows, then its highs, then its tag,
+//! which pages of format 1 have not.
 
 ghost use Rattle.std.specs.Prelude.{◌≡◌, ℕ, ◌+◌, ◌*◌, ◌<◌, ◌≤◌, ◌↔◌, Some, length, slice_index_or, IsSome, IfSome};
 ghost use Rattle.block_bytes.specs.Kinds.{bucket_kind};
