@@ -56,12 +56,14 @@ pub fn decode_into<const D: usize>(page: &[u8; 4096], level: u8, node: &mut Node
 }
 
 /// Makes the page the one that spells the node, with zeros in all bytes that it does not name. The node has at most
-/// 100 entries, and one that is no leaf has at least one, all of which refer to pages from 3 to 2^31 - 1 and have no tag.
+/// 100 entries, and one that is no leaf has at least one, all of which refer to pages from 3 to 2^31 - 1 and have no
+/// tag.
 pub fn encode<const D: usize>(node: &Node<D>, page: &mut [u8; 4096])
     requires dims { IsDims D }
     requires spellable { IsSpellable (content_of node.now) }
     ensures spelled { node_at D page.new ≡ Some (content_of node.now) }
-    ensures rest { (k : ℕ) → (IsNamed D (node.now.level == 0) (length node.now.entries.items) k → ⊥) → number_at 1 k page.new ≡ 0 }
+    ensures rest { (k : ℕ) → (IsNamed D (node.now.level == 0) (length node.now.entries.items) k → ⊥)
+        → number_at 1 k page.new ≡ 0 }
 {
     let count = node.entries.len();
     let tagged = node.level == 0;
