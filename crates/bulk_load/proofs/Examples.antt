@@ -8,7 +8,7 @@ use Rattle.bulk_load.specs.Sorting.{before, order_on, sorted_on}
 use Rattle.bulk_load.specs.Tiling.{IsLeastRoot, IsTiled, even_sizes, joined, one_run, size_of_one}
 
 abbrev at : ℕ → ℕ → ℕ → Item
-at id x y = record { bounds = record { low = pos x ∷ pos y ∷ []; high = pos x ∷ pos y ∷ [] }; reference = id }
+at id x y = record { bounds = record { low = pos x ∷ pos y ∷ []; high = pos x ∷ pos y ∷ [] }; reference = id; tag = 2 * id }
 
 -- the longer of even runs come first
 some_even_sizes : (even_sizes 9 2 ≡ 5 ∷ 4 ∷ []) × (even_sizes 5 2 ≡ 3 ∷ 2 ∷ []) × (even_sizes 4 2 ≡ 2 ∷ 2 ∷ []) × (even_sizes 3 1 ≡ 3 ∷ [])

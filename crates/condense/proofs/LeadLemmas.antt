@@ -4,6 +4,7 @@ use Rattle.std.specs.List.{Contains}
 use Rattle.std.proofs.lemmas.List.{append-nil}
 use Rattle.std.proofs.lemmas.List.Elements.{Contains-append_cases, Contains-append_left, Contains-append_right}
 use Rattle.box_math.specs.Bounds.{Bounds, Within}
+use Rattle.box_math.specs.Objects.{Object, bounds_of, tag_of}
 use Rattle.box_math.proofs.BoxLaws.{Within-trans}
 use Rattle.tree_node.specs.Nodes.{Item}
 use Rattle.tree_node.specs.Rows.{branches_of, item_in, row_of}
@@ -33,13 +34,13 @@ contains_later y ys x h = (suc h.0, omega (arith, h.1), h.2)
 -- ---- boxes lead to each object of a tree of shape
 
 module _ (dims most id : ℕ) (bounds : Bounds) where
-  abbrev here : ℕ × Bounds
+  abbrev here : ℕ × Object
   here = (id, bounds)
 
   within_all : (row : Row) (b : Bounds) → RowHasShape dims most row → RowWithin dims row b → Contains (objects_in row) here → Within dims bounds b
   within_all end b shape all has = absurd (omega (arith, has.1))
   within_all (more (object c i) rest) b shape all has = ⊎_elim
-      (λ (is : (i, c) ≡ here). subst (λ (x : ℕ × Bounds). Within dims x.1 b) is all.0)
+      (λ (is : (i, c) ≡ here). subst (λ (x : ℕ × Object). Within dims x.1 b) is all.0)
       (λ later. within_all rest b shape all.1 later)
       (contains_cases (i, c) (objects_in rest) here has)
   within_all (more (child c page below) rest) b shape all has = ⊎_elim
@@ -50,7 +51,7 @@ module _ (dims most id : ℕ) (bounds : Bounds) where
   pub leads_there : (row : Row) → RowHasShape dims most row → Contains (objects_in row) here → LeadsTo dims id bounds row
   leads_there end shape has = absurd (omega (arith, has.1))
   leads_there (more (object c i) rest) shape has = ⊎_elim
-      (λ (is : (i, c) ≡ here). inl (ap (λ (x : ℕ × Bounds). x.1) is, ap (λ (x : ℕ × Bounds). x.0) is))
+      (λ (is : (i, c) ≡ here). inl (ap (λ (x : ℕ × Object). x.1) is, ap (λ (x : ℕ × Object). x.0) is))
       (λ later. inr (leads_there rest shape later))
       (contains_cases (i, c) (objects_in rest) here has)
   leads_there (more (child c page below) rest) shape has = ⊎_elim
@@ -69,7 +70,7 @@ module _ (dims most id : ℕ) (bounds : Bounds) where
       Contains-append_left (objects_in below) (objects_in rest) here (subst (λ (x : Child). Contains (objects_in x.row) here) (sym this) has)
   child_contains (more (child b page below) rest) (suc at) c is has = Contains-append_right (objects_in below) (objects_in rest) here (child_contains rest at c is has)
 
-  entry_contains : (row : Row) (at : ℕ) → take 1 (drop at (branches_of row)) ≡ object bounds id ∷ [] → Contains (objects_in row) here
+  entry_contains : (row : Row) (at : ℕ) → take 1 (drop at (branches_of row)) ≡ object kept id ∷ [] → Contains (objects_in row) here
   entry_contains end zero is = absurd (cc)
   entry_contains end (suc at) is = absurd (cc)
   entry_contains (more (object b i) rest) zero is =
@@ -98,8 +99,8 @@ module _ (dims most id : ℕ) (bounds : Bounds) where
       same b i e f = cc
   leaf_lacks m (more (child b page below) rest) stands none leads = absurd (omega (arith, stands.0))
 
-  entry_at : (m : PageMap) (row : Row) (at : ℕ) (d : Item) → RowStands dims m 0 row → at < length (row_items row) → get_or (row_items row) at d ≡ record { bounds = bounds; reference = id }
-      → take 1 (drop at (branches_of row)) ≡ object bounds id ∷ []
+  entry_at : (m : PageMap) (row : Row) (at : ℕ) (d : Item) → RowStands dims m 0 row → at < length (row_items row) → get_or (row_items row) at d ≡ record { bounds = bounds_of kept; reference = id; tag = tag_of kept }
+      → take 1 (drop at (branches_of row)) ≡ object kept id ∷ []
   entry_at m end at d stands within is = absurd (omega (arith, within))
   entry_at m (more (object b i) rest) zero d stands within is =
       let box : b ≡ bounds = ap (λ (x : Item). x.bounds) is in

@@ -3,6 +3,7 @@ use Rattle.std.proofs.Common.{◌≡◌, ◌∙◌, ℕ, zero, suc, ◌+◌, ◌
 use Rattle.std.specs.Prelude.{nat_lt}
 use Rattle.std.proofs.lemmas.Bool.Decides.{nat_tests}
 use Rattle.box_math.specs.Bounds.{Bounds}
+use Rattle.box_math.specs.Objects.{Object}
 use Rattle.tree_node.specs.Boxes.{least_box}
 use Rattle.tree_node.specs.Positions.{total}
 use Rattle.tree_node.specs.Rows.{Waiter, branches_of, objects_on, occurs_waiting, row_of}
@@ -23,7 +24,7 @@ pub by_bool : {X : Type 0} (b : Bool) → (b ≡ true → X) → (b ≡ false �
 by_bool true f g = f refl
 by_bool false f g = g refl
 
-module _ (w : ℕ × Bounds → ℕ) where
+module _ (w : ℕ × Object → ℕ) where
   abbrev weight : Row → ℕ
   weight row = total w (objects_in row)
 
@@ -35,7 +36,7 @@ module _ (w : ℕ × Bounds → ℕ) where
 
   weight-row_of : (xs : List Branch) → weight (row_of xs) ≡ total weight_on xs
   weight-row_of [] = refl
-  weight-row_of (object bounds id ∷ xs) = omega (arith, weight-row_of xs)
+  weight-row_of (object kept id ∷ xs) = omega (arith, weight-row_of xs)
   weight-row_of (child bounds page below ∷ xs) = omega (arith, weight-row_of xs, total-append w (objects_in below) (objects_in (row_of xs)))
 
   weight-branches_of : (row : Row) → total weight_on (branches_of row) ≡ weight row
@@ -47,8 +48,8 @@ module _ (w : ℕ × Bounds → ℕ) where
 
   weight-with_child : (row : Row) (at : ℕ) (c : Child) (b : Bounds) (new : Row) → child_at row at ≡ Some c → weight (with_child row at b new) + weight c.row ≡ weight row + weight new
   weight-with_child end at c b new is = absurd (cc)
-  weight-with_child (more (object bounds id) rest) zero c b new is = absurd (cc)
-  weight-with_child (more (object bounds id) rest) (suc at) c b new is = omega (arith, weight-with_child rest at c b new is)
+  weight-with_child (more (object kept id) rest) zero c b new is = absurd (cc)
+  weight-with_child (more (object kept id) rest) (suc at) c b new is = omega (arith, weight-with_child rest at c b new is)
   weight-with_child (more (child bounds page below) rest) zero c b new is =
       let same : record { page = page; row = below } ≡ c = cc in
       omega (arith, ap (λ (x : Child). weight x.row) same, total-append w (objects_in new) (objects_in rest), total-append w (objects_in below) (objects_in rest))
@@ -58,8 +59,8 @@ module _ (w : ℕ × Bounds → ℕ) where
   -- without a child
   weight-cut : (row : Row) (at : ℕ) (c : Child) → child_at row at ≡ Some c → total weight_on (cut (branches_of row) at) + weight c.row ≡ weight row
   weight-cut end at c is = absurd (cc)
-  weight-cut (more (object bounds id) rest) zero c is = absurd (cc)
-  weight-cut (more (object bounds id) rest) (suc at) c is = omega (arith, weight-cut rest at c is)
+  weight-cut (more (object kept id) rest) zero c is = absurd (cc)
+  weight-cut (more (object kept id) rest) (suc at) c is = omega (arith, weight-cut rest at c is)
   weight-cut (more (child bounds page below) rest) zero c is =
       let same : record { page = page; row = below } ≡ c = cc in
       omega (arith, ap (λ (x : Child). weight x.row) same, weight-branches_of rest, total-append w (objects_in below) (objects_in rest))
@@ -74,7 +75,7 @@ module _ (w : ℕ × Bounds → ℕ) where
       omega (arith, weight-branches_of rest, ap weight_on this, weight-first x rest)
     where
       weight-first : (x : Branch) (rest : Row) → weight (more x rest) ≡ weight_on x + weight rest
-      weight-first (object bounds id) rest = omega arith
+      weight-first (object kept id) rest = omega arith
       weight-first (child bounds page below) rest = total-append w (objects_in below) (objects_in rest)
   weight-entry (more (object bounds i) rest) (suc at) b id is = omega (arith, weight-entry rest at b id is)
   weight-entry (more (child bounds page below) rest) (suc at) b id is = omega (arith, weight-entry rest at b id is, total-append w (objects_in below) (objects_in rest))

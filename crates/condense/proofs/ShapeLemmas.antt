@@ -22,11 +22,11 @@ use Rattle.condense.proofs.TakeLemmas.{leaves_is, stays_is}
 
 module _ (dims most : ℕ) where
   sound_first : (level : ℕ) (x : Branch) (rest : Row) → Sound dims most level (more x rest) → Sound dims most level (more x end) × Sound dims most level rest
-  sound_first level (object bounds id) rest h = ((tt, (h.1.0, tt), (h.2.0, tt)), (h.0, h.1.1, h.2.1))
+  sound_first level (object kept id) rest h = ((tt, (h.1.0, tt), (h.2.0, tt)), (h.0, h.1.1, h.2.1))
   sound_first level (child bounds page below) rest h = (((h.0.0, h.0.1, h.0.2, h.0.3, tt), (h.1.0, h.1.1, tt), (h.2.0, h.2.1, tt)), (h.0.4, h.1.2, h.2.2))
 
   sound_more : (level : ℕ) (x : Branch) (rest : Row) → Sound dims most level (more x end) → Sound dims most level rest → Sound dims most level (more x rest)
-  sound_more level (object bounds id) rest h k = (k.0, (h.1.0, k.1), (h.2.0, k.2))
+  sound_more level (object kept id) rest h k = (k.0, (h.1.0, k.1), (h.2.0, k.2))
   sound_more level (child bounds page below) rest h k = ((h.0.0, h.0.1, h.0.2, h.0.3, k.0), (h.1.0, h.1.1, k.1), (h.2.0, h.2.1, k.2))
 
   sound_cut : (level : ℕ) (xs : List Branch) (at : ℕ) → Sound dims most level (row_of xs) → Sound dims most level (row_of (cut xs at))
@@ -49,8 +49,8 @@ module _ (dims most : ℕ) where
 
   child_full : (level : ℕ) (row : Row) (at : ℕ) (c : Child) → child_at row at ≡ Some c → Sound dims most level row → (0 < level) × (at < row_length row) × IsFull (level - 1) c.row
   child_full level end at c is h = absurd (cc)
-  child_full level (more (object bounds id) rest) zero c is h = absurd (cc)
-  child_full level (more (object bounds id) rest) (suc at) c is h = let later = child_full level rest at c is (h.0, h.1.1, h.2.1) in (later.0, omega (arith, later.1), later.2)
+  child_full level (more (object kept id) rest) zero c is h = absurd (cc)
+  child_full level (more (object kept id) rest) (suc at) c is h = let later = child_full level rest at c is (h.0, h.1.1, h.2.1) in (later.0, omega (arith, later.1), later.2)
   child_full level (more (child bounds page below) rest) zero c is h =
       let this : record { page = page; row = below } ≡ c = cc in
       (h.2.0, omega arith, subst (λ (x : Child). IsFull (level - 1) x.row) this (h.0.0, h.0.1, (h.0.3, h.1.1, h.2.1)))
@@ -58,8 +58,8 @@ module _ (dims most : ℕ) where
 
   sound_with_child : (level : ℕ) (row : Row) (at : ℕ) (new : Row) → Sound dims most level row → IsFull (level - 1) new → Sound dims most level (with_child row at (least_box dims (row_items new)) new)
   sound_with_child level end at new h full = h
-  sound_with_child level (more (object bounds id) rest) zero new h full = h
-  sound_with_child level (more (object bounds id) rest) (suc at) new h full =
+  sound_with_child level (more (object kept id) rest) zero new h full = h
+  sound_with_child level (more (object kept id) rest) (suc at) new h full =
       let later = sound_with_child level rest at new (h.0, h.1.1, h.2.1) full in (later.0, (h.1.0, later.1), (h.2.0, later.2))
   sound_with_child level (more (child bounds page below) rest) zero new h full =
       let least = join_is_least_box dims new (omega (arith, full.0)) full.2.1 in ((full.0, full.1, least, full.2.0, h.0.4), (least.box, full.2.1, h.1.2), (h.2.0, full.2.2, h.2.2))
@@ -68,8 +68,8 @@ module _ (dims most : ℕ) where
 
   length_with_child : (row : Row) (at : ℕ) (b : Bounds) (new : Row) → row_length (with_child row at b new) ≡ row_length row
   length_with_child end at b new = refl
-  length_with_child (more (object bounds id) rest) zero b new = refl
-  length_with_child (more (object bounds id) rest) (suc at) b new = omega (arith, length_with_child rest at b new)
+  length_with_child (more (object kept id) rest) zero b new = refl
+  length_with_child (more (object kept id) rest) (suc at) b new = omega (arith, length_with_child rest at b new)
   length_with_child (more (child bounds page below) rest) zero b new = refl
   length_with_child (more (child bounds page below) rest) (suc at) b new = omega (arith, length_with_child rest at b new)
 

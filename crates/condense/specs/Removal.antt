@@ -2,6 +2,7 @@
 -- inserted with marks of its own, are our rule, docs/RULES.md, "Removal").
 use Rattle.std.specs.Prelude.{◌≡◌, ℕ, zero, suc, ◌+◌, ◌-◌, ◌<◌, nat_lt, List, [], ◌∷◌, ◌++◌, take, drop, Some, if◌then◌else◌}
 use Rattle.box_math.specs.Bounds.{Bounds}
+use Rattle.box_math.specs.Objects.{bounds_of}
 use Rattle.tree_node.specs.Boxes.{least_box}
 use Rattle.tree_node.specs.Rows.{Waiter, branches_of, row_of, occurs_waiting}
 use Rattle.tree_node.specs.Shape.{least_entries}
@@ -31,8 +32,8 @@ condensed dims most level row at below =
 
 -- the entry of an object leaves its leaf, which lies so many levels below the node, and the nodes above it are condensed
 abbrev pub TakesOut : ℕ → ℕ → ℕ → ℕ → Bounds → Row → Condensed → Type 0
-TakesOut dims most zero id bounds row out =
-    (at : ℕ) × (take 1 (drop at (branches_of row)) ≡ object bounds id ∷ [])
+TakesOut dims most zero id (bounds_of kept) row out =
+    (at : ℕ) × (take 1 (drop at (branches_of row)) ≡ object kept id ∷ [])
     × (out ≡ record { row = row_of (without (branches_of row) at); kept = [] })
 TakesOut dims most (suc level) id bounds row out =
     (at : ℕ) × (from : Child) × (child_at row at ≡ Some from)

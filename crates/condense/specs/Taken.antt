@@ -7,7 +7,7 @@ use Rattle.tree_node.specs.Nodes.{Item, NodeContent, item_of}
 use Rattle.tree_node.specs.Rows.{occurs_waiting}
 use Rattle.tree_node.specs.Trees.{Row, end, more, object, child, Tree, occurs, row_items}
 use Rattle.node_page.specs.Changes.{AllWait}
-use Rattle.node_page.specs.Layout.{IsReference}
+use Rattle.node_page.specs.Layout.{IsOfLevel}
 use Rattle.node_page.specs.Parts.{Moves}
 use Rattle.node_page.specs.Standing.{PageMap, RowStands, Stands, node_in}
 use Rattle.reinsert.specs.Children.{Child, child_at}
@@ -34,7 +34,7 @@ held_now kept = map orphan_held kept.orphans.items
 pub record IsCut (level : ℕ) (c : NodeContent) : Type 0 where
   pub level_is : c.level ≡ level
   pub few : length c.entries ≤ 100
-  pub refers : All (λ item. IsReference level item.reference) c.entries
+  pub refers : All (λ item. IsOfLevel level item.reference item.tag) c.entries
 
 -- the entries without the one at a position
 abbrev pub items_without : List Item → ℕ → List Item

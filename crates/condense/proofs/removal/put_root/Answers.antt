@@ -6,7 +6,7 @@ use Rattle.page_file.specs.Fault.{IsDamage, IsOfDevice}
 use Rattle.page_cache.specs.Cache.{IsPageMap, pages}
 use Rattle.page_cache.specs.Calls.{changes_and_refuses, changes_in_turn, fault_in}
 use Rattle.tree_node.specs.Nodes.{Item, content_of, item_of}
-use Rattle.node_page.specs.Layout.{IsReference, IsSpellable}
+use Rattle.node_page.specs.Layout.{IsOfLevel, IsSpellable}
 use Rattle.node_page.specs.Standing.{PageMap}
 use Rattle.node_page.specs.Faults.{IsChangeFault, IsNoDamage}
 use Rattle.reinsert.proofs.FaultLemmas.{one_more}
@@ -25,7 +25,7 @@ settle-requires g c =
     let spells : IsSpellable (content_of c.args.node.now) = record {
       few = c.requires.cut.few;
       some = λ high. omega (arith, c.lacks_entries.ensures.no c.if-lacks_entries.false high, length-map c.args.node.now.entries.items (item_of {D = g.row.D}));
-      refers = subst (λ l. All (λ (item : Item). IsReference l item.reference) (map (item_of {D = g.row.D}) c.args.node.now.entries.items)) (sym c.requires.cut.level_is) c.requires.cut.refers;
+      refers = subst (λ l. All (λ (item : Item). IsOfLevel l item.reference item.tag) (map (item_of {D = g.row.D}) c.args.node.now.entries.items)) (sym c.requires.cut.level_is) c.requires.cut.refers;
     } in
     search (rules, spells)
 
