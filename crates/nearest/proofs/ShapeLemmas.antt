@@ -1,17 +1,17 @@
 -- In a tree with least boxes no box is nearer than the one above it.
-use Rattle.std.proofs.Common.{◌≡◌, ℕ, ◌≤◌, ◌∙◌, ℤ, ◌-ℤ◌, ◌≤ℤ◌, unsigned_abs, List, map, [], ◌∷◌, ◌++◌, refl, sym, ap, arith}
+use Rattle.std.proofs.Common.{◌≡◌, ℕ, ◌≤◌, ◌∙◌, ℤ, ◌-ℤ◌, ◌≤ℤ◌, unsigned_abs, List, map, ◌∷◌, ◌++◌, refl, sym, ap, arith}
 use Rattle.std.specs.Int.{int_min, int_max}
 use Rattle.std.proofs.lemmas.Int.{ints, clamps}
+use Rattle.std.proofs.lemmas.List.{map-append}
 use Rattle.std.proofs.lemmas.Nat.{mul-le}
 use Rattle.box_math.specs.Bounds.{Bounds, IsOrdered, Within, on_axis}
-use Rattle.box_math.specs.Objects.{Object, bounds_of}
+use Rattle.box_math.specs.Objects.{bounds_of}
 use Rattle.box_math.specs.Measures.{point_dist2_of}
 use Rattle.box_math.proofs.Growth.{sum_over-le, point_dist2_of-falls}
 use Rattle.tree_node.specs.Shape.{RowHasShape, RowWithin}
 use Rattle.tree_node.specs.Trees.{Row, end, more, object, child, objects_in}
 use Rattle.node_page.proofs.RootedLemmas.{HasOrderedBoxes}
 use Rattle.box_math.specs.Nearest.{with_distance}
-use Rattle.nearest.specs.Nearest.{boxes_of}
 use Rattle.nearest.proofs.FrontierLemmas.{Nested, near_in}
 
 clamp_falls : (low high inner_low inner_high p : ℤ) → inner_low ≤ℤ inner_high → low ≤ℤ inner_low → inner_high ≤ℤ high
@@ -51,18 +51,11 @@ nested_root dims most point (more (child bounds page below) rest) shape ordered 
 )
 
 -- the objects of a tree with their distances
-abbrev distances : ℕ → List ℤ → List (ℕ × Object) → List (ℕ × ℕ)
-distances dims point objects = map (with_distance dims point) (boxes_of objects)
-
-distances_append : (dims : ℕ) (point : List ℤ) (xs ys : List (ℕ × Object)) → distances dims point (xs ++ ys) ≡ distances dims point xs ++ distances dims point ys
-distances_append dims point [] ys = refl
-distances_append dims point (x ∷ xs) ys = ap (λ (ds : List (ℕ × ℕ)). (x.0, point_dist2_of dims (bounds_of x.1) point) ∷ ds) (distances_append dims point xs ys)
-
-pub near_in_is : (dims : ℕ) (point : List ℤ) (row : Row) → near_in (λ c. point_dist2_of dims c point) row ≡ map (with_distance dims point) (boxes_of (objects_in row))
+pub near_in_is : (dims : ℕ) (point : List ℤ) (row : Row) → near_in (λ c. point_dist2_of dims c point) row ≡ map (with_distance dims point) (objects_in row)
 near_in_is dims point end = refl
 near_in_is dims point (more (object kept id) rest) = ap (λ (xs : List (ℕ × ℕ)). (id, point_dist2_of dims (bounds_of kept) point) ∷ xs) (near_in_is dims point rest)
 near_in_is dims point (more (child bounds page below) rest) =
     let first = near_in_is dims point below in
     let later = near_in_is dims point rest in
-    ap (λ (xs : List (ℕ × ℕ)). xs ++ near_in (λ c. point_dist2_of dims c point) rest) first ∙ ap (λ (xs : List (ℕ × ℕ)). distances dims point (objects_in below) ++ xs) later
-    ∙ sym (distances_append dims point (objects_in below) (objects_in rest))
+    let both = map-append (with_distance dims point) (objects_in below) (objects_in rest) in
+    ap (λ (xs : List (ℕ × ℕ)). xs ++ near_in (λ c. point_dist2_of dims c point) rest) first ∙ ap (λ (xs : List (ℕ × ℕ)). map (with_distance dims point) (objects_in below) ++ xs) later ∙ sym both

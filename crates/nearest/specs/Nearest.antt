@@ -1,20 +1,15 @@
 -- The objects nearest to a point (the distance is MINDIST of Roussopoulos, Kelley and Vincent 1995; the order of
 -- ties is our rule, docs/FORMAT.md, "Trees of pages").
 use Rattle.std.specs.Prelude.{ℕ, ◌-◌, Bool, ◌||◌, nat_lt, nat_le, ℤ, List, length, slice_index_or}
-use Rattle.std.specs.Prelude.{map, take}
+use Rattle.std.specs.Prelude.{take}
 use Rattle.box_math.specs.Bounds.{Bounds}
-use Rattle.box_math.specs.Objects.{Object, bounds_of}
 use Rattle.box_math.specs.Measures.{point_dist2_of}
 use Rattle.box_math.specs.Nearest.{by_distance}
 use Rattle.tree_node.specs.Trees.{Tree, objects_in}
 
--- the boxes of objects, each with its identifier
-abbrev pub boxes_of : List (ℕ × Object) → List (ℕ × Bounds)
-boxes_of objects = map (λ object. (object.0, bounds_of object.1)) objects
-
 -- the k objects of a tree that are nearest to the point, or all of fewer, in order
 abbrev pub nearest_rows : ℕ → ℕ → List ℤ → Tree → List (ℕ × ℕ)
-nearest_rows dims k point t = take k (by_distance dims point (boxes_of (objects_in t.row)))
+nearest_rows dims k point t = take k (by_distance dims point (objects_in t.row))
 
 -- whether a search for the k nearest, which has these answers, looks into a node with this box: where the box is no farther
 -- than the kth answer, and where there are fewer than k
