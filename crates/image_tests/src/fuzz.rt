@@ -64,7 +64,7 @@ const CHANGES: [[Command<'static>; 7]; 2] = [
         Command::Move(b"a", 2, RawBox::Two([1, 1], [20, 20])),
         Command::Load(
             b"c",
-            &[(1, PLANE), (2, PLANE), (3, PLANE), (4, PLANE), (5, PLANE)],
+            &[(1, PLANE, 0), (2, PLANE, 0), (3, PLANE, 0), (4, PLANE, 0), (5, PLANE, 0)],
         ),
         Command::Create(b"d", 3, 4),
         Command::Drop(b"b"),
@@ -75,7 +75,7 @@ const CHANGES: [[Command<'static>; 7]; 2] = [
         Command::Move(b"b", 1000, RawBox::Three([1; 3], [2; 3])),
         Command::Delete(b"b", 1),
         Command::Create(b"e", 2, 4),
-        Command::Load(b"e", &[(7, PLANE)]),
+        Command::Load(b"e", &[(7, PLANE, 0)]),
         Command::Reopen,
         Command::Drop(b"a"),
     ],

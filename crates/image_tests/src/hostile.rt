@@ -83,7 +83,7 @@ const WHOLE: [Command; 34] = [
     Command::Insert(b"a", 7, RawBox::Two([11, 11], [12, 12])),
     Command::Insert(b"b", 6, RawBox::Two([1, 1], [1, 1])),
     Command::Insert(b"a", 1, RawBox::Two([0, 0], [0, 0])),
-    Command::Load(b"a", &[(8, PLANE)]),
+    Command::Load(b"a", &[(8, PLANE, 0)]),
     Command::Load(b"b", &[]),
     Command::Move(b"a", 1, RawBox::Two([1, 1], [2, 2])),
     Command::Move(b"a", 1001, RawBox::Two([0, 0], [0, 0])),

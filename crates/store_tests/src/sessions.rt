@@ -82,7 +82,7 @@ fn any_objects(dice: &mut Dice, alloc: Global, place: usize) -> Result<Vec<Objec
         id = step.saturating_add(id);
         let span = any_box(dice, dims);
         let bounds = if fits { ordered(span) } else { span };
-        objects.push((id, bounds))?;
+        objects.push((id, bounds, dice.below(3)))?;
     }
     Ok(objects)
 }
@@ -105,6 +105,7 @@ fn any_change(dice: &mut Dice, place: usize) -> Command<'static>
         4 => Command::Load(name, &[]),
         5..=20 => Command::Move(name, id, bounds),
         21..=32 => Command::Delete(name, id),
+        33..=48 => Command::InsertTagged(name, id, bounds, dice.below(3)),
         _ => Command::Insert(name, id, bounds),
     }
 }
@@ -128,6 +129,7 @@ fn any_question(dice: &mut Dice, place: usize) -> Command<'static>
         7 | 8 => Command::Point(name, point),
         9 | 10 => Command::Nearest(name, u64::from(dice.below(12)), point),
         11 => Command::Join(name, NAMES[any_place(dice)], any_distance(dice)),
+        13 => Command::Tagged(name, RawQuery::Window(bounds), dice.below(4)),
         12 if dice.below(4) == 0 => Command::Dump,
         12 if dice.below(2) == 0 => Command::Check,
         12 => Command::Layers,
