@@ -1,5 +1,5 @@
 -- Worked examples of packed loads (docs/RULES.md). No other proof rests on them.
-use Rattle.std.proofs.Common.{◌≡◌, ℕ, zero, suc, ◌^◌, ◌≤◌, List, [], ◌∷◌, refl, pos, arith}
+use Rattle.std.proofs.Common.{◌≡◌, ℕ, zero, suc, ◌*◌, ◌^◌, ◌≤◌, List, [], ◌∷◌, refl, pos, arith}
 use Rattle.tree_node.specs.Nodes.{Item}
 use Rattle.tree_node.specs.Rows.{row_of}
 use Rattle.tree_node.specs.Trees.{object, end}

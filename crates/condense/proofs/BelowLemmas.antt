@@ -1,5 +1,5 @@
 -- The child that an object is looked for in, while the ones before it lacked it.
-use Rattle.std.proofs.Common.{Bool, false, true, ◌≡◌, ◌∙◌, ⊎_elim, ℕ, zero, suc, ◌+◌, ◌-◌, ◌<◌, ◌≤◌, IsSome, Some, List, [], length, map, get_or, refl, sym, ap, subst, arith}
+use Rattle.std.proofs.Common.{Bool, false, true, ◌≡◌, ◌∙◌, ⊎_elim, ℕ, zero, suc, ◌+◌, ◌-◌, ◌<◌, ◌≤◌, IsSome, Some, List, length, map, get_or, refl, sym, ap, subst, arith}
 use Rattle.std.specs.List.{Contains}
 use Rattle.std.proofs.lemmas.Bool.{cases_lt}
 use Rattle.std.proofs.lemmas.List.{get_or-map, length-map}

@@ -1,5 +1,5 @@
 -- The root gives way to its only child, and so on.
-use Rattle.std.proofs.Common.{Result, Ok, Err, IfErr, IsErrAnd, ◌≡◌, ◌∙◌, ℕ, suc, ◌+◌, ◌-◌, ◌<◌, IsSome, Some, None, [], length, get_or, refl, sym, ap, subst, arith}
+use Rattle.std.proofs.Common.{Result, Ok, Err, IfErr, IsErrAnd, ◌≡◌, ◌∙◌, ℕ, suc, ◌+◌, ◌-◌, ◌<◌, IsSome, Some, None, length, get_or, refl, sym, ap, subst, arith}
 use Rattle.page_file.specs.Pages.{SameBut}
 use Rattle.page_file.specs.declared.fault.Fault.{Fault}
 use Rattle.tree_node.specs.declared.node.Root.{Root}
