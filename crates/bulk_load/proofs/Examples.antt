@@ -1,5 +1,5 @@
 -- Worked examples of packed loads (docs/RULES.md). No other proof rests on them.
-use Rattle.std.proofs.Common.{◌≡◌, ℕ, zero, suc, ◌^◌, ◌≤◌, List, [], ◌∷◌, refl, pos, arith}
+use Rattle.std.proofs.Common.{◌≡◌, ℕ, zero, suc, ◌*◌, ◌^◌, ◌≤◌, List, [], ◌∷◌, refl, pos, arith}
 use Rattle.tree_node.specs.Nodes.{Item}
 use Rattle.tree_node.specs.Rows.{row_of}
 use Rattle.tree_node.specs.Trees.{object, end}
@@ -91,7 +91,7 @@ five_are_two_runs = (
 -- ---- trees
 
 -- as entries of leaves
-as_objects : objects_of (at 7 0 0 ∷ at 5 0 1 ∷ []) ≡ object (at 7 0 0).bounds 7 ∷ object (at 5 0 1).bounds 5 ∷ []
+as_objects : objects_of (at 7 0 0 ∷ at 5 0 1 ∷ []) ≡ object ((at 7 0 0).bounds, 14) 7 ∷ object ((at 5 0 1).bounds, 10) 5 ∷ []
 as_objects = refl
 
 -- no objects make an empty leaf, and two are a leaf in the order in which they stand

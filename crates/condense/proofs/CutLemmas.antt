@@ -16,6 +16,7 @@ use Rattle.node_page.specs.Layout.{IsOfLevel, IsSpellable}
 use Rattle.node_page.specs.Standing.{PageMap, RowStands}
 use Rattle.reinsert.specs.Children.{Child, child_at, occurs_at}
 use Rattle.reinsert.specs.Placed.{set_box}
+use Rattle.reinsert.proofs.AboveLemmas.{length-set_box, set_box-refers}
 use Rattle.condense.specs.Taken.{IsCut, items_without}
 
 abbrev pub cut : {A : Type 0} → List A → ℕ → List A
@@ -97,11 +98,11 @@ same_box a b low high = ap (λ (xs : List ℤ). record { low = xs; high = a.high
 
 -- an entry that gets the box that it has stays
 pub set_same : {D : ℕ} (entries seen now : List (Entry D)) (at : ℕ) (e f : Entry D) (b : Bounds) → at < length entries → seen ≡ entries → now ≡ entries → (get_or seen at e).bounds ≡ b
-    → set now at (record { bounds = b; reference = (get_or now at f).reference }) ≡ entries
+    → set now at (record { bounds = b; reference = (get_or now at f).reference; tag = (get_or now at f).tag }) ≡ entries
 set_same {D} entries seen now at e f b within same is box =
     let bounds : b ≡ (get_or entries at f).bounds = sym box ∙ ap (λ (xs : List (Entry D)). (get_or xs at e).bounds) same ∙ ap (λ (x : Entry D). x.bounds) (get_or_default entries at e f within) in
-    ap (λ xs. set xs at (record { bounds = b; reference = (get_or xs at f).reference })) is
-    ∙ ap (λ (x : Bounds). set entries at (record { bounds = x; reference = (get_or entries at f).reference })) bounds
+    ap (λ xs. set xs at (record { bounds = b; reference = (get_or xs at f).reference; tag = (get_or xs at f).tag })) is
+    ∙ ap (λ (x : Bounds). set entries at (record { bounds = x; reference = (get_or entries at f).reference; tag = (get_or entries at f).tag })) bounds
     ∙ set-get_or entries at f
 
 -- what is written over itself stays
@@ -121,25 +122,13 @@ cut_removed level entries new at spells within is =
       refers = subst (λ (xs : List Item). All P xs) (sym are) (All-without P (map item_of entries) at spells.refers);
     }
 
-length-boxed : (xs : List Item) (at : ℕ) (b : Bounds) → length (set_box xs at b) ≡ length xs
-length-boxed [] at b = refl
-length-boxed (x ∷ xs) zero b = refl
-length-boxed (x ∷ xs) (suc at) b = ap suc (length-boxed xs at b)
-
-reference-boxed : (xs : List Item) (at : ℕ) (b : Bounds) (k : ℕ) (d : Item) → (get_or (set_box xs at b) k d).reference ≡ (get_or xs k d).reference
-reference-boxed [] at b k d = refl
-reference-boxed (x ∷ xs) zero b zero d = refl
-reference-boxed (x ∷ xs) zero b (suc k) d = refl
-reference-boxed (x ∷ xs) (suc at) b zero d = refl
-reference-boxed (x ∷ xs) (suc at) b (suc k) d = reference-boxed xs at b k d
-
 pub cut_boxed : {D : ℕ} (level : ℕ) (entries new : List (Entry D)) (at : ℕ) (b : Bounds) → IsSpellable (record { level = level; entries = map item_of entries }) → map item_of new ≡ set_box (map item_of entries) at b
     → IsCut level (record { level = level; entries = map item_of new })
 cut_boxed level entries new at b spells are =
     let P : Item → Type 0 = λ item. IsOfLevel level item.reference item.tag in
-    let count = length-boxed (map item_of entries) at b in
+    let count = length-set_box (map item_of entries) at b in
     record {
       level_is = refl;
       few = omega (arith, ap length are, count, spells.few);
-      refers = subst (λ (xs : List Item). All P xs) (sym are) (λ k d lt. subst (λ r. IsOfLevel level r) (sym (reference-boxed (map item_of entries) at b k d)) (spells.refers k d (omega (arith, lt, count))));
+      refers = subst (λ (xs : List Item). All P xs) (sym are) (set_box-refers level (map item_of entries) at b spells.refers);
     }

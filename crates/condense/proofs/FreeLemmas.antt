@@ -8,6 +8,7 @@ use Rattle.page_cache.specs.Calls.{AsksUntil, ChangesUntil, asks_in_turn, change
 use Rattle.page_cache.specs.declared.cache.PageCache.{PageCache}
 use Rattle.tree_node.specs.declared.node.Entry.{Entry}
 use Rattle.tree_node.specs.declared.node.Root.{Root}
+use Rattle.tree_node.specs.Boxes.{no_item}
 use Rattle.tree_node.specs.Nodes.{Item, item_of}
 use Rattle.tree_node.specs.Positions.{total}
 use Rattle.tree_node.specs.Rows.{branches_of, item_in, occurs_on}
@@ -142,7 +143,7 @@ module _ (dims : ℕ) (m m1 : PageMap) (root : Root) (row : Row) (level count at
   next_child within below refers low =
       let high : 0 < root.level = ⊎_elim (λ none. absurd (omega (arith, leaf (same ∙ none), within))) (λ some. some) (none_or_some root.level) in
       let child = has_child dims m root.level row at high (omega (arith, within, many high)) stands.below in
-      let d : Item = record { bounds = record { low = []; high = [] }; reference = 0 } in
+      let d = no_item in
       let is : below.page ≡ child.from.page = refers d ∙ ap (λ (xs : List Item). (get_or xs at d).reference) (sym are) ∙ child.reference d in
       let there = next_stands dims m m1 root.page root.level row at stands before child below.page is in
       let down : root.level - 1 ≡ below.level = omega (arith, low, same) in

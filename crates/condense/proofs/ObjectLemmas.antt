@@ -67,7 +67,7 @@ module _ (w : ℕ × Object → ℕ) where
   weight-cut (more (child bounds page below) rest) (suc at) c is = omega (arith, weight-cut rest at c is, total-append w (objects_in below) (objects_in rest))
 
   -- without an object
-  weight-entry : (row : Row) (at : ℕ) (b : Bounds) (id : ℕ) → take 1 (drop at (branches_of row)) ≡ object b id ∷ [] → total weight_on (cut (branches_of row) at) + w (id, b) ≡ weight row
+  weight-entry : (row : Row) (at : ℕ) (b : Object) (id : ℕ) → take 1 (drop at (branches_of row)) ≡ object b id ∷ [] → total weight_on (cut (branches_of row) at) + w (id, b) ≡ weight row
   weight-entry end zero b id is = absurd (cc)
   weight-entry end (suc at) b id is = absurd (cc)
   weight-entry (more x rest) zero b id is =
@@ -77,7 +77,7 @@ module _ (w : ℕ × Object → ℕ) where
       weight-first : (x : Branch) (rest : Row) → weight (more x rest) ≡ weight_on x + weight rest
       weight-first (object kept id) rest = omega arith
       weight-first (child bounds page below) rest = total-append w (objects_in below) (objects_in rest)
-  weight-entry (more (object bounds i) rest) (suc at) b id is = omega (arith, weight-entry rest at b id is)
+  weight-entry (more (object kept i) rest) (suc at) b id is = omega (arith, weight-entry rest at b id is)
   weight-entry (more (child bounds page below) rest) (suc at) b id is = omega (arith, weight-entry rest at b id is, total-append w (objects_in below) (objects_in rest))
 
   weight-condensed : (dims most level : ℕ) (row : Row) (at : ℕ) (c : Child) (below o : Condensed) → child_at row at ≡ Some c → o ≡ condensed dims most level row at below
@@ -102,17 +102,17 @@ module _ (w : ℕ × Object → ℕ) where
       let e = is ∙ stays_is dims most level row at below some in
       omega (arith, ap (λ (x : Condensed). weight x.row + weight_kept x.kept) e, weight-with_child row at c (least_box dims (row_items below.row)) below.row there))
 
-  weight-takes : (dims most level id : ℕ) (bounds : Bounds) (row : Row) (o : Condensed) → TakesOut dims most level id bounds row o → weight o.row + weight_kept o.kept + w (id, bounds) ≡ weight row
-  weight-takes dims most zero id bounds row o h =
+  weight-takes : (dims most level id : ℕ) (removed : Object) (row : Row) (o : Condensed) → TakesOut dims most level id removed row o → weight o.row + weight_kept o.kept + w (id, removed) ≡ weight row
+  weight-takes dims most zero id removed row o h =
       omega (
         arith,
         ap (λ (x : Condensed). weight x.row + weight_kept x.kept) h.2,
         weight-row_of (without (branches_of row) h.0),
         ap (total weight_on) (cut-is (branches_of row) h.0),
-        weight-entry row h.0 bounds id h.1,
+        weight-entry row h.0 removed id h.1,
       )
-  weight-takes dims most (suc level) id bounds row o h =
-      omega (arith, weight-condensed dims most (suc level) row h.0 h.1 h.3 o h.2 h.5, weight-takes dims most level id bounds h.1.row h.3 h.4)
+  weight-takes dims most (suc level) id removed row o h =
+      omega (arith, weight-condensed dims most (suc level) row h.0 h.1 h.3 o h.2 h.5, weight-takes dims most level id removed h.1.row h.3 h.4)
 
   weight-inserted : (dims most : ℕ) (elsewhere : ℕ → ℕ) (ws : List Waiter) (old new : Tree) → AreInserted dims most elsewhere ws old new → weight new.row ≡ weight old.row + weight_kept ws
   weight-inserted dims most elsewhere [] old new h = omega (arith, ap (λ (t : Tree). weight t.row) h)
@@ -137,15 +137,15 @@ module _ (w : ℕ × Object → ℕ) where
   weight-gives (suc count) old new h =
       weight-gives count (record { page = h.2.page; level = old.level - 1; row = h.2.row }) new h.4 ∙ sym (weight-only old.row h.2 h.1 h.3)
 
-  weight-removal : (dims most : ℕ) (elsewhere : ℕ → ℕ) (id : ℕ) (bounds : Bounds) (old new : Tree) → IsRemoval dims most elsewhere id bounds old new → w (id, bounds) + weight new.row ≡ weight old.row
-  weight-removal dims most elsewhere id bounds old new h =
+  weight-removal : (dims most : ℕ) (elsewhere : ℕ → ℕ) (id : ℕ) (removed : Object) (old new : Tree) → IsRemoval dims most elsewhere id removed old new → w (id, removed) + weight new.row ≡ weight old.row
+  weight-removal dims most elsewhere id removed old new h =
       omega (
         arith,
-        weight-takes dims most old.level id bounds old.row h.out h.takes_out,
+        weight-takes dims most old.level id removed old.row h.out h.takes_out,
         weight-inserted dims most elsewhere h.out.kept (record { page = old.page; level = old.level; row = h.out.row }) h.filled h.inserted,
         weight-gives h.count h.filled new h.lowered,
       )
 
 pub removal_keeps_objects : RemovalKeepsObjects
-removal_keeps_objects dims most elsewhere id bounds old new h =
-    equal_sums_permute ((id, bounds) ∷ objects_in new.row) (objects_in old.row) (λ w. weight-removal w dims most elsewhere id bounds old new h)
+removal_keeps_objects dims most elsewhere id removed old new h =
+    equal_sums_permute ((id, removed) ∷ objects_in new.row) (objects_in old.row) (λ w. weight-removal w dims most elsewhere id removed old new h)

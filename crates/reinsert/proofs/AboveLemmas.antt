@@ -45,7 +45,7 @@ items_kept items at lower none same =
     ap (λ (b : Bounds). set_box items at b ++ items_beside lower.beside) same ∙ ap (λ o. set_box items at (box_at items at) ++ items_beside o) none
     ∙ append-nil (set_box items at (box_at items at)) ∙ set_box-same items at
 
-length-set_box : (xs : List Item) (at : ℕ) (b : Bounds) → length (set_box xs at b) ≡ length xs
+pub length-set_box : (xs : List Item) (at : ℕ) (b : Bounds) → length (set_box xs at b) ≡ length xs
 length-set_box [] at b = refl
 length-set_box (x ∷ xs) zero b = refl
 length-set_box (x ∷ xs) (suc at) b = ap suc (length-set_box xs at b)
@@ -63,6 +63,12 @@ set_box-tag (x ∷ xs) zero b zero d = refl
 set_box-tag (x ∷ xs) zero b (suc k) d = refl
 set_box-tag (x ∷ xs) (suc at) b zero d = refl
 set_box-tag (x ∷ xs) (suc at) b (suc k) d = set_box-tag xs at b k d
+
+-- the entries are still of their level
+pub set_box-refers : (level : ℕ) (xs : List Item) (at : ℕ) (b : Bounds) → All (λ (item : Item). IsOfLevel level item.reference item.tag) xs → All (λ (item : Item). IsOfLevel level item.reference item.tag) (set_box xs at b)
+set_box-refers level xs at b refers = λ k d lt.
+    subst (λ r. IsOfLevel level r (get_or (set_box xs at b) k d).tag) (sym (set_box-reference xs at b k d))
+    (subst (λ t. IsOfLevel level (get_or xs k d).reference t) (sym (set_box-tag xs at b k d)) (refers k d (omega (arith, lt, length-set_box xs at b))))
 
 pub All-mapped : {D : ℕ} (level : ℕ) (entries : List (Entry D)) → All (λ (item : Item). IsOfLevel level item.reference item.tag) (map item_of entries) → All (λ (e : Entry D). IsOfLevel level e.reference e.tag) entries
 All-mapped level entries h k d lt =
@@ -96,9 +102,7 @@ above_of {D} level entries at lower new within refers beside are =
     let P : Item → Type 0 = λ item. IsOfLevel level item.reference item.tag in
     let count : length new ≡ length base + length (items_beside lower.beside) = sym (length-map new item_of) ∙ ap length are ∙ length-append base (items_beside lower.beside) in
     let base_count : length base ≡ length entries = length-set_box (map item_of entries) at lower.bounds ∙ length-map entries item_of in
-    let base_refers : All P base = λ k d lt. subst (λ r. IsOfLevel level r (get_or base k d).tag) (sym (set_box-reference (map item_of entries) at lower.bounds k d))
-    (subst (IsOfLevel level (get_or (map item_of entries) k d).reference) (sym (set_box-tag (map item_of entries) at lower.bounds k d))
-    (mapped-All level entries refers k d (omega (arith, lt, length-set_box (map item_of entries) at lower.bounds)))) in
+    let base_refers : All P base = set_box-refers level (map item_of entries) at lower.bounds (mapped-All level entries refers) in
     record {
       items = are;
       some = omega (arith, count, base_count, within);

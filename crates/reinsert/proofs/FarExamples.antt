@@ -1,5 +1,5 @@
 -- Worked far sets (docs/RULES.md). No other proof rests on them.
-use Rattle.std.proofs.Common.{◌≡◌, ℕ, List, [], ◌∷◌, refl, pos}
+use Rattle.std.proofs.Common.{◌≡◌, ℕ, ◌*◌, List, [], ◌∷◌, refl, pos}
 use Rattle.tree_node.specs.Nodes.{Item}
 use Rattle.reinsert.specs.Far.{far_order, far_places, farther, near_places}
 

@@ -39,7 +39,7 @@ pub(crate) fn grow<const D: usize, B: BlockDevice, A: Allocator + Copy>(
         × ComesIn D (pages cache.old) (pages cache.new) new.page
         (record {
           level = root.level + 1;
-          entries = record { bounds = bounds.entry; reference = root.page } ∷
+          entries = record { bounds = bounds.entry; reference = root.page; tag = 0 } ∷
               item_of beside.entry ∷ [];
         })) }
     ensures faults { IsPageMap cache.old → root.level < 40 → IfErr result (IsNoDamage cache.new) }

@@ -169,7 +169,7 @@ grown_within dims b (x ∷ xs) ys inner outer = (inner.0, grown_within dims b xs
 
 all_in_turn : (dims : ℕ) (b c : Bounds) (xs : List (ℕ × Object)) → Within dims b c → AllWithin dims b xs → AllWithin dims c xs
 all_in_turn dims b c [] within all = tt
-all_in_turn dims b c (x ∷ xs) within all = (Within-trans dims x.1 b c all.0 within, all_in_turn dims b c xs within all.1)
+all_in_turn dims b c (x ∷ xs) within all = (Within-trans dims (bounds_of x.1) b c all.0 within, all_in_turn dims b c xs within all.1)
 
 pub objects_within : (dims most : ℕ) (b : Bounds) (row : Row) → RowWithin dims row b → RowHasShape dims most row → AllWithin dims b (objects_in row)
 objects_within dims most b end within shape = tt

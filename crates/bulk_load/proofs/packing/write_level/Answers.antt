@@ -1,5 +1,5 @@
 -- One node more.
-use Rattle.std.proofs.Common.{◌≡◌, ◌∙◌, ◌+◌, ◌-◌, ◌<◌, None, Some, List, [], ◌∷◌, ◌++◌, length, map, take, drop, get_or, All, refl, sym, ap, subst, arith, rules, length-append, length-drop}
+use Rattle.std.proofs.Common.{◌≡◌, ◌∙◌, ℕ, ◌+◌, ◌-◌, ◌<◌, None, Some, List, [], ◌∷◌, ◌++◌, length, map, take, drop, get_or, All, refl, sym, ap, subst, arith, rules, length-append, length-drop}
 use Rattle.std.proofs.lemmas.List.{drop-drop, length-map, length-take-le, map-append}
 use Rattle.std.proofs.lemmas.List.Elements.{All-append, All-cons, All-nil}
 use Rattle.page_file.specs.declared.fault.Fault.TheVariants as fault
@@ -105,9 +105,9 @@ next_written g c sound runs same waits =
     (subst (λ (is : List Item). node_in g.row.D (pages c.write_parent.new.cache parent.reference) ≡ Some (record { level = c.args.level; entries = is })) part (c.in_ok-parent.ensures.node now_sound))
     (c.in_ok-parent.ensures.least ∙ ap (least_box g.row.D) part) in
     let whole : (t : ℕ) → 0 ≡ t → Written g.row.D c.args.level (pages c.args.cache.now) (pages c.write_parent.new.cache) runs (c.runs.place + 1) (drop size left)
-        (items_of c.runs.parents.items ++ record { bounds = parent.bounds; reference = parent.reference; tag = t } ∷ []) =
+    (items_of c.runs.parents.items ++ record { bounds = parent.bounds; reference = parent.reference; tag = t } ∷ []) =
     λ t none. subst (λ (tag : ℕ). Written g.row.D c.args.level (pages c.args.cache.now) (pages c.write_parent.new.cache) runs (c.runs.place + 1) (drop size left)
-        (items_of c.runs.parents.items ++ record { bounds = parent.bounds; reference = parent.reference; tag = tag } ∷ [])) none more_than in
+    (items_of c.runs.parents.items ++ record { bounds = parent.bounds; reference = parent.reference; tag = tag } ∷ [])) none more_than in
     subst (λ (is : List Item). Written g.row.D c.args.level (pages c.args.cache.now) (pages c.write_parent.new.cache) runs (c.runs.place + 1) (drop (c.runs.from + size) all) is) (sym seen)
     (subst (λ (is : List Item). Written g.row.D c.args.level (pages c.args.cache.now) (pages c.write_parent.new.cache) runs (c.runs.place + 1) is (items_of c.runs.parents.items ++ item_of parent ∷ []))
     (drop-drop size c.runs.from all) (whole parent.tag (sym c.in_ok-parent.ensures.number.2)))

@@ -1,5 +1,5 @@
 -- The goals of `place` that are proved by hand.
-use Rattle.std.proofs.Common.{rules, ◌≡◌, ◌∙◌, ◌+◌, ◌-◌, [], ◌∷◌, ◌++◌, IfSome, None, Ok, Result, Some, inl, refl, sym, ap, subst, arith}
+use Rattle.std.proofs.Common.{rules, ◌≡◌, ◌∙◌, ◌+◌, ◌-◌, ◌<◌, [], ◌∷◌, ◌++◌, IfSome, None, Ok, Result, Some, inl, refl, sym, ap, subst, arith}
 use Rattle.page_cache.specs.Cache.{IsPageMap, pages}
 use Rattle.page_cache.specs.Calls.{asks_changes, changes_in_turn}
 use Rattle.page_cache.specs.Laws.{the_map_is_kept_in_turn}
@@ -77,6 +77,31 @@ returns-in_err-lower-clause-alters g t c =
 pub returns-in_err-lower-clause-other_faults : goal.returns-in_err-lower-clause-other_faults
 returns-in_err-lower-clause-other_faults g t c =
     at_broken c.from_residual-in_err-lower.result c.in_err-lower.field-0.0 (λ (b : Broken). IsChangeFault b.cause) c.from_residual-in_err-lower.ensures.1 c.in_err-lower.ensures.other_faults
+
+-- ---- the call below
+
+pub place-requires : goal.place-requires
+place-requires g t c κs within =
+    let above : c.args.target < c.args.at.level = omega (arith, c.requires.levels, c.if-at-target.false) in
+    let gate = c.in_ok-way.ensures.asks.gate.gate ∙ c.requires.open in (
+      omega (arith, above, c.decreases),
+      (
+        search rules,
+        (
+          search rules,
+          (
+            search rules,
+            (
+              search rules,
+              (
+                search rules,
+                (search rules, (c.requires.dims, (gate, (c.requires.most, (omega (arith, above, c.requires.levels), c.requires.refers))))),
+              ),
+            ),
+          ),
+        ),
+      ),
+    )
 
 -- ---- the node stays
 

@@ -1,5 +1,5 @@
 -- The goals of `keep` that are proved by hand.
-use Rattle.std.proofs.Common.{◌≡◌, ◌∙◌, ◌-◌, ℕ, arith, ap, subst, sym, get_or, length, All, [], ◌∷◌}
+use Rattle.std.proofs.Common.{rules, ◌≡◌, ◌∙◌, ◌-◌, ℕ, arith, ap, subst, sym, get_or, length, All, [], ◌∷◌}
 use Rattle.std.proofs.lemmas.List.Elements.{All-append}
 use Rattle.tree_node.specs.declared.node.Entry.{Entry}
 use Rattle.node_page.specs.Layout.{IsOfLevel}
@@ -9,7 +9,7 @@ use Rattle.condense.proofs.KeptLemmas.{held_more}
 use Rattle.condense.proofs.kept.Kept.keep.Goals as goal
 
 pub push-requires : goal.push-requires
-push-requires g c = omega (arith, c.loop-passed.invariant.1, c.requires.room, c.len-passed-end.ensures.value, c.loop-passed-test.true)
+push-requires g c = (search rules, omega (arith, c.loop-passed.invariant.1, c.requires.room, c.len-passed-end.ensures.value, c.loop-passed-test.true))
 
 pub invariant_of-self : goal.invariant_of-self
 invariant_of-self g c =

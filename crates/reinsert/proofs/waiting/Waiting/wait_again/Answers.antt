@@ -1,5 +1,5 @@
 -- The goals of `wait_again` that are proved by hand.
-use Rattle.std.proofs.Common.{◌≡◌, ◌∙◌, ◌-◌, ℕ, arith, ap, subst, sym, get_or, length, All, [], ◌∷◌}
+use Rattle.std.proofs.Common.{rules, ◌≡◌, ◌∙◌, ◌-◌, ℕ, arith, ap, subst, sym, get_or, length, All, [], ◌∷◌}
 use Rattle.std.proofs.lemmas.List.Elements.{All-append}
 use Rattle.tree_node.specs.declared.node.Entry.{Entry}
 use Rattle.node_page.specs.Layout.{IsOfLevel}
@@ -15,7 +15,7 @@ invariant_of-self-clause-room g c = omega (arith, free_levels_le c.args.self.now
 pub push-requires : goal.push-requires
 push-requires g c =
     let free = ap free_levels c.loop-passed.invariant.2 in
-    omega (arith, free, free_levels_fall c.args.self.now.called c.args.level c.requires.first, c.args.self.now.room, c.loop-passed.invariant.1, c.requires.few, c.len-passed-end.ensures.value, c.loop-passed-test.true)
+    (search rules, omega (arith, free, free_levels_fall c.args.self.now.called c.args.level c.requires.first, c.args.self.now.room, c.loop-passed.invariant.1, c.requires.few, c.len-passed-end.ensures.value, c.loop-passed-test.true))
 
 pub invariant_of-self-in-loop-passed-clause-room : goal.invariant_of-self-in-loop-passed-clause-room
 invariant_of-self-in-loop-passed-clause-room g c =
