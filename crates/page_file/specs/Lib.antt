@@ -16,4 +16,5 @@ pub mod Settled
 pub mod Reused
 pub mod Frames
 pub mod Aside
+pub mod Byte
 pub mod Laws

@@ -1,5 +1,5 @@
 //! What follows from the promises of the calls, each law the contract of a function that does nothing.
-ghost use Rattle.std.specs.Prelude.{◌≡◌, ◌⊎◌, ◌↔◌, ◌≤◌, ◌<◌, ◌^◌, ℕ, List, Some, length};
+ghost use Rattle.std.specs.Prelude.{false, true, ◌≡◌, ◌⊎◌, ◌↔◌, ◌≤◌, ◌<◌, ◌^◌, ℕ, List, Some, length};
 ghost use Rattle.block_bytes.specs.Kinds.{free_kind};
 ghost use Rattle.block_device.specs.Device.{Blocks, IsBlock};
 ghost use Rattle.page_file.specs.declared.file.PageFile.{PageFile};
@@ -18,9 +18,11 @@ use block_device::BlockDevice;
 #[tactic(auto, using(crate::specs::Laws::laws))]
 pub fn a_stop_follows_the_gate<D: BlockDevice>()
     ensures gate { (file : PageFile D ⟦<D as BlockDevice>⟧) (c : Blocks) → IsHonest file →
-        D.may_leave (device_of file) c → StopSince (gate_of file) (blocks_of file) c }
+        D.may_leave (device_of file) c → StopSince (gate_of file) (blocks_of file) c ⊎
+        (D.fallback (device_of file) c ≡ true) }
     ensures others { (file : PageFile D ⟦<D as BlockDevice>⟧) (c : Blocks) → IsHonest file →
-        ¬ (gate_of file ≡ Open) → D.may_leave (device_of file) c → SameButGate c (blocks_of file) }
+        ¬ (gate_of file ≡ Open) → D.may_leave (device_of file) c → D.fallback (device_of file) c ≡ false →
+        SameButGate c (blocks_of file) }
 {}
 
 /// A file whose gate is shut lies in its blocks, and opening finds it there.

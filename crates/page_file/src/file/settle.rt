@@ -1,6 +1,6 @@
 //! The gate shut after a change, and a file closed.
 ghost use Rattle.std.specs.Prelude.{◌≡◌, ◌⊎◌, ◌↔◌, ◌≤◌, Ok, IsOk, IfOk, IfErr, OnOk, OnErr};
-ghost use Rattle.block_device.specs.Device.{LeavesOnly, Only};
+ghost use Rattle.block_device.specs.Device.{IsIn, LeavesNoMore, LeavesOnly, Only};
 ghost use Rattle.page_file.specs.Fault.{HasCause, IsOfDevice, faults_after};
 ghost use Rattle.page_file.specs.File.{device_of, blocks_of, IsHonest, gate_of, KeepsMap, LiesIn};
 ghost use Rattle.page_file.specs.Opening.{IsRefused};
@@ -32,10 +32,11 @@ impl<D: BlockDevice> PageFile<D> {
         ensures map { KeepsMap self.old self.new }
 
         // A stop leaves blocks that opening refuses, or those that are read afterwards, the gate aside, in which
-        // the file lies.
+        // the file lies, or a fallback, of before or of those that are read afterwards.
         ensures stops { IsHonest self.old →
-            LeavesOnly D.moment D.left_since (device_of self.old) (device_of self.new) (λ c. IsRefused c ⊎
-            (SameButGate c (blocks_of self.new) × LiesIn self.new c)) }
+            LeavesOnly D.moment D.left_since (device_of self.old) (device_of self.new) (λ c. (IsRefused c ⊎
+            (SameButGate c (blocks_of self.new) × LiesIn self.new c)) ⊎ (IsIn (D.fallback (device_of self.old)) c ⊎
+            IsIn (D.fallback (device_of self.new)) c)) }
 
         ensures honest { IsHonest self.old ↔ IsHonest self.new }
         ensures faults { IsHonest self.old → IfErr result IsOfDevice }
@@ -92,8 +93,11 @@ impl<D: BlockDevice> PageFile<D> {
         ensures unsure { OnOk result (gate_of self.new ≡ Unsure) }
         ensures refused { OnErr result (gate_of self.new ≡ Open) }
         ensures map { KeepsMap self.old self.new }
+        ensures fallback { IsHonest self.old →
+            LeavesNoMore (IsIn (D.fallback (device_of self.old))) (IsIn (D.fallback (device_of self.new))) }
         ensures stops { IsHonest self.old →
-            LeavesOnly D.moment D.left_since (device_of self.old) (device_of self.new) IsRefused }
+            LeavesOnly D.moment D.left_since (device_of self.old) (device_of self.new)
+            (λ c. IsRefused c ⊎ IsIn (D.fallback (device_of self.old)) c) }
         ensures honest { IsHonest self.old ↔ IsHonest self.new }
         ensures faults { IsHonest self.old → IfErr result IsOfDevice }
         ensures other_faults { IfErr result (λ f. IsOfDevice f ⊎ (f ≡ fault.Damaged 1)) }
@@ -120,7 +124,8 @@ impl<D: BlockDevice> PageFile<D> {
         ensures map { KeepsMap self.old self.new }
         ensures stops { IsHonest self.old →
             LeavesOnly D.moment D.left_since (device_of self.old) (device_of self.new)
-            (λ c. SameButGate c (blocks_of self.old)) }
+            (λ c. SameButGate c (blocks_of self.old) ⊎ (IsIn (D.fallback (device_of self.old)) c ⊎
+            IsIn (D.fallback (device_of self.new)) c)) }
         ensures honest { IsHonest self.old ↔ IsHonest self.new }
         ensures faults { IfErr result IsOfDevice }
         ensures cause { HasCause (D.faults (device_of self.old)) (D.faults (device_of self.new)) result }

@@ -1,0 +1,24 @@
+-- The byte of the gate that asks for a commit.
+use Rattle.std.proofs.Common.{◌≡◌, ◌∙◌, ℕ, List, slice_index, refl, ap, arith, lit<, ⊎_elim}
+use Rattle.block_bytes.specs.Laws.{byte_put, length-zeros, length-put}
+use Rattle.block_bytes.specs.Numbers.{put_number, zeros}
+use Rattle.block_device.specs.Device.{AsksCommit, Begins, Blocks, OrCommit, block_at, written}
+use Rattle.block_device.specs.Written.{block_at-written}
+use Rattle.page_file.specs.Layout.{gate_block, gate_text}
+
+pub open_byte : slice_index (gate_block 0) 8 ≡ 0
+unfolding gate_block
+open_byte = byte_put 8 0 (put_number 8 0 gate_text zeros) (lit< tt) (omega (arith, length-put 8 0 gate_text zeros (omega (arith, length-zeros)), length-zeros))
+
+-- an open gate asks for none
+pub no_commit : (shown : Blocks) (fell : Blocks → Type 0) (c : Blocks) → OrCommit (written 0 (gate_block 0) shown) fell c → fell c
+no_commit shown fell c = ⊎_elim (λ f. f) (λ made.
+    let zero_byte : slice_index (block_at 0 (written 0 (gate_block 0) shown)) 8 ≡ 0 = ap (λ (b : List ℕ). slice_index b 8) (block_at-written 0 (gate_block 0) shown (omega arith)) ∙ open_byte in
+    absurd (omega (arith, made.0, zero_byte)))
+
+pub unasked : (shown : Blocks) → slice_index (block_at 0 shown) 8 ≡ 0 → ¬ AsksCommit shown
+unasked shown e asks = omega (arith, e, asks)
+
+pub shut_byte : slice_index (gate_block 1) 8 ≡ 1
+unfolding gate_block
+shut_byte = byte_put 8 1 (put_number 8 0 gate_text zeros) (lit< tt) (omega (arith, length-put 8 0 gate_text zeros (omega (arith, length-zeros)), length-zeros))
