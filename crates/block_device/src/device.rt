@@ -1,5 +1,6 @@
 //! The trait of a device: what a read returns, what a stop may leave, and the count of faults.
-ghost use Rattle.std.specs.Prelude.{◌≡◌, ◌≤◌, ◌<◌, ◌+◌, ◌^◌, ◌↔◌, ℕ, List, length, Bool, false, Result, OnOk, OnErr, ⊤};
+ghost use Rattle.std.specs.Prelude.{◌≡◌, ◌≤◌, ◌<◌, ◌+◌, ◌^◌, ◌↔◌, ℕ, List, length, Bool, false, true};
+ghost use Rattle.std.specs.Prelude.{Result, OnOk, OnErr, ⊤};
 ghost use Rattle.block_device.specs.declared.device.DeviceError.{DeviceError};
 ghost use Rattle.block_device.specs.declared.device.DeviceError.TheVariants.{Memory};
 ghost use Rattle.std.specs.List.{All};
@@ -58,6 +59,9 @@ pub trait BlockDevice {
     /// blocks of the last commit. A device without commits has none.
     ghost fallback: { Self → Blocks → Bool } = { λ _ _. false };
 
+    /// Devices of this kind commit, so that a stop may bring a commit back.
+    ghost recovers: { Bool } = { false };
+
     /// The moment, as a number that doesn't fall.
     ghost moment: { Self → ℕ };
 
@@ -111,7 +115,8 @@ pub trait BlockDevice {
 
         // A stop leaves what one before the call might have left, with any bytes in this block, or a fallback.
         ensures stops { honest self.old →
-            FollowsOr (Torn i) (IsIn (fallback self.old)) (may_leave self.old) (IsIn (fallback self.new)) (may_leave self.new) }
+            FollowsOr (Torn i) (IsIn (fallback self.old)) (may_leave self.old) (IsIn (fallback self.new))
+            (may_leave self.new) }
         ensures fallback { honest self.old → LeavesNoMore (IsIn (fallback self.old)) (IsIn (fallback self.new)) }
         ensures time { honest self.old →
             Elapses (moment self.old) (moment self.new) (left_since self.old) (left_since self.new)
@@ -124,13 +129,16 @@ pub trait BlockDevice {
     /// Makes what was written last: after an `Ok` a stop leaves the blocks as they are read,
     /// or a fallback; where block 0 asks for a commit, the blocks as they are read, which are the new commit.
     fn sync(&mut self) -> Result<(), DeviceError>
-        ensures durable { honest self.old → OnOk result (OnlyOr (shown self.old) (IsIn (fallback self.new)) (may_leave self.new)) }
+        ensures durable { honest self.old →
+            OnOk result (OnlyOr (shown self.old) (IsIn (fallback self.new)) (may_leave self.new)) }
         ensures commits { honest self.old → OnOk result (AsksCommit (shown self.old) →
-            Only (shown self.old) (may_leave self.new) × LeavesNoMore (Begins (shown self.old)) (IsIn (fallback self.new))) }
+            Only (shown self.old) (may_leave self.new) ×
+            LeavesNoMore (Begins (shown self.old)) (IsIn (fallback self.new))) }
         ensures shown { honest self.old → shown self.new ≡ shown self.old }
 
         ensures stops { honest self.old →
-            FollowsOr Stays (IsIn (fallback self.old)) (may_leave self.old) (IsIn (fallback self.new)) (may_leave self.new) }
+            FollowsOr Stays (IsIn (fallback self.old)) (may_leave self.old) (IsIn (fallback self.new))
+            (may_leave self.new) }
         ensures fallback { honest self.old →
             LeavesNoMore (OrCommit (shown self.old) (IsIn (fallback self.old))) (IsIn (fallback self.new)) }
         ensures time { honest self.old →
@@ -143,6 +151,9 @@ pub trait BlockDevice {
 
     /// There are at most 2^31 blocks.
     ghost few_blocks: { (d : Self) → length (shown d) ≤ 2 ^ 31 };
+
+    /// Only a device that recovers has a fallback.
+    ghost fallback_recovers: { (d : Self) (c : Blocks) → IsIn (fallback d) c → recovers ≡ true };
 
     /// What is read is one of the outcomes of a stop now, where there is no fallback.
     ghost shown_counts: { (d : Self) → honest d → ((c : Blocks) → fallback d c ≡ false) → may_leave d (shown d) };
@@ -171,6 +182,9 @@ pub trait BlockDevice {
 
 /// A device without commits: no call has a fallback.
 pub trait PlainDevice: BlockDevice {
+    /// A stop brings no commit back.
+    ghost no_recovery: { Self.BlockDevice.recovers ≡ false };
+
     /// There is no fallback.
     ghost no_fallback: { (d : Self) (c : Blocks) → Self.BlockDevice.fallback d c ≡ false };
 }

@@ -90,6 +90,8 @@ impl<D: BlockDevice> BlockDevice for FuseDevice<D> {
 
     ghost fallback = { λ f. D.fallback (inner_of f) };
 
+    ghost recovers = { D.recovers };
+
     ghost moment = { λ f. D.moment (inner_of f) };
 
     ghost left_since = { λ f. D.left_since (inner_of f) };
@@ -133,6 +135,8 @@ impl<D: BlockDevice> BlockDevice for FuseDevice<D> {
 
     ghost few_blocks = { λ f. D.few_blocks (inner_of f) };
 
+    ghost fallback_recovers = { λ f. D.fallback_recovers (inner_of f) };
+
     ghost shown_counts = { λ f. D.shown_counts (inner_of f) };
 
     ghost whole_shown = { λ f. D.whole_shown (inner_of f) };
@@ -151,5 +155,7 @@ impl<D: BlockDevice> BlockDevice for FuseDevice<D> {
 }
 
 impl<D: PlainDevice> PlainDevice for FuseDevice<D> {
+    ghost no_recovery = { D.no_recovery };
+
     ghost no_fallback = { λ f. D.no_fallback (inner_of f) };
 }

@@ -1,17 +1,17 @@
 -- What a write and then a sync leave at each moment.
-use Rattle.std.proofs.Common.{ℕ, ◌⊎◌, ◌≡◌, refl, subst, sym, ap, ◌∙◌, drop, inl, inr, ⊎_elim}
-use Rattle.block_device.specs.Device.{Blocks, Elapses, FollowsOr, LeavesNoMore, LeavesOnly, OrFalls, Stays, Torn}
-use Rattle.block_device.specs.Moments.{started, goes_on}
-use Rattle.page_file.specs.Stops.{Aside, StepOr, SameButGate}
+use Rattle.std.proofs.Common.{Bool, ℕ, ◌⊎◌, ◌≡◌, refl, subst, sym, ap, ◌∙◌, drop, inl, inr, ⊎_elim}
+use Rattle.block_device.specs.Device.{Blocks, Elapses, FollowsOr, IsIn, LeavesNoMore, LeavesOnly, OrFalls, Stays, Torn}
+use Rattle.block_device.specs.Moments.{started, goes_on, leaves_then, leaves_weaker}
+use Rattle.page_file.specs.Stops.{Aside, Reads, StepOr, SameButGate}
 use Rattle.page_file.specs.Written.{aside_torn}
 
 -- a step and then none
 pub step_stays : (step : Blocks → Blocks → Type 0) (fell a falls b fall c : Blocks → Type 0) → FollowsOr step fell a falls b → FollowsOr Stays falls b fall c → FollowsOr step fell a fall c
 step_stays step fell a falls b fall c first then = λ e now. ⊎_elim
     (λ (from : (d : Blocks) × b d × Stays d e × (falls d → fall e)). ⊎_elim
-        (λ (was : (x : Blocks) × a x × step x from.0 × (fell x → falls from.0)). inl (was.0, was.1, subst (λ (y : Blocks). step was.0 y) (sym from.2) was.2, λ f. from.3 (was.3 f)))
-        (λ (back : falls from.0). inr (from.3 back))
-        (first from.0 from.1))
+    (λ (was : (x : Blocks) × a x × step x from.0 × (fell x → falls from.0)). inl (was.0, was.1, subst (λ (y : Blocks). step was.0 y) (sym from.2) was.2, λ f. from.3 (was.3 f)))
+    (λ (back : falls from.0). inr (from.3 back))
+    (first from.0 from.1))
     (λ back. inr back)
     (then e now)
 
@@ -29,8 +29,20 @@ module _ {D : Type 0} (moment : D → ℕ) (left_since : D → ℕ → Blocks �
       let P : Blocks → Type 0 = StepOr step (may_leave old) (fallback old) in
       goes_on moment left_since old old mid P _ (started moment left_since old P (λ c left. inl (c, now c left, same c, λ f. f))) time
       (λ c. ⊎_elim
-          (λ left. ⊎_elim (λ was. inl (was.0, was.1, was.2, λ f. less c (was.3 f))) (λ back. inr (less c back)) (torn c left))
-          (⊎_elim (λ f. inr f) (λ f. inr (less c f))))
+      (λ left. ⊎_elim (λ was. inl (was.0, was.1, was.2, λ f. less c (was.3 f))) (λ back. inr (less c back)) (torn c left))
+      (⊎_elim (λ f. inr f) (λ f. inr (less c f))))
+
+  -- a sync
+  pub sync_leaves : (old new : D) → ((c : Blocks) → left_since old (moment old) c → may_leave old c)
+      → FollowsOr Stays (fallback old) (may_leave old) (fallback new) (may_leave new)
+      → Elapses (moment old) (moment new) (left_since old) (left_since new) (OrFalls (may_leave new) (fallback old) (fallback new))
+      → LeavesOnly moment left_since old new (λ c. may_leave old c ⊎ (fallback old c ⊎ fallback new c))
+  sync_leaves old new now stays time =
+      let P : Blocks → Type 0 = λ c. may_leave old c ⊎ (fallback old c ⊎ fallback new c) in
+      goes_on moment left_since old old new P _ (started moment left_since old P (λ c left. inl (now c left))) time
+      (λ c. ⊎_elim
+      (λ left. ⊎_elim (λ (from : (d : Blocks) × may_leave old d × Stays d c × (fallback old d → fallback new c)). inl (subst (may_leave old) (sym from.2) from.1)) (λ back. inr (inr back)) (stays c left))
+      (λ f. inr f))
 
   -- a write and a sync
   pub step_sync_leaves : (step : Blocks → Blocks → Type 0) (old mid new : D) → ((x : Blocks) → step x x) → ((c : Blocks) → left_since old (moment old) c → may_leave old c)
@@ -46,5 +58,42 @@ module _ {D : Type 0} (moment : D → ℕ) (left_since : D → ℕ → Blocks �
       let here = started moment left_since old P (λ c left. inl (inl (c, now c left, same c, λ f. f))) in
       let first = goes_on moment left_since old old mid P _ here time (λ c. ⊎_elim (λ left. inl (aside c left)) (⊎_elim (λ f. inl (inr f)) (λ f. inl (inr (less c f))))) in
       goes_on moment left_since old mid new P _ first time2 (λ c. ⊎_elim
-          (λ left. ⊎_elim (λ (from : (d : Blocks) × may_leave mid d × Stays d c × (fallback mid d → fallback new c)). inl (subst S (sym from.2) (aside from.0 from.1))) (λ back. inr back) (more c left))
-          (⊎_elim (λ f. inl (inr (less c f))) (λ f. inr f)))
+      (λ left. ⊎_elim (λ (from : (d : Blocks) × may_leave mid d × Stays d c × (fallback mid d → fallback new c)). inl (subst S (sym from.2) (aside from.0 from.1))) (λ back. inr back) (more c left))
+      (⊎_elim (λ f. inl (inr (less c f))) (λ f. inr f)))
+
+module _ {D : Type 0} (moment : D → ℕ) (left_since : D → ℕ → Blocks → Type 0) (may_leave : D → Blocks → Type 0) (fallback : D → Blocks → Bool) where
+  abbrev pub OnlyReads : D → D → Type 0
+  OnlyReads old new = Reads moment left_since may_leave fallback old new
+
+  -- no call
+  pub reads_none : (old : D) → ((c : Blocks) → left_since old (moment old) c → may_leave old c) → OnlyReads old old
+  reads_none old now = record { now = λ c left. left; fewer = λ c f. f; more = λ c f. f; stops = started moment left_since old _ (λ c left. inl (now c left)) }
+
+  -- reads after reads
+  pub reads_on : (old mid new : D) → OnlyReads old mid → OnlyReads mid new → OnlyReads old new
+  reads_on old mid new a b = record {
+    now = λ c left. a.now c (b.now c left);
+    fewer = λ c f. a.fewer c (b.fewer c f);
+    more = λ c f. b.more c (a.more c f);
+    stops = leaves_then moment left_since old mid new (λ c. may_leave old c ⊎ IsIn (fallback old) c) a.stops
+        (leaves_weaker moment left_since mid new (λ c. may_leave mid c ⊎ IsIn (fallback mid) c) (λ c. may_leave old c ⊎ IsIn (fallback old) c) (λ c. ⊎_elim (λ left. inl (a.now c left)) (λ f. inr (a.fewer c f))) b.stops);
+  }
+
+  -- a sync, and reads after it
+  pub sync_reads : (old mid new : D) → FollowsOr Stays (IsIn (fallback old)) (may_leave old) (IsIn (fallback mid)) (may_leave mid)
+      → LeavesOnly moment left_since old mid (λ c. may_leave old c ⊎ (IsIn (fallback old) c ⊎ IsIn (fallback mid) c)) → OnlyReads mid new
+      → LeavesOnly moment left_since old new (λ c. may_leave old c ⊎ (IsIn (fallback old) c ⊎ IsIn (fallback new) c))
+  sync_reads old mid new stays stops reads =
+      let P : Blocks → Type 0 = λ c. may_leave old c ⊎ (IsIn (fallback old) c ⊎ IsIn (fallback new) c) in
+      leaves_then moment left_since old mid new P
+      (leaves_weaker moment left_since old mid (λ c. may_leave old c ⊎ (IsIn (fallback old) c ⊎ IsIn (fallback mid) c)) P (λ c. ⊎_elim (λ left. inl left) (⊎_elim (λ f. inr (inl f)) (λ f. inr (inr (reads.more c f))))) stops)
+      (leaves_weaker moment left_since mid new (λ c. may_leave mid c ⊎ IsIn (fallback mid) c) P (λ c. ⊎_elim
+      (λ left. ⊎_elim (λ (from : (d : Blocks) × may_leave old d × Stays d c × (IsIn (fallback old) d → IsIn (fallback mid) c)). inl (subst (may_leave old) (sym from.2) from.1)) (λ back. inr (inr (reads.more c back))) (stays c left))
+      (λ f. inr (inr (reads.more c f)))) reads.stops)
+
+  pub stays_reads : (old mid new : D) → FollowsOr Stays (IsIn (fallback old)) (may_leave old) (IsIn (fallback mid)) (may_leave mid) → OnlyReads mid new
+      → FollowsOr Stays (IsIn (fallback old)) (may_leave old) (IsIn (fallback new)) (may_leave new)
+  stays_reads old mid new stays reads = λ c left. ⊎_elim
+      (λ (from : (d : Blocks) × may_leave old d × Stays d c × (IsIn (fallback old) d → IsIn (fallback mid) c)). inl (from.0, from.1, from.2, λ f. reads.more c (from.3 f)))
+      (λ back. inr (reads.more c back))
+      (stays c (reads.now c left))

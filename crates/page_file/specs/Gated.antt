@@ -11,7 +11,7 @@ use Rattle.page_file.specs.declared.fault.Fault.TheVariants.{NotAStore, NotClose
 use Rattle.page_file.specs.declared.gate.Gate.{Gate}
 use Rattle.page_file.specs.declared.gate.Gate.TheVariants.{Shut, Open, Unsure}
 use Rattle.page_file.specs.Opening.{IsRefused, failed_check, Check, first_fault, gate_checks, header_checks}
-use Rattle.page_file.specs.Stops.{SameButGate, StopNow, StopSince}
+use Rattle.page_file.specs.Stops.{GateNow, SameButGate, StopNow, StopSince}
 use Rattle.page_file.specs.Reading.{length-gate, shut-gate}
 use Rattle.page_file.specs.Written.{first_torn}
 
@@ -51,10 +51,19 @@ stop_open falls gate shown d e now = subst (λ (x : Gate). StopNow falls x shown
 pub open_stop : (falls : Blocks → Bool) (gate : Gate) (shown c : Blocks) → gate ≡ Open → (falls c ≡ false → block_at 0 c ≡ gate_block 0) → StopNow falls gate shown c
 open_stop falls gate shown c e now = subst (λ (x : Gate). StopNow falls x shown c) (sym e) now
 
+gate_since : (gate : Gate) (shown c : Blocks) → GateNow gate shown c → StopSince gate shown c
+gate_since Shut shown c now = now
+gate_since Open shown c now = fails c now
+gate_since Unsure shown c now = inr now
+
 pub now_since : (falls : Blocks → Bool) (gate : Gate) (shown c : Blocks) → StopNow falls gate shown c → StopSince gate shown c ⊎ (falls c ≡ true)
-now_since falls Shut shown c now = inl now
-now_since falls Open shown c now = ⊎_elim (λ is. inr is) (λ none. inl (fails c (now none))) (cases_Bool (falls c))
-now_since falls Unsure shown c now = ⊎_elim (λ is. inr is) (λ none. inl (inr (now none))) (cases_Bool (falls c))
+now_since falls gate shown c now = ⊎_elim (λ is. inr is) (λ none. inl (gate_since gate shown c (now none))) (cases_Bool (falls c))
+
+-- a gate is open or not
+pub is_open : (gate : Gate) → (gate ≡ Open) ⊎ ¬ (gate ≡ Open)
+is_open Shut = inr (λ e. cc)
+is_open Open = inl refl
+is_open Unsure = inr (λ e. cc)
 
 pub open_is_not_shut : (gate : Gate) → gate ≡ Open → gate ≡ Shut → ⊥
 open_is_not_shut gate a b = let e : Open ≡ Shut = sym a ∙ b in cc

@@ -93,6 +93,8 @@ impl<A: Allocator + Copy> BlockDevice for MemoryDevice<A> {
 
     ghost few_blocks = { λ d. d.few };
 
+    ghost fallback_recovers = { λ _ _ back. back };
+
     ghost shown_counts = { λ d _ _. shown_left (shown_of d) (history_of d) d.kept.whole d.kept.leads };
 
     ghost whole_shown = { λ d _. d.kept.whole };
@@ -111,6 +113,8 @@ impl<A: Allocator + Copy> BlockDevice for MemoryDevice<A> {
 }
 
 impl<A: Allocator + Copy> PlainDevice for MemoryDevice<A> {
+    ghost no_recovery = { refl };
+
     ghost no_fallback = { λ _ _. refl };
 }
 

@@ -4,7 +4,7 @@ use Rattle.block_device.specs.Device.{Blocks, IsIn, LeavesNoMore, LeavesOnly}
 use Rattle.block_device.specs.Moments.{leaves_then, leaves_weaker}
 use Rattle.page_file.specs.Laws.{the_map_is_kept_in_turn}
 use Rattle.page_file.specs.Aside.{aside_lies}
-use Rattle.page_file.specs.File.{IsHonest, KeepsMap, LiesIn, blocks_of, device_of, gate_of}
+use Rattle.page_file.specs.File.{IsHonest, KeepsMap, LiesAtStart, LiesIn, blocks_of, device_of, gate_of}
 use Rattle.page_file.specs.Opening.{IsRefused}
 use Rattle.page_file.specs.Stops.{SameButGate}
 use Rattle.page_file.specs.declared.file.PageFile.{PageFile}
@@ -20,8 +20,8 @@ shut_behind : {D : Type 0} {m : _} (old mid new : PageFile D m) → IsHonest new
     → LeavesOnly m.moment m.left_since mid.device new.device (λ c. SameButGate c (blocks_of mid) ⊎ (IsIn (m.fallback mid.device) c ⊎ IsIn (m.fallback new.device) c)) → LeavesOnly m.moment m.left_since mid.device new.device (Settles old new)
 shut_behind {m = m} old mid new h closed same less stops = leaves_weaker m.moment m.left_since mid.device new.device (λ c. SameButGate c (blocks_of mid) ⊎ (IsIn (m.fallback mid.device) c ⊎ IsIn (m.fallback new.device) c)) (Settles old new)
     (λ c. ⊎_elim
-        (λ (aside : SameButGate c (blocks_of mid)). let here : SameButGate c (blocks_of new) = aside ∙ sym same in inl (⊎_elim (λ refused. inl refused) (λ lies. inr (here, lies)) (aside_lies new c h closed here)))
-        (⊎_elim (λ f. inr (inl (less c f))) (λ f. inr (inr f)))) stops
+    (λ (aside : SameButGate c (blocks_of mid)). let here : SameButGate c (blocks_of new) = aside ∙ sym same in inl (⊎_elim (λ refused. inl refused) (λ lies. inr (here, lies)) (aside_lies new c h closed here)))
+    (⊎_elim (λ f. inr (inl (less c f))) (λ f. inr (inr f)))) stops
 
 pub returns-clause-stops : goal.returns-clause-stops
 returns-clause-stops g c = λ h.
@@ -51,4 +51,19 @@ returns-clause-map g c =
       | then-eq+in_ok-settle_blocks w ↦ the_map_is_kept_in_turn old mid new (λ h. subst (λ (file : PageFile _ _). IsHonest file) (sym w.self-is) (w.settle_blocks.ensures.honest.0 h))
           (subst (λ (file : PageFile _ _). KeepsMap old file) (sym w.self-is) w.settle_blocks.ensures.map) c.shut.ensures.map
       | else-eq w ↦ subst (λ (file : PageFile _ _). KeepsMap file new) w.self-is c.shut.ensures.map
+    ]
+
+pub returns-clause-fallback : goal.returns-clause-fallback
+returns-clause-fallback g c = λ h e back.
+    let d = g.D.BlockDevice in
+    let old = c.args.self.now in
+    let mid = c.if-eq.self in
+    let Now : Type 0 = IsIn (d.fallback old.device) e ⊎ LiesAtStart c.shut.new.self e in
+    elim c.if-eq.branch [
+      | then-eq+in_ok-settle_blocks w ↦ ⊎_elim {C = Now}
+          (λ f. inl (w.settle_blocks.ensures.fallback h e (subst (λ (file : PageFile _ _). IsIn (d.fallback (device_of file)) e) w.self-is f))) (λ begun. inr begun)
+          (c.shut.ensures.fallback (subst (λ (file : PageFile _ _). IsHonest file) (sym w.self-is) (w.settle_blocks.ensures.honest.0 h)) e back)
+      | else-eq w ↦ ⊎_elim {C = Now}
+          (λ f. inl (subst (λ (file : PageFile _ _). IsIn (d.fallback (device_of file)) e) w.self-is f)) (λ begun. inr begun)
+          (c.shut.ensures.fallback (subst (λ (file : PageFile _ _). IsHonest file) (sym w.self-is) h) e back)
     ]

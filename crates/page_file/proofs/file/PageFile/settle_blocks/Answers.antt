@@ -48,4 +48,3 @@ returns-clause-stops g c = λ h. let file = c.args.self.now in let d = g.D.Block
 
 pub returns-clause-fallback : goal.returns-clause-fallback
 returns-clause-fallback g c = λ h. let file = c.args.self.now in c.write_header.ensures.fallback h (unasked (g.D.BlockDevice.shown file.device) (file.open_reads h c.requires))
-

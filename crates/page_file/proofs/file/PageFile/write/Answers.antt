@@ -33,7 +33,7 @@ returns-clause-gate g c = let file = c.args.self.now in let d = g.D.BlockDevice 
   honest = c.write_block.ensures.honest;
   blocks = λ h ne. absurd (ne c.requires);
   falls = λ h e back. inl (c.write_block.ensures.fallback h e back);
-  stops = λ h. adds_behind d.moment d.left_since file.device c.write_block.new.device (d.fallback file.device) file.gate (d.shown file.device) (d.may_leave file.device) c.args.n c.requires (omega (arith, c.if-n-lt2.false)) (file.stop_now h) (c.write_block.ensures.stops h);
+  stops = λ h. adds_behind d.moment d.left_since file.device c.write_block.new.device d.recovers (d.fallback file.device) file.gate (d.shown file.device) (d.may_leave file.device) c.args.n c.requires (omega (arith, c.if-n-lt2.false)) (file.stop_now h) (c.write_block.ensures.stops h);
 }
 
 pub returns-clause-live : goal.returns-clause-live

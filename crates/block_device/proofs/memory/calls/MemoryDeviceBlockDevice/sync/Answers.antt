@@ -22,7 +22,7 @@ returns-clause-stops g c = λ _. stays_plain _ _ _ _ (λ _. refl) (λ d now.
 pub returns-clause-commits : goal.returns-clause-commits
 returns-clause-commits g c = λ _ _. (
   (λ d now.
-    let bs = c.args.self.now.blocks.items in
-    only_shown bs (history c.args.self.now.past.notes) d (subst (λ (l : List Event). MayLeave bs l d) (ap history c.syncs.ensures) now)),
+      let bs = c.args.self.now.blocks.items in
+      only_shown bs (history c.args.self.now.past.notes) d (subst (λ (l : List Event). MayLeave bs l d) (ap history c.syncs.ensures) now)),
   (λ d back. let e : false ≡ true = back in absurd (cc)),
 )
