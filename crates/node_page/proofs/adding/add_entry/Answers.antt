@@ -1,10 +1,11 @@
 -- The node is that of the page, with the entry after the others.
-use Rattle.std.proofs.Common.{◌≡◌, ◌∙◌, ◌<◌, ap, arith, IfSome, is_some, length, rules, Some, subst, sym}
+use Rattle.std.proofs.Common.{◌≡◌, ◌∙◌, ◌<◌, ap, arith, IfSome, is_some, length, rules, None, Some, subst, sym}
 use Rattle.page_cache.specs.Cache.{pages}
+use Rattle.page_cache.specs.Calls.{asks_changes, changes_in_turn}
 use Rattle.page_cache.specs.Laws.{a_live_page_is_given}
 use Rattle.tree_node.specs.Boxes.{least_box}
 use Rattle.tree_node.specs.Nodes.{item_of}
-use Rattle.node_page.specs.Broken.{asks_and_is_refused}
+use Rattle.node_page.specs.Broken.{asks_and_is_refused, made_alters}
 use Rattle.node_page.specs.Layout.{IsReference, node_at, pushed}
 use Rattle.node_page.proofs.NodeLemmas.{bytes_of_node, node_of_page}
 use Rattle.node_page.proofs.adding.add_entry.Goals as goal
@@ -29,6 +30,10 @@ returns-clause-added g c = λ h content there.
       node_of_page D (pages c.edit.new.self page) did.0 (Some (pushed content item)) (did.2 (ap is_some live)) now,
       subst (λ o. IfSome o (λ bounds. bounds ≡ least_box D (pushed content item).entries)) c.in-Some.is (c.in_ok-bounds.ensures.least h content there),
     )
+
+pub returns-clause-alters : goal.returns-clause-alters
+returns-clause-alters g c = made_alters c.args.cache.now c.edit.new.self (Some c.in-Some.bounds)
+    (changes_in_turn c.args.cache.now c.least_with.new.cache c.edit.new.self None (asks_changes c.args.cache.now c.least_with.new.cache None c.in_ok-bounds.ensures.asks) c.in_ok-edit.ensures.changes)
 
 pub returns-in_err-edit-clause-alters : goal.returns-in_err-edit-clause-alters
 returns-in_err-edit-clause-alters g c = asks_and_is_refused c.args.cache.now c.least_with.new.cache c.edit.new.self c.in_err-edit.field-0.0 c.from_residual-in_err-edit.result

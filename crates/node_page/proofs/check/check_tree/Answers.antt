@@ -1,5 +1,5 @@
 -- The goals of `check_tree` that are proved by hand.
-use Rattle.std.proofs.Common.{◌≡◌, ◌∙◌, ◌++◌, ◌∷◌, [], ℕ, List, None, Vec, ap, subst, sym, ⊎_elim, arith}
+use Rattle.std.proofs.Common.{◌≡◌, ◌∙◌, ◌++◌, ◌∷◌, [], ℕ, List, None, Vec, ap, refl, subst, sym, ⊎_elim, arith}
 use Rattle.std.proofs.lemmas.List.{length-map}
 use Rattle.block_device.specs.Device.{one_more}
 use Rattle.page_file.specs.Fault.{IsOfDevice}
@@ -27,6 +27,11 @@ returns-in_err-node-clause-looks g c =
     (λ (same : looks_of c.read_node.new.cache ≡ looks_of c.args.cache.now). omega (arith, same))
     (λ (one : looks_of c.read_node.new.cache ≡ one_more (looks_of c.args.cache.now)). omega (arith, one, numbers_are_few c.args.cache.now))
     c.in_err-node.ensures.refused_looks
+
+pub returns-in_err-node-clause-stands : goal.returns-in_err-node-clause-stands
+returns-in_err-node-clause-stands g c = λ h t page level stands shape.
+    let at = live_tree_is_given g.row.D c.args.cache.now t c.args.root.page c.args.root.level page level stands in
+    at_error c.from_residual-in_err-node.result c.in_err-node.field-0.0 IsOfDevice c.from_residual-in_err-node.ensures.1 (c.in_err-node.ensures.given_there h _ at.node refl)
 
 pub returns-then-not-is_root_count-clause-stands : goal.returns-then-not-is_root_count-clause-stands
 returns-then-not-is_root_count-clause-stands g c = λ h t page level stands shape.
