@@ -5,8 +5,8 @@ ghost use Rattle.block_device.specs.declared.device.DeviceError.{DeviceError};
 ghost use Rattle.block_device.specs.declared.device.DeviceError.TheVariants.{Memory};
 ghost use Rattle.std.specs.List.{All};
 ghost use Rattle.block_device.specs.Device.{Blocks, IsBlock, Only, LeavesNoMore, Follows, Torn, Elapses, Counts};
-ghost use Rattle.block_device.specs.Device.{Begins, IsIn, AsksCommit, FollowsOr, Stays, OnlyOr, OrCommit, OrFalls};
-ghost use Rattle.block_device.specs.Device.{block_at, written};
+ghost use Rattle.block_device.specs.Device.{Begins, IsIn, AsksCommit, FollowsOr, Stays, OnlyOr, OrCommit};
+ghost use Rattle.block_device.specs.Device.{OrFalls, block_at, written};
 
 use std::alloc::{AllocError, AllocFailed};
 use thiserror::Error;
@@ -95,8 +95,10 @@ pub trait BlockDevice {
 
         // A stop within the call or after it leaves what one before it might have left.
         ensures stops { honest self.old → LeavesNoMore (may_leave self.old) (may_leave self.new) }
-        ensures fallback { honest self.old → LeavesNoMore (IsIn (fallback self.old)) (IsIn (fallback self.new)) }
-        ensures falls { honest self.old → LeavesNoMore (IsIn (fallback self.new)) (IsIn (fallback self.old)) }
+        ensures fallback { honest self.old →
+            LeavesNoMore (IsIn (fallback self.old)) (IsIn (fallback self.new)) }
+        ensures falls { honest self.old →
+            LeavesNoMore (IsIn (fallback self.new)) (IsIn (fallback self.old)) }
         ensures time { honest self.old →
             Elapses (moment self.old) (moment self.new) (left_since self.old) (left_since self.new)
             (OrFalls (may_leave self.new) (IsIn (fallback self.old)) (IsIn (fallback self.new))) }
@@ -113,11 +115,13 @@ pub trait BlockDevice {
         ensures written { honest self.old → OnOk result (shown self.new ≡ written i bytes.now (shown self.old)) }
         ensures torn { honest self.old → OnErr result (Torn i (shown self.old) (shown self.new)) }
 
-        // A stop leaves what one before the call might have left, with any bytes in this block, or a fallback.
+        // A stop leaves what one before the call might have left, with any bytes in this block, or a
+        // fallback.
         ensures stops { honest self.old →
             FollowsOr (Torn i) (IsIn (fallback self.old)) (may_leave self.old) (IsIn (fallback self.new))
             (may_leave self.new) }
-        ensures fallback { honest self.old → LeavesNoMore (IsIn (fallback self.old)) (IsIn (fallback self.new)) }
+        ensures fallback { honest self.old →
+            LeavesNoMore (IsIn (fallback self.old)) (IsIn (fallback self.new)) }
         ensures time { honest self.old →
             Elapses (moment self.old) (moment self.new) (left_since self.old) (left_since self.new)
             (OrFalls (may_leave self.new) (IsIn (fallback self.old)) (IsIn (fallback self.new))) }
@@ -156,7 +160,8 @@ pub trait BlockDevice {
     ghost fallback_recovers: { (d : Self) (c : Blocks) → IsIn (fallback d) c → recovers ≡ true };
 
     /// What is read is one of the outcomes of a stop now, where there is no fallback.
-    ghost shown_counts: { (d : Self) → honest d → ((c : Blocks) → fallback d c ≡ false) → may_leave d (shown d) };
+    ghost shown_counts: { (d : Self) → honest d → ((c : Blocks) → fallback d c ≡ false) →
+        may_leave d (shown d) };
 
     /// A stop leaves at most one block more than is read, one of an append that failed.
     ghost no_longer: { (d : Self) (c : Blocks) → honest d → may_leave d c → length c ≤ length (shown d) + 1 };

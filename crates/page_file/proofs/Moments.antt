@@ -1,9 +1,8 @@
 -- What a write and then a sync leave at each moment.
-use Rattle.std.proofs.Common.{Bool, ℕ, ◌⊎◌, ◌≡◌, refl, subst, sym, ap, ◌∙◌, drop, inl, inr, ⊎_elim}
-use Rattle.block_device.specs.Device.{Blocks, Elapses, FollowsOr, IsIn, LeavesNoMore, LeavesOnly, OrFalls, Stays, Torn}
+use Rattle.std.proofs.Common.{Bool, ℕ, ◌⊎◌, subst, sym, inl, inr, ⊎_elim}
+use Rattle.block_device.specs.Device.{Blocks, Elapses, FollowsOr, IsIn, LeavesNoMore, LeavesOnly, OrFalls, Stays}
 use Rattle.block_device.specs.Moments.{started, goes_on, leaves_then, leaves_weaker}
-use Rattle.page_file.specs.Stops.{Aside, Reads, StepOr, SameButGate}
-use Rattle.page_file.specs.Written.{aside_torn}
+use Rattle.page_file.specs.Stops.{Reads, StepOr}
 
 -- a step and then none
 pub step_stays : (step : Blocks → Blocks → Type 0) (fell a falls b fall c : Blocks → Type 0) → FollowsOr step fell a falls b → FollowsOr Stays falls b fall c → FollowsOr step fell a fall c

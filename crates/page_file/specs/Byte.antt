@@ -1,8 +1,8 @@
 -- The byte of the gate that asks for a commit.
-use Rattle.std.proofs.Common.{◌≡◌, ◌∙◌, ℕ, List, [], ◌∷◌, slice_index, None, refl, ap, arith, lit<, ⊎_elim}
+use Rattle.std.proofs.Common.{◌≡◌, ◌∙◌, ℕ, List, [], ◌∷◌, slice_index, None, ap, arith, lit<, ⊎_elim}
 use Rattle.block_bytes.specs.Laws.{byte_at, byte_put, length-zeros, length-put}
 use Rattle.block_bytes.specs.Numbers.{put_number, zeros}
-use Rattle.block_device.specs.Device.{AsksCommit, Begins, Blocks, OrCommit, block_at, written}
+use Rattle.block_device.specs.Device.{AsksCommit, Blocks, OrCommit, block_at, written}
 use Rattle.block_device.specs.Written.{block_at-written}
 use Rattle.page_file.specs.Layout.{IsShutGate, gate_block, gate_text}
 use Rattle.page_file.specs.Opening.{failed_check}

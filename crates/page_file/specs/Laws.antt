@@ -1,12 +1,12 @@
 -- What follows from the facts that the calls on a file promise, for the crates that stand on them.
 use Rattle.std.specs.Prelude.{◌≡◌, ◌⊎◌, ◌↔◌, ◌≤◌, ◌<◌, ◌^◌, ℕ, List, [], length, Some, None, refl}
 use Rattle.std.specs.List.{All}
-use Rattle.std.proofs.Common.{true, false, ap, inl, inr, ⊎_elim, sym, ◌∙◌, subst, arith}
+use Rattle.std.proofs.Common.{true, false, inl, inr, ⊎_elim, sym, ◌∙◌, subst, arith}
 use Rattle.block_bytes.specs.Kinds.{free_kind}
 use Rattle.block_device.specs.Device.{Begins, IsIn, Blocks, IsBlock, LeavesOnly}
 use Rattle.page_file.specs.declared.file.PageFile.{PageFile}
 use Rattle.page_file.specs.declared.gate.Gate.{Gate}
-use Rattle.page_file.specs.declared.gate.Gate.TheVariants.{Shut, Open, Unsure}
+use Rattle.page_file.specs.declared.gate.Gate.TheVariants.{Shut, Open}
 use Rattle.page_file.specs.File.{IsHonest, IsLive, IsPageMap, KeepsGate, KeepsMap, LiesIn, blocks_of, gate_of, given, next_of, pages}
 use Rattle.page_file.specs.Opening.{IsRefused, failed_check}
 use Rattle.page_file.specs.Stops.{AddsOnly, OrKept, SameButGate, StopSince}

@@ -5,12 +5,11 @@ use Rattle.std.specs.Set.{is_member}
 use Rattle.std.proofs.lemmas.Bool.{cases_lt}
 use Rattle.std.proofs.lemmas.Bool.Decides.{nat_tests}
 use Rattle.block_device.specs.Device.{Begins, Blocks, block_at}
-use Rattle.block_bytes.specs.Kinds.{free_kind}
 use Rattle.page_file.specs.File.{IsNewFile, IsPageMap, LiesIn}
 use Rattle.page_file.specs.Layout.{IsHeader, IsShutGate, kind_of, link_of}
 use Rattle.page_file.specs.Opening.{failed_check, header_of_block, is_sound}
 use Rattle.page_file.specs.Pages.{IsChain, IsSoundMap, chain, header_in, next_in, page_of, pages_in}
-use Rattle.page_file.specs.Settled.{Passes, passes_from, passes_to}
+use Rattle.page_file.specs.Settled.{passes_from, passes_to}
 use Rattle.page_file.specs.declared.file.PageFile.{PageFile}
 use Rattle.page_file.specs.declared.header.Header.{Header}
 

@@ -27,12 +27,15 @@ pub fn write_gate<D: BlockDevice>(device: &mut D, shut: u8) -> Result<(), Fault>
         Only (D.shown device.new) (D.may_leave device.new) ×
         LeavesNoMore (Begins (D.shown device.new)) (IsIn (D.fallback device.new))) }
     ensures fallback { D.honest device.old →
-        LeavesNoMore (OrCommit (written 0 (gate_block shut) (D.shown device.old)) (IsIn (D.fallback device.old))) (IsIn (D.fallback device.new)) }
-    ensures now { D.honest device.old → FollowsOr Aside (IsIn (D.fallback device.old)) (D.may_leave device.old)
+        LeavesNoMore (OrCommit (written 0 (gate_block shut) (D.shown device.old))
+        (IsIn (D.fallback device.old))) (IsIn (D.fallback device.new)) }
+    ensures now { D.honest device.old →
+        FollowsOr Aside (IsIn (D.fallback device.old)) (D.may_leave device.old)
         (IsIn (D.fallback device.new)) (D.may_leave device.new) }
     ensures stops { D.honest device.old →
         LeavesOnly D.moment D.left_since device.old device.new (λ c.
-        StepOr Aside (D.may_leave device.old) (IsIn (D.fallback device.old)) c ⊎ IsIn (D.fallback device.new) c) }
+        StepOr Aside (D.may_leave device.old) (IsIn (D.fallback device.old)) c ⊎
+        IsIn (D.fallback device.new) c) }
     ensures only { IfErr result IsOfDevice }
     ensures honest { D.honest device.old ↔ D.honest device.new }
     ensures cause { HasCause (D.faults device.old) (D.faults device.new) result }
@@ -55,11 +58,13 @@ pub fn write_header<D: BlockDevice>(device: &mut D, header: &Header) -> Result<(
         OnOk result (OnlyOr (D.shown device.new) (IsIn (D.fallback device.new)) (D.may_leave device.new)) }
     ensures fallback { D.honest device.old → ¬ AsksCommit (D.shown device.old) →
         LeavesNoMore (IsIn (D.fallback device.old)) (IsIn (D.fallback device.new)) }
-    ensures now { D.honest device.old → FollowsOr (Torn 1) (IsIn (D.fallback device.old)) (D.may_leave device.old)
+    ensures now { D.honest device.old →
+        FollowsOr (Torn 1) (IsIn (D.fallback device.old)) (D.may_leave device.old)
         (IsIn (D.fallback device.new)) (D.may_leave device.new) }
     ensures stops { D.honest device.old →
         LeavesOnly D.moment D.left_since device.old device.new (λ c.
-        StepOr (Torn 1) (D.may_leave device.old) (IsIn (D.fallback device.old)) c ⊎ IsIn (D.fallback device.new) c) }
+        StepOr (Torn 1) (D.may_leave device.old) (IsIn (D.fallback device.old)) c ⊎
+        IsIn (D.fallback device.new) c) }
     ensures only { IfErr result IsOfDevice }
     ensures honest { D.honest device.old ↔ D.honest device.new }
     ensures cause { HasCause (D.faults device.old) (D.faults device.new) result }
@@ -76,7 +81,8 @@ pub fn write_block<D: BlockDevice>(device: &mut D, n: u32, bytes: &[u8; 4096]) -
     ensures written { D.honest device.old →
         OnOk result (D.shown device.new ≡ written n bytes.now (D.shown device.old)) }
     ensures torn { D.honest device.old → Torn n (D.shown device.old) (D.shown device.new) }
-    ensures now { D.honest device.old → FollowsOr (Torn n) (IsIn (D.fallback device.old)) (D.may_leave device.old)
+    ensures now { D.honest device.old →
+        FollowsOr (Torn n) (IsIn (D.fallback device.old)) (D.may_leave device.old)
         (IsIn (D.fallback device.new)) (D.may_leave device.new) }
     ensures fallback { D.honest device.old →
         LeavesNoMore (IsIn (D.fallback device.old)) (IsIn (D.fallback device.new)) }

@@ -1,7 +1,7 @@
 //! The blocks of a new file: the open gate, header and catalog after it, and at last the shut gate.
 ghost use Rattle.std.specs.Prelude.{◌≡◌, ◌≤◌, ◌<◌, ◌^◌, ◌↔◌, ◌⊎◌, length, ℕ, OnOk, IfErr};
-ghost use Rattle.block_device.specs.Device.{AsksCommit, Begins, IsIn, LeavesNoMore, LeavesOnly, Only, OnlyOr, Torn};
-ghost use Rattle.block_device.specs.Device.{Blocks, written, block_at};
+ghost use Rattle.block_device.specs.Device.{AsksCommit, Begins, IsIn, LeavesNoMore, LeavesOnly, Only, OnlyOr};
+ghost use Rattle.block_device.specs.Device.{Blocks, Torn, written, block_at};
 ghost use Rattle.page_file.specs.Fault.{HasCause, IsOfDevice, IsDamage};
 ghost use Rattle.page_file.specs.File.{IsNewFile};
 ghost use Rattle.page_file.specs.Layout.{IsHeader, catalog_block, gate_block, new_header};
@@ -30,7 +30,8 @@ fn write_behind<D: BlockDevice>(device: &mut D, n: u32, bytes: &[u8; 4096]) -> R
     ensures open { D.honest device.old → AllLeave (D.may_leave device.old) (OpenOr (D.fallback device.old)) →
         AllLeave (D.may_leave device.new) (OpenOr (D.fallback device.new)) }
     ensures stops { D.honest device.old → AllLeave (D.may_leave device.old) (OpenOr (D.fallback device.old)) →
-        LeavesOnly D.moment D.left_since device.old device.new (λ c. IsRefused c ⊎ IsIn (D.fallback device.old) c) }
+        LeavesOnly D.moment D.left_since device.old device.new (λ c. IsRefused c ⊎
+        IsIn (D.fallback device.old) c) }
     ensures fallback { D.honest device.old →
         LeavesNoMore (IsIn (D.fallback device.old)) (IsIn (D.fallback device.new)) }
     ensures below { n ≤ length (D.shown device.old) → IfErr result IsOfDevice }
@@ -49,7 +50,8 @@ fn write_first<D: BlockDevice>(device: &mut D) -> Result<(), Fault>
     ensures open { D.honest device.old →
         OnOk result (AllLeave (D.may_leave device.new) (OpenOr (D.fallback device.new))) }
     ensures stops { D.honest device.old →
-        LeavesOnly D.moment D.left_since device.old device.new (λ c. IsRefused c ⊎ IsIn (D.fallback device.old) c) }
+        LeavesOnly D.moment D.left_since device.old device.new (λ c. IsRefused c ⊎
+        IsIn (D.fallback device.old) c) }
     ensures fallback { D.honest device.old →
         LeavesNoMore (IsIn (D.fallback device.old)) (IsIn (D.fallback device.new)) }
     ensures only { IfErr result IsOfDevice }
@@ -66,7 +68,8 @@ fn sync_behind<D: BlockDevice>(device: &mut D) -> Result<(), Fault>
         OnOk result (OnlyOr (D.shown device.new) (IsIn (D.fallback device.new)) (D.may_leave device.new)) }
     ensures stops { D.honest device.old → AllLeave (D.may_leave device.old) (OpenOr (D.fallback device.old)) →
         ¬ AsksCommit (D.shown device.old) →
-        LeavesOnly D.moment D.left_since device.old device.new (λ c. IsRefused c ⊎ IsIn (D.fallback device.old) c) }
+        LeavesOnly D.moment D.left_since device.old device.new (λ c. IsRefused c ⊎
+        IsIn (D.fallback device.old) c) }
     ensures fallback { D.honest device.old → ¬ AsksCommit (D.shown device.old) →
         LeavesNoMore (IsIn (D.fallback device.old)) (IsIn (D.fallback device.new)) }
     ensures only { IfErr result IsOfDevice }
@@ -86,7 +89,8 @@ fn lay_out<D: BlockDevice>(device: &mut D) -> Result<(), Fault>
     ensures durable { D.honest device.old →
         OnOk result (OnlyOr (D.shown device.new) (IsIn (D.fallback device.new)) (D.may_leave device.new)) }
     ensures stops { D.honest device.old →
-        LeavesOnly D.moment D.left_since device.old device.new (λ c. IsRefused c ⊎ IsIn (D.fallback device.old) c) }
+        LeavesOnly D.moment D.left_since device.old device.new (λ c. IsRefused c ⊎
+        IsIn (D.fallback device.old) c) }
     ensures fallback { D.honest device.old →
         LeavesNoMore (IsIn (D.fallback device.old)) (IsIn (D.fallback device.new)) }
     ensures below { D.honest device.old → IfErr result IsOfDevice }

@@ -67,7 +67,8 @@ fn check_blocks<D: BlockDevice>(device: &mut D) -> Result<Header, Fault>
     ensures sound { IfOk result (λ h. (opening.is_sound h ≡ true) × (h.next ≤ 2 ^ 31)) }
     ensures never { IfErr result (λ e. ¬ (e ≡ fault.NoPages)) }
     ensures shown { D.honest device.old → D.shown device.new ≡ D.shown device.old }
-    ensures reads { D.honest device.old → Reads D.moment D.left_since D.may_leave D.fallback device.old device.new }
+    ensures reads { D.honest device.old →
+        Reads D.moment D.left_since D.may_leave D.fallback device.old device.new }
     ensures honest { D.honest device.old ↔ D.honest device.new }
     ensures cause { HasCause (D.faults device.old) (D.faults device.new) result }
 {
@@ -97,13 +98,15 @@ pub fn check_opening<D: BlockDevice>(device: &mut D) -> Result<Header, Fault>
     ensures refused_durable { D.honest device.old →
         IfErr result (λ f. IsOfDevice f ⊎
         OnlyOr (D.shown device.new) (IsIn (D.fallback device.new)) (D.may_leave device.new)) }
-    ensures now { D.honest device.old → FollowsOr Stays (IsIn (D.fallback device.old)) (D.may_leave device.old)
+    ensures now { D.honest device.old →
+        FollowsOr Stays (IsIn (D.fallback device.old)) (D.may_leave device.old)
         (IsIn (D.fallback device.new)) (D.may_leave device.new) }
     ensures stops { D.honest device.old →
         LeavesOnly D.moment D.left_since device.old device.new (λ c. D.may_leave device.old c ⊎
         (IsIn (D.fallback device.old) c ⊎ IsIn (D.fallback device.new) c)) }
     ensures fallback { D.honest device.old →
-        LeavesNoMore (OrCommit (D.shown device.old) (IsIn (D.fallback device.old))) (IsIn (D.fallback device.new)) }
+        LeavesNoMore (OrCommit (D.shown device.old) (IsIn (D.fallback device.old)))
+        (IsIn (D.fallback device.new)) }
     ensures honest { D.honest device.old ↔ D.honest device.new }
     ensures cause { HasCause (D.faults device.old) (D.faults device.new) result }
 {

@@ -54,7 +54,8 @@ pub fn a_session_keeps_its_beginning()
         new.stops.since ≡ old.stops.since }
 {}
 
-/// So is whether its device recovers; and where it does not, a stop behind an open gate leaves nothing that is opened.
+/// So is whether its device recovers; and where it does not, a stop behind an open gate leaves nothing that
+/// is opened.
 #[tactic(auto, using(crate::specs::Laws::a_session_keeps_its_recovery))]
 pub fn a_session_keeps_its_recovery()
     ensures kept { (old new : SessionState) (rs : List Request) (xs : List Answer) → Session old rs xs new →

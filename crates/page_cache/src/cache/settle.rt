@@ -34,8 +34,8 @@ impl<D: BlockDevice, A: Allocator + Copy> PageCache<D, A> {
         // map lies, or a fallback, of before or of those that are read afterwards.
         ensures stops { IsHonest self.old →
             LeavesOnly D.moment D.left_since (device_of self.old) (device_of self.new) (λ c. (IsRefused c ⊎
-            (SameButGate c (blocks_of self.new) × LiesIn self.new c)) ⊎ (IsIn (D.fallback (device_of self.old)) c ⊎
-            IsIn (D.fallback (device_of self.new)) c)) }
+            (SameButGate c (blocks_of self.new) × LiesIn self.new c)) ⊎
+            (IsIn (D.fallback (device_of self.old)) c ⊎ IsIn (D.fallback (device_of self.new)) c)) }
 
         // A new fallback begins with blocks in which the map lies.
         ensures fallback { IsHonest self.old →
@@ -78,9 +78,11 @@ impl<D: BlockDevice, A: Allocator + Copy> PageCache<D, A> {
 
         // A new fallback begins with blocks in which the map lies.
         ensures fallback { IfOk result (λ device. IsHonest self →
-            LeavesNoMore (λ c. IsIn (D.fallback (device_of self)) c ⊎ LiesAtStart self c) (IsIn (D.fallback device))) }
+            LeavesNoMore (λ c. IsIn (D.fallback (device_of self)) c ⊎ LiesAtStart self c)
+            (IsIn (D.fallback device))) }
         ensures refused_fallback { IfErr result (λ e. IsHonest self →
-            LeavesNoMore (λ c. IsIn (D.fallback (device_of self)) c ⊎ LiesAtStart self c) (IsIn (D.fallback e.1))) }
+            LeavesNoMore (λ c. IsIn (D.fallback (device_of self)) c ⊎ LiesAtStart self c)
+            (IsIn (D.fallback e.1))) }
 
         ensures honest { IfOk result (λ device. IsHonest self ↔ D.honest device) }
         ensures refused_honest { IfErr result (λ e. IsHonest self ↔ D.honest e.1) }

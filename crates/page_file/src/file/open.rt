@@ -40,12 +40,14 @@ pub fn open_pages<D: BlockDevice>(device: D) -> Result<PageFile<D>, (Fault, D)>
 
     // A new fallback begins with the blocks as read, where those ask for a commit.
     ensures fallback { IfOk result (λ file. D.honest device →
-        LeavesNoMore (OrCommit (D.shown device) (IsIn (D.fallback device))) (IsIn (D.fallback (device_of file)))) }
+        LeavesNoMore (OrCommit (D.shown device) (IsIn (D.fallback device)))
+        (IsIn (D.fallback (device_of file)))) }
     ensures refused_fallback { IfErr result (λ e. D.honest device →
         LeavesNoMore (OrCommit (D.shown device) (IsIn (D.fallback device))) (IsIn (D.fallback e.1))) }
 
     // What is read is durable: no stop brings back other blocks, but where a check refuses them a fallback.
-    ensures durable { IfOk result (λ file. D.honest device → Only (blocks_of file) (D.may_leave (device_of file))) }
+    ensures durable { IfOk result (λ file. D.honest device →
+        Only (blocks_of file) (D.may_leave (device_of file))) }
     ensures refused_durable { IfErr result (λ e. D.honest device →
         IsOfDevice e.0 ⊎ OnlyOr (D.shown e.1) (IsIn (D.fallback e.1)) (D.may_leave e.1)) }
 
@@ -100,14 +102,16 @@ pub fn create_pages<D: BlockDevice>(device: D) -> Result<PageFile<D>, (Fault, D)
     ensures sound { IfOk result (λ file. D.honest device → IsPageMap file) }
     ensures lies { IfOk result (λ file. D.honest device → LiesIn file (blocks_of file)) }
 
-    // A stop leaves blocks that opening refuses, or a new file: what is read afterwards, the gate aside; or a fallback.
+    // A stop leaves blocks that opening refuses, or a new file: what is read afterwards, the gate aside; or a
+    // fallback.
     ensures stops { IfOk result (λ file. D.honest device →
         LeavesOnly D.moment D.left_since device (device_of file) (λ c. (IsRefused c ⊎
         (SameButGate c (blocks_of file) × IsNewFile c)) ⊎ (IsIn (D.fallback device) c ⊎
         IsIn (D.fallback (device_of file)) c))) }
     ensures refused_stops { IfErr result (λ e. D.honest device →
         LeavesOnly D.moment D.left_since device e.1 (λ c. (IsRefused c ⊎
-        (SameButGate c (D.shown e.1) × IsNewFile c)) ⊎ (IsIn (D.fallback device) c ⊎ IsIn (D.fallback e.1) c))) }
+        (SameButGate c (D.shown e.1) × IsNewFile c)) ⊎ (IsIn (D.fallback device) c ⊎
+        IsIn (D.fallback e.1) c))) }
 
     // A new fallback is a new file.
     ensures fallback { IfOk result (λ file. D.honest device →

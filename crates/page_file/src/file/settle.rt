@@ -2,7 +2,8 @@
 ghost use Rattle.std.specs.Prelude.{◌≡◌, ◌⊎◌, ◌↔◌, ◌≤◌, Ok, IsOk, IfOk, IfErr, OnOk, OnErr};
 ghost use Rattle.block_device.specs.Device.{Begins, IsIn, LeavesNoMore, LeavesOnly, OnlyOr};
 ghost use Rattle.page_file.specs.Fault.{HasCause, IsOfDevice, faults_after};
-ghost use Rattle.page_file.specs.File.{device_of, blocks_of, IsHonest, gate_of, KeepsMap, LiesAtStart, LiesIn};
+ghost use Rattle.page_file.specs.File.{IsHonest, KeepsMap, LiesAtStart, LiesIn, blocks_of, device_of};
+ghost use Rattle.page_file.specs.File.{gate_of};
 ghost use Rattle.page_file.specs.Opening.{IsRefused};
 ghost use Rattle.page_file.specs.Stops.{SameButGate};
 ghost use Rattle.page_file.specs.declared.fault.Fault.TheVariants as fault;
@@ -35,8 +36,8 @@ impl<D: BlockDevice> PageFile<D> {
         // the file lies, or a fallback, of before or of those that are read afterwards.
         ensures stops { IsHonest self.old →
             LeavesOnly D.moment D.left_since (device_of self.old) (device_of self.new) (λ c. (IsRefused c ⊎
-            (SameButGate c (blocks_of self.new) × LiesIn self.new c)) ⊎ (IsIn (D.fallback (device_of self.old)) c ⊎
-            IsIn (D.fallback (device_of self.new)) c)) }
+            (SameButGate c (blocks_of self.new) × LiesIn self.new c)) ⊎
+            (IsIn (D.fallback (device_of self.old)) c ⊎ IsIn (D.fallback (device_of self.new)) c)) }
 
         // A new fallback begins with blocks in which the file lies.
         ensures fallback { IsHonest self.old →
@@ -79,9 +80,11 @@ impl<D: BlockDevice> PageFile<D> {
 
         // A new fallback begins with blocks in which the file lies.
         ensures fallback { IfOk result (λ device. IsHonest self →
-            LeavesNoMore (λ c. IsIn (D.fallback (device_of self)) c ⊎ LiesAtStart self c) (IsIn (D.fallback device))) }
+            LeavesNoMore (λ c. IsIn (D.fallback (device_of self)) c ⊎ LiesAtStart self c)
+            (IsIn (D.fallback device))) }
         ensures refused_fallback { IfErr result (λ e. IsHonest self →
-            LeavesNoMore (λ c. IsIn (D.fallback (device_of self)) c ⊎ LiesAtStart self c) (IsIn (D.fallback e.1))) }
+            LeavesNoMore (λ c. IsIn (D.fallback (device_of self)) c ⊎ LiesAtStart self c)
+            (IsIn (D.fallback e.1))) }
 
         ensures honest { IfOk result (λ device. IsHonest self ↔ D.honest device) }
         ensures refused_honest { IfErr result (λ e. IsHonest self ↔ D.honest e.1) }

@@ -1,6 +1,6 @@
 -- The goals of `write_first` that are proved by hand.
-use Rattle.std.proofs.Common.{◌≡◌, ◌⊎◌, ◌∙◌, Bool, List, ℕ, true, false, ap, arith, inl, inr, sym, ⊎_elim}
-use Rattle.block_device.specs.Device.{Blocks, IsIn, block_at}
+use Rattle.std.proofs.Common.{◌⊎◌, arith, inl, inr, ⊎_elim}
+use Rattle.block_device.specs.Device.{Blocks, IsIn}
 use Rattle.block_device.specs.Moments.{leaves_weaker}
 use Rattle.page_file.specs.Byte.{no_commit}
 use Rattle.page_file.specs.Gated.{few_refused}

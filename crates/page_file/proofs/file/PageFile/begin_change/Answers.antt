@@ -1,6 +1,6 @@
 -- The goals of `PageFile::begin_change` that are proved by hand.
 use Rattle.std.proofs.Common.{◌≡◌, ◌∙◌, ap, sym, subst, arith, inr, ⊎_elim, refl, rules, true, false, List, ℕ, slice_index}
-use Rattle.block_device.specs.Device.{Blocks, IsIn, block_at}
+use Rattle.block_device.specs.Device.{IsIn, block_at}
 use Rattle.block_device.specs.Moments.{leaves_weaker}
 use Rattle.page_file.specs.declared.gate.Gate.TheVariants.{Open, Shut, Unsure}
 use Rattle.page_file.specs.Layout.{IsHeader}

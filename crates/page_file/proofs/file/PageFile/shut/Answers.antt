@@ -1,6 +1,6 @@
 -- The goals of `PageFile::shut` that are proved by hand.
 use Rattle.std.proofs.Common.{◌≡◌, ◌⊎◌, ◌∙◌, ap, arith, inl, inr, ⊎_elim, List, ℕ, slice_index, refl, rules, sym, subst}
-use Rattle.block_device.specs.Device.{AsksCommit, Begins, Blocks, IsIn, OrCommit, block_at, written}
+use Rattle.block_device.specs.Device.{AsksCommit, Begins, Blocks, IsIn, OrCommit, written}
 use Rattle.block_device.specs.Moments.{leaves_weaker}
 use Rattle.page_file.specs.Aside.{gate_over, lies_once_shut}
 use Rattle.page_file.specs.Byte.{shut_byte}
