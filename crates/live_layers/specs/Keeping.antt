@@ -70,13 +70,13 @@ LeavesAtRest cache (Surely t) = (gate_of cache ≡ Shut) × IsImage (blocks_of c
 LeavesAtRest cache (Perhaps ts) = RestLeavesOneOf cache ts
 
 -- What stops leave of the cache: one now; and of one since the beginning blocks that opening refuses, or an image of one of
--- the tables so far, among which are those that one now may leave. The device says whether it recovers.
+-- the tables so far, among which are those that one now may leave. Where there are fallbacks, the device recovers.
 pub record Leaves {D A : Type 0} {m : _} (cache : PageCache D A m) (stops : Stops) : Type 0 where
   pub now : LeavesAtRest cache stops.now
   pub begun : stops.since ≤ m.moment (device_of cache)
   pub so_far : (c : Blocks) → m.left_since (device_of cache) stops.since c → IsRefusedOrImageOf stops.so_far c
   pub among : (t : Table) → Contains (tables_left stops.now) t → Contains stops.so_far t
-  pub recovery : stops.recovers ≡ m.recovers
+  pub recovery : (d : D) (c : Blocks) → IsIn (m.fallback d) c → stops.recovers ≡ true
 
 -- the layer of this name has this tree
 abbrev pub HasTree : {D A : Type 0} {m : _} → Layers D A m → List ℕ → Tree → Type 0
