@@ -21,13 +21,7 @@ impl<D: BlockDevice, A: Allocator + Copy> Store<D, A> {
     /// Adds an object with a new identifier, a box and a tag to a layer, by a lawful insertion into its tree.
     ///
     /// Refused, in this order, by BadName, NoLayer, WrongDims, BadBox, Duplicate and TooManyObjects.
-    pub fn insert(
-        &mut self,
-        layer: &[u8],
-        id: u64,
-        bounds: RawBox,
-        tag: u32,
-    ) -> Result<(), Refusal>
+    pub fn insert(&mut self, layer: &[u8], id: u64, bounds: RawBox, tag: u32) -> Result<(), Refusal>
         ensures changes { Changes self.old self.new (Insert layer.now id bounds tag) result }
         ensures tree { (t : Table) → RepresentsTable self.old t →
             OnOk result (ChangesTree (layers_in self.old) (layers_in self.new) layer.now
