@@ -1,4 +1,4 @@
--- The identifier table has the boxes of the layer's objects.
+-- The identifier table has the layer's objects.
 use Rattle.std.proofs.Common.{◌∙◌, [], ◌∷◌, ap, refl, sym}
 use Rattle.block_device.specs.Device.{HasRisen}
 use Rattle.page_cache.specs.Cache.{device_of}
@@ -11,7 +11,7 @@ use Rattle.live_layers.proofs.AskLemmas.{device_refuses, risen_of}
 use Rattle.live_layers.proofs.ReplyLemmas.{object_missing, reply_failed}
 use Rattle.live_layers.proofs.LocateLemmas.{stands_with}
 use Rattle.live_layers.proofs.QuestionLemmas.{asks_and_answers, asks_and_fails, asks_and_refuses}
-use Rattle.live_layers.proofs.layers.Layers.box_of.Goals as goal
+use Rattle.live_layers.proofs.layers.Layers.object_of.Goals as goal
 
 pub returns-in-Ok-None-clause-replied : goal.returns-in-Ok-None-clause-replied
 returns-in-Ok-None-clause-replied g c = λ t name sound located.
