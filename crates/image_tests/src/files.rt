@@ -236,7 +236,7 @@ fn a_damaged_page_is_answered_where_it_is_read(rt: HostRuntime) -> Result<(), Fa
         damaged
     );
     assert_eq!(rt; store.count(b"a"), Ok(1));
-    let object = store.insert(b"c", 1, RawBox::Three([0; 3], [0; 3]));
+    let object = store.insert(b"c", 1, RawBox::Three([0; 3], [0; 3]), 0);
     assert_eq!(rt; object, Err(Refusal::TooManyObjects));
     Ok(())
 }

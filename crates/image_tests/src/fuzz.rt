@@ -4,14 +4,13 @@
 use crate::blocks::{block_of, patch, put};
 use crate::language::may_answer;
 use block_device::{BlockDevice, DeviceError, MemoryDevice};
-use layer_store::{DumpRow, RawBox, RawPoint, Refusal, Store};
+use layer_store::{AnyBox, DumpRow, RawBox, RawPoint, Refusal, Store};
 use list_table::ListTable;
 use std::alloc::Global;
 use std::process::Abort;
 use std::test::Fail;
 use store_commands::{
-    Answer, Command, Dice, PLANE, SPACE, answer, closed, device_of, given, listed, new_store,
-    opened,
+    Answer, Command, Dice, PLANE, SPACE, answer, closed, device_of, listed, new_store, opened,
 };
 
 // How many files are damaged.
@@ -328,6 +327,14 @@ fn change_all(
     true
 }
 
+// A box as it is given.
+fn given(bounds: AnyBox) -> RawBox {
+    match bounds {
+        AnyBox::Two(bounds) => RawBox::Two(bounds.low(), bounds.high()),
+        AnyBox::Three(bounds) => RawBox::Three(bounds.low(), bounds.high()),
+    }
+}
+
 // The plain list that a dump makes again. The identifier tables have the same objects as the dump.
 fn table_of(
     rt: &impl Abort,
@@ -341,10 +348,13 @@ fn table_of(
             DumpRow::Create(name, dims, fanout) => {
                 table.create(name.as_slice(), u64::from(*dims), u64::from(*fanout))?
             }
-            DumpRow::Insert(name, id, bounds) => {
-                table.insert(name.as_slice(), *id, given(*bounds))?;
+            DumpRow::Insert(name, id, bounds, tag) => {
+                table.insert(name.as_slice(), *id, given(*bounds), *tag)?;
                 let found = store.get(name.as_slice(), *id);
-                assert!(rt; found == Ok(*bounds), "file {file}, {id}: {found:?}");
+                assert!(rt;
+                    found == Ok((*bounds, *tag)),
+                    "file {file}, {id}: {found:?}"
+                );
             }
         }
     }

@@ -242,7 +242,7 @@ const TREES: [Damage; 15] = [
 ];
 
 // Tables that are none, or not the tree's; and a wrong count.
-const TABLES: [Damage; 11] = [
+const TABLES: [Damage; 12] = [
     // a chain that goes on with itself
     Damage {
         numbers: &[(7, 4, 4, 7)],

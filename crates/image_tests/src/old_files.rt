@@ -184,7 +184,7 @@ fn a_great_file_of_format_1_is_changed_beside_the_plain_list(rt: HostRuntime) ->
     assert!(rt; old[0] > 1000 && old[1] == 1000 && old[2] == 0 && old[3] == 0);
     let mut store = opened(alloc, device, 64)?;
     assert!(rt; represents(alloc, &mut store, &mut table, &[b"a"], 1));
-    for _ in 0..8 {
+    for _ in 0..4 {
         put_hundred(&rt, alloc, &mut store, &mut table, &mut dice);
     }
     // Both kinds stand in one tree, and in the tables of one layer.
