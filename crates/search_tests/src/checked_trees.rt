@@ -73,7 +73,7 @@ fn a_tree_that_stands_has_its_objects_and_pages(rt: HostRuntime) -> Result<(), F
             "{at}"
         );
     }
-    assert!(rt; facts.pairs.get(3).map(|pair| pair.1) == BBox::try_new([12, 5], [13, 5]));
+    assert!(rt; facts.pairs.get(3).map(|pair| pair.1.0) == BBox::try_new([12, 5], [13, 5]));
     assert_eq!(rt; cache.looks(), 3);
     Ok(())
 }

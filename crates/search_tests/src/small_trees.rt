@@ -13,10 +13,10 @@ pub type Row = (u64, [i32; 2], [i32; 2]);
 /// The root of a tree of two leaves.
 pub const ROOT: Root = Root { page: 5, level: 1 };
 
-/// The page of a node, at most 100 of the rows in it.
+/// The page of a node, at most 100 of the rows in it. Identifiers that are odd have the tag 1, and all others 0.
 pub fn page_of(level: u8, rows: &[Row]) -> [u8; 4096] {
     let mut page = [0; 4096];
-    page[0] = 2;
+    page[0] = 6;
     page[1] = 2;
     page[4] = level;
     let mut count: u8 = 0;
@@ -30,6 +30,7 @@ pub fn page_of(level: u8, rows: &[Row]) -> [u8; 4096] {
             }
             let at = 1616 + 8 * place;
             page[at..at + 8].copy_from_slice(&reference.to_be_bytes());
+            page[2419 + 4 * place] = (reference % 2) as u8;
             count += 1;
         }
     }

@@ -22,6 +22,7 @@ fn leaf_of(ids: &[u64]) -> Node<2> {
             Some(bounds) if !entries.is_full() => entries.push(Entry {
                 bounds,
                 reference: id,
+                tag: 0,
             }),
             _ => break,
         }
@@ -45,7 +46,7 @@ fn write_leaf(cache: &mut Cache, page: u32, ids: &[u64]) -> Result<(), Fault>
 // The page of a node on this level that refers to pages 3 and 4, with boxes (0,0) to (0,1) and (2,2) to (3,2).
 fn page_of_two(level: u8) -> [u8; 4096] {
     let mut page = [0; 4096];
-    page[..5].copy_from_slice(&[2, 2, 0, 2, level]);
+    page[..5].copy_from_slice(&[6, 2, 0, 2, level]);
     page[23] = 2;
     page[423] = 3;
     page[823] = 2;
@@ -92,6 +93,7 @@ fn add_to_leaf(cache: &mut Cache, page: u32) -> Result<Option<BBox<2>>, Broken>
     let entry = Entry {
         bounds,
         reference: 9,
+        tag: 1,
     };
     add_entry(cache, page, 0, &entry, 3)
 }

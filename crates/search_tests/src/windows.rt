@@ -36,7 +36,7 @@ fn points<B: BlockDevice + Drop>(alloc: Global, device: B) -> Result<PageCache<B
 }
 
 // The identifiers of an answer, at most five of them, and zeros after them.
-fn ids(rows: &[(u64, BBox<2>)]) -> [u64; 5] {
+fn ids(rows: &[(u64, (BBox<2>, u32))]) -> [u64; 5] {
     let mut ids = [0; 5];
     for (place, row) in rows.iter().enumerate() {
         if place < 5 {
@@ -50,19 +50,20 @@ fn bounds(low: [i32; 2], high: [i32; 2]) -> Result<BBox<2>, Fault> {
     BBox::try_new(low, high).ok_or(Fault::Damaged(0))
 }
 
-// The identifiers of the answer to a question of the tree at a root, at most five of them, and how many nodes were
-// looked at so far.
+// The identifiers of the answer to a question of the tree at a root, of one tag if that is asked for, at most five of
+// them, and how many nodes were looked at so far.
 fn ask(
     alloc: Global,
     cache: &mut Cache,
     root: Root,
     asked: &Asked,
+    tag: Option<u32>,
 ) -> Result<([u64; 5], u64), Fault> {
     let rows = match asked {
-        Asked::Window(query) => window(alloc, cache, root, query)?,
-        Asked::Inside(query) => inside(alloc, cache, root, query)?,
-        Asked::Around(query) => around(alloc, cache, root, query)?,
-        Asked::Point(query) => point(alloc, cache, root, query)?,
+        Asked::Window(query) => window(alloc, cache, root, query, tag)?,
+        Asked::Inside(query) => inside(alloc, cache, root, query, tag)?,
+        Asked::Around(query) => around(alloc, cache, root, query, tag)?,
+        Asked::Point(query) => point(alloc, cache, root, query, tag)?,
     };
     Ok((ids(rows.as_slice()), cache.looks()))
 }
@@ -81,7 +82,22 @@ fn only_admitted_nodes_are_looked_at(rt: HostRuntime) -> Result<(), Fail> {
         (Asked::Around(one), ([5, 0, 0, 0, 0], 10)),
         (Asked::Point([0, 1]), ([0; 5], 11)),
     ] {
-        assert_eq!(rt; ask(rt.alloc(), &mut cache, ROOT, &asked)?, want);
+        assert_eq!(rt; ask(rt.alloc(), &mut cache, ROOT, &asked, None)?, want);
+    }
+    Ok(())
+}
+
+#[test]
+fn a_tag_chooses_objects_and_no_nodes(rt: HostRuntime) -> Result<(), Fail> {
+    let mut cache = points(rt.alloc(), MemoryDevice::new(rt.alloc()))?;
+    let all = Asked::Window(bounds([0, 0], [10, 0])?);
+    for (tag, want) in [
+        (Some(1), ([1, 3, 5, 0, 0], 3)),
+        (Some(0), ([2, 4, 0, 0, 0], 6)),
+        (Some(2), ([0; 5], 9)),
+        (None, ([1, 2, 3, 4, 5], 12)),
+    ] {
+        assert_eq!(rt; ask(rt.alloc(), &mut cache, ROOT, &all, tag)?, want);
     }
     Ok(())
 }
@@ -91,9 +107,9 @@ fn pages_of_no_tree_are_damaged(rt: HostRuntime) -> Result<(), Fail> {
     let device = MemoryDevice::new(rt.alloc());
     let root = [(5, [0, 0], [1, 1]), (4, [7, 7], [8, 8])];
     let mut cache: Cache = two_leaves(rt.alloc(), device, &[], &[], &root)?;
-    let answer = window::<2, _, _, _>(rt.alloc(), &mut cache, ROOT, &bounds([0, 0], [1, 1])?);
+    let answer = window::<2, _, _, _>(rt.alloc(), &mut cache, ROOT, &bounds([0, 0], [1, 1])?, None);
     assert!(rt; answer.err() == Some(Fault::Damaged(5)));
-    let rows = window::<2, _, _, _>(rt.alloc(), &mut cache, ROOT, &bounds([2, 2], [3, 3])?)?;
+    let rows = window::<2, _, _, _>(rt.alloc(), &mut cache, ROOT, &bounds([2, 2], [3, 3])?, None)?;
     assert!(rt; rows.is_empty());
     Ok(())
 }
