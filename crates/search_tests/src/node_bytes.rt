@@ -44,7 +44,7 @@ fn page_of_two_in_space() -> [u8; 4096] {
     page
 }
 
-// A leaf of so many entries, with references and tags at the upper end of their range and coordinates at both.
+// A leaf of so many entries, with references and tags at the upper end of their ranges and coordinates at both.
 fn leaf_of<const D: usize>(count: u8) -> Node<D> {
     let mut entries = ArrayVec::new();
     for k in 0..count {
@@ -171,6 +171,7 @@ fn each_reason_by_itself_makes_no_node(rt: HostRuntime) {
     let of = page_of_two_in_space();
     for (reason, at, byte) in [
         ("another kind", 0, 4),
+        ("the kind of a bucket", 0, 7),
         ("another dimension", 1, 2),
         ("another level", 4, 2),
         ("an entry of zeros more", 3, 3),
@@ -239,16 +240,33 @@ fn other_bytes_are_not_looked_at(rt: HostRuntime) {
 }
 
 #[test]
-fn a_leaf_of_format_1_has_tags_of_0(rt: HostRuntime) {
+fn a_leaf_of_format_1_has_no_tags(rt: HostRuntime) {
     let mut old = page_of_one();
     old[0] = 2;
     let leaf = decode::<2>(&old, 0).expect(&rt, "a leaf");
-    assert!(rt; leaf.entries.get(0).is_some_and(|entry| entry.tag == 0));
+    assert!(rt;
+        leaf.entries
+            .get(0)
+            .is_some_and(|entry| entry.reference == 1 && entry.tag == 0)
+    );
     let view = NodeView::<2>::of(&old, 0).expect(&rt, "a view");
-    assert!(rt; view.entry(0).tag == 0);
-    let mut new = page_of_one();
-    new[2419] = 0;
-    assert!(rt; page_of(&leaf) == new);
+    assert_eq!(rt; view.len(), 1);
+    let mut with_tags = page_of_one();
+    with_tags[2419] = 0;
+    assert!(rt; page_of(&leaf) == with_tags);
+    assert!(rt; decode::<2>(&with_tags, 0) == Some(leaf));
+}
+
+#[test]
+fn a_node_above_the_leaves_has_no_tags(rt: HostRuntime) {
+    let node = decode::<3>(&page_of_two_in_space(), 3);
+    let mut page = page_of_two_in_space();
+    page[3216..3224].copy_from_slice(&[7; 8]);
+    assert!(rt; node.is_some());
+    assert!(rt; decode::<3>(&page, 3) == node);
+    page[0] = 2;
+    assert!(rt; decode::<3>(&page, 3) == node);
+    assert!(rt; written_again::<3>(&page, 3) == page_of_two_in_space());
 }
 
 #[test]
@@ -301,6 +319,9 @@ fn a_full_view_has_full_columns(rt: HostRuntime) {
     let page = page_of(&leaf);
     let view = NodeView::<3>::of(&page, 0).expect(&rt, "a view");
     assert_eq!(rt; view.len(), 100);
+    for place in 0..view.len() {
+        assert!(rt; leaf.entries.get(place) == Some(&view.entry(place)));
+    }
     let (lows, highs) = view.columns();
     for axis in 0..3 {
         assert_eq!(rt; (lows[axis][0], lows[axis][99]), (i32::MIN, i32::MIN + 99));
