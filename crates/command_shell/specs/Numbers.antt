@@ -1,5 +1,5 @@
 -- The numbers, coordinates, boxes and points that words are. Our rule, docs/COMMANDS.md.
-use Rattle.std.specs.Prelude.{ℕ, ◌^◌, Bool, ◌&&◌, ◌==◌, nat_lt, nat_le, List, [], ◌∷◌, length, drop, if◌then◌else◌, ℤ, pos, neg_ℤ, slice_index, Option, Some, None, option_map, option_and_then}
+use Rattle.std.specs.Prelude.{ℕ, ◌^◌, Bool, ◌&&◌, ◌==◌, nat_lt, nat_le, List, [], ◌∷◌, length, drop, if◌then◌else◌, ℤ, pos, neg_ℤ, slice_index, Option, Some, None, option_map, option_and_then, codes, bytes_eq}
 use Rattle.std.specs.List.{list_all}
 use Rattle.std.specs.Char.{is_ascii_digit}
 use Rattle.std.specs.Str.Parse.{digits_value}
@@ -61,7 +61,7 @@ point_of ws = option_and_then point_from (coordinates_of ws)
 
 -- ---- a tag behind a box or a point
 
--- a tag: a number below 2 ^ 32
+-- a tag: a number below 2^32
 abbrev pub tag_number : List ℕ → Option ℕ
 tag_number w = option_and_then (λ n. if nat_lt n (2 ^ 32) then Some n else None) (number_in w)
 

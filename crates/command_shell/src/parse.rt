@@ -1,13 +1,14 @@
 //! Lines, and what each of them asks.
 
-ghost use Rattle.std.specs.Prelude.{◌≡◌, ◌<◌, length, Some, IfSome, IfNone};
+ghost use Rattle.std.specs.Prelude.{◌≡◌, ◌<◌, ◌⊎◌, ◌∷◌, length, codes, None, Some, IfSome, IfNone, option_map};
 ghost use Rattle.plain_table.specs.Commands.Command.{Insert, Move, Delete, Drop, Get, Count};
 ghost use Rattle.plain_table.specs.Commands.Command.{Layers, Dump, Check, Reopen};
-ghost use Rattle.command_shell.specs.Meanings.{meaning_of, create_of, box_for_of, object_of, layer_of, box_query_of};
+ghost use Rattle.command_shell.specs.Meanings.{meaning_of, create_of, insert_of, move_of, object_of, layer_of};
 ghost use Rattle.command_shell.specs.Entries.{entry_in};
-ghost use Rattle.command_shell.specs.Meanings.{point_query_of, nearest_of, join_of, alone_of, load_of};
+ghost use Rattle.command_shell.specs.Meanings.{box_query_of, point_query_of, nearest_of, join_of, alone_of, load_of};
 ghost use Rattle.command_shell.specs.Meanings.{command_of, question_of, asked};
-ghost use Rattle.command_shell.specs.Numbers.{coordinates_of, box_of, point_of};
+ghost use Rattle.command_shell.specs.Numbers.{coordinates_of, box_from, box_of, point_from, point_of};
+ghost use Rattle.command_shell.specs.Numbers.{and_tag, before_tag, from_tag, tag_behind};
 ghost use Rattle.command_shell.specs.Said.{said, said_or_bad};
 
 use crate::words::{Words, coordinate, number};
@@ -88,8 +89,8 @@ pub enum Line<'a> {
         /// The layer's name.
         layer: &'a [u8],
     },
-    /// `window LAYER BOX`, `inside LAYER BOX`, `around LAYER BOX` or `point LAYER PT`: asks for the objects whose boxes
-    /// meet the box, are within it or enclose it, or hold the point.
+    /// `window LAYER BOX [tag NUM]`, and so `inside` and `around`, or `point LAYER PT [tag NUM]`: asks for the objects
+    /// whose boxes meet the box, are within it or enclose it, or hold the point.
     Range {
         /// The layer's name.
         layer: &'a [u8],
@@ -479,11 +480,10 @@ fn position_of(coordinates: &[i32]) -> Option<RawPoint>
 }
 
 // The coordinates that the words before `tag` are, of which there are at most six, and the tag behind them.
-fn tagged_coordinates(
-    mut words: Words<'_>,
-) -> Option<(ArrayVec<i32, MOST_BOUNDS>, Option<u32>)>
+fn tagged_coordinates(mut words: Words<'_>) -> Option<(ArrayVec<i32, MOST_BOUNDS>, Option<u32>)>
     ensures some { IfSome result (λ found.
-        (coordinates_of (before_tag words.entry) ≡ Some found.0.items) × (tag_behind (from_tag words.entry) ≡ Some found.1)) }
+        (coordinates_of (before_tag words.entry) ≡ Some found.0.items)
+        × (tag_behind (from_tag words.entry) ≡ Some found.1)) }
     ensures none { IfNone result (IfSome (coordinates_of (before_tag words.entry)) (λ bounds.
         (MOST_BOUNDS < length bounds) ⊎ (tag_behind (from_tag words.entry) ≡ None))) }
 {

@@ -52,7 +52,8 @@ pub child_pages : {dims : ℕ} (level : ℕ) (all entries : List (Entry dims)) (
 child_pages level all entries i d refers same within above =
     let here : All (λ (item : Item). IsOfLevel level item.reference item.tag) (map item_of entries) = subst (λ es. All (λ (item : Item). IsOfLevel level item.reference item.tag) (map item_of es)) (sym same) refers in
     let at = All-get_or (λ (item : Item). IsOfLevel level item.reference item.tag) (map item_of entries) i (item_of d) (omega (arith, within, length-map entries item_of)) here in
-    subst (λ (item : Item). IsOfLevel level item.reference item.tag) (sym (item_at entries i d)) at above
+    let found = subst (λ (item : Item). IsOfLevel level item.reference item.tag) (sym (item_at entries i d)) at above in
+    (found.0, found.1)
 
 -- how often a page occurs in the first entries
 abbrev pub occurs_before : ℕ → Row → ℕ → ℕ

@@ -62,11 +62,13 @@ impl<A: Allocator + Copy> ListedLayer<A> {
 
     /// Puts an object into its place, of an identifier that no other has.
     pub fn add(&mut self, id: u64, bounds: AnyBox, tag: u32) -> Result<(), Refusal> {
-        let place = self
+        let behind = self
             .objects
             .iter()
-            .take_while(|object| object.0 < id)
+            .rev()
+            .take_while(|object| object.0 > id)
             .count();
+        let place = self.objects.len().saturating_sub(behind);
         self.objects.insert(place, (id, bounds, tag))?;
         Ok(())
     }

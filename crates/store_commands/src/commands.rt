@@ -206,16 +206,28 @@ fn list_answer(alloc: Global, table: &ListTable<Global>, question: Command<'_>) 
         }
         Command::Count(name) => numbers.push(i128::from(table.count(name)?))?,
         Command::Window(name, bounds) => {
-            push_rows(&mut numbers, &table.range(name, RawQuery::Window(bounds), None)?)?
+            push_rows(
+                &mut numbers,
+                &table.range(name, RawQuery::Window(bounds), None)?,
+            )?
         }
         Command::Inside(name, bounds) => {
-            push_rows(&mut numbers, &table.range(name, RawQuery::Inside(bounds), None)?)?
+            push_rows(
+                &mut numbers,
+                &table.range(name, RawQuery::Inside(bounds), None)?,
+            )?
         }
         Command::Around(name, bounds) => {
-            push_rows(&mut numbers, &table.range(name, RawQuery::Around(bounds), None)?)?
+            push_rows(
+                &mut numbers,
+                &table.range(name, RawQuery::Around(bounds), None)?,
+            )?
         }
         Command::Point(name, point) => {
-            push_rows(&mut numbers, &table.range(name, RawQuery::Point(point), None)?)?
+            push_rows(
+                &mut numbers,
+                &table.range(name, RawQuery::Point(point), None)?,
+            )?
         }
         Command::Tagged(name, query, tag) => {
             push_rows(&mut numbers, &table.range(name, query, Some(tag))?)?

@@ -3,7 +3,7 @@
 ghost use Rattle.std.specs.Prelude.{◌<◌};
 
 use block_device::MemoryDevice;
-use layer_store::{RawBox, RawPoint, Store};
+use layer_store::{RawBox, RawPoint, RawQuery, Store};
 use list_table::ListTable;
 use std::alloc::{AllocError, Global};
 use std::process::Abort;
@@ -246,7 +246,7 @@ fn a_missing_object_is_seen(rt: HostRuntime) -> Result<(), Fail> {
     let create = Command::Create(b"a", 2, 4);
     put(&rt, rt.alloc(), &mut store, &mut table, create);
     assert!(rt; represents(rt.alloc(), &mut store, &mut table, &NAMES, 2));
-    table.insert(b"a", 1, RawBox::Two([0, 0], [0, 0]))?;
+    table.insert(b"a", 1, RawBox::Two([0, 0], [0, 0]), 0)?;
     assert!(rt; !represents(rt.alloc(), &mut store, &mut table, &NAMES, 2));
     Ok(())
 }

@@ -22,7 +22,7 @@ use Rattle.condense.proofs.removal.remove_with.Goals as goal
 pub take_out-requires : goal.take_out-requires
 take_out-requires g c =
     let room : array_vec_len c.begin.new.self.orphans + 39 * c.args.root.level ≤ 1560 = omega (arith, ap length c.begin.ensures, c.requires.root.low) in
-    search (rules, room)
+    (search rules, (search rules, (search rules, (c.requires.dims, (c.requires.open, (c.requires.most, room))))))
 
 pub returns-in_err-taken-clause-alters : goal.returns-in_err-taken-clause-alters
 returns-in_err-taken-clause-alters g c =
@@ -64,7 +64,7 @@ pub put_root-requires : goal.put_root-requires
 put_root-requires g c =
     let gate = c.in_ok-taken.ensures.alters.changes.gate.gate ∙ c.requires.open in
     let cut : IsCut c.args.root.level (content_of c.take_out.new.node) = c.in_ok-taken.ensures.cut c.if-not-taken.false in
-    search (rules, gate, cut)
+    (search rules, (search rules, (search rules, (c.requires.dims, (gate, (c.requires.most, (c.requires.root, cut)))))))
 
 pub returns-in-Ok-clause-alters : goal.returns-in-Ok-clause-alters
 returns-in-Ok-clause-alters g c =

@@ -14,7 +14,7 @@ use Rattle.tree_node.specs.declared.node.Node.{Node}
 use Rattle.tree_node.specs.Nodes.{content_of, item_of}
 use Rattle.tree_node.specs.Trees.{row_items}
 use Rattle.node_page.specs.Layout.{IsSpellable}
-use Rattle.node_page.specs.Broken.{alters_so, changes_and_breaks, made_alters}
+use Rattle.node_page.specs.Broken.{alters_so, before, changes_and_breaks, made_alters}
 use Rattle.node_page.specs.declared.broken.Broken.{Broken}
 use Rattle.node_page.specs.Standing.{PageMap, Stands, node_in}
 use Rattle.node_page.proofs.StandingLemmas.{page_of_node}
@@ -40,6 +40,11 @@ pub returns-then-at-eq0-clause-found : goal.returns-then-at-eq0-clause-found
 returns-then-at-eq0-clause-found g t c = λ h row stands leads.
     found_leaf c.args.m_max (pages c.args.cache.now) c.args.at c.args.id (c.args.bounds.now, c.args.tag) row c.if-at-eq0.true stands c.in_ok-take_here.field-0
     (c.in_ok-take_here.ensures.none h.honest (record { level = c.args.at.level; entries = row_items row }) stands.root) leads
+
+pub returns-in_err-first-clause-alters : goal.returns-in_err-first-clause-alters
+returns-in_err-first-clause-alters g t c =
+    alters_so c.args.cache.now c.read_enclosing.new.cache (before c.in_err-first.field-0.0) c.from_residual-in_err-first.result c.from_residual-in_err-first.ensures.1
+    (asks_changes c.args.cache.now c.read_enclosing.new.cache (Some c.in_err-first.field-0.0) c.in_err-first.ensures.asks) (λ untouched. c.in_err-first.ensures.asks.map)
 
 pub returns-in_default-clause-found : goal.returns-in_default-clause-found
 returns-in_default-clause-found g t c = λ h row stands leads.
@@ -93,11 +98,11 @@ child_of-below-requires g t c =
     (search rules, (above, (within, c.children.invariant.4)))
 
 pub take_out-requires : goal.take_out-requires
-take_out-requires g t c =
+take_out-requires g t c κs within =
     let room : array_vec_len c.children.kept.orphans + 39 * c.child_of-below.result.level ≤ 1560 = omega (arith, ap length c.children.invariant.1, c.requires.room, c.child_of-below.ensures.level, c.children.invariant.3) in
     let less : c.child_of-below.result.level < c.args.at.level = omega (arith, c.child_of-below.ensures.level, c.children.invariant.3, c.if-at-eq0.false) in
     let gate = c.children.invariant.0.gate.gate ∙ c.requires.open in
-    search (rules, room, less, gate)
+    (omega (arith, less, c.decreases), (search rules, (search rules, (search rules, (search rules, (search rules, (search rules, (c.requires.dims, (gate, (c.requires.most, room))))))))))
 
 pub returns-in_err-taken-clause-alters : goal.returns-in_err-taken-clause-alters
 returns-in_err-taken-clause-alters g t c =
