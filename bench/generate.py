@@ -9,6 +9,10 @@ usage: generate.py windows [N]    N windows (a million) on an empty layer, to st
            a line for each, its name and how many commands it has. SHAPE is `uniform` or `clustered`, AXES 2 or 3, and a node
            of the layer has at most FANOUT entries (100)
 
+       generate.py tags FOLDER [BOXES]
+           files in FOLDER, each of one operation: so many boxes (100,000) with a hundred tags that are inserted, and windows
+           of about a thousand of them, for all tags and for one
+
 A box of a scene has sides that are uniform from 0 to a length with which a point is held by a tenth of a box.
 """
 import random
@@ -91,6 +95,23 @@ def scene(folder, boxes, shape="uniform", axes="2", fanout="100"):
             print(f"{name}\t{count}", file=counts)
 
 
+def tags(folder, boxes="100000"):
+    at = Scene(int(boxes), "uniform", 2)
+    windows = [at.window(1000) for _ in range(1000)]
+    operations = {
+        "insert": [
+            "create a 2 100",
+            *(text("insert a", place, at.box(), "tag", random.randrange(100)) for place in shuffled(int(boxes))),
+            "reopen",
+        ],
+        "window": [text("window a", window) for window in windows],
+        "window of a tag": [text("window a", window, "tag", random.randrange(100)) for window in windows],
+    }
+    for name, lines in operations.items():
+        with open(f"{folder}/{name}", "w") as file:
+            file.writelines(line + "\n" for line in lines)
+
+
 def small_box(axes):
     lows = [random.randint(-40, 40) for _ in range(axes)]
     return lows + [low + random.randrange(12) for low in lows]
@@ -150,6 +171,8 @@ def main():
     random.seed(1)
     if what == "scene":
         return scene(*words)
+    if what == "tags":
+        return tags(*words)
     lines = mixed(words) if what == "mixed" else {"windows": windows, "rows": shown}[what](int((words or [10**6])[0]))
     sys.stdout.writelines(line + "\n" for line in lines)
 

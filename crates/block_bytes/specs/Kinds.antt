@@ -7,17 +7,25 @@ use Rattle.block_bytes.specs.Numbers.{number_at}
 abbrev pub catalog_kind : ℕ
 catalog_kind = 1
 
-abbrev pub node_kind : ℕ
-node_kind = 2
+-- a node of format 1, whose objects have the tag 0
+abbrev pub untagged_node_kind : ℕ
+untagged_node_kind = 2
 
 abbrev pub directory_kind : ℕ
 directory_kind = 3
 
-abbrev pub bucket_kind : ℕ
-bucket_kind = 4
+-- a bucket of format 1, whose objects have the tag 0
+abbrev pub untagged_bucket_kind : ℕ
+untagged_bucket_kind = 4
 
 abbrev pub free_kind : ℕ
 free_kind = 5
+
+abbrev pub node_kind : ℕ
+node_kind = 6
+
+abbrev pub bucket_kind : ℕ
+bucket_kind = 7
 
 -- the first four bytes of a page with entries
 pub record HasHead (kind dims count : ℕ) (page : List ℕ) : Type 0 where

@@ -8,17 +8,23 @@ use crate::writing::{write_u8, write_u16, zero_block};
 /// The catalog, page 2 of each file.
 pub const CATALOG_KIND: u8 = 1;
 
-/// A node of a tree.
-pub const NODE_KIND: u8 = 2;
+/// A node of a tree in format 1, whose objects have the tag 0. It is read and no longer written.
+pub const UNTAGGED_NODE_KIND: u8 = 2;
 
 /// The directory of an identifier table.
 pub const DIRECTORY_KIND: u8 = 3;
 
-/// A bucket of an identifier table.
-pub const BUCKET_KIND: u8 = 4;
+/// A bucket of an identifier table in format 1, whose objects have the tag 0. It is read and no longer written.
+pub const UNTAGGED_BUCKET_KIND: u8 = 4;
 
 /// A page that was freed.
 pub const FREE_KIND: u8 = 5;
+
+/// A node of a tree.
+pub const NODE_KIND: u8 = 6;
+
+/// A bucket of an identifier table.
+pub const BUCKET_KIND: u8 = 7;
 
 /// Makes the page one of zeros but for its kind, its dimension and its count.
 pub fn write_head(page: &mut [u8; 4096], kind: u8, dims: u8, count: u16)

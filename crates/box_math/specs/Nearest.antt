@@ -1,8 +1,8 @@
 -- Objects in the order of their distance from a point (the distance is MINDIST of Roussopoulos, Kelley and Vincent 1995; the
--- order of ties is our rule, docs/COMMANDS.md). An object is an identifier with a box.
+-- order of ties is our rule, docs/COMMANDS.md). An object is an identifier with what is kept of it.
 use Rattle.std.specs.Prelude.{ℕ, ℤ, Bool, ◌||◌, ◌&&◌, ◌==◌, nat_lt, nat_le, List, [], ◌∷◌, map, if◌then◌else◌}
-use Rattle.box_math.specs.Bounds.{Bounds}
 use Rattle.box_math.specs.Measures.{point_dist2_of}
+use Rattle.box_math.specs.Objects.{Object, bounds_of}
 
 -- whether an object, by its identifier and its squared distance, comes before another or is the same: the nearer one does,
 -- and of equal distances the lesser identifier
@@ -20,9 +20,9 @@ nearest_first [] = []
 nearest_first (x ∷ xs) = put_nearest_first x (nearest_first xs)
 
 -- the identifier of an object with the squared distance of its box from the point
-abbrev pub with_distance : ℕ → List ℤ → ℕ × Bounds → ℕ × ℕ
-with_distance dims point object = (object.0, point_dist2_of dims object.1 point)
+abbrev pub with_distance : ℕ → List ℤ → ℕ × Object → ℕ × ℕ
+with_distance dims point object = (object.0, point_dist2_of dims (bounds_of object.1) point)
 
 -- the same of all objects, in order
-abbrev pub by_distance : ℕ → List ℤ → List (ℕ × Bounds) → List (ℕ × ℕ)
+abbrev pub by_distance : ℕ → List ℤ → List (ℕ × Object) → List (ℕ × ℕ)
 by_distance dims point objects = nearest_first (map (with_distance dims point) objects)

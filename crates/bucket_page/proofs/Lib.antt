@@ -4,6 +4,6 @@ pub mod Reading
 pub mod HeadWritten
 pub mod Writing
 pub mod Named
-pub mod Examples
+mod Examples
 pub mod OnePage
 pub mod Editing

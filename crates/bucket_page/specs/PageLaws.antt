@@ -1,7 +1,7 @@
 -- The laws of what pages spell.
 use Rattle.std.specs.Prelude.{◌≡◌, ℕ, ◌↔◌, List, Some}
-use Rattle.block_bytes.specs.Forms.{HasOnePage, ReadsNamed}
-use Rattle.block_bytes.specs.Numbers.{AreBytes}
+use Rattle.block_bytes.specs.Forms.{IsPageOf, ReadsNamed}
+use Rattle.block_bytes.specs.Numbers.{number_at, AreBytes}
 use Rattle.bucket_page.specs.Layout.{BucketContent, IsBucket, Spells, bucket_at, names}
 
 -- reading gives exactly what is spelled
@@ -16,6 +16,7 @@ ReadsNamedBytes = (dims : ℕ) → ReadsNamed (bucket_at dims) (names dims)
 abbrev pub SpellsBuckets : Type 0
 SpellsBuckets = (dims : ℕ) (page : List ℕ) (c : BucketContent) → AreBytes page → Spells dims page c → IsBucket dims c
 
--- a bucket has one page
+-- a bucket has one page of a kind
 abbrev pub BucketsHaveOnePage : Type 0
-BucketsHaveOnePage = (dims : ℕ) → HasOnePage (bucket_at dims) (names dims)
+BucketsHaveOnePage = (dims : ℕ) (a b : List ℕ) (c : BucketContent) → AreBytes a → AreBytes b → number_at 1 0 a ≡ number_at 1 0 b
+    → IsPageOf (bucket_at dims) (names dims) a c → IsPageOf (bucket_at dims) (names dims) b c → (k : ℕ) → number_at 1 k a ≡ number_at 1 k b

@@ -3,21 +3,29 @@
 ghost use Rattle.std.specs.Prelude.{◌≡◌, ℕ, ◌<◌, ◌≤◌, ◌↔◌, Some, length, IsTrue};
 ghost use Rattle.block_bytes.specs.Numbers.{number_at};
 ghost use Rattle.box_math.specs.Bounds.{IsDims};
-ghost use Rattle.bucket_page.specs.Layout.{BucketContent, HasBucketHead, IsHead, bucket_at};
+ghost use Rattle.bucket_page.specs.Layout.{BucketContent, HasBucketHead, IsBucketKind, IsHead, bucket_at};
 
-use block_bytes::{BUCKET_KIND, read_u8, read_u16, read_u32, write_u32};
+use block_bytes::{BUCKET_KIND, UNTAGGED_BUCKET_KIND, read_u8, read_u16, read_u32, write_u32};
 
-/// Whether the page begins as a bucket page of that dimension does: its kind, its dimension, and a count of
-/// 1 to 100. Its boxes are not looked at.
+/// Whether the page begins as a bucket page of that dimension does: its kind, 7 or that of format 1, its dimension,
+/// and a count of 1 to 100. Its boxes are not looked at.
 #[inline]
 pub fn has_bucket_head<const D: usize>(page: &[u8; 4096]) -> bool
     ensures { IsTrue result ↔ HasBucketHead D page.now }
 {
     let count = count_at(page);
-    read_u8(page, 0) == BUCKET_KIND
+    is_bucket_kind(read_u8(page, 0))
         && usize::from(read_u8(page, 1)) == D
         && 1 <= count
         && count <= 100
+}
+
+// Whether a page of this kind is a bucket page.
+#[inline]
+fn is_bucket_kind(kind: u8) -> bool
+    ensures { IsTrue result ↔ IsBucketKind kind }
+{
+    kind == BUCKET_KIND || kind == UNTAGGED_BUCKET_KIND
 }
 
 /// How many objects a bucket page says it has: the number in the two bytes at 2.

@@ -24,8 +24,8 @@ pub fn what_is_spelled_is_a_bucket()
     ensures { SpellsBuckets }
 {}
 
-/// A bucket has one page: two that spell it, with zeros in all bytes that it does not name, have the same bytes.
-/// So `encode` leaves nothing open.
+/// A bucket has one page of a kind: two that spell it, with zeros in all bytes that it does not name, have
+/// the same bytes. So `encode` leaves nothing open.
 pub fn a_bucket_has_one_page()
     ensures { BucketsHaveOnePage }
 {}

@@ -1,5 +1,5 @@
 -- Worked examples of packed loads (docs/RULES.md). No other proof rests on them.
-use Rattle.std.proofs.Common.{◌≡◌, ℕ, zero, suc, ◌^◌, ◌≤◌, List, [], ◌∷◌, refl, pos, arith}
+use Rattle.std.proofs.Common.{◌≡◌, ℕ, zero, suc, ◌*◌, ◌^◌, ◌≤◌, List, [], ◌∷◌, refl, pos, arith}
 use Rattle.tree_node.specs.Nodes.{Item}
 use Rattle.tree_node.specs.Rows.{row_of}
 use Rattle.tree_node.specs.Trees.{object, end}
@@ -8,7 +8,7 @@ use Rattle.bulk_load.specs.Sorting.{before, order_on, sorted_on}
 use Rattle.bulk_load.specs.Tiling.{IsLeastRoot, IsTiled, even_sizes, joined, one_run, size_of_one}
 
 abbrev at : ℕ → ℕ → ℕ → Item
-at id x y = record { bounds = record { low = pos x ∷ pos y ∷ []; high = pos x ∷ pos y ∷ [] }; reference = id }
+at id x y = record { bounds = record { low = pos x ∷ pos y ∷ []; high = pos x ∷ pos y ∷ [] }; reference = id; tag = 2 * id }
 
 -- the longer of even runs come first
 some_even_sizes : (even_sizes 9 2 ≡ 5 ∷ 4 ∷ []) × (even_sizes 5 2 ≡ 3 ∷ 2 ∷ []) × (even_sizes 4 2 ≡ 2 ∷ 2 ∷ []) × (even_sizes 3 1 ≡ 3 ∷ [])
@@ -91,7 +91,7 @@ five_are_two_runs = (
 -- ---- trees
 
 -- as entries of leaves
-as_objects : objects_of (at 7 0 0 ∷ at 5 0 1 ∷ []) ≡ object (at 7 0 0).bounds 7 ∷ object (at 5 0 1).bounds 5 ∷ []
+as_objects : objects_of (at 7 0 0 ∷ at 5 0 1 ∷ []) ≡ object ((at 7 0 0).bounds, 14) 7 ∷ object ((at 5 0 1).bounds, 10) 5 ∷ []
 as_objects = refl
 
 -- no objects make an empty leaf, and two are a leaf in the order in which they stand

@@ -144,7 +144,7 @@ next_items dims level was now runs sizes count size left items w same within is 
 pub one_run_more : (dims level : ℕ) (was mid now : PageMap) (runs : List (List Branch)) (sizes : List ℕ) (count size : ℕ) (left items : List Item) (p : ℕ) (bounds : Bounds)
     → Written dims level was mid runs count left items → map length runs ≡ sizes → count < length runs → size ≡ get_or sizes count 0 → 0 < size
     → mid p ≡ None → SameBut p mid now → node_in dims (now p) ≡ Some (record { level = level; entries = take size left }) → bounds ≡ least_box dims (take size left)
-    → Written dims level was now runs (count + 1) (drop size left) (items ++ record { bounds = bounds; reference = p } ∷ [])
+    → Written dims level was now runs (count + 1) (drop size left) (items ++ record { bounds = bounds; reference = p; tag = 0 } ∷ [])
 one_run_more dims level was mid now runs sizes count size left items p bounds w same within is some free other node bounds_are =
     let run = get_or runs count [] in
     let rest = joined (drop (count + 1) runs) in
@@ -158,7 +158,7 @@ one_run_more dims level was mid now runs sizes count size left items p bounds w 
       parents = w.parents ++ child bounds p (row_of run) ∷ [];
       made = subst (λ (rs : List (List Branch)). AreParents dims rs (w.parents ++ child bounds p (row_of run) ∷ [])) (sym (take_more runs count [] within))
           (are_more dims (take count runs) w.parents run bounds p w.made least);
-      seen = map-append item_in w.parents (child bounds p (row_of run) ∷ []) ∙ ap (λ (is : List Item). is ++ record { bounds = bounds; reference = p } ∷ []) w.seen;
+      seen = map-append item_in w.parents (child bounds p (row_of run) ∷ []) ∙ ap (λ (is : List Item). is ++ record { bounds = bounds; reference = p; tag = 0 } ∷ []) w.seen;
       left_is = sym next.1;
       between = node_written dims level was mid now (joined runs) w.parents run rest p bounds b free other there least;
     }

@@ -2,7 +2,8 @@
 use Rattle.std.proofs.Common.{◌≡◌, ◌∙◌, ℕ, suc, ◌+◌, ◌-◌, ◌/◌, ◌<◌, ◌≤◌, List, [], ◌∷◌, length, All, IsPermutation, refl, sym, ap, subst, arith, length-append}
 use Rattle.std.proofs.lemmas.List.Elements.{All-tail}
 use Rattle.std.proofs.lemmas.List.Sorted.{length_permutation}
-use Rattle.box_math.specs.Bounds.{Bounds, IsDims}
+use Rattle.box_math.specs.Bounds.{IsDims}
+use Rattle.box_math.specs.Objects.{Object}
 use Rattle.tree_node.specs.Nodes.{Item}
 use Rattle.tree_node.specs.Positions.{total}
 use Rattle.tree_node.specs.Rows.{item_in, objects_on, row_of}
@@ -26,7 +27,7 @@ pub parents_count : (dims : ℕ) (runs : List (List Branch)) (parents : List Bra
 parents_count dims [] [] are = refl
 parents_count dims [] (p ∷ ps) are = absurd are
 parents_count dims (run ∷ runs) [] are = absurd are
-parents_count dims (run ∷ runs) (object bounds id ∷ ps) are = absurd are
+parents_count dims (run ∷ runs) (object kept id ∷ ps) are = absurd are
 parents_count dims (run ∷ runs) (child bounds page below ∷ ps) are = ap suc (parents_count dims runs ps are.2)
 
 -- ---- shape
@@ -35,7 +36,7 @@ parents_on_level : (dims level : ℕ) (runs : List (List Branch)) (parents : Lis
 parents_on_level dims level [] [] are on = tt
 parents_on_level dims level [] (p ∷ ps) are on = absurd are
 parents_on_level dims level (run ∷ runs) [] are on = absurd are
-parents_on_level dims level (run ∷ runs) (object bounds id ∷ ps) are on = absurd are
+parents_on_level dims level (run ∷ runs) (object kept id ∷ ps) are on = absurd are
 parents_on_level dims level (run ∷ runs) (child bounds page below ∷ ps) are on =
     let one_down : level ≡ suc level - 1 = omega arith in
     let own : RowOnLevel level (row_of run) = row_front (RowOnLevel level) (levels_by_entry level) run (joined runs) on in (
@@ -52,7 +53,7 @@ parents_shape : (dims most : ℕ) (runs : List (List Branch)) (parents : List Br
 parents_shape dims most [] [] four fair are shape = tt
 parents_shape dims most [] (p ∷ ps) four fair are shape = absurd are
 parents_shape dims most (run ∷ runs) [] four fair are shape = absurd are
-parents_shape dims most (run ∷ runs) (object bounds id ∷ ps) four fair are shape = absurd are
+parents_shape dims most (run ∷ runs) (object kept id ∷ ps) four fair are shape = absurd are
 parents_shape dims most (run ∷ runs) (child bounds page below ∷ ps) four fair are shape =
     let one = fair 0 run (omega arith) in
     let many : row_length below ≡ length run = ap row_length are.0 ∙ row_length-row_of run in (
@@ -95,17 +96,17 @@ packed_has_shape dims most items t is four packed =
 
 -- ---- objects
 
-pub objects_total : (f : ℕ × Bounds → ℕ) (bs : List Branch) → total f (objects_in (row_of bs)) ≡ total (λ (b : Branch). total f (objects_on b)) bs
+pub objects_total : (f : ℕ × Object → ℕ) (bs : List Branch) → total f (objects_in (row_of bs)) ≡ total (λ (b : Branch). total f (objects_on b)) bs
 objects_total f [] = refl
-objects_total f (object bounds id ∷ bs) = omega (arith, objects_total f bs)
+objects_total f (object kept id ∷ bs) = omega (arith, objects_total f bs)
 objects_total f (child bounds page below ∷ bs) = omega (arith, total-append f (objects_in below) (objects_in (row_of bs)), objects_total f bs)
 
-parents_hold : (f : ℕ × Bounds → ℕ) (dims : ℕ) (runs : List (List Branch)) (parents : List Branch) → AreParents dims runs parents
+parents_hold : (f : ℕ × Object → ℕ) (dims : ℕ) (runs : List (List Branch)) (parents : List Branch) → AreParents dims runs parents
     → total (λ (b : Branch). total f (objects_on b)) parents ≡ total (λ (b : Branch). total f (objects_on b)) (joined runs)
 parents_hold f dims [] [] are = refl
 parents_hold f dims [] (p ∷ ps) are = absurd are
 parents_hold f dims (run ∷ runs) [] are = absurd are
-parents_hold f dims (run ∷ runs) (object bounds id ∷ ps) are = absurd are
+parents_hold f dims (run ∷ runs) (object kept id ∷ ps) are = absurd are
 parents_hold f dims (run ∷ runs) (child bounds page below ∷ ps) are = omega (
   arith,
   ap (λ (row : Row). total f (objects_in row)) are.0,
@@ -114,7 +115,7 @@ parents_hold f dims (run ∷ runs) (child bounds page below ∷ ps) are = omega 
   parents_hold f dims runs ps are.2,
 )
 
-objects_packed : (f : ℕ × Bounds → ℕ) (dims most level : ℕ) (entries : List Branch) (t : Tree) → Packs dims most level entries t
+objects_packed : (f : ℕ × Object → ℕ) (dims most level : ℕ) (entries : List Branch) (t : Tree) → Packs dims most level entries t
     → total f (objects_in t.row) ≡ total (λ (b : Branch). total f (objects_on b)) entries
 objects_packed f dims most _ _ _ (root level page entries few) = objects_total f entries
 objects_packed f dims most _ _ _ (higher level entries runs parents t more_than tiled are packs) =
@@ -123,7 +124,7 @@ objects_packed f dims most _ _ _ (higher level entries runs parents t more_than 
 
 objects_are : (items : List Item) → objects_in (row_of (objects_of items)) ≡ pairs_of items
 objects_are [] = refl
-objects_are (item ∷ items) = ap (λ (os : List (ℕ × Bounds)). (item.reference, item.bounds) ∷ os) (objects_are items)
+objects_are (item ∷ items) = ap (λ (os : List (ℕ × Object)). (item.reference, (item.bounds, item.tag)) ∷ os) (objects_are items)
 
 pub packed_holds_objects : PackedHoldsObjects
 packed_holds_objects dims most items t packed = equal_sums_permute (pairs_of items) (objects_in t.row)

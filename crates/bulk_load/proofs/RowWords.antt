@@ -43,60 +43,60 @@ row_back R by (x ∷ xs) ys row = row_back R by xs ys (by.later x (row_of (xs ++
 -- ---- such words
 
 levels_glue : (level : ℕ) (b : Branch) (row : Row) → RowOnLevel level (more b end) → RowOnLevel level row → RowOnLevel level (more b row)
-levels_glue level (object bounds id) row a r = (a.0, r)
+levels_glue level (object kept id) row a r = (a.0, r)
 levels_glue level (child bounds page below) row a r = (a.0, a.1, r)
 
 levels_first : (level : ℕ) (b : Branch) (row : Row) → RowOnLevel level (more b row) → RowOnLevel level (more b end)
-levels_first level (object bounds id) row a = (a.0, tt)
+levels_first level (object kept id) row a = (a.0, tt)
 levels_first level (child bounds page below) row a = (a.0, a.1, tt)
 
 levels_later : (level : ℕ) (b : Branch) (row : Row) → RowOnLevel level (more b row) → RowOnLevel level row
-levels_later level (object bounds id) row a = a.1
+levels_later level (object kept id) row a = a.1
 levels_later level (child bounds page below) row a = a.2
 
 pub levels_by_entry : (level : ℕ) → ByEntry (RowOnLevel level)
 levels_by_entry level = record { none = tt; glue = levels_glue level; first = levels_first level; later = levels_later level }
 
 shape_glue : (dims most : ℕ) (b : Branch) (row : Row) → RowHasShape dims most (more b end) → RowHasShape dims most row → RowHasShape dims most (more b row)
-shape_glue dims most (object bounds id) row a r = r
+shape_glue dims most (object kept id) row a r = r
 shape_glue dims most (child bounds page below) row a r = (a.0, a.1, a.2, a.3, r)
 
 shape_first : (dims most : ℕ) (b : Branch) (row : Row) → RowHasShape dims most (more b row) → RowHasShape dims most (more b end)
-shape_first dims most (object bounds id) row a = tt
+shape_first dims most (object kept id) row a = tt
 shape_first dims most (child bounds page below) row a = (a.0, a.1, a.2, a.3, tt)
 
 shape_later : (dims most : ℕ) (b : Branch) (row : Row) → RowHasShape dims most (more b row) → RowHasShape dims most row
-shape_later dims most (object bounds id) row a = a
+shape_later dims most (object kept id) row a = a
 shape_later dims most (child bounds page below) row a = a.4
 
 pub shape_by_entry : (dims most : ℕ) → ByEntry (RowHasShape dims most)
 shape_by_entry dims most = record { none = tt; glue = shape_glue dims most; first = shape_first dims most; later = shape_later dims most }
 
 boxes_glue : (dims : ℕ) (b : Branch) (row : Row) → RowHasBoxes dims (more b end) → RowHasBoxes dims row → RowHasBoxes dims (more b row)
-boxes_glue dims (object bounds id) row a r = (a.0, r)
+boxes_glue dims (object kept id) row a r = (a.0, r)
 boxes_glue dims (child bounds page below) row a r = (a.0, a.1, r)
 
 boxes_first : (dims : ℕ) (b : Branch) (row : Row) → RowHasBoxes dims (more b row) → RowHasBoxes dims (more b end)
-boxes_first dims (object bounds id) row a = (a.0, tt)
+boxes_first dims (object kept id) row a = (a.0, tt)
 boxes_first dims (child bounds page below) row a = (a.0, a.1, tt)
 
 boxes_later : (dims : ℕ) (b : Branch) (row : Row) → RowHasBoxes dims (more b row) → RowHasBoxes dims row
-boxes_later dims (object bounds id) row a = a.1
+boxes_later dims (object kept id) row a = a.1
 boxes_later dims (child bounds page below) row a = a.2
 
 pub boxes_by_entry : (dims : ℕ) → ByEntry (RowHasBoxes dims)
 boxes_by_entry dims = record { none = tt; glue = boxes_glue dims; first = boxes_first dims; later = boxes_later dims }
 
 stands_glue : (dims : ℕ) (pages : PageMap) (level : ℕ) (b : Branch) (row : Row) → RowStands dims pages level (more b end) → RowStands dims pages level row → RowStands dims pages level (more b row)
-stands_glue dims pages level (object bounds id) row a r = (a.0, r)
+stands_glue dims pages level (object kept id) row a r = (a.0, r)
 stands_glue dims pages level (child bounds page below) row a r = (a.0, a.1, a.2, r)
 
 stands_first : (dims : ℕ) (pages : PageMap) (level : ℕ) (b : Branch) (row : Row) → RowStands dims pages level (more b row) → RowStands dims pages level (more b end)
-stands_first dims pages level (object bounds id) row a = (a.0, tt)
+stands_first dims pages level (object kept id) row a = (a.0, tt)
 stands_first dims pages level (child bounds page below) row a = (a.0, a.1, a.2, tt)
 
 stands_later : (dims : ℕ) (pages : PageMap) (level : ℕ) (b : Branch) (row : Row) → RowStands dims pages level (more b row) → RowStands dims pages level row
-stands_later dims pages level (object bounds id) row a = a.1
+stands_later dims pages level (object kept id) row a = a.1
 stands_later dims pages level (child bounds page below) row a = a.3
 
 pub stands_by_entry : (dims : ℕ) (pages : PageMap) (level : ℕ) → ByEntry (RowStands dims pages level)

@@ -8,14 +8,14 @@ use Rattle.bulk_load.specs.Tiling.{IsTiled}
 
 -- the objects as entries of leaves
 abbrev pub objects_of : List Item → List Branch
-objects_of items = map (λ (item : Item). object item.bounds item.reference) items
+objects_of items = map (λ (item : Item). object (item.bounds, item.tag) item.reference) items
 
 -- each run is the node of one of the parents, in order, below its least box
 abbrev pub AreParents : ℕ → List (List Branch) → List Branch → Type 0
 AreParents dims [] [] = ⊤
 AreParents dims [] (parent ∷ rest) = ⊥
 AreParents dims (run ∷ runs) [] = ⊥
-AreParents dims (run ∷ runs) (object bounds id ∷ rest) = ⊥
+AreParents dims (run ∷ runs) (object kept id ∷ rest) = ⊥
 AreParents dims (run ∷ runs) (child bounds page below ∷ rest) = (below ≡ row_of run) × IsLeastBox dims bounds (row_of run) × AreParents dims runs rest
 
 -- The tree that entries of a level are packed into: as many as a node has are its root, in the order in which they stand;

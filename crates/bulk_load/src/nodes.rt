@@ -8,7 +8,7 @@ ghost use Rattle.page_cache.specs.Cache.{Grows, IsPageMap, gate_of, pages};
 ghost use Rattle.page_cache.specs.Calls.{Changes};
 ghost use Rattle.tree_node.specs.Boxes.{least_box};
 ghost use Rattle.tree_node.specs.Nodes.{items_of};
-ghost use Rattle.node_page.specs.Layout.{IsReference, IsSpellable};
+ghost use Rattle.node_page.specs.Layout.{IsOfLevel, IsSpellable};
 ghost use Rattle.node_page.specs.Standing.{node_in};
 ghost use Rattle.node_page.specs.Faults.{IsNoDamage};
 
@@ -72,10 +72,10 @@ pub(crate) fn write_parent<const D: usize, B: BlockDevice, A: Allocator + Copy>(
     requires dims { IsDims D }
     requires open { gate_of cache.old ≡ Open }
     requires sized { (1 ≤ length entries.now) × (length entries.now ≤ 100) }
-    requires refers { All (λ item. IsReference level item.reference) (items_of entries.now) }
+    requires refers { All (λ item. IsOfLevel level item.reference item.tag) (items_of entries.now) }
     ensures changes { Changes cache.old cache.new result }
     ensures sound { IsPageMap cache.old → IsPageMap cache.new }
-    ensures number { IfOk result (λ parent. (3 ≤ parent.reference) × (parent.reference < 2 ^ 31)) }
+    ensures number { IfOk result (λ parent. (3 ≤ parent.reference) × (parent.reference < 2 ^ 31) × (parent.tag ≡ 0)) }
     ensures least { IfOk result (λ parent. parent.bounds ≡ least_box D (items_of entries.now)) }
     ensures fresh { IsPageMap cache.old → IfOk result (λ parent. pages cache.old parent.reference ≡ None) }
     ensures node { IsPageMap cache.old → IfOk result (λ parent. node_in D (pages cache.new parent.reference)
@@ -89,5 +89,6 @@ pub(crate) fn write_parent<const D: usize, B: BlockDevice, A: Allocator + Copy>(
     Ok(Entry {
         bounds: least(entries),
         reference: u64::from(page),
+        tag: 0,
     })
 }

@@ -11,7 +11,7 @@ ghost use Rattle.tree_node.specs.Nodes.{items_of};
 ghost use Rattle.tree_node.specs.Positions.{total};
 ghost use Rattle.tree_node.specs.Trees.{Branch};
 ghost use Rattle.node_page.specs.Broken.{Alters};
-ghost use Rattle.node_page.specs.Layout.{IsReference};
+ghost use Rattle.node_page.specs.Layout.{IsOfLevel};
 ghost use Rattle.node_page.specs.Faults.{IsNoDamage};
 ghost use Rattle.bulk_load.specs.Levels.{AreSizes, LevelPacked, LevelWritten, PackedAt, WaitFor};
 ghost use Rattle.bulk_load.specs.Loads.{Loads};
@@ -67,7 +67,7 @@ fn pack<const D: usize, B: BlockDevice, A: Allocator + Copy, H: Allocator + Copy
     requires open { gate_of cache.old ≡ Open }
     requires sized { (4 ≤ m_max) × (m_max ≤ 100) }
     requires some { 0 < level → 1 ≤ length entries.old }
-    requires refers { All (λ item. IsReference level item.reference) (items_of entries.old) }
+    requires refers { All (λ item. IsOfLevel level item.reference item.tag) (items_of entries.old) }
     requires fits { length entries.old * 2 ^ level < 2 ^ 64 }
     ensures alters { Alters cache.old cache.new result }
     ensures sound { IsPageMap cache.old → IsPageMap cache.new }
@@ -103,12 +103,12 @@ fn pack_level<const D: usize, B: BlockDevice, A: Allocator + Copy, H: Allocator 
     requires open { gate_of cache.old ≡ Open }
     requires sized { (4 ≤ m_max) × (m_max ≤ 100) }
     requires above { m_max < length entries.old }
-    requires refers { All (λ item. IsReference level item.reference) (items_of entries.old) }
+    requires refers { All (λ item. IsOfLevel level item.reference item.tag) (items_of entries.old) }
     ensures alters { Alters cache.old cache.new result }
     ensures sound { IsPageMap cache.old → IsPageMap cache.new }
     ensures two { IfOk result (λ parents. 2 ≤ length parents.items) }
     ensures half { IfOk result (λ parents. 2 * length parents.items ≤ length entries.old) }
-    ensures refers { IfOk result (λ parents. All (λ item. IsReference (level + 1) item.reference)
+    ensures refers { IfOk result (λ parents. All (λ item. IsOfLevel (level + 1) item.reference item.tag)
         (items_of parents.items)) }
     ensures packed { IsPageMap cache.old → (bs : List Branch)
         → WaitFor D level (pages cache.old) (items_of entries.old) bs
@@ -148,12 +148,12 @@ fn write_level<const D: usize, B: BlockDevice, A: Allocator + Copy, H: Allocator
     requires open { gate_of cache.old ≡ Open }
     requires whole { total (λ size. size) sizes.now ≡ length entries.now }
     requires sized { AreSizes sizes.now }
-    requires refers { All (λ item. IsReference level item.reference) (items_of entries.now) }
+    requires refers { All (λ item. IsOfLevel level item.reference item.tag) (items_of entries.now) }
     requires empty { parents.items ≡ [] }
     ensures changes { Changes cache.old cache.new result }
     ensures sound { IsPageMap cache.old → IsPageMap cache.new }
     ensures count { IfOk result (λ parents. length parents.items ≡ length sizes.now) }
-    ensures refers { IfOk result (λ parents. All (λ item. IsReference (level + 1) item.reference)
+    ensures refers { IfOk result (λ parents. All (λ item. IsOfLevel (level + 1) item.reference item.tag)
         (items_of parents.items)) }
     ensures written { IsPageMap cache.old → (runs : List (List Branch)) → map length runs ≡ sizes.now
         → WaitFor D level (pages cache.old) (items_of entries.now) (joined runs)

@@ -101,19 +101,19 @@ blanks_and_leading_zeros_do_not_matter = refl
 a_layer_is_any_word : meaning_of (codes "create #A+ 18446744073709551615 0") ≡ Means (Create (codes "#A+") 18446744073709551615 0)
 a_layer_is_any_word = refl
 
-insert_gives_all_lows_and_then_all_highs : meaning_of (codes "insert a 7 1 -2 3 -4") ≡ Means (Insert a 7 (Two (pos 1 ∷ negsuc 1 ∷ []) (pos 3 ∷ negsuc 3 ∷ [])))
+insert_gives_all_lows_and_then_all_highs : meaning_of (codes "insert a 7 1 -2 3 -4") ≡ Means (Insert a 7 (Two (pos 1 ∷ negsuc 1 ∷ []) (pos 3 ∷ negsuc 3 ∷ [])) 0)
 insert_gives_all_lows_and_then_all_highs = refl
 
-insert_in_space : meaning_of (codes "insert a 7 1 2 3 4 5 6") ≡ Means (Insert a 7 (Three (pos 1 ∷ pos 2 ∷ pos 3 ∷ []) (pos 4 ∷ pos 5 ∷ pos 6 ∷ [])))
+insert_in_space : meaning_of (codes "insert a 7 1 2 3 4 5 6") ≡ Means (Insert a 7 (Three (pos 1 ∷ pos 2 ∷ pos 3 ∷ []) (pos 4 ∷ pos 5 ∷ pos 6 ∷ [])) 0)
 insert_in_space = refl
 
-window_gives_a_box : meaning_of (codes "window window 1 2 3 4") ≡ Means (Range (codes "window") (Window (Two (pos 1 ∷ pos 2 ∷ []) (pos 3 ∷ pos 4 ∷ []))))
+window_gives_a_box : meaning_of (codes "window window 1 2 3 4") ≡ Means (Range (codes "window") (Window (Two (pos 1 ∷ pos 2 ∷ []) (pos 3 ∷ pos 4 ∷ []))) None)
 window_gives_a_box = refl
 
-inside_and_around_give_boxes : map meaning_of (codes "inside a 1 2 3 4" ∷ codes "around a 1 2 3 4" ∷ []) ≡ Means (Range a (Inside (Two (pos 1 ∷ pos 2 ∷ []) (pos 3 ∷ pos 4 ∷ [])))) ∷ Means (Range a (Around (Two (pos 1 ∷ pos 2 ∷ []) (pos 3 ∷ pos 4 ∷ [])))) ∷ []
+inside_and_around_give_boxes : map meaning_of (codes "inside a 1 2 3 4" ∷ codes "around a 1 2 3 4" ∷ []) ≡ Means (Range a (Inside (Two (pos 1 ∷ pos 2 ∷ []) (pos 3 ∷ pos 4 ∷ []))) None) ∷ Means (Range a (Around (Two (pos 1 ∷ pos 2 ∷ []) (pos 3 ∷ pos 4 ∷ []))) None) ∷ []
 inside_and_around_give_boxes = refl
 
-point_gives_two_or_three_coordinates : map meaning_of (codes "point a 1 -2" ∷ codes "point a 1 2 3" ∷ []) ≡ Means (Range a (Point (point.Two (pos 1 ∷ negsuc 1 ∷ [])))) ∷ Means (Range a (Point (point.Three (pos 1 ∷ pos 2 ∷ pos 3 ∷ [])))) ∷ []
+point_gives_two_or_three_coordinates : map meaning_of (codes "point a 1 -2" ∷ codes "point a 1 2 3" ∷ []) ≡ Means (Range a (Point (point.Two (pos 1 ∷ negsuc 1 ∷ []))) None) ∷ Means (Range a (Point (point.Three (pos 1 ∷ pos 2 ∷ pos 3 ∷ []))) None) ∷ []
 point_gives_two_or_three_coordinates = refl
 
 bad_points : map meaning_of (codes "point" ∷ codes "point a" ∷ codes "point a 1" ∷ codes "point a 1 2 3 4" ∷ codes "point a 1 2 3 4 5 6 7" ∷ codes "point a +1 2" ∷ []) ≡ replicate 6 Bad
@@ -170,8 +170,46 @@ reopen_is_one_word = refl
 bad_reopens : map meaning_of (codes "reopen a" ∷ codes "reopen reopen" ∷ codes "reopen #" ∷ codes "REOPEN" ∷ codes "reopens" ∷ codes "reope" ∷ codes "re open" ∷ []) ≡ replicate 7 Bad
 bad_reopens = refl
 
+-- ---- tags
+
+insert_may_have_a_tag : map meaning_of (codes "insert a 7 1 2 3 4 tag 5" ∷ codes "insert a 7 1 2 3 4 tag 0" ∷ codes "insert a 7 1 2 3 4 5 6\ttag 4294967295 \r" ∷ [])
+    ≡ Means (Insert a 7 (Two (pos 1 ∷ pos 2 ∷ []) (pos 3 ∷ pos 4 ∷ [])) 5) ∷ Means (Insert a 7 (Two (pos 1 ∷ pos 2 ∷ []) (pos 3 ∷ pos 4 ∷ [])) 0) ∷ Means (Insert a 7 (Three (pos 1 ∷ pos 2 ∷ pos 3 ∷ []) (pos 4 ∷ pos 5 ∷ pos 6 ∷ [])) 4294967295) ∷ []
+insert_may_have_a_tag = refl
+
+-- a query for the tag 0 asks for another thing than one without a tag
+box_queries_may_have_a_tag : map meaning_of (codes "window a 1 2 3 4 tag 0" ∷ codes "inside a 1 2 3 4 tag 007" ∷ codes "around a 1 2 3 4 5 6 tag 5" ∷ [])
+    ≡ Means (Range a (Window (Two (pos 1 ∷ pos 2 ∷ []) (pos 3 ∷ pos 4 ∷ []))) (Some 0)) ∷ Means (Range a (Inside (Two (pos 1 ∷ pos 2 ∷ []) (pos 3 ∷ pos 4 ∷ []))) (Some 7)) ∷ Means (Range a (Around (Three (pos 1 ∷ pos 2 ∷ pos 3 ∷ []) (pos 4 ∷ pos 5 ∷ pos 6 ∷ []))) (Some 5)) ∷ []
+box_queries_may_have_a_tag = refl
+
+points_may_have_a_tag : map meaning_of (codes "point a 1 -2 tag 5" ∷ codes "point a 1 2 3 tag 4294967295" ∷ []) ≡ Means (Range a (Point (point.Two (pos 1 ∷ negsuc 1 ∷ []))) (Some 5)) ∷ Means (Range a (Point (point.Three (pos 1 ∷ pos 2 ∷ pos 3 ∷ []))) (Some 4294967295)) ∷ []
+points_may_have_a_tag = refl
+
+entry_lines_may_have_a_tag : map entry_in (codes "7 1 2 3 4 tag 5" ∷ codes "7 1 2 3 4 5 6 tag 4294967295\r" ∷ []) ≡ Some (7, Two (pos 1 ∷ pos 2 ∷ []) (pos 3 ∷ pos 4 ∷ []), 5) ∷ Some (7, Three (pos 1 ∷ pos 2 ∷ pos 3 ∷ []) (pos 4 ∷ pos 5 ∷ pos 6 ∷ []), 4294967295) ∷ []
+entry_lines_may_have_a_tag = refl
+
+a_layer_may_be_named_tag : map meaning_of (codes "get tag 5" ∷ codes "window tag 0 0 1 1" ∷ codes "point tag 1 2 tag 3" ∷ codes "insert tag 7 1 2 3 4 tag 5" ∷ codes "join tag tag 5" ∷ codes "load tag 5" ∷ [])
+    ≡ Means (Get (codes "tag") 5) ∷ Means (Range (codes "tag") (Window (Two (pos 0 ∷ pos 0 ∷ []) (pos 1 ∷ pos 1 ∷ []))) None) ∷ Means (Range (codes "tag") (Point (point.Two (pos 1 ∷ pos 2 ∷ []))) (Some 3)) ∷ Means (Insert (codes "tag") 7 (Two (pos 1 ∷ pos 2 ∷ []) (pos 3 ∷ pos 4 ∷ [])) 5) ∷ Means (Join (codes "tag") (codes "tag") 5) ∷ Loads (codes "tag") 5 ∷ []
+a_layer_may_be_named_tag = refl
+
+-- without a number, with a word behind, twice, or with a number out of range
+bad_tags : map meaning_of (codes "window a 1 2 3 4 tag" ∷ codes "window a 1 2 3 4 tag 5 6" ∷ codes "window a 1 2 3 4 tag 5 tag 5" ∷ codes "window a 1 2 3 4 tag 4294967296" ∷ codes "window a 1 2 3 4 tag -0" ∷ codes "window a 1 2 3 4 5" ∷ codes "window a 1 2 3 4 TAG 5" ∷ codes "window a 1 2 3 4 tag5" ∷ codes "insert a 7 1 2 3 4 tag" ∷ codes "insert a 7 1 2 3 4 tag tag" ∷ codes "point a 1 2 tag x" ∷ [])
+    ≡ replicate 11 Bad
+bad_tags = refl
+
+-- in front of the box or the point, within it, or where there is none
+tags_out_of_place : map meaning_of (codes "window tag 5 a 1 2 3 4" ∷ codes "window a tag 5 1 2 3 4" ∷ codes "window a 1 2 tag 5 3 4" ∷ codes "window a tag 5" ∷ codes "window a 1 2 3 tag 5" ∷ codes "point a tag 5" ∷ codes "insert a tag 5" ∷ codes "insert a tag 5 7 1 2 3 4" ∷ []) ≡ replicate 8 Bad
+tags_out_of_place = refl
+
+lines_that_take_no_tag : map meaning_of (codes "move a 1 0 0 1 1 tag 7" ∷ codes "get a 5 tag 5" ∷ codes "delete a 5 tag 5" ∷ codes "nearest a 1 0 0 tag 5" ∷ codes "join a b tag 5" ∷ codes "join a b 1 tag 5" ∷ codes "count a tag 5" ∷ codes "create a 2 4 tag 5" ∷ codes "load a 5 tag 5" ∷ codes "drop a tag 5" ∷ codes "dump tag 5" ∷ codes "layers tag 5" ∷ []) ≡ replicate 12 Bad
+lines_that_take_no_tag = refl
+
+bad_tags_in_entry_lines : map entry_in (codes "7 1 2 3 4 tag" ∷ codes "7 1 2 3 4 tag 4294967296" ∷ codes "7 1 2 3 4 tag 5 6" ∷ codes "7 tag 5" ∷ codes "tag 5 7 1 2 3 4" ∷ codes "7 tag 5 1 2 3 4" ∷ []) ≡ replicate 6 None
+bad_tags_in_entry_lines = refl
+
+-- ---- further lines
+
 -- the store refuses it, not the language
-a_low_above_its_high_is_a_box : meaning_of (codes "window a 1 1 0 0") ≡ Means (Range a (Window (Two (pos 1 ∷ pos 1 ∷ []) (pos 0 ∷ pos 0 ∷ []))))
+a_low_above_its_high_is_a_box : meaning_of (codes "window a 1 1 0 0") ≡ Means (Range a (Window (Two (pos 1 ∷ pos 1 ∷ []) (pos 0 ∷ pos 0 ∷ []))) None)
 a_low_above_its_high_is_a_box = refl
 
 blank_lines_and_comments : map meaning_of ([] ∷ codes " \t\r" ∷ codes "#" ∷ codes "# create a 2 4" ∷ codes " \t#create a 2 4" ∷ codes "##" ∷ []) ≡ replicate 6 Blank
@@ -187,7 +225,7 @@ bad_loads : map meaning_of (codes "load" ∷ codes "load a" ∷ codes "load a -1
 bad_loads = refl
 
 entry_lines : map entry_in (codes "7 1 -2 3 -4" ∷ codes " 007 1 2 3 4 5 6\r" ∷ [])
-    ≡ Some (7, Two (pos 1 ∷ negsuc 1 ∷ []) (pos 3 ∷ negsuc 3 ∷ [])) ∷ Some (7, Three (pos 1 ∷ pos 2 ∷ pos 3 ∷ []) (pos 4 ∷ pos 5 ∷ pos 6 ∷ [])) ∷ []
+    ≡ Some (7, Two (pos 1 ∷ negsuc 1 ∷ []) (pos 3 ∷ negsuc 3 ∷ []), 0) ∷ Some (7, Three (pos 1 ∷ pos 2 ∷ pos 3 ∷ []) (pos 4 ∷ pos 5 ∷ pos 6 ∷ []), 0) ∷ []
 entry_lines = refl
 
 -- a blank line and a comment among them
@@ -216,7 +254,7 @@ a_line_of_4096_bytes_is_read line fits = rw fits refl
 a_text_asks_line_by_line : AreCommands true (lines_of (codes "create a 2 4\n# more\n\ndrops a\ncreate b 3 5")) (Asks (Create a 2 4) ∷ BadCommand ∷ Asks (Create b 3 5) ∷ [])
 a_text_asks_line_by_line = one (Asks (Create a 2 4) ∷ []) refl (one [] refl (one [] refl (one (BadCommand ∷ []) refl (one (Asks (Create b 3 5) ∷ []) refl none))))
 
-a_load_takes_its_entry_lines : AreCommands true (lines_of (codes "load a 1\n7 1 2 3 4\ncreate b 3 5")) (Asks (Load a ((7, Two (pos 1 ∷ pos 2 ∷ []) (pos 3 ∷ pos 4 ∷ [])) ∷ [])) ∷ Asks (Create b 3 5) ∷ [])
+a_load_takes_its_entry_lines : AreCommands true (lines_of (codes "load a 1\n7 1 2 3 4\ncreate b 3 5")) (Asks (Load a ((7, Two (pos 1 ∷ pos 2 ∷ []) (pos 3 ∷ pos 4 ∷ []), 0) ∷ [])) ∷ Asks (Create b 3 5) ∷ [])
 a_load_takes_its_entry_lines = load a 1 refl (omega arith) (one (Asks (Create b 3 5) ∷ []) refl none)
 
 -- whatever they hold
@@ -261,10 +299,16 @@ no_row_is_counted_too : answer_text (Boxes []) ≡ codes "ok 0\n"
 unfolding digits
 no_row_is_counted_too = refl
 
-rows_are_identifier_lows_and_highs : answer_text (Boxes ((1, record { low = negsuc 0 ∷ pos 2 ∷ []; high = pos 3 ∷ pos 4 ∷ [] }) ∷ (18446744073709551615, record { low = pos 0 ∷ pos 0 ∷ pos 0 ∷ []; high = pos 1 ∷ pos 1 ∷ pos 2147483647 ∷ [] }) ∷ []))
+rows_are_identifier_lows_and_highs : answer_text (Boxes ((1, (record { low = negsuc 0 ∷ pos 2 ∷ []; high = pos 3 ∷ pos 4 ∷ [] }, 0)) ∷ (18446744073709551615, (record { low = pos 0 ∷ pos 0 ∷ pos 0 ∷ []; high = pos 1 ∷ pos 1 ∷ pos 2147483647 ∷ [] }, 0)) ∷ []))
     ≡ codes "ok 2\n1 -1 2 3 4\n18446744073709551615 0 0 0 1 1 2147483647\n"
 unfolding digits
 rows_are_identifier_lows_and_highs = refl
+
+-- a tag that is 0 is not shown
+rows_have_tags_behind_the_highs : answer_text (Boxes ((1, (record { low = negsuc 0 ∷ pos 2 ∷ []; high = pos 3 ∷ pos 4 ∷ [] }, 5)) ∷ (2, (record { low = pos 0 ∷ pos 0 ∷ []; high = pos 1 ∷ pos 1 ∷ [] }, 0)) ∷ (3, (record { low = pos 0 ∷ pos 0 ∷ []; high = pos 1 ∷ pos 1 ∷ [] }, 4294967295)) ∷ []))
+    ≡ codes "ok 3\n1 -1 2 3 4 tag 5\n2 0 0 1 1\n3 0 0 1 1 tag 4294967295\n"
+unfolding digits
+rows_have_tags_behind_the_highs = refl
 
 a_number_is_one_row : answer_text (Counted 1000) ≡ codes "ok 1\n1000\n"
 unfolding digits
@@ -282,9 +326,13 @@ layers_have_names_and_numbers : answer_text (Listed (record { name = a; dims = 2
 unfolding digits
 layers_have_names_and_numbers = refl
 
-a_dump_has_lines_of_commands : answer_text (Dumped (CreateLine a 2 4 ∷ InsertLine a 1 (record { low = negsuc 0 ∷ pos 2 ∷ []; high = pos 3 ∷ pos 4 ∷ [] }) ∷ [])) ≡ codes "ok 2\ncreate a 2 4\ninsert a 1 -1 2 3 4\n"
+a_dump_has_lines_of_commands : answer_text (Dumped (CreateLine a 2 4 ∷ InsertLine a 1 (record { low = negsuc 0 ∷ pos 2 ∷ []; high = pos 3 ∷ pos 4 ∷ [] }, 0) ∷ [])) ≡ codes "ok 2\ncreate a 2 4\ninsert a 1 -1 2 3 4\n"
 unfolding digits
 a_dump_has_lines_of_commands = refl
+
+a_dump_has_lines_with_tags : answer_text (Dumped (InsertLine a 1 (record { low = negsuc 0 ∷ pos 2 ∷ []; high = pos 3 ∷ pos 4 ∷ [] }, 10) ∷ [])) ≡ codes "ok 1\ninsert a 1 -1 2 3 4 tag 10\n"
+unfolding digits
+a_dump_has_lines_with_tags = refl
 
 refusals_have_numbers_and_names : texts_of (Refused refusal.BadName ∷ Refused refusal.NoObject ∷ Refused refusal.BadLine ∷ Refused refusal.NoPages ∷ [])
     ≡ codes "fail 1 BadName\nfail 10 NoObject\nfail 24 BadLine\nfail 25 NoPages\n"

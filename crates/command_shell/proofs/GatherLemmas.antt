@@ -8,7 +8,7 @@ use Rattle.command_shell.specs.Entries.{entry_in, objects_in}
 use Rattle.command_shell.specs.Gathering.{Tells}
 
 abbrev Object : Type 0
-Object = ℕ × RawBox
+Object = ℕ × RawBox × ℕ
 
 abbrev followed : Option GivenObjects → Option Object → Option GivenObjects
 followed all one = option_and_then (λ objects. option_map (λ object. objects ++ object ∷ []) one) all

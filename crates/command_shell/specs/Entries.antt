@@ -1,18 +1,18 @@
 -- The entry lines of a load. Our rule, docs/COMMANDS.md.
-use Rattle.std.specs.Prelude.{ℕ, nat_lt, List, [], ◌∷◌, length, if◌then◌else◌, Option, Some, None, option_map, option_and_then}
+use Rattle.std.specs.Prelude.{ℕ, nat_lt, List, [], ◌∷◌, length, if◌then◌else◌, Option, Some, None, option_map, option_and_then, unwrap_or}
 use Rattle.plain_table.specs.Loads.{GivenObjects}
 use Rattle.plain_table.specs.declared.boxes.RawBox.{RawBox}
 use Rattle.command_shell.specs.Lines.{words_of}
 use Rattle.command_shell.specs.Meanings.{longest_line}
-use Rattle.command_shell.specs.Numbers.{box_of, number_in}
+use Rattle.command_shell.specs.Numbers.{and_tag, box_of, number_in}
 
--- `NUM BOX`: the identifier and the box of an object
-abbrev pub entry_of : List (List ℕ) → Option (ℕ × RawBox)
-entry_of (id ∷ ws) = option_and_then (λ n. option_map (λ b. (n, b)) (box_of ws)) (number_in id)
+-- `NUM BOX [tag NUM]`: the identifier, the box and the tag of an object, 0 where none is given
+abbrev pub entry_of : List (List ℕ) → Option (ℕ × RawBox × ℕ)
+entry_of (id ∷ ws) = option_and_then (λ n. option_map (λ b. (n, b.0, unwrap_or b.1 0)) (and_tag box_of ws)) (number_in id)
 entry_of ws = None
 
 -- the object that an entry line gives, given without its newline
-abbrev pub entry_in : List ℕ → Option (ℕ × RawBox)
+abbrev pub entry_in : List ℕ → Option (ℕ × RawBox × ℕ)
 entry_in line = if nat_lt longest_line (length line) then None else entry_of (words_of line)
 
 -- the objects of entry lines, if each of them gives one

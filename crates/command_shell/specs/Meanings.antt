@@ -1,5 +1,5 @@
 -- What a command line means. Our rule, docs/COMMANDS.md.
-use Rattle.std.specs.Prelude.{ℕ, ◌==◌, nat_le, nat_lt, List, [], ◌∷◌, length, if◌then◌else◌, slice_index, Option, Some, None, option_map, option_and_then, codes, bytes_eq}
+use Rattle.std.specs.Prelude.{ℕ, ◌==◌, nat_le, nat_lt, List, [], ◌∷◌, length, if◌then◌else◌, slice_index, Option, Some, None, option_map, option_and_then, codes, bytes_eq, unwrap_or}
 use Rattle.plain_table.specs.Commands.{Command}
 use Rattle.plain_table.specs.Commands.Command.{Create, Insert, Move, Delete, Drop, Get, Count, Range, Nearest, Join, Layers, Dump, Check, Reopen}
 use Rattle.plain_table.specs.Table.{most_objects}
@@ -7,7 +7,7 @@ use Rattle.plain_table.specs.declared.boxes.RawBox.{RawBox}
 use Rattle.plain_table.specs.declared.queries.RawQuery.{RawQuery}
 use Rattle.plain_table.specs.declared.queries.RawQuery.TheVariants.{Window, Inside, Around, Point}
 use Rattle.command_shell.specs.Lines.{words_of}
-use Rattle.command_shell.specs.Numbers.{number_in, box_of, point_of}
+use Rattle.command_shell.specs.Numbers.{number_in, and_tag, box_of, point_of}
 
 -- What a line is: a blank line or a comment, a line that is none of the language, or a command; or the first line of a load,
 -- by its layer and how many entry lines follow.
@@ -27,10 +27,15 @@ abbrev pub create_of : List (List ℕ) → Option Command
 create_of (layer ∷ dims ∷ fanout ∷ []) = option_and_then (λ d. option_map (λ f. Create layer d f) (number_in fanout)) (number_in dims)
 create_of ws = None
 
--- `LAYER NUM BOX` after `insert` or `move`: the identifier, and the box
-abbrev pub box_for_of : (List ℕ → ℕ → RawBox → Command) → List (List ℕ) → Option Command
-box_for_of command (layer ∷ id ∷ ws) = option_and_then (λ n. option_map (λ b. command layer n b) (box_of ws)) (number_in id)
-box_for_of command ws = None
+-- `insert LAYER NUM BOX [tag NUM]`: the identifier, the box, and the tag, 0 where none is given
+abbrev pub insert_of : List (List ℕ) → Option Command
+insert_of (layer ∷ id ∷ ws) = option_and_then (λ n. option_map (λ b. Insert layer n b.0 (unwrap_or b.1 0)) (and_tag box_of ws)) (number_in id)
+insert_of ws = None
+
+-- `move LAYER NUM BOX`: the identifier, and the box
+abbrev pub move_of : List (List ℕ) → Option Command
+move_of (layer ∷ id ∷ ws) = option_and_then (λ n. option_map (λ b. Move layer n b) (box_of ws)) (number_in id)
+move_of ws = None
 
 -- `load LAYER NUM`: so many entry lines, no more than a store has objects
 abbrev pub load_meaning : List ℕ → Option ℕ → Meaning
@@ -51,14 +56,14 @@ abbrev pub layer_of : (List ℕ → Command) → List (List ℕ) → Option Comm
 layer_of command (layer ∷ []) = Some (command layer)
 layer_of command ws = None
 
--- `LAYER BOX` after `window`, `inside` or `around`: the query that the box makes
+-- `LAYER BOX [tag NUM]` after `window`, `inside` or `around`: the query that the box makes, and the tag that it asks for
 abbrev pub box_query_of : (RawBox → RawQuery) → List (List ℕ) → Option Command
-box_query_of query (layer ∷ ws) = option_map (λ b. Range layer (query b)) (box_of ws)
+box_query_of query (layer ∷ ws) = option_map (λ b. Range layer (query b.0) b.1) (and_tag box_of ws)
 box_query_of query ws = None
 
--- `point LAYER PT`
+-- `point LAYER PT [tag NUM]`
 abbrev pub point_query_of : List (List ℕ) → Option Command
-point_query_of (layer ∷ ws) = option_map (λ p. Range layer (Point p)) (point_of ws)
+point_query_of (layer ∷ ws) = option_map (λ p. Range layer (Point p.0) p.1) (and_tag point_of ws)
 point_query_of ws = None
 
 -- `nearest LAYER NUM PT`: how many, and the point
@@ -97,9 +102,9 @@ question_of name ws =
 abbrev pub command_of : List ℕ → List (List ℕ) → Meaning
 command_of name ws =
     if bytes_eq name (codes "create") then asked (create_of ws)
-    else if bytes_eq name (codes "insert") then asked (box_for_of (λ layer id b. Insert layer id b) ws)
+    else if bytes_eq name (codes "insert") then asked (insert_of ws)
     else if bytes_eq name (codes "load") then load_of ws
-    else if bytes_eq name (codes "move") then asked (box_for_of (λ layer id b. Move layer id b) ws)
+    else if bytes_eq name (codes "move") then asked (move_of ws)
     else if bytes_eq name (codes "delete") then asked (object_of (λ layer id. Delete layer id) ws)
     else if bytes_eq name (codes "drop") then asked (layer_of (λ layer. Drop layer) ws)
     else if bytes_eq name (codes "reopen") then asked (alone_of Reopen ws)

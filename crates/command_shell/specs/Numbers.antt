@@ -1,5 +1,5 @@
 -- The numbers, coordinates, boxes and points that words are. Our rule, docs/COMMANDS.md.
-use Rattle.std.specs.Prelude.{ℕ, ◌^◌, Bool, ◌&&◌, ◌==◌, nat_lt, nat_le, List, [], ◌∷◌, length, drop, if◌then◌else◌, ℤ, pos, neg_ℤ, slice_index, Option, Some, None, option_map, option_and_then}
+use Rattle.std.specs.Prelude.{ℕ, ◌^◌, Bool, ◌&&◌, ◌==◌, nat_lt, nat_le, List, [], ◌∷◌, length, drop, if◌then◌else◌, ℤ, pos, neg_ℤ, slice_index, Option, Some, None, option_map, option_and_then, codes, bytes_eq}
 use Rattle.std.specs.List.{list_all}
 use Rattle.std.specs.Char.{is_ascii_digit}
 use Rattle.std.specs.Str.Parse.{digits_value}
@@ -58,3 +58,28 @@ point_from cs = None
 -- the point that all these words are
 abbrev pub point_of : List (List ℕ) → Option RawPoint
 point_of ws = option_and_then point_from (coordinates_of ws)
+
+-- ---- a tag behind a box or a point
+
+-- a tag: a number below 2^32
+abbrev pub tag_number : List ℕ → Option ℕ
+tag_number w = option_and_then (λ n. if nat_lt n (2 ^ 32) then Some n else None) (number_in w)
+
+-- the words before the first `tag`, and those from it on
+abbrev pub before_tag : List (List ℕ) → List (List ℕ)
+before_tag [] = []
+before_tag (w ∷ ws) = if bytes_eq w (codes "tag") then [] else w ∷ before_tag ws
+
+abbrev pub from_tag : List (List ℕ) → List (List ℕ)
+from_tag [] = []
+from_tag (w ∷ ws) = if bytes_eq w (codes "tag") then w ∷ ws else from_tag ws
+
+-- the tag that words from `tag` on give: none where there are none, and else that of `tag` and one number
+abbrev pub tag_behind : List (List ℕ) → Option (Option ℕ)
+tag_behind [] = Some None
+tag_behind (w ∷ number ∷ []) = option_map (λ t. Some t) (tag_number number)
+tag_behind ws = None
+
+-- what the words before `tag` are, with the tag that may stand behind
+abbrev pub and_tag : {X : Type 0} → (List (List ℕ) → Option X) → List (List ℕ) → Option (X × Option ℕ)
+and_tag read ws = option_and_then (λ x. option_map (λ t. (x, t)) (tag_behind (from_tag ws))) (read (before_tag ws))

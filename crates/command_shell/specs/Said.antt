@@ -11,14 +11,14 @@ abbrev pub said : Line → Meaning
 said line.Blank = Blank
 said line.Bad = Bad
 said (line.Create layer dims fanout) = Means (Create layer.now dims fanout)
-said (line.Insert layer id bounds) = Means (Insert layer.now id bounds)
+said (line.Insert layer id bounds tag) = Means (Insert layer.now id bounds tag)
 said (line.Load layer count) = Loads layer.now count
 said (line.Move layer id bounds) = Means (Move layer.now id bounds)
 said (line.Delete layer id) = Means (Delete layer.now id)
 said (line.Drop layer) = Means (Drop layer.now)
 said (line.Get layer id) = Means (Get layer.now id)
 said (line.Count layer) = Means (Count layer.now)
-said (line.Range layer query) = Means (Range layer.now query)
+said (line.Range layer query tag) = Means (Range layer.now query tag)
 said (line.Nearest layer k point) = Means (Nearest layer.now k point)
 said (line.Join first second within) = Means (Join first.now second.now within)
 said line.Layers = Means Layers

@@ -1,7 +1,8 @@
 -- The texts of replies. Our rule, docs/COMMANDS.md.
-use Rattle.std.specs.Prelude.{ℕ, List, [], ◌∷◌, ◌++◌, length, codes, decimal, flat_map, map, ℤ}
+use Rattle.std.specs.Prelude.{ℕ, ◌==◌, List, [], ◌∷◌, ◌++◌, length, if◌then◌else◌, codes, decimal, flat_map, map, ℤ}
 use Rattle.std.specs.Fmt.{signed_decimal}
 use Rattle.box_math.specs.Bounds.{Bounds}
+use Rattle.box_math.specs.Objects.{Object, bounds_of, tag_of}
 use Rattle.plain_table.specs.Answers.{line_of_layer, line_of_row, row_of}
 use Rattle.plain_table.specs.Listings.{DumpLine, LayerLine}
 use Rattle.plain_table.specs.Listings.DumpLine.{CreateLine, InsertLine}
@@ -30,9 +31,13 @@ coordinates_text cs = flat_map coordinate_text cs
 abbrev pub bounds_text : Bounds → List ℕ
 bounds_text b = coordinates_text b.low ++ coordinates_text b.high
 
--- the row of an object: its identifier, and its box
-abbrev pub row_text : ℕ × Bounds → List ℕ
-row_text row = decimal row.0 ++ bounds_text row.1 ++ newline ∷ []
+-- the tag of an object behind its box, nothing where it is 0
+abbrev pub tag_text : ℕ → List ℕ
+tag_text tag = if tag == 0 then [] else codes " tag " ++ decimal tag
+
+-- the row of an object: its identifier, its box, and its tag
+abbrev pub row_text : ℕ × Object → List ℕ
+row_text row = decimal row.0 ++ bounds_text (bounds_of row.1) ++ tag_text (tag_of row.1) ++ newline ∷ []
 
 -- the number that some refusals have after their names: the identifier, the page or the cause
 abbrev pub detail_text : Refusal → List ℕ
@@ -64,7 +69,7 @@ layer_text l = l.name ++ space ∷ decimal l.dims ++ space ∷ decimal l.fanout 
 -- a row of a dump: the line of a command
 abbrev pub dump_text : DumpLine → List ℕ
 dump_text (CreateLine name dims fanout) = codes "create " ++ name ++ space ∷ decimal dims ++ space ∷ decimal fanout ++ newline ∷ []
-dump_text (InsertLine name id box) = codes "insert " ++ name ++ space ∷ decimal id ++ bounds_text box ++ newline ∷ []
+dump_text (InsertLine name id object) = codes "insert " ++ name ++ space ∷ decimal id ++ bounds_text (bounds_of object) ++ tag_text (tag_of object) ++ newline ∷ []
 
 -- the text of an answer
 abbrev pub answer_text : Answer → List ℕ
@@ -85,7 +90,7 @@ texts_of answers = flat_map answer_text answers
 abbrev pub reply_answer : {A : Type 0} → Reply A → Answer
 reply_answer reply.Done = Done
 reply_answer (reply.Refused r) = Refused r
-reply_answer (reply.Object id box) = Boxes (row_of (id, box) ∷ [])
+reply_answer (reply.Object id box tag) = Boxes (row_of (id, box, tag) ∷ [])
 reply_answer (reply.Boxes rows) = Boxes (map row_of rows.items)
 reply_answer (reply.Count n) = Counted n
 reply_answer (reply.Distances rows) = Distances rows.items

@@ -19,7 +19,7 @@ pub struct Gathered<A: Allocator> {
     /// The layer's name.
     pub layer: Vec<u8, A>,
     /// The objects of the entry lines.
-    pub objects: Vec<(u64, RawBox), A>,
+    pub objects: Vec<(u64, RawBox, u32), A>,
     /// Whether each entry line gave an object.
     pub good: bool,
     /// Whether there was room for the name and each object.

@@ -1,13 +1,14 @@
 //! Lines, and what each of them asks.
 
-ghost use Rattle.std.specs.Prelude.{◌≡◌, ◌<◌, length, Some, IfSome, IfNone};
+ghost use Rattle.std.specs.Prelude.{◌≡◌, ◌<◌, ◌⊎◌, ◌∷◌, length, codes, None, Some, IfSome, IfNone, option_map};
 ghost use Rattle.plain_table.specs.Commands.Command.{Insert, Move, Delete, Drop, Get, Count};
 ghost use Rattle.plain_table.specs.Commands.Command.{Layers, Dump, Check, Reopen};
-ghost use Rattle.command_shell.specs.Meanings.{meaning_of, create_of, box_for_of, object_of, layer_of, box_query_of};
+ghost use Rattle.command_shell.specs.Meanings.{meaning_of, create_of, insert_of, move_of, object_of, layer_of};
 ghost use Rattle.command_shell.specs.Entries.{entry_in};
-ghost use Rattle.command_shell.specs.Meanings.{point_query_of, nearest_of, join_of, alone_of, load_of};
+ghost use Rattle.command_shell.specs.Meanings.{box_query_of, point_query_of, nearest_of, join_of, alone_of, load_of};
 ghost use Rattle.command_shell.specs.Meanings.{command_of, question_of, asked};
-ghost use Rattle.command_shell.specs.Numbers.{coordinates_of, box_of, point_of};
+ghost use Rattle.command_shell.specs.Numbers.{coordinates_of, box_from, box_of, point_from, point_of};
+ghost use Rattle.command_shell.specs.Numbers.{and_tag, before_tag, from_tag, tag_behind};
 ghost use Rattle.command_shell.specs.Said.{said, said_or_bad};
 
 use crate::words::{Words, coordinate, number};
@@ -37,7 +38,7 @@ pub enum Line<'a> {
         /// How many entries a node of it may have.
         fanout: u64,
     },
-    /// `insert LAYER NUM BOX`: adds an object.
+    /// `insert LAYER NUM BOX [tag NUM]`: adds an object.
     Insert {
         /// The layer's name.
         layer: &'a [u8],
@@ -45,6 +46,8 @@ pub enum Line<'a> {
         id: u64,
         /// The object's box.
         bounds: RawBox,
+        /// The tag, 0 where none is given.
+        tag: u32,
     },
     /// `load LAYER NUM`: adds so many objects to a layer that has none. Their entry lines follow.
     Load {
@@ -86,13 +89,15 @@ pub enum Line<'a> {
         /// The layer's name.
         layer: &'a [u8],
     },
-    /// `window LAYER BOX`, `inside LAYER BOX`, `around LAYER BOX` or `point LAYER PT`: asks for the objects whose boxes
-    /// meet the box, are within it or enclose it, or hold the point.
+    /// `window LAYER BOX [tag NUM]`, and so `inside` and `around`, or `point LAYER PT [tag NUM]`: asks for the objects
+    /// whose boxes meet the box, are within it or enclose it, or hold the point.
     Range {
         /// The layer's name.
         layer: &'a [u8],
         /// What is asked of the boxes.
         query: RawQuery,
+        /// The tag that is asked for, if one is.
+        tag: Option<u32>,
     },
     /// `nearest LAYER NUM PT`: asks for the objects nearest to a point.
     Nearest {
@@ -142,8 +147,8 @@ pub fn parse_line(line: &[u8]) -> Line<'_>
     }
 }
 
-/// The object that an entry line of a load gives: its identifier and its box.
-pub fn parse_entry(line: &[u8]) -> Option<(u64, RawBox)>
+/// The object that an entry line of a load gives: its identifier, its box and its tag.
+pub fn parse_entry(line: &[u8]) -> Option<(u64, RawBox, u32)>
     ensures { result ≡ entry_in line.now }
 {
     if MAX_LINE < line.len() {
@@ -151,8 +156,8 @@ pub fn parse_entry(line: &[u8]) -> Option<(u64, RawBox)>
     }
     let mut words = Words::new(line);
     let id = number(words.next()?)?;
-    let bounds = bounds(words)?;
-    Some((id, bounds))
+    let (bounds, tag) = tagged_bounds(words)?;
+    Some((id, bounds, tag.unwrap_or(0)))
 }
 
 // The command of that name, from the words after it.
@@ -227,14 +232,19 @@ fn create(mut words: Words<'_>) -> Option<Line<'_>>
     }
 }
 
-// `LAYER NUM BOX`
+// `LAYER NUM BOX [tag NUM]`
 fn insert(mut words: Words<'_>) -> Option<Line<'_>>
-    ensures { said_or_bad result ≡ asked (box_for_of (λ layer id b. Insert layer id b) words.entry) }
+    ensures { said_or_bad result ≡ asked (insert_of words.entry) }
 {
     let layer = words.next()?;
     let id = number(words.next()?)?;
-    let bounds = bounds(words)?;
-    Some(Line::Insert { layer, id, bounds })
+    let (bounds, tag) = tagged_bounds(words)?;
+    Some(Line::Insert {
+        layer,
+        id,
+        bounds,
+        tag: tag.unwrap_or(0),
+    })
 }
 
 // `LAYER NUM`
@@ -252,7 +262,7 @@ fn load(mut words: Words<'_>) -> Option<Line<'_>>
 
 // `LAYER NUM BOX`
 fn move_object(mut words: Words<'_>) -> Option<Line<'_>>
-    ensures { said_or_bad result ≡ asked (box_for_of (λ layer id b. Move layer id b) words.entry) }
+    ensures { said_or_bad result ≡ asked (move_of words.entry) }
 {
     let layer = words.next()?;
     let id = number(words.next()?)?;
@@ -310,40 +320,44 @@ fn count(mut words: Words<'_>) -> Option<Line<'_>>
     }
 }
 
-// `LAYER BOX`
+// `LAYER BOX [tag NUM]`
 fn window(mut words: Words<'_>) -> Option<Line<'_>>
     ensures { said_or_bad result ≡ asked (box_query_of (λ b. RawQuery.Window b) words.entry) }
 {
     let layer = words.next()?;
-    let query = RawQuery::Window(bounds(words)?);
-    Some(Line::Range { layer, query })
+    let (bounds, tag) = tagged_bounds(words)?;
+    let query = RawQuery::Window(bounds);
+    Some(Line::Range { layer, query, tag })
 }
 
-// `LAYER BOX`
+// `LAYER BOX [tag NUM]`
 fn inside(mut words: Words<'_>) -> Option<Line<'_>>
     ensures { said_or_bad result ≡ asked (box_query_of (λ b. RawQuery.Inside b) words.entry) }
 {
     let layer = words.next()?;
-    let query = RawQuery::Inside(bounds(words)?);
-    Some(Line::Range { layer, query })
+    let (bounds, tag) = tagged_bounds(words)?;
+    let query = RawQuery::Inside(bounds);
+    Some(Line::Range { layer, query, tag })
 }
 
-// `LAYER BOX`
+// `LAYER BOX [tag NUM]`
 fn around(mut words: Words<'_>) -> Option<Line<'_>>
     ensures { said_or_bad result ≡ asked (box_query_of (λ b. RawQuery.Around b) words.entry) }
 {
     let layer = words.next()?;
-    let query = RawQuery::Around(bounds(words)?);
-    Some(Line::Range { layer, query })
+    let (bounds, tag) = tagged_bounds(words)?;
+    let query = RawQuery::Around(bounds);
+    Some(Line::Range { layer, query, tag })
 }
 
-// `LAYER PT`
+// `LAYER PT [tag NUM]`
 fn point(mut words: Words<'_>) -> Option<Line<'_>>
     ensures { said_or_bad result ≡ asked (point_query_of words.entry) }
 {
     let layer = words.next()?;
-    let query = RawQuery::Point(position(words)?);
-    Some(Line::Range { layer, query })
+    let (coordinates, tag) = tagged_coordinates(words)?;
+    let query = RawQuery::Point(position_of(coordinates.as_slice())?);
+    Some(Line::Range { layer, query, tag })
 }
 
 // `LAYER NUM PT`
@@ -425,8 +439,22 @@ fn reopen(mut words: Words<'_>) -> Option<Line<'_>>
 fn bounds(words: Words<'_>) -> Option<RawBox>
     ensures { result ≡ box_of words.entry }
 {
-    let bounds = coordinates(words)?;
-    match *bounds.as_slice() {
+    bounds_of(coordinates(words)?.as_slice())
+}
+
+// The box that the words before `tag` are, and the tag behind it.
+fn tagged_bounds(words: Words<'_>) -> Option<(RawBox, Option<u32>)>
+    ensures { result ≡ and_tag box_of words.entry }
+{
+    let (coordinates, tag) = tagged_coordinates(words)?;
+    Some((bounds_of(coordinates.as_slice())?, tag))
+}
+
+// The box of four or six coordinates: all lows, and then all highs.
+fn bounds_of(coordinates: &[i32]) -> Option<RawBox>
+    ensures { result ≡ box_from coordinates.now }
+{
+    match *coordinates {
         [a, b, c, d] => Some(RawBox::Two([a, b], [c, d])),
         [a, b, c, d, e, f] => Some(RawBox::Three([a, b, c], [d, e, f])),
         _ => None,
@@ -437,11 +465,47 @@ fn bounds(words: Words<'_>) -> Option<RawBox>
 fn position(words: Words<'_>) -> Option<RawPoint>
     ensures { result ≡ point_of words.entry }
 {
-    let position = coordinates(words)?;
-    match *position.as_slice() {
+    position_of(coordinates(words)?.as_slice())
+}
+
+// The point of two or three coordinates.
+fn position_of(coordinates: &[i32]) -> Option<RawPoint>
+    ensures { result ≡ point_from coordinates.now }
+{
+    match *coordinates {
         [a, b] => Some(RawPoint::Two([a, b])),
         [a, b, c] => Some(RawPoint::Three([a, b, c])),
         _ => None,
+    }
+}
+
+// The coordinates that the words before `tag` are, of which there are at most six, and the tag behind them.
+fn tagged_coordinates(mut words: Words<'_>) -> Option<(ArrayVec<i32, MOST_BOUNDS>, Option<u32>)>
+    ensures some { IfSome result (λ found.
+        (coordinates_of (before_tag words.entry) ≡ Some found.0.items)
+        × (tag_behind (from_tag words.entry) ≡ Some found.1)) }
+    ensures none { IfNone result (IfSome (coordinates_of (before_tag words.entry)) (λ bounds.
+        (MOST_BOUNDS < length bounds) ⊎ (tag_behind (from_tag words.entry) ≡ None))) }
+{
+    let mut bounds = ArrayVec::new();
+    while let Some(word) = words.next() {
+        if word == b"tag".as_slice() {
+            return Some((bounds, Some(tag(words)?)));
+        }
+        bounds.try_push(coordinate(word)?).ok()?;
+    }
+    Some((bounds, None))
+}
+
+// The tag that the one word after `tag` is.
+fn tag(mut words: Words<'_>) -> Option<u32>
+    ensures { option_map (λ t. Some t) result ≡ tag_behind (codes "tag" ∷ words.entry) }
+{
+    let number = number(words.next()?)?;
+    if words.is_done() {
+        u32::try_from(number).ok()
+    } else {
+        None
     }
 }
 

@@ -22,10 +22,10 @@ pub enum Reply<A: Allocator = Global> {
     Done,
     /// The line was refused.
     Refused(Refusal),
-    /// The object asked for: its identifier and its box.
-    Object(u64, AnyBox),
-    /// The objects asked for: their identifiers and boxes.
-    Boxes(Vec<(u64, AnyBox), A>),
+    /// The object asked for: its identifier, its box and its tag.
+    Object(u64, AnyBox, u32),
+    /// The objects asked for: their identifiers, boxes and tags.
+    Boxes(Vec<(u64, AnyBox, u32), A>),
     /// How many objects there are.
     Count(u64),
     /// The nearest objects: their identifiers and squared distances.
@@ -46,7 +46,7 @@ pub fn write_reply<A: Allocator, W: Write>(reply: &Reply<A>, writer: &mut W) -> 
     match reply {
         Reply::Done => put(writer, b"ok\n"),
         Reply::Refused(refusal) => write_refusal(writer, *refusal),
-        Reply::Object(id, bounds) => write_rows(writer, &[(*id, *bounds)]),
+        Reply::Object(id, bounds, tag) => write_rows(writer, &[(*id, *bounds, *tag)]),
         Reply::Boxes(rows) => write_rows(writer, rows),
         Reply::Count(count) => write_counted(writer, *count),
         Reply::Distances(rows) => write_rows(writer, rows),

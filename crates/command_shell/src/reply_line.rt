@@ -2,9 +2,9 @@
 #![tactic(auto, using(crate::proofs::WriteLemmas::writing))]
 
 ghost use Rattle.std.specs.Prelude.{◌≡◌, ◌+◌, ◌*◌, ◌≤◌, ◌++◌, ◌∷◌, [], length, decimal};
-ghost use Rattle.plain_table.specs.Boxes.{bounds_of};
+ghost use Rattle.plain_table.specs.Boxes.{shown_bounds};
 ghost use Rattle.command_shell.specs.Lines.{newline};
-ghost use Rattle.command_shell.specs.Texts.{space, coordinate_text, coordinates_text, bounds_text};
+ghost use Rattle.command_shell.specs.Texts.{space, coordinate_text, coordinates_text, bounds_text, tag_text};
 ghost use Rattle.command_shell.specs.Writing.{Writes};
 
 use arrayvec::ArrayVec;
@@ -13,8 +13,9 @@ use std::io;
 use std::io::{ErrorKind, Write};
 use std::marker::Model;
 
-// Every line fits: a name has at most 24 bytes, a number 20 digits, and a box six coordinates of 12 bytes.
-const CAPACITY: usize = 128;
+// Every line fits: a name has at most 24 bytes, a number 20 digits, a box six coordinates of 12 bytes, and a tag 15
+// bytes with its word.
+const CAPACITY: usize = 144;
 
 /// The bytes of a line so far, without its newline. Contracts see the list of them.
 #[derive(Drop)]
@@ -80,13 +81,26 @@ impl ReplyLine {
     /// Appends the lows of a box, and then its highs.
     pub fn push_box(&mut self, bounds: &AnyBox)
         requires { length self.old ≤ 55 }
-        ensures text { self.new ≡ self.old ++ bounds_text (bounds_of bounds.now) }
+        ensures text { self.new ≡ self.old ++ bounds_text (shown_bounds bounds.now) }
         ensures room { length self.new ≤ length self.old + 72 }
     {
         match bounds {
             AnyBox::Two(bounds) => self.push_corners(&bounds.low(), &bounds.high()),
             AnyBox::Three(bounds) => self.push_corners(&bounds.low(), &bounds.high()),
         }
+    }
+
+    /// Appends the tag of an object behind its box: a space, the word and the number, or nothing where it is 0.
+    pub fn push_tag(&mut self, tag: u32)
+        requires { length self.old ≤ 127 }
+        ensures text { self.new ≡ self.old ++ tag_text tag }
+        ensures room { length self.new ≤ length self.old + 15 }
+    {
+        if tag == 0 {
+            return;
+        }
+        self.push(b" tag ");
+        self.push(itoa::Buffer::new().format(tag).as_bytes());
     }
 
     fn push_corners(&mut self, low: &[i32], high: &[i32])
@@ -121,7 +135,7 @@ impl ReplyLine {
 
     /// Writes the line and its newline.
     pub fn write<W: Write>(mut self, writer: &mut W) -> io::Result<()>
-        requires { length self ≤ 127 }
+        requires { length self ≤ 143 }
         ensures { Writes (W.contents writer.old) (W.contents writer.new) result (self ++ newline ∷ []) }
     {
         self.push(b"\n");

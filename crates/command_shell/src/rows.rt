@@ -22,8 +22,8 @@ pub trait Row {
         ensures { Writes (W.contents writer.old) (W.contents writer.new) result (text self.now) };
 }
 
-// An object: its identifier and its box.
-impl Row for (u64, AnyBox) {
+// An object: its identifier, its box and its tag.
+impl Row for (u64, AnyBox, u32) {
     ghost use Rattle.plain_table.specs.Answers.{row_of};
     ghost use Rattle.command_shell.specs.Texts.{row_text};
 
@@ -33,6 +33,7 @@ impl Row for (u64, AnyBox) {
         let mut line = ReplyLine::new();
         line.push_number(self.0);
         line.push_box(&self.1);
+        line.push_tag(self.2);
         line.write(writer)
     }
 }
@@ -98,11 +99,12 @@ impl Row for DumpRow {
                 line.push_detail(u64::from(*dims));
                 line.push_detail(u64::from(*fanout));
             }
-            DumpRow::Insert(name, id, bounds) => {
+            DumpRow::Insert(name, id, bounds, tag) => {
                 line.push(b"insert ");
                 line.push(name.as_slice());
                 line.push_detail(*id);
                 line.push_box(bounds);
+                line.push_tag(*tag);
             }
         }
         line.write(writer)

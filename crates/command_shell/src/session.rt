@@ -3,7 +3,7 @@
 ghost use Rattle.std.specs.Prelude.{◌≡◌, ◌<◌, ◌≤◌, ◌++◌, ◌∷◌, [], ℕ, false, List, Option, Some, None};
 ghost use Rattle.std.specs.Prelude.{MatchResult, OnErr, IfNone, IfSome, if◌then◌else◌};
 ghost use Rattle.std.specs.Io.KnownBytes.{Keeps};
-ghost use Rattle.plain_table.specs.Answers.{done_answer, box_answer, boxes_answer, count_answer, distances_answer};
+ghost use Rattle.plain_table.specs.Answers.{done_answer, object_answer, boxes_answer, count_answer, distances_answer};
 ghost use Rattle.plain_table.specs.Answers.{dump_answer, layers_answer, pairs_answer};
 ghost use Rattle.plain_table.specs.Step.Answer.{Refused};
 ghost use Rattle.plain_table.specs.declared.refusal.Refusal.TheVariants as refusal;
@@ -282,7 +282,12 @@ fn reply_to<D: BlockDevice, A: Allocator + Copy>(
             dims,
             fanout,
         } => Some(change_reply(store.create(layer, dims, fanout))),
-        Line::Insert { layer, id, bounds } => Some(change_reply(store.insert(layer, id, bounds))),
+        Line::Insert {
+            layer,
+            id,
+            bounds,
+            tag,
+        } => Some(change_reply(store.insert(layer, id, bounds, tag))),
         // a load is not answered here, since it takes further lines with it
         Line::Load { .. } => None,
         Line::Move { layer, id, bounds } => Some(change_reply(store.move_object(
@@ -292,7 +297,7 @@ fn reply_to<D: BlockDevice, A: Allocator + Copy>(
         Line::Drop { layer } => Some(change_reply(store.drop_layer(layer))),
         Line::Get { layer, id } => Some(object_reply(id, store.get(layer, id))),
         Line::Count { layer } => Some(count_reply(store.count(layer))),
-        Line::Range { layer, query } => Some(range_reply(store.range(layer, query))),
+        Line::Range { layer, query, tag } => Some(range_reply(store.range(layer, query, tag))),
         Line::Nearest { layer, k, point } => Some(distances_reply(store.nearest(layer, k, point))),
         Line::Join {
             first,
@@ -317,11 +322,11 @@ fn change_reply<A: Allocator>(outcome: Result<(), Refusal>) -> Reply<A>
 }
 
 // The reply that the outcome of getting an object is.
-fn object_reply<A: Allocator>(id: u64, outcome: Result<AnyBox, Refusal>) -> Reply<A>
-    ensures { reply_answer result ≡ box_answer id outcome }
+fn object_reply<A: Allocator>(id: u64, outcome: Result<(AnyBox, u32), Refusal>) -> Reply<A>
+    ensures { reply_answer result ≡ object_answer id outcome }
 {
     match outcome {
-        Ok(bounds) => Reply::Object(id, bounds),
+        Ok((bounds, tag)) => Reply::Object(id, bounds, tag),
         Err(refusal) => Reply::Refused(refusal),
     }
 }
@@ -337,7 +342,7 @@ fn count_reply<A: Allocator>(outcome: Result<u64, Refusal>) -> Reply<A>
 }
 
 // The reply that the outcome of a range query is.
-fn range_reply<A: Allocator>(outcome: Result<Vec<(u64, AnyBox), A>, Refusal>) -> Reply<A>
+fn range_reply<A: Allocator>(outcome: Result<Vec<(u64, AnyBox, u32), A>, Refusal>) -> Reply<A>
     ensures { reply_answer result ≡ boxes_answer outcome }
 {
     match outcome {

@@ -12,10 +12,11 @@ use Rattle.tree_node.specs.Positions.{total}
 use Rattle.tree_node.specs.Rows.{branches_of, occurs_on, row_of}
 use Rattle.tree_node.specs.Trees.{Row, end, more, Branch, object, child, occurs, row_items, row_length}
 use Rattle.tree_node.proofs.RowLemmas.{occurs-branches_of}
-use Rattle.node_page.specs.Layout.{IsReference, IsSpellable}
+use Rattle.node_page.specs.Layout.{IsOfLevel, IsSpellable}
 use Rattle.node_page.specs.Standing.{PageMap, RowStands}
 use Rattle.reinsert.specs.Children.{Child, child_at, occurs_at}
 use Rattle.reinsert.specs.Placed.{set_box}
+use Rattle.reinsert.proofs.AboveLemmas.{length-set_box, set_box-refers}
 use Rattle.condense.specs.Taken.{IsCut, items_without}
 
 abbrev pub cut : {A : Type 0} → List A → ℕ → List A
@@ -38,11 +39,11 @@ length-cut (x ∷ xs) (suc at) within = omega (arith, length-cut xs at (omega (a
 -- ---- rows
 
 stands_first : (dims : ℕ) (m : PageMap) (level : ℕ) (x : Branch) (rest : Row) → RowStands dims m level (more x rest) → RowStands dims m level (more x end) × RowStands dims m level rest
-stands_first dims m level (object bounds id) rest h = ((h.0, tt), h.1)
+stands_first dims m level (object kept id) rest h = ((h.0, tt), h.1)
 stands_first dims m level (child bounds page below) rest h = ((h.0, h.1, h.2, tt), h.3)
 
 stands_more : (dims : ℕ) (m : PageMap) (level : ℕ) (x : Branch) (rest : Row) → RowStands dims m level (more x end) → RowStands dims m level rest → RowStands dims m level (more x rest)
-stands_more dims m level (object bounds id) rest h k = (h.0, k)
+stands_more dims m level (object kept id) rest h k = (h.0, k)
 stands_more dims m level (child bounds page below) rest h k = (h.0, h.1, h.2, k)
 
 pub RowStands-cut : (dims : ℕ) (m : PageMap) (level : ℕ) (xs : List Branch) (at : ℕ) → RowStands dims m level (row_of xs) → RowStands dims m level (row_of (cut xs at))
@@ -55,8 +56,8 @@ RowStands-cut dims m level (x ∷ xs) (suc at) h =
 -- the row without its child at a position has the other pages
 pub occurs-cut : (n : ℕ) (row : Row) (at : ℕ) (c : Child) → child_at row at ≡ Some c → total (occurs_on n) (cut (branches_of row) at) + occurs_at c.page n c.row ≡ occurs n row
 occurs-cut n end at c is = absurd (cc)
-occurs-cut n (more (object bounds id) rest) zero c is = absurd (cc)
-occurs-cut n (more (object bounds id) rest) (suc at) c is = omega (arith, occurs-cut n rest at c is)
+occurs-cut n (more (object kept id) rest) zero c is = absurd (cc)
+occurs-cut n (more (object kept id) rest) (suc at) c is = omega (arith, occurs-cut n rest at c is)
 occurs-cut n (more (child bounds page below) rest) zero c is =
     let this : record { page = page; row = below } ≡ c = cc in
     omega (arith, occurs-branches_of n rest, ap (λ (x : Child). occurs_at x.page n x.row) this)
@@ -65,12 +66,12 @@ occurs-cut n (more (child bounds page below) rest) (suc at) c is = omega (arith,
 -- a leaf without an entry has no pages below either
 pub occurs_leaf : (dims : ℕ) (m : PageMap) (row : Row) (n : ℕ) → RowStands dims m 0 row → occurs n row ≡ 0
 occurs_leaf dims m end n h = refl
-occurs_leaf dims m (more (object bounds id) rest) n h = occurs_leaf dims m rest n h.1
+occurs_leaf dims m (more (object kept id) rest) n h = occurs_leaf dims m rest n h.1
 occurs_leaf dims m (more (child bounds page below) rest) n h = absurd (omega (arith, h.0))
 
 pub length-items : (row : Row) → length (row_items row) ≡ row_length row
 length-items end = refl
-length-items (more (object bounds id) rest) = omega (arith, length-items rest)
+length-items (more (object kept id) rest) = omega (arith, length-items rest)
 length-items (more (child bounds page below) rest) = omega (arith, length-items rest)
 
 -- ---- entries of the code
@@ -97,11 +98,11 @@ same_box a b low high = ap (λ (xs : List ℤ). record { low = xs; high = a.high
 
 -- an entry that gets the box that it has stays
 pub set_same : {D : ℕ} (entries seen now : List (Entry D)) (at : ℕ) (e f : Entry D) (b : Bounds) → at < length entries → seen ≡ entries → now ≡ entries → (get_or seen at e).bounds ≡ b
-    → set now at (record { bounds = b; reference = (get_or now at f).reference }) ≡ entries
+    → set now at (record { bounds = b; reference = (get_or now at f).reference; tag = (get_or now at f).tag }) ≡ entries
 set_same {D} entries seen now at e f b within same is box =
     let bounds : b ≡ (get_or entries at f).bounds = sym box ∙ ap (λ (xs : List (Entry D)). (get_or xs at e).bounds) same ∙ ap (λ (x : Entry D). x.bounds) (get_or_default entries at e f within) in
-    ap (λ xs. set xs at (record { bounds = b; reference = (get_or xs at f).reference })) is
-    ∙ ap (λ (x : Bounds). set entries at (record { bounds = x; reference = (get_or entries at f).reference })) bounds
+    ap (λ xs. set xs at (record { bounds = b; reference = (get_or xs at f).reference; tag = (get_or xs at f).tag })) is
+    ∙ ap (λ (x : Bounds). set entries at (record { bounds = x; reference = (get_or entries at f).reference; tag = (get_or entries at f).tag })) bounds
     ∙ set-get_or entries at f
 
 -- what is written over itself stays
@@ -114,32 +115,20 @@ pub cut_removed : {D : ℕ} (level : ℕ) (entries new : List (Entry D)) (at : �
     → IsCut level (record { level = level; entries = map item_of new })
 cut_removed level entries new at spells within is =
     let are = items-removed new entries at is in
-    let P : Item → Type 0 = λ item. IsReference level item.reference in
+    let P : Item → Type 0 = λ item. IsOfLevel level item.reference item.tag in
     record {
       level_is = refl;
       few = omega (arith, ap length are, length-without (map item_of entries) at (omega (arith, within, length-map entries item_of)), spells.few);
       refers = subst (λ (xs : List Item). All P xs) (sym are) (All-without P (map item_of entries) at spells.refers);
     }
 
-length-boxed : (xs : List Item) (at : ℕ) (b : Bounds) → length (set_box xs at b) ≡ length xs
-length-boxed [] at b = refl
-length-boxed (x ∷ xs) zero b = refl
-length-boxed (x ∷ xs) (suc at) b = ap suc (length-boxed xs at b)
-
-reference-boxed : (xs : List Item) (at : ℕ) (b : Bounds) (k : ℕ) (d : Item) → (get_or (set_box xs at b) k d).reference ≡ (get_or xs k d).reference
-reference-boxed [] at b k d = refl
-reference-boxed (x ∷ xs) zero b zero d = refl
-reference-boxed (x ∷ xs) zero b (suc k) d = refl
-reference-boxed (x ∷ xs) (suc at) b zero d = refl
-reference-boxed (x ∷ xs) (suc at) b (suc k) d = reference-boxed xs at b k d
-
 pub cut_boxed : {D : ℕ} (level : ℕ) (entries new : List (Entry D)) (at : ℕ) (b : Bounds) → IsSpellable (record { level = level; entries = map item_of entries }) → map item_of new ≡ set_box (map item_of entries) at b
     → IsCut level (record { level = level; entries = map item_of new })
 cut_boxed level entries new at b spells are =
-    let P : Item → Type 0 = λ item. IsReference level item.reference in
-    let count = length-boxed (map item_of entries) at b in
+    let P : Item → Type 0 = λ item. IsOfLevel level item.reference item.tag in
+    let count = length-set_box (map item_of entries) at b in
     record {
       level_is = refl;
       few = omega (arith, ap length are, count, spells.few);
-      refers = subst (λ (xs : List Item). All P xs) (sym are) (λ k d lt. subst (λ r. IsReference level r) (sym (reference-boxed (map item_of entries) at b k d)) (spells.refers k d (omega (arith, lt, count))));
+      refers = subst (λ (xs : List Item). All P xs) (sym are) (set_box-refers level (map item_of entries) at b spells.refers);
     }

@@ -8,6 +8,7 @@ use Rattle.page_cache.specs.Calls.{AsksUntil, ChangesUntil, asks_in_turn, change
 use Rattle.page_cache.specs.declared.cache.PageCache.{PageCache}
 use Rattle.tree_node.specs.declared.node.Entry.{Entry}
 use Rattle.tree_node.specs.declared.node.Root.{Root}
+use Rattle.tree_node.specs.Boxes.{no_item}
 use Rattle.tree_node.specs.Nodes.{Item, item_of}
 use Rattle.tree_node.specs.Positions.{total}
 use Rattle.tree_node.specs.Rows.{branches_of, item_in, occurs_on}
@@ -15,7 +16,7 @@ use Rattle.tree_node.specs.Trees.{Tree, Row, end, more, object, child, row_items
 use Rattle.tree_node.proofs.RowLemmas.{items-branches_of, occurs-branches_of, occurs_here, same_tree}
 use Rattle.node_page.specs.Broken.{Alters}
 use Rattle.node_page.specs.declared.broken.Broken.{Broken}
-use Rattle.node_page.specs.Layout.{IsReference}
+use Rattle.node_page.specs.Layout.{IsOfLevel}
 use Rattle.node_page.specs.Parts.{Moves, no_page}
 use Rattle.node_page.specs.Standing.{PageMap, HasNode, node_in, RowStands, Stands}
 use Rattle.node_page.proofs.PartLemmas.{moves_in_turn, moves_same, none_or_some, one_page_moves, staying_moves}
@@ -46,12 +47,13 @@ item_at (e ∷ es) zero d = refl
 item_at (e ∷ es) (suc i) d = item_at es i d
 
 -- the entries of a node above the leaves refer to pages of children
-pub child_pages : {dims : ℕ} (level : ℕ) (all entries : List (Entry dims)) (i : ℕ) (d : Entry dims) → All (λ item. IsReference level item.reference) (map item_of all) → entries ≡ all → i < length entries → 0 < level
+pub child_pages : {dims : ℕ} (level : ℕ) (all entries : List (Entry dims)) (i : ℕ) (d : Entry dims) → All (λ item. IsOfLevel level item.reference item.tag) (map item_of all) → entries ≡ all → i < length entries → 0 < level
     → (3 ≤ (get_or entries i d).reference) × ((get_or entries i d).reference < 2 ^ 31)
 child_pages level all entries i d refers same within above =
-    let here : All (λ (item : Item). IsReference level item.reference) (map item_of entries) = subst (λ es. All (λ (item : Item). IsReference level item.reference) (map item_of es)) (sym same) refers in
-    let at = All-get_or (λ (item : Item). IsReference level item.reference) (map item_of entries) i (item_of d) (omega (arith, within, length-map entries item_of)) here in
-    subst (λ (item : Item). IsReference level item.reference) (sym (item_at entries i d)) at above
+    let here : All (λ (item : Item). IsOfLevel level item.reference item.tag) (map item_of entries) = subst (λ es. All (λ (item : Item). IsOfLevel level item.reference item.tag) (map item_of es)) (sym same) refers in
+    let at = All-get_or (λ (item : Item). IsOfLevel level item.reference item.tag) (map item_of entries) i (item_of d) (omega (arith, within, length-map entries item_of)) here in
+    let found = subst (λ (item : Item). IsOfLevel level item.reference item.tag) (sym (item_at entries i d)) at above in
+    (found.0, found.1)
 
 -- how often a page occurs in the first entries
 abbrev pub occurs_before : ℕ → Row → ℕ → ℕ
@@ -59,8 +61,8 @@ occurs_before n row i = total (occurs_on n) (take i (branches_of row))
 
 before_more : (n : ℕ) (row : Row) (at : ℕ) (c : Child) → child_at row at ≡ Some c → occurs_before n row (suc at) ≡ occurs_before n row at + occurs_at c.page n c.row
 before_more n end at c is = absurd (cc)
-before_more n (more (object bounds id) rest) zero c is = absurd (cc)
-before_more n (more (object bounds id) rest) (suc at) c is = omega (arith, before_more n rest at c is)
+before_more n (more (object kept id) rest) zero c is = absurd (cc)
+before_more n (more (object kept id) rest) (suc at) c is = omega (arith, before_more n rest at c is)
 before_more n (more (child bounds page below) rest) zero c is =
     let this : record { page = page; row = below } ≡ c = cc in
     omega (arith, ap (λ (x : Child). occurs_at x.page n x.row) this)
@@ -83,7 +85,7 @@ before_all n row i all =
 -- a leaf has no pages below
 occurs_in_leaf : (dims : ℕ) (m : PageMap) (row : Row) (n : ℕ) → RowStands dims m 0 row → occurs n row ≡ 0
 occurs_in_leaf dims m end n h = refl
-occurs_in_leaf dims m (more (object bounds id) rest) n h = occurs_in_leaf dims m rest n h.1
+occurs_in_leaf dims m (more (object kept id) rest) n h = occurs_in_leaf dims m rest n h.1
 occurs_in_leaf dims m (more (child bounds page below) rest) n h = absurd (omega (arith, h.0))
 
 -- nothing is freed yet
@@ -142,7 +144,7 @@ module _ (dims : ℕ) (m m1 : PageMap) (root : Root) (row : Row) (level count at
   next_child within below refers low =
       let high : 0 < root.level = ⊎_elim (λ none. absurd (omega (arith, leaf (same ∙ none), within))) (λ some. some) (none_or_some root.level) in
       let child = has_child dims m root.level row at high (omega (arith, within, many high)) stands.below in
-      let d : Item = record { bounds = record { low = []; high = [] }; reference = 0 } in
+      let d = no_item in
       let is : below.page ≡ child.from.page = refers d ∙ ap (λ (xs : List Item). (get_or xs at d).reference) (sym are) ∙ child.reference d in
       let there = next_stands dims m m1 root.page root.level row at stands before child below.page is in
       let down : root.level - 1 ≡ below.level = omega (arith, low, same) in

@@ -4,12 +4,13 @@ use Rattle.std.specs.List.{Contains}
 use Rattle.std.proofs.lemmas.List.{append-nil}
 use Rattle.std.proofs.lemmas.List.Elements.{Contains-append_cases, Contains-append_left, Contains-append_right}
 use Rattle.box_math.specs.Bounds.{Bounds, Within}
+use Rattle.box_math.specs.Objects.{Object, bounds_of, tag_of}
 use Rattle.box_math.proofs.BoxLaws.{Within-trans}
 use Rattle.tree_node.specs.Nodes.{Item}
 use Rattle.tree_node.specs.Rows.{branches_of, item_in, row_of}
 use Rattle.tree_node.specs.Shape.{RowHasShape, RowWithin}
 use Rattle.tree_node.specs.Trees.{Row, end, more, object, child, objects_in, row_items}
-use Rattle.tree_node.proofs.RowLemmas.{items-branches_of, items-row_of, row_drop, row_of-branches_of}
+use Rattle.tree_node.proofs.RowLemmas.{items-branches_of, items-row_of, row_drop, row_of-branches_of, same_kept}
 use Rattle.node_page.specs.Standing.{PageMap, RowStands}
 use Rattle.node_page.proofs.PartLemmas.{moves_same, staying_moves}
 use Rattle.reinsert.specs.Children.{Child, child_at}
@@ -32,25 +33,25 @@ contains_later y ys x h = (suc h.0, omega (arith, h.1), h.2)
 
 -- ---- boxes lead to each object of a tree of shape
 
-module _ (dims most id : ℕ) (bounds : Bounds) where
-  abbrev here : ℕ × Bounds
-  here = (id, bounds)
+module _ (dims most id : ℕ) (removed : Object) where
+  abbrev here : ℕ × Object
+  here = (id, removed)
 
-  within_all : (row : Row) (b : Bounds) → RowHasShape dims most row → RowWithin dims row b → Contains (objects_in row) here → Within dims bounds b
+  within_all : (row : Row) (b : Bounds) → RowHasShape dims most row → RowWithin dims row b → Contains (objects_in row) here → Within dims (bounds_of removed) b
   within_all end b shape all has = absurd (omega (arith, has.1))
   within_all (more (object c i) rest) b shape all has = ⊎_elim
-      (λ (is : (i, c) ≡ here). subst (λ (x : ℕ × Bounds). Within dims x.1 b) is all.0)
+      (λ (is : (i, c) ≡ here). subst (λ (x : ℕ × Object). Within dims (bounds_of x.1) b) is all.0)
       (λ later. within_all rest b shape all.1 later)
       (contains_cases (i, c) (objects_in rest) here has)
   within_all (more (child c page below) rest) b shape all has = ⊎_elim
-      (λ lower. Within-trans dims bounds c b (within_all below c shape.3 shape.2.encloses lower) all.0)
+      (λ lower. Within-trans dims (bounds_of removed) c b (within_all below c shape.3 shape.2.encloses lower) all.0)
       (λ later. within_all rest b shape.4 all.1 later)
       (Contains-append_cases (objects_in below) (objects_in rest) here has)
 
-  pub leads_there : (row : Row) → RowHasShape dims most row → Contains (objects_in row) here → LeadsTo dims id bounds row
+  pub leads_there : (row : Row) → RowHasShape dims most row → Contains (objects_in row) here → LeadsTo dims id removed row
   leads_there end shape has = absurd (omega (arith, has.1))
   leads_there (more (object c i) rest) shape has = ⊎_elim
-      (λ (is : (i, c) ≡ here). inl (ap (λ (x : ℕ × Bounds). x.1) is, ap (λ (x : ℕ × Bounds). x.0) is))
+      (λ (is : (i, c) ≡ here). inl (ap (λ (x : ℕ × Object). x.1) is, ap (λ (x : ℕ × Object). x.0) is))
       (λ later. inr (leads_there rest shape later))
       (contains_cases (i, c) (objects_in rest) here has)
   leads_there (more (child c page below) rest) shape has = ⊎_elim
@@ -69,40 +70,42 @@ module _ (dims most id : ℕ) (bounds : Bounds) where
       Contains-append_left (objects_in below) (objects_in rest) here (subst (λ (x : Child). Contains (objects_in x.row) here) (sym this) has)
   child_contains (more (child b page below) rest) (suc at) c is has = Contains-append_right (objects_in below) (objects_in rest) here (child_contains rest at c is has)
 
-  entry_contains : (row : Row) (at : ℕ) → take 1 (drop at (branches_of row)) ≡ object bounds id ∷ [] → Contains (objects_in row) here
+  entry_contains : (row : Row) (at : ℕ) → take 1 (drop at (branches_of row)) ≡ object removed id ∷ [] → Contains (objects_in row) here
   entry_contains end zero is = absurd (cc)
   entry_contains end (suc at) is = absurd (cc)
   entry_contains (more (object b i) rest) zero is =
-      let box : b ≡ bounds = cc in
+      let kept : b ≡ removed = cc in
       let number : i ≡ id = cc in
       (0, omega arith, cc)
   entry_contains (more (object b i) rest) (suc at) is = contains_later (i, b) (objects_in rest) here (entry_contains rest at is)
   entry_contains (more (child b page below) rest) zero is = absurd (cc)
   entry_contains (more (child b page below) rest) (suc at) is = Contains-append_right (objects_in below) (objects_in rest) here (entry_contains rest at is)
 
-  pub takes_contained : (level : ℕ) (row : Row) (out : Condensed) → TakesOut dims most level id bounds row out → Contains (objects_in row) here
+  pub takes_contained : (level : ℕ) (row : Row) (out : Condensed) → TakesOut dims most level id removed row out → Contains (objects_in row) here
   takes_contained zero row out h = entry_contains row h.0 h.1
   takes_contained (suc level) row out h = child_contains row h.0 h.1 h.2 (takes_contained level h.1.row h.3 h.4)
 
   -- ---- a leaf
 
   -- no entry of it is the object's
-  pub leaf_lacks : (m : PageMap) (row : Row) → RowStands dims m 0 row → ((at : ℕ) (d : Item) → at < length (row_items row) → ¬ (get_or (row_items row) at d ≡ record { bounds = bounds; reference = id })) → ¬ LeadsTo dims id bounds row
+  pub leaf_lacks : (m : PageMap) (row : Row) → RowStands dims m 0 row → ((at : ℕ) (d : Item) → at < length (row_items row) → ¬ (get_or (row_items row) at d ≡ record { bounds = bounds_of removed; reference = id; tag = tag_of removed })) → ¬ LeadsTo dims id removed row
   leaf_lacks m end stands none leads = leads
   leaf_lacks m (more (object b i) rest) stands none leads = ⊎_elim
-      (λ (is : (b ≡ bounds) × (i ≡ id)). none 0 (record { bounds = bounds; reference = id }) (omega arith) (same b i is.0 is.1))
+      (λ (is : (b ≡ removed) × (i ≡ id)). none 0 (record { bounds = bounds_of removed; reference = id; tag = tag_of removed }) (omega arith) (same b i is.0 is.1))
       (λ later. leaf_lacks m rest stands.1 (λ at d within. none (suc at) d (omega (arith, within))) later)
       leads
     where
-      same : (b : Bounds) (i : ℕ) → b ≡ bounds → i ≡ id → ◌≡◌ {A = Item} (record { bounds = b; reference = i }) (record { bounds = bounds; reference = id })
-      same b i e f = cc
+      same : (b : Object) (i : ℕ) → b ≡ removed → i ≡ id → ◌≡◌ {A = Item} (record { bounds = bounds_of b; reference = i; tag = tag_of b }) (record { bounds = bounds_of removed; reference = id; tag = tag_of removed })
+      same b i e f = ap (λ (x : Object). record { bounds = bounds_of x; reference = i; tag = tag_of x }) e ∙ ap (λ (n : ℕ). record { bounds = bounds_of removed; reference = n; tag = tag_of removed }) f
   leaf_lacks m (more (child b page below) rest) stands none leads = absurd (omega (arith, stands.0))
 
-  entry_at : (m : PageMap) (row : Row) (at : ℕ) (d : Item) → RowStands dims m 0 row → at < length (row_items row) → get_or (row_items row) at d ≡ record { bounds = bounds; reference = id }
-      → take 1 (drop at (branches_of row)) ≡ object bounds id ∷ []
+  entry_at : (m : PageMap) (row : Row) (at : ℕ) (d : Item) → RowStands dims m 0 row → at < length (row_items row) → get_or (row_items row) at d ≡ record { bounds = bounds_of removed; reference = id; tag = tag_of removed }
+      → take 1 (drop at (branches_of row)) ≡ object removed id ∷ []
   entry_at m end at d stands within is = absurd (omega (arith, within))
   entry_at m (more (object b i) rest) zero d stands within is =
-      let box : b ≡ bounds = ap (λ (x : Item). x.bounds) is in
+      let box : bounds_of b ≡ bounds_of removed = ap (λ (x : Item). x.bounds) is in
+      let tag : tag_of b ≡ tag_of removed = ap (λ (x : Item). x.tag) is in
+      let kept : b ≡ removed = same_kept (bounds_of b) (bounds_of removed) (tag_of b) (tag_of removed) box tag in
       let number : i ≡ id = ap (λ (x : Item). x.reference) is in
       cc
   entry_at m (more (object b i) rest) (suc at) d stands within is = entry_at m rest at d stands.1 (omega (arith, within)) is
@@ -110,10 +113,10 @@ module _ (dims most id : ℕ) (bounds : Bounds) where
 
   -- the object is taken out of it
   pub leaf_taken : (m m' : PageMap) (row : Row) (held held' : List Held) (items after : List Item) → RowStands dims m 0 row → ((n : ℕ) → m' n ≡ m n) → row_items row ≡ items → held' ≡ held
-      → IsTakenFrom id bounds items after → HasTaken dims most m m' 0 id bounds row held held' after
+      → IsTakenFrom id removed items after → HasTaken dims most m m' 0 id removed row held held' after
   leaf_taken m m' row held held' items after stands same are holds h =
       let at = h.at in
-      let d : Item = record { bounds = bounds; reference = id } in
+      let d : Item = record { bounds = bounds_of removed; reference = id; tag = tag_of removed } in
       let bs = branches_of row in
       let cuts : without bs at ≡ cut bs at = cut-is bs at in
       let new = row_of (without bs at) in
@@ -136,15 +139,15 @@ module _ (dims most id : ℕ) (bounds : Bounds) where
 
   -- ---- the children so far lack it
 
-  pub leads_later : (row : Row) (at : ℕ) (c : Child) (d : Item) → child_at row at ≡ Some c → ¬ (Within dims bounds (get_or (row_items row) at d).bounds × LeadsTo dims id bounds c.row)
-      → LeadsTo dims id bounds (row_drop at row) → LeadsTo dims id bounds (row_drop (suc at) row)
+  pub leads_later : (row : Row) (at : ℕ) (c : Child) (d : Item) → child_at row at ≡ Some c → ¬ (Within dims (bounds_of removed) (get_or (row_items row) at d).bounds × LeadsTo dims id removed c.row)
+      → LeadsTo dims id removed (row_drop at row) → LeadsTo dims id removed (row_drop (suc at) row)
   leads_later end at c d is none leads = absurd (cc)
   leads_later (more (object b i) rest) zero c d is none leads = absurd (cc)
   leads_later (more (object b i) rest) (suc at) c d is none leads = leads_later rest at c d is none leads
   leads_later (more (child b page below) rest) zero c d is none leads =
       let this : record { page = page; row = below } ≡ c = cc in
       ⊎_elim
-      (λ (found : Within dims bounds b × LeadsTo dims id bounds below). absurd (none (found.0, subst (λ (x : Child). LeadsTo dims id bounds x.row) this found.1)))
+      (λ (found : Within dims (bounds_of removed) b × LeadsTo dims id removed below). absurd (none (found.0, subst (λ (x : Child). LeadsTo dims id removed x.row) this found.1)))
       (λ later. later)
       leads
   leads_later (more (child b page below) rest) (suc at) c d is none leads = leads_later rest at c d is none leads

@@ -1,8 +1,9 @@
 -- The root gives way to its only child, and so on.
-use Rattle.std.proofs.Common.{Result, Ok, Err, IfErr, IsErrAnd, ◌≡◌, ◌∙◌, ℕ, suc, ◌+◌, ◌-◌, ◌<◌, IsSome, Some, None, [], length, get_or, refl, sym, ap, subst, arith}
+use Rattle.std.proofs.Common.{Result, Ok, Err, IfErr, IsErrAnd, ◌≡◌, ◌∙◌, ℕ, suc, ◌+◌, ◌-◌, ◌<◌, IsSome, Some, None, length, get_or, refl, sym, ap, subst, arith}
 use Rattle.page_file.specs.Pages.{SameBut}
 use Rattle.page_file.specs.declared.fault.Fault.{Fault}
 use Rattle.tree_node.specs.declared.node.Root.{Root}
+use Rattle.tree_node.specs.Boxes.{no_item}
 use Rattle.tree_node.specs.Nodes.{Item}
 use Rattle.tree_node.specs.Trees.{Row, end, more, object, child, Tree, occurs, occurs_in, row_items, row_length}
 use Rattle.tree_node.proofs.RowLemmas.{occurs_here}
@@ -73,7 +74,7 @@ module _ {dims : ℕ} (m m1 m2 : PageMap) (t : Tree) (now below : Root) (h : Low
   c = has_child dims m1 h.mid.level h.mid.row 0 (omega (arith, high, h.at.level)) (omega (arith, count, length-items h.mid.row)) h.stands.below
 
   page : below.page ≡ c.from.page
-  page = let d : Item = record { bounds = record { low = []; high = [] }; reference = 0 } in refers d ∙ c.reference d
+  page = let d = no_item in refers d ∙ c.reference d
 
   down : h.mid.level - 1 ≡ below.level
   down = omega (arith, low, h.at.level)

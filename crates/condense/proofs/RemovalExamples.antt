@@ -20,23 +20,23 @@ abbrev box : ℕ → ℕ → ℕ → ℕ → Bounds
 box x y x' y' = record { low = pos x ∷ pos y ∷ []; high = pos x' ∷ pos y' ∷ [] }
 
 abbrev left : Row
-left = row_of (object (point 0 0) 1 ∷ object (point 1 0) 2 ∷ [])
+left = row_of (object (point 0 0, 7) 1 ∷ object (point 1 0, 7) 2 ∷ [])
 
 abbrev right : Row
-right = row_of (object (point 2 0) 3 ∷ object (point 3 0) 4 ∷ object (point 10 0) 5 ∷ [])
+right = row_of (object (point 2 0, 0) 3 ∷ object (point 3 0, 9) 4 ∷ object (point 10 0, 0) 5 ∷ [])
 
 abbrev before : Tree
 before = record { page = 5; level = 1; row = row_of (child (box 0 0 1 0) 3 left ∷ child (box 2 0 10 0) 4 right ∷ []) }
 
 -- the first leaf has too few entries, and its entry is kept
 abbrev out : Condensed
-out = record { row = row_of (child (box 2 0 10 0) 4 right ∷ []); kept = record { branch = object (point 1 0) 2; level = 0 } ∷ [] }
+out = record { row = row_of (child (box 2 0 10 0) 4 right ∷ []); kept = record { branch = object (point 1 0, 7) 2; level = 0 } ∷ [] }
 
-takes_out : TakesOut 2 4 1 1 (point 0 0) before.row out
-takes_out = (0, record { page = 3; row = left }, refl, record { row = row_of (object (point 1 0) 2 ∷ []); kept = [] }, (0, refl, refl), refl)
+takes_out : TakesOut 2 4 1 1 (point 0 0, 7) before.row out
+takes_out = (0, record { page = 3; row = left }, refl, record { row = row_of (object (point 1 0, 7) 2 ∷ []); kept = [] }, (0, refl, refl), refl)
 
 abbrev filled_leaf : Row
-filled_leaf = row_of (object (point 2 0) 3 ∷ object (point 3 0) 4 ∷ object (point 10 0) 5 ∷ object (point 1 0) 2 ∷ [])
+filled_leaf = row_of (object (point 2 0, 0) 3 ∷ object (point 3 0, 9) 4 ∷ object (point 10 0, 0) 5 ∷ object (point 1 0, 7) 2 ∷ [])
 
 abbrev filled : Tree
 filled = record { page = 5; level = 1; row = row_of (child (box 1 0 10 0) 4 filled_leaf ∷ []) }
@@ -60,7 +60,7 @@ gives_way : GivesWay 1 filled after
 gives_way = (omega arith, refl, record { page = 4; row = filled_leaf }, refl, (refl, λ above. absurd (omega (arith, above))))
 
 -- 2 comes back, into the leaf that is left
-comes_back : IsInsertion 2 4 (λ n. 0 + 0) (object (point 1 0) 2) 0 (record { page = 5; level = 1; row = out.row }) filled
+comes_back : IsInsertion 2 4 (λ n. 0 + 0) (object (point 1 0, 7) 2) 0 (record { page = 5; level = 1; row = out.row }) filled
 unfolding least_box
 comes_back = record {
   count = 1;
@@ -68,7 +68,7 @@ comes_back = record {
   placed = (
     _,
     record {
-      first = record { branch = object (point 1 0) 2; level = 0 };
+      first = record { branch = object (point 1 0, 7) 2; level = 0 };
       rest = [];
       waits = refl;
       fits = omega arith;
@@ -93,7 +93,7 @@ comes_back = record {
   );
 }
 
-pub one_is_removed : IsRemoval 2 4 (λ n. 0) 1 (point 0 0) before after
+pub one_is_removed : IsRemoval 2 4 (λ n. 0) 1 (point 0 0, 7) before after
 one_is_removed = record {
   out = out;
   takes_out = takes_out;

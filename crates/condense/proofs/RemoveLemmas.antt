@@ -1,7 +1,7 @@
 -- What a removal answers, from what its steps ensure.
 use Rattle.std.proofs.Common.{Result, Ok, Err, IfOk, IfErr, IsErrAnd, List, [], ◌≡◌, ◌∙◌, ℕ, ◌≤◌, ◌∷◌, sym, subst}
 use Rattle.std.specs.List.Sorted.{IsPermutation}
-use Rattle.box_math.specs.Bounds.{Bounds}
+use Rattle.box_math.specs.Objects.{Object}
 use Rattle.page_file.specs.Fault.{IsOfDevice}
 use Rattle.page_file.specs.declared.fault.Fault.{Fault}
 use Rattle.tree_node.specs.declared.node.Root.{Root}
@@ -20,28 +20,28 @@ use Rattle.condense.proofs.ObjectLemmas.{removal_keeps_objects}
 use Rattle.condense.proofs.ShapeLemmas.{removal_keeps_shape}
 
 -- the tree at the new root has its shape, and its objects are those before but for the one
-pub keeps_all : {E : Type 0} (r : Result Root E) (X : Type 0) (dims most : ℕ) (m m' : PageMap) (elsewhere : ℕ → ℕ) (id : ℕ) (bounds : Bounds) (t : Tree) → 4 ≤ most → HasShape dims most t → RowHasBoxes dims t.row
-    → IfOk r (λ after. X × RemovesTo dims most m m' elsewhere id bounds t after)
-    → IfOk r (λ after. (new : Tree) → IsRootOf after new → Stands dims m' new → HasShape dims most new × IsPermutation ((id, bounds) ∷ objects_in new.row) (objects_in t.row))
-keeps_all (Ok after) X dims most m m' elsewhere id bounds t enough shape boxes done = λ new at stands.
+pub keeps_all : {E : Type 0} (r : Result Root E) (X : Type 0) (dims most : ℕ) (m m' : PageMap) (elsewhere : ℕ → ℕ) (id : ℕ) (removed : Object) (t : Tree) → 4 ≤ most → HasShape dims most t → RowHasBoxes dims t.row
+    → IfOk r (λ after. X × RemovesTo dims most m m' elsewhere id removed t after)
+    → IfOk r (λ after. (new : Tree) → IsRootOf after new → Stands dims m' new → HasShape dims most new × IsPermutation ((id, removed) ∷ objects_in new.row) (objects_in t.row))
+keeps_all (Ok after) X dims most m m' elsewhere id removed t enough shape boxes done = λ new at stands.
     let d = done.1 in
     let same : d.new ≡ new = one_tree_stands dims m' d.new new (d.at.page ∙ sym at.page) d.stands stands in
-    let kept = (removal_keeps_shape dims most elsewhere id bounds t d.new d.removal enough boxes shape).0 in
-    let objects = removal_keeps_objects dims most elsewhere id bounds t d.new d.removal in
-    subst (λ (x : Tree). HasShape dims most x × IsPermutation ((id, bounds) ∷ objects_in x.row) (objects_in t.row)) same (kept, objects)
-keeps_all (Err e) X dims most m m' elsewhere id bounds t enough shape boxes done = tt
+    let kept = (removal_keeps_shape dims most elsewhere id removed t d.new d.removal enough boxes shape).0 in
+    let objects = removal_keeps_objects dims most elsewhere id removed t d.new d.removal in
+    subst (λ (x : Tree). HasShape dims most x × IsPermutation ((id, removed) ∷ objects_in x.row) (objects_in t.row)) same (kept, objects)
+keeps_all (Err e) X dims most m m' elsewhere id removed t enough shape boxes done = tt
 
 pub map_ok : {A E : Type 0} (r : Result A E) (X : Type 0) (P Q : A → Type 0) → IfOk r (λ a. X × P a) → ((a : A) → P a → Q a) → IfOk r (λ a. X × Q a)
 map_ok (Ok a) X P Q h f = (h.0, f a h.1)
 map_ok (Err e) X P Q h f = tt
 
 -- what was taken out below the root
-pub took_out : (dims most : ℕ) (m m1 : PageMap) (root : Root) (t : Tree) (elsewhere : ℕ → ℕ) (id : ℕ) (bounds : Bounds) (held0 held : List Held) (items : List Item) → CanRemove dims m root t elsewhere → held0 ≡ []
-    → HasTaken dims most m m1 root.level id bounds t.row held0 held items → TookOut dims most m m1 root t elsewhere id bounds held items
-took_out dims most m m1 root t elsewhere id bounds held0 held items can none done = record {
+pub took_out : (dims most : ℕ) (m m1 : PageMap) (root : Root) (t : Tree) (elsewhere : ℕ → ℕ) (id : ℕ) (removed : Object) (held0 held : List Held) (items : List Item) → CanRemove dims m root t elsewhere → held0 ≡ []
+    → HasTaken dims most m m1 root.level id removed t.row held0 held items → TookOut dims most m m1 root t elsewhere id removed held items
+took_out dims most m m1 root t elsewhere id removed held0 held items can none done = record {
   can = can;
-  taken = subst (λ (hs : List Held). HasTaken dims most m m1 t.level id bounds t.row hs held items) none
-      (subst (λ l. HasTaken dims most m m1 l id bounds t.row held0 held items) (sym can.at.level) done);
+  taken = subst (λ (hs : List Held). HasTaken dims most m m1 t.level id removed t.row hs held items) none
+      (subst (λ l. HasTaken dims most m m1 l id removed t.row held0 held items) (sym can.at.level) done);
 }
 
 pub refused_so : {T : Type 0} (r : Result T Broken) (f : Broken) (P : Broken → Type 0) → IsErrAnd r (λ e. e ≡ f) → P f → IsErrAnd r P

@@ -1,6 +1,6 @@
 -- The root written, what is kept inserted, and the root lowered: a removal.
 use Rattle.std.proofs.Common.{◌≡◌, ◌∙◌, ℕ, ◌+◌, ◌<◌, ◌≤◌, IsSome, Some, List, refl, sym, ap, subst, arith}
-use Rattle.box_math.specs.Bounds.{Bounds}
+use Rattle.box_math.specs.Objects.{Object}
 use Rattle.page_file.specs.Pages.{SameBut}
 use Rattle.tree_node.specs.declared.node.Root.{Root}
 use Rattle.tree_node.specs.Nodes.{Item, NodeContent}
@@ -18,10 +18,10 @@ use Rattle.condense.specs.Filled.{CanFill, FillsTo, GivesWayTo}
 use Rattle.condense.specs.Removed.{RemovesTo, TookOut}
 
 -- the root as it is written
-abbrev pub cut_root : {dims most : ℕ} {m m1 : PageMap} {root : Root} {t : Tree} {elsewhere : ℕ → ℕ} {id : ℕ} {bounds : Bounds} {held : List Held} {items : List Item} → TookOut dims most m m1 root t elsewhere id bounds held items → Tree
+abbrev pub cut_root : {dims most : ℕ} {m m1 : PageMap} {root : Root} {t : Tree} {elsewhere : ℕ → ℕ} {id : ℕ} {removed : Object} {held : List Held} {items : List Item} → TookOut dims most m m1 root t elsewhere id removed held items → Tree
 cut_root {t = t} took = record { page = t.page; level = t.level; row = took.taken.out.row }
 
-module _ (dims most : ℕ) (m m1 : PageMap) (root : Root) (t : Tree) (elsewhere : ℕ → ℕ) (id : ℕ) (bounds : Bounds) (held : List Held) (items : List Item) (took : TookOut dims most m m1 root t elsewhere id bounds held items) where
+module _ (dims most : ℕ) (m m1 : PageMap) (root : Root) (t : Tree) (elsewhere : ℕ → ℕ) (id : ℕ) (removed : Object) (held : List Held) (items : List Item) (took : TookOut dims most m m1 root t elsewhere id removed held items) where
   abbrev rest : ℕ → ℕ
   rest n = one_page t.page n + elsewhere n
 
@@ -87,7 +87,7 @@ module _ (dims most : ℕ) (m m1 : PageMap) (root : Root) (t : Tree) (elsewhere 
         moves_same m m2 _ _ _ _ (λ n. refl) (λ n. omega arith) (moves_in_turn m m1 m2 _ _ _ first second)
 
     -- the whole removal
-    pub removes_to : (m3 m4 : PageMap) (filled after : Root) (f : FillsTo dims most m2 m3 (cut_root took) took.taken.out.kept elsewhere filled) → GivesWayTo dims m3 m4 f.new after → RemovesTo dims most m m4 elsewhere id bounds t after
+    pub removes_to : (m3 m4 : PageMap) (filled after : Root) (f : FillsTo dims most m2 m3 (cut_root took) took.taken.out.kept elsewhere filled) → GivesWayTo dims m3 m4 f.new after → RemovesTo dims most m m4 elsewhere id removed t after
     removes_to m3 m4 filled after f gives = record {
       new = gives.new;
       at = gives.at;

@@ -3,6 +3,7 @@ use Rattle.std.proofs.Common.{◌≡◌, ◌∙◌, ℕ, zero, suc, ◌+◌, ◌
 use Rattle.std.specs.Prelude.{nat_lt}
 use Rattle.std.proofs.lemmas.Bool.Decides.{nat_tests}
 use Rattle.box_math.specs.Bounds.{Bounds}
+use Rattle.box_math.specs.Objects.{Object}
 use Rattle.tree_node.specs.Boxes.{RowHasBoxes, least_box}
 use Rattle.tree_node.specs.Rows.{Waiter, branches_of, occurs_waiting, row_of}
 use Rattle.tree_node.specs.Shape.{HasLooseShape, HasShape, least_entries}
@@ -22,11 +23,11 @@ use Rattle.condense.proofs.TakeLemmas.{leaves_is, stays_is}
 
 module _ (dims most : ℕ) where
   sound_first : (level : ℕ) (x : Branch) (rest : Row) → Sound dims most level (more x rest) → Sound dims most level (more x end) × Sound dims most level rest
-  sound_first level (object bounds id) rest h = ((tt, (h.1.0, tt), (h.2.0, tt)), (h.0, h.1.1, h.2.1))
+  sound_first level (object kept id) rest h = ((tt, (h.1.0, tt), (h.2.0, tt)), (h.0, h.1.1, h.2.1))
   sound_first level (child bounds page below) rest h = (((h.0.0, h.0.1, h.0.2, h.0.3, tt), (h.1.0, h.1.1, tt), (h.2.0, h.2.1, tt)), (h.0.4, h.1.2, h.2.2))
 
   sound_more : (level : ℕ) (x : Branch) (rest : Row) → Sound dims most level (more x end) → Sound dims most level rest → Sound dims most level (more x rest)
-  sound_more level (object bounds id) rest h k = (k.0, (h.1.0, k.1), (h.2.0, k.2))
+  sound_more level (object kept id) rest h k = (k.0, (h.1.0, k.1), (h.2.0, k.2))
   sound_more level (child bounds page below) rest h k = ((h.0.0, h.0.1, h.0.2, h.0.3, k.0), (h.1.0, h.1.1, k.1), (h.2.0, h.2.1, k.2))
 
   sound_cut : (level : ℕ) (xs : List Branch) (at : ℕ) → Sound dims most level (row_of xs) → Sound dims most level (row_of (cut xs at))
@@ -49,8 +50,8 @@ module _ (dims most : ℕ) where
 
   child_full : (level : ℕ) (row : Row) (at : ℕ) (c : Child) → child_at row at ≡ Some c → Sound dims most level row → (0 < level) × (at < row_length row) × IsFull (level - 1) c.row
   child_full level end at c is h = absurd (cc)
-  child_full level (more (object bounds id) rest) zero c is h = absurd (cc)
-  child_full level (more (object bounds id) rest) (suc at) c is h = let later = child_full level rest at c is (h.0, h.1.1, h.2.1) in (later.0, omega (arith, later.1), later.2)
+  child_full level (more (object kept id) rest) zero c is h = absurd (cc)
+  child_full level (more (object kept id) rest) (suc at) c is h = let later = child_full level rest at c is (h.0, h.1.1, h.2.1) in (later.0, omega (arith, later.1), later.2)
   child_full level (more (child bounds page below) rest) zero c is h =
       let this : record { page = page; row = below } ≡ c = cc in
       (h.2.0, omega arith, subst (λ (x : Child). IsFull (level - 1) x.row) this (h.0.0, h.0.1, (h.0.3, h.1.1, h.2.1)))
@@ -58,8 +59,8 @@ module _ (dims most : ℕ) where
 
   sound_with_child : (level : ℕ) (row : Row) (at : ℕ) (new : Row) → Sound dims most level row → IsFull (level - 1) new → Sound dims most level (with_child row at (least_box dims (row_items new)) new)
   sound_with_child level end at new h full = h
-  sound_with_child level (more (object bounds id) rest) zero new h full = h
-  sound_with_child level (more (object bounds id) rest) (suc at) new h full =
+  sound_with_child level (more (object kept id) rest) zero new h full = h
+  sound_with_child level (more (object kept id) rest) (suc at) new h full =
       let later = sound_with_child level rest at new (h.0, h.1.1, h.2.1) full in (later.0, (h.1.0, later.1), (h.2.0, later.2))
   sound_with_child level (more (child bounds page below) rest) zero new h full =
       let least = join_is_least_box dims new (omega (arith, full.0)) full.2.1 in ((full.0, full.1, least, full.2.0, h.0.4), (least.box, full.2.1, h.1.2), (h.2.0, full.2.2, h.2.2))
@@ -68,8 +69,8 @@ module _ (dims most : ℕ) where
 
   length_with_child : (row : Row) (at : ℕ) (b : Bounds) (new : Row) → row_length (with_child row at b new) ≡ row_length row
   length_with_child end at b new = refl
-  length_with_child (more (object bounds id) rest) zero b new = refl
-  length_with_child (more (object bounds id) rest) (suc at) b new = omega (arith, length_with_child rest at b new)
+  length_with_child (more (object kept id) rest) zero b new = refl
+  length_with_child (more (object kept id) rest) (suc at) b new = omega (arith, length_with_child rest at b new)
   length_with_child (more (child bounds page below) rest) zero b new = refl
   length_with_child (more (child bounds page below) rest) (suc at) b new = omega (arith, length_with_child rest at b new)
 
@@ -113,27 +114,27 @@ module _ (dims most : ℕ) where
         kept = low.kept;
       }))
 
-  within_row : (row : Row) (at : ℕ) (b : Bounds) (id : ℕ) → take 1 (drop at (branches_of row)) ≡ object b id ∷ [] → at < row_length row
+  within_row : (row : Row) (at : ℕ) (b : Object) (id : ℕ) → take 1 (drop at (branches_of row)) ≡ object b id ∷ [] → at < row_length row
   within_row end zero b id is = absurd (cc)
   within_row end (suc at) b id is = absurd (cc)
   within_row (more x rest) zero b id is = omega arith
   within_row (more x rest) (suc at) b id is = omega (arith, within_row rest at b id is)
 
-  takes_shaped : (top level id : ℕ) (bounds : Bounds) (row : Row) (o : Condensed) → level ≤ top → Sound dims most level row → TakesOut dims most level id bounds row o → Shaped top level row o
-  takes_shaped top zero id bounds row o fits h takes =
-      let count = length_without row takes.0 (within_row row takes.0 bounds id takes.1) in
+  takes_shaped : (top level id : ℕ) (removed : Object) (row : Row) (o : Condensed) → level ≤ top → Sound dims most level row → TakesOut dims most level id removed row o → Shaped top level row o
+  takes_shaped top zero id removed row o fits h takes =
+      let count = length_without row takes.0 (within_row row takes.0 removed id takes.1) in
       subst (Shaped top 0 row) (sym takes.2) (record { sound = sound_without 0 row takes.0 h; few = omega (arith, count); some = omega (arith, count); kept = tt })
-  takes_shaped top (suc level) id bounds row o fits h takes =
+  takes_shaped top (suc level) id removed row o fits h takes =
       let found = child_full (suc level) row takes.0 takes.1 takes.2 h in
       let down : suc level - 1 ≡ level = omega arith in
-      let low = takes_shaped top level id bounds takes.1.row takes.3 (omega (arith, fits)) (subst (λ l. Sound dims most l takes.1.row) down found.2.2) takes.4 in
+      let low = takes_shaped top level id removed takes.1.row takes.3 (omega (arith, fits)) (subst (λ l. Sound dims most l takes.1.row) down found.2.2) takes.4 in
       condensed_shaped top (suc level) row takes.0 takes.1 takes.3 o fits takes.2 h (subst (λ l. Shaped top l takes.1.row takes.3) (sym down) low) takes.5
 
   -- the root as it is written, and what is kept
-  pub cut_shaped : (id : ℕ) (bounds : Bounds) (t : Tree) (o : Condensed) → HasShape dims most t → RowHasBoxes dims t.row → TakesOut dims most t.level id bounds t.row o
+  pub cut_shaped : (id : ℕ) (removed : Object) (t : Tree) (o : Condensed) → HasShape dims most t → RowHasBoxes dims t.row → TakesOut dims most t.level id removed t.row o
       → CanFillShaped dims most (record { page = t.page; level = t.level; row = o.row }) o.kept
-  cut_shaped id bounds t o shape boxes takes =
-      let s = takes_shaped t.level t.level id bounds t.row o (omega arith) (shape.below, boxes, shape.levels) takes in
+  cut_shaped id removed t o shape boxes takes =
+      let s = takes_shaped t.level t.level id removed t.row o (omega arith) (shape.below, boxes, shape.levels) takes in
       record {
         tree = record { levels = s.sound.2; few = omega (arith, s.few, shape.few); some = λ high. omega (arith, s.some, shape.some high); below = s.sound.0 };
         boxes = s.sound.1;
@@ -158,7 +159,7 @@ module _ (dims most : ℕ) where
       (record { levels = found.2.2.2; few = found.2.1; some = λ high. omega (arith, found.2.0); below = found.2.2.0 }) found.2.2.1
 
 pub removal_keeps_shape : RemovalKeepsShape
-removal_keeps_shape dims most elsewhere id bounds old new h enough boxes shape =
-    let cut = cut_shaped dims most id bounds old h.out shape boxes h.takes_out in
+removal_keeps_shape dims most elsewhere id removed old new h enough boxes shape =
+    let cut = cut_shaped dims most id removed old h.out shape boxes h.takes_out in
     let filled = inserted_shaped dims most old.level elsewhere h.out.kept (record { page = old.page; level = old.level; row = h.out.row }) h.filled h.inserted (omega (arith, enough)) cut.kept cut.tree cut.boxes in
     gives_shaped dims most h.count h.filled new h.lowered filled.0 filled.1

@@ -4,10 +4,10 @@ use Rattle.std.specs.Prelude.{nat_lt}
 use Rattle.std.proofs.lemmas.Bool.{cases_eq}
 use Rattle.std.proofs.lemmas.Bool.Decides.{nat_tests}
 use Rattle.std.proofs.lemmas.List.{length-map, map-append, reverse-append}
-use Rattle.box_math.specs.Bounds.{Bounds}
+use Rattle.box_math.specs.Objects.{Object}
 use Rattle.page_file.specs.Pages.{SameBut}
 use Rattle.tree_node.specs.declared.node.Entry.{Entry}
-use Rattle.tree_node.specs.Boxes.{least_box}
+use Rattle.tree_node.specs.Boxes.{least_box, no_item}
 use Rattle.tree_node.specs.declared.node.Node.{Node}
 use Rattle.tree_node.specs.Nodes.{Item, NodeContent, content_of, item_of}
 use Rattle.tree_node.specs.Positions.{total}
@@ -49,9 +49,9 @@ pub occurs-waiting_on : (n level : ℕ) (xs : List Branch) → occurs_waiting n 
 occurs-waiting_on n level [] = refl
 occurs-waiting_on n level (x ∷ xs) = ap (λ k. occurs_on n x + k) (occurs-waiting_on n level xs)
 
-takes_up : (dims most level lower id : ℕ) (bounds : Bounds) (row : Row) (at : ℕ) (from : Child) (below : Condensed) → level ≡ suc lower → child_at row at ≡ Some from → TakesOut dims most lower id bounds from.row below
-    → TakesOut dims most level id bounds row (condensed dims most level row at below)
-takes_up dims most level lower id bounds row at from below up there takes = subst (λ l. TakesOut dims most l id bounds row (condensed dims most l row at below)) (sym up) (at, from, there, below, takes, refl)
+takes_up : (dims most level lower id : ℕ) (removed : Object) (row : Row) (at : ℕ) (from : Child) (below : Condensed) → level ≡ suc lower → child_at row at ≡ Some from → TakesOut dims most lower id removed from.row below
+    → TakesOut dims most level id removed row (condensed dims most level row at below)
+takes_up dims most level lower id removed row at from below up there takes = subst (λ l. TakesOut dims most l id removed row (condensed dims most l row at below)) (sym up) (at, from, there, below, takes, refl)
 
 pub leaves_is : (dims most level : ℕ) (row : Row) (at : ℕ) (below : Condensed) → row_length below.row < least_entries most
     → condensed dims most level row at below ≡ record { row = row_of (without (branches_of row) at); kept = waiting_on (level - 1) (branches_of below.row) ++ below.kept }
@@ -68,27 +68,27 @@ once_at page n = cond (eqb page n) 1 0
 -- ---- the node's own page
 
 -- what is taken out below a node leaves its page
-pub page_stays : (dims most : ℕ) (m m' : PageMap) (page level id : ℕ) (bounds : Bounds) (row : Row) (held held' : List Held) (items : List Item) → Stands dims m (record { page = page; level = level; row = row })
-    → HasTaken dims most m m' level id bounds row held held' items → m' page ≡ m page
-page_stays dims most m m' page level id bounds row held held' items stands done =
+pub page_stays : (dims most : ℕ) (m m' : PageMap) (page level id : ℕ) (removed : Object) (row : Row) (held held' : List Held) (items : List Item) → Stands dims m (record { page = page; level = level; row = row })
+    → HasTaken dims most m m' level id removed row held held' items → m' page ≡ m page
+page_stays dims most m m' page level id removed row held held' items stands done =
     rest_same m m' (λ n. occurs n row) (λ n. occurs n done.out.row + occurs_waiting n done.out.kept) (once_at page) done.moves
     (λ n. omega (arith, stands.distinct n))
     (λ n there. ⊎_elim (λ same. subst (λ k. IsSome (m k)) same (page_of_node dims (m page) _ stands.root)) (λ differs. absurd (omega (arith, there, zero_there page n differs))) (cases_eq page n))
     page (omega (arith, occurs_here page))
 
 -- and so it has the node where that is as it was
-pub settled_still : {D : ℕ} (most : ℕ) (m m' : PageMap) (page level id : ℕ) (bounds : Bounds) (row : Row) (held held' : List Held) (was : NodeContent) (n : Node D)
+pub settled_still : {D : ℕ} (most : ℕ) (m m' : PageMap) (page level id : ℕ) (removed : Object) (row : Row) (held held' : List Held) (was : NodeContent) (n : Node D)
     → Stands D m (record { page = page; level = level; row = row }) → node_in D (m page) ≡ Some was → content_of n ≡ was
-    → HasTaken D most m m' level id bounds row held held' (map item_of n.entries.items)
+    → HasTaken D most m m' level id removed row held held' (map item_of n.entries.items)
     → node_in D (m' page) ≡ Some (content_of n)
-settled_still {D} most m m' page level id bounds row held held' was n stands read same taken =
-    ap (node_in D) (page_stays D most m m' page level id bounds row held held' (map item_of n.entries.items) stands taken) ∙ read ∙ ap (λ (x : NodeContent). Some x) (sym same)
+settled_still {D} most m m' page level id removed row held held' was n stands read same taken =
+    ap (node_in D) (page_stays D most m m' page level id removed row held held' (map item_of n.entries.items) stands taken) ∙ read ∙ ap (λ (x : NodeContent). Some x) (sym same)
 
 -- ---- the node above
 
-module _ {D : ℕ} (most level lower at reference id : ℕ) (bounds : Bounds) (row : Row) (m m1 : PageMap) (page : ℕ) (held held1 : List Held) (es : List (Entry D)) (entries : List Item)
+module _ {D : ℕ} (most level lower at reference id : ℕ) (removed : Object) (row : Row) (m m1 : PageMap) (page : ℕ) (held held1 : List Held) (es : List (Entry D)) (entries : List Item)
     (stands : Stands D m (record { page = page; level = level; row = row })) (h : HasChild D m level row at) (is : reference ≡ h.from.page) (up : level ≡ suc lower) (down : lower ≡ level - 1) (are : row_items row ≡ entries)
-    (done : HasTaken D most m m1 lower id bounds h.from.row held held1 (map item_of es)) where
+    (done : HasTaken D most m m1 lower id removed h.from.row held held1 (map item_of es)) where
   -- what occurs in the node beside what lies below the child
   abbrev rest : ℕ → ℕ
   rest n = occurs n row - occurs n h.from.row
@@ -140,7 +140,7 @@ module _ {D : ℕ} (most level lower at reference id : ℕ) (bounds : Bounds) (r
 
     -- the child leaves
     pub child_leaves : length es < least_entries most → m2 reference ≡ None → after ≡ items_without entries at
-        → held2 ≡ held1 ++ reverse (map (held_with lower) es) → HasTaken D most m m2 level id bounds row held held2 after
+        → held2 ≡ held1 ++ reverse (map (held_with lower) es) → HasTaken D most m m2 level id removed row held held2 after
     child_leaves few gone written holds =
         let bs = cut (branches_of row) at in
         let cuts : without (branches_of row) at ≡ bs = cut-is (branches_of row) at in
@@ -161,8 +161,8 @@ module _ {D : ℕ} (most level lower at reference id : ℕ) (bounds : Bounds) (r
         let out : Condensed = record { row = row_of (without (branches_of row) at); kept = ks ++ done.out.kept } in
         record {
           out = out;
-          takes_out = subst (λ o. TakesOut D most level id bounds row o) (leaves_is D most level row at done.out (omega (arith, few, count)))
-              (takes_up D most level lower id bounds row at h.from done.out up h.there done.takes_out);
+          takes_out = subst (λ o. TakesOut D most level id removed row o) (leaves_is D most level row at done.out (omega (arith, few, count)))
+              (takes_up D most level lower id removed row at h.from done.out up h.there done.takes_out);
           below = row_stays D m m2 level out.row (λ n p. others n (λ same. omega (arith, p, counts n, apart n, fewer n, once_below n, ap (once_at reference) same, occurs_here reference)) ∙ keeps n (omega (arith, p, counts n))) (subst (λ xs. RowStands D m level (row_of xs)) (sym cuts) (RowStands-cut D m level (branches_of row) at (subst (λ r. RowStands D m level r) (sym (row_of-branches_of row)) stands.below)));
           kept = AllWait-append D m2 ks done.out.kept (AllWait-map D m2 (level - 1) (branches_of done.out.row)
               (subst (λ l. RowStands D m2 l (row_of (branches_of done.out.row))) down (subst (λ r. RowStands D m2 lower r) (sym (row_of-branches_of done.out.row)) low_stands))) kept_stand;
@@ -177,7 +177,7 @@ module _ {D : ℕ} (most level lower at reference id : ℕ) (bounds : Bounds) (r
 
     -- the child stays, and its box is made least
     pub child_stays : least_entries most ≤ length es → HasNode D m2 reference lower done.out.row → after ≡ set_box entries at (least_box D (map item_of es))
-        → held2 ≡ held1 → HasTaken D most m m2 level id bounds row held held2 after
+        → held2 ≡ held1 → HasTaken D most m m2 level id removed row held held2 after
     child_stays some there written holds =
         let b = least_box D (row_items done.out.row) in
         let last : Moves m1 m2 (λ n. new n + rest n) (λ n. new n + rest n) = record {
@@ -189,8 +189,8 @@ module _ {D : ℕ} (most level lower at reference id : ℕ) (bounds : Bounds) (r
         } in
         record {
           out = record { row = with_child row at b done.out.row; kept = done.out.kept };
-          takes_out = subst (λ o. TakesOut D most level id bounds row o) (stays_is D most level row at done.out (omega (arith, some, count)))
-              (takes_up D most level lower id bounds row at h.from done.out up h.there done.takes_out);
+          takes_out = subst (λ o. TakesOut D most level id removed row o) (stays_is D most level row at done.out (omega (arith, some, count)))
+              (takes_up D most level lower id removed row at h.from done.out up h.there done.takes_out);
           below = RowStands-with_child D m m2 level row at h.from b done.out.row h.there stands.below once_below (λ n p q. let z : occurs_at reference n h.from.row ≡ 0 = subst (λ k. occurs_at k n h.from.row ≡ 0) (sym is) q in others n (λ same. omega (arith, z, ap (once_at reference) same, occurs_here reference)) ∙ keeps n (omega (arith, p, z)))
               (subst (λ l. HasNode D m2 h.from.page l done.out.row) down (subst (λ k. HasNode D m2 k lower done.out.row) is there)) (subst (λ l. RowStands D m2 l done.out.row) down low_stands);
           kept = kept_stand;
@@ -202,20 +202,20 @@ module _ {D : ℕ} (most level lower at reference id : ℕ) (bounds : Bounds) (r
 -- ---- the same, from what was told of the child
 
 -- the child in the place
-pub record Lower {D : ℕ} (most : ℕ) (m m1 : PageMap) (page level id : ℕ) (bounds : Bounds) (row : Row) (at : ℕ) (held held1 : List Held) (entries : List Item) (es : List (Entry D)) (reference : ℕ) : Type 0 where
+pub record Lower {D : ℕ} (most : ℕ) (m m1 : PageMap) (page level id : ℕ) (removed : Object) (row : Row) (at : ℕ) (held held1 : List Held) (entries : List Item) (es : List (Entry D)) (reference : ℕ) : Type 0 where
   pub stands : Stands D m (record { page = page; level = level; row = row })
   pub are : row_items row ≡ entries
   pub h : HasChild D m level row at
   pub is : reference ≡ h.from.page
   pub up : level ≡ suc (level - 1)
-  pub done : HasTaken D most m m1 (level - 1) id bounds h.from.row held held1 (map item_of es)
+  pub done : HasTaken D most m m1 (level - 1) id removed h.from.row held held1 (map item_of es)
 
-pub lower : {D : ℕ} (most : ℕ) (m m1 : PageMap) (page level id : ℕ) (bounds : Bounds) (row : Row) (at : ℕ) (held held1 : List Held) (entries : List Item) (es : List (Entry D)) (reference : ℕ)
-    → TookBelow D most m m1 page level id bounds row at held held1 entries (map item_of es) → 0 < level → at < length entries → ((d : Item) → reference ≡ (get_or entries at d).reference)
-    → Lower most m m1 page level id bounds row at held held1 entries es reference
-lower {D} most m m1 page level id bounds row at held held1 entries es reference took high within refers =
+pub lower : {D : ℕ} (most : ℕ) (m m1 : PageMap) (page level id : ℕ) (removed : Object) (row : Row) (at : ℕ) (held held1 : List Held) (entries : List Item) (es : List (Entry D)) (reference : ℕ)
+    → TookBelow D most m m1 page level id removed row at held held1 entries (map item_of es) → 0 < level → at < length entries → ((d : Item) → reference ≡ (get_or entries at d).reference)
+    → Lower most m m1 page level id removed row at held held1 entries es reference
+lower {D} most m m1 page level id removed row at held held1 entries es reference took high within refers =
     let h = has_child D m level row at high (omega (arith, within, ap length took.are)) took.stands.below in
-    let d : Item = record { bounds = bounds; reference = 0 } in
+    let d = no_item in
     let same : took.from ≡ h.from = (let a = took.there in let b = h.there in cc) in
     record {
       stands = took.stands;
@@ -223,30 +223,30 @@ lower {D} most m m1 page level id bounds row at held held1 entries es reference 
       h = h;
       is = refers d ∙ ap (λ (xs : List Item). (get_or xs at d).reference) (sym took.are) ∙ h.reference d;
       up = omega (arith, high);
-      done = subst (λ (c : Child). HasTaken D most m m1 (level - 1) id bounds c.row held held1 (map item_of es)) same took.taken;
+      done = subst (λ (c : Child). HasTaken D most m m1 (level - 1) id removed c.row held held1 (map item_of es)) same took.taken;
     }
 
-pub lives : {D : ℕ} (most : ℕ) (m m1 : PageMap) (page level id : ℕ) (bounds : Bounds) (row : Row) (at : ℕ) (held held1 : List Held) (entries : List Item) (es : List (Entry D)) (reference : ℕ)
-    → Lower most m m1 page level id bounds row at held held1 entries es reference → IsSome (m1 reference)
-lives most m m1 page level id bounds row at held held1 entries es reference l =
-    child_lives most level (level - 1) at reference id bounds row m m1 page held held1 es entries l.stands l.h l.is l.up refl l.are l.done
+pub lives : {D : ℕ} (most : ℕ) (m m1 : PageMap) (page level id : ℕ) (removed : Object) (row : Row) (at : ℕ) (held held1 : List Held) (entries : List Item) (es : List (Entry D)) (reference : ℕ)
+    → Lower most m m1 page level id removed row at held held1 entries es reference → IsSome (m1 reference)
+lives most m m1 page level id removed row at held held1 entries es reference l =
+    child_lives most level (level - 1) at reference id removed row m m1 page held held1 es entries l.stands l.h l.is l.up refl l.are l.done
 
-module _ {D : ℕ} (most : ℕ) (m m1 m2 : PageMap) (page level id : ℕ) (bounds : Bounds) (row : Row) (at : ℕ) (held held1 held2 : List Held) (entries : List Item) (es : List (Entry D)) (reference : ℕ)
-    (l : Lower most m m1 page level id bounds row at held held1 entries es reference) where
+module _ {D : ℕ} (most : ℕ) (m m1 m2 : PageMap) (page level id : ℕ) (removed : Object) (row : Row) (at : ℕ) (held held1 held2 : List Held) (entries : List Item) (es : List (Entry D)) (reference : ℕ)
+    (l : Lower most m m1 page level id removed row at held held1 entries es reference) where
   pub left_ok : {A E : Type 0} (r : Result A E) (X : Type 0) (after : List Item) → X → SameBut reference m1 m2 → length es < least_entries most → OnOk r (m2 reference ≡ None)
       → OnOk r (after ≡ items_without entries at) → OnOk r (held2 ≡ held1 ++ reverse (map (held_with (level - 1)) es))
-      → OnOk r (X × HasTaken D most m m2 level id bounds row held held2 after)
+      → OnOk r (X × HasTaken D most m m2 level id removed row held held2 after)
   left_ok (Ok a) X after x others few gone written holds =
-      (x, child_leaves most level (level - 1) at reference id bounds row m m1 page held held1 es entries l.stands l.h l.is l.up refl l.are l.done m2 held2 after others few gone written holds)
+      (x, child_leaves most level (level - 1) at reference id removed row m m1 page held held1 es entries l.stands l.h l.is l.up refl l.are l.done m2 held2 after others few gone written holds)
   left_ok (Err e) X after x others few gone written holds = tt
 
   pub stayed_ok : {A E : Type 0} (r : Result A E) (X : Type 0) (after : List Item) → X → SameBut reference m1 m2 → least_entries most ≤ length es
       → (of : ℕ) → of ≡ level - 1 → OnOk r (node_in D (m2 reference) ≡ Some (record { level = of; entries = map item_of es }))
       → OnOk r (after ≡ set_box entries at (least_box D (map item_of es))) → held2 ≡ held1
-      → OnOk r (X × HasTaken D most m m2 level id bounds row held held2 after)
+      → OnOk r (X × HasTaken D most m m2 level id removed row held held2 after)
   stayed_ok (Ok a) X after x others some of low there written holds = (
     x,
-    child_stays most level (level - 1) at reference id bounds row m m1 page held held1 es entries l.stands l.h l.is l.up refl l.are l.done m2 held2 after others some
+    child_stays most level (level - 1) at reference id removed row m m1 page held held1 es entries l.stands l.h l.is l.up refl l.are l.done m2 held2 after others some
         (there ∙ ap (λ (l : ℕ). Some (let c : NodeContent = record { level = l; entries = map item_of es } in c)) low ∙ ap (λ (xs : List Item). Some (let c : NodeContent = record { level = level - 1; entries = xs } in c)) l.done.entries) written holds,
   )
   stayed_ok (Err e) X after x others some of low there written holds = tt

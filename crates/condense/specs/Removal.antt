@@ -1,7 +1,7 @@
 -- A lawful removal (Delete and CondenseTree of Guttman 1984; the order of the kept entries, and that each of them is
 -- inserted with marks of its own, are our rule, docs/RULES.md, "Removal").
 use Rattle.std.specs.Prelude.{◌≡◌, ℕ, zero, suc, ◌+◌, ◌-◌, ◌<◌, nat_lt, List, [], ◌∷◌, ◌++◌, take, drop, Some, if◌then◌else◌}
-use Rattle.box_math.specs.Bounds.{Bounds}
+use Rattle.box_math.specs.Objects.{Object}
 use Rattle.tree_node.specs.Boxes.{least_box}
 use Rattle.tree_node.specs.Rows.{Waiter, branches_of, row_of, occurs_waiting}
 use Rattle.tree_node.specs.Shape.{least_entries}
@@ -30,13 +30,13 @@ condensed dims most level row at below =
     else record { row = with_child row at (least_box dims (row_items below.row)) below.row; kept = below.kept }
 
 -- the entry of an object leaves its leaf, which lies so many levels below the node, and the nodes above it are condensed
-abbrev pub TakesOut : ℕ → ℕ → ℕ → ℕ → Bounds → Row → Condensed → Type 0
-TakesOut dims most zero id bounds row out =
-    (at : ℕ) × (take 1 (drop at (branches_of row)) ≡ object bounds id ∷ [])
+abbrev pub TakesOut : ℕ → ℕ → ℕ → ℕ → Object → Row → Condensed → Type 0
+TakesOut dims most zero id removed row out =
+    (at : ℕ) × (take 1 (drop at (branches_of row)) ≡ object removed id ∷ [])
     × (out ≡ record { row = row_of (without (branches_of row) at); kept = [] })
-TakesOut dims most (suc level) id bounds row out =
+TakesOut dims most (suc level) id removed row out =
     (at : ℕ) × (from : Child) × (child_at row at ≡ Some from)
-    × (below : Condensed) × TakesOut dims most level id bounds from.row below
+    × (below : Condensed) × TakesOut dims most level id removed from.row below
     × (out ≡ condensed dims most (suc level) row at below)
 
 -- the kept entries are inserted one after the other, each at its own level; the trees of those that are still kept stay
@@ -55,10 +55,10 @@ GivesWay (suc count) old new =
 
 -- An object is removed: its entry leaves, the nodes above are condensed, the kept entries come back, and the root gives
 -- way.
-pub record IsRemoval (dims most : ℕ) (elsewhere : ℕ → ℕ) (id : ℕ) (bounds : Bounds) (old new : Tree)
+pub record IsRemoval (dims most : ℕ) (elsewhere : ℕ → ℕ) (id : ℕ) (removed : Object) (old new : Tree)
     : Type 0 where
   pub out : Condensed
-  pub takes_out : TakesOut dims most old.level id bounds old.row out
+  pub takes_out : TakesOut dims most old.level id removed old.row out
   pub filled : Tree
   pub inserted : AreInserted dims most elsewhere out.kept
       (record { page = old.page; level = old.level; row = out.row }) filled

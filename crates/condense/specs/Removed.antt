@@ -1,7 +1,7 @@
 -- What a removal needs of the pages, and what it leaves (our rule, docs/FORMAT.md, "Trees of pages").
 use Rattle.std.specs.Prelude.{◌≡◌, ◌⊎◌, ℕ, ◌+◌, ◌*◌, ◌^◌, ◌<◌, ◌≤◌, List, [], ◌∷◌, IsSome, false, Result, IsErrAnd}
 use Rattle.std.specs.List.Sorted.{IsPermutation}
-use Rattle.box_math.specs.Bounds.{Bounds}
+use Rattle.box_math.specs.Objects.{Object}
 use Rattle.page_file.specs.Fault.{IsOfDevice}
 use Rattle.page_file.specs.declared.fault.Fault.TheVariants as fault
 use Rattle.tree_node.specs.declared.node.Root.{Root}
@@ -31,12 +31,12 @@ pub record CanRemove (dims : ℕ) (m : PageMap) (root : Root) (t : Tree) (elsewh
 
 -- A tree stands at the root, which a lawful removal leads to. Pages that are in neither tree stay; those that came in
 -- were not live, and those that went are no longer live.
-pub record RemovesTo (dims most : ℕ) (m m' : PageMap) (elsewhere : ℕ → ℕ) (id : ℕ) (bounds : Bounds) (t : Tree)
+pub record RemovesTo (dims most : ℕ) (m m' : PageMap) (elsewhere : ℕ → ℕ) (id : ℕ) (removed : Object) (t : Tree)
     (root : Root) : Type 0 where
   pub new : Tree
   pub at : IsRootOf root new
   pub stands : Stands dims m' new
-  pub removal : IsRemoval dims most elsewhere id bounds t new
+  pub removal : IsRemoval dims most elsewhere id removed t new
   pub moves : Moves m m' (λ n. occurs_in n t) (λ n. occurs_in n new)
 
 -- By how many pages the live ones grow at most: a removal keeps up to 39 entries of each of 40 levels, and inserts each
@@ -46,9 +46,9 @@ most_removal_pages = 1560 * most_new_pages
 
 -- the tree stood at the root, and the object was taken out below it; what the root has become is in hand
 pub record TookOut (dims most : ℕ) (m m' : PageMap) (root : Root) (t : Tree) (elsewhere : ℕ → ℕ) (id : ℕ)
-    (bounds : Bounds) (held : List Held) (items : List Item) : Type 0 where
+    (removed : Object) (held : List Held) (items : List Item) : Type 0 where
   pub can : CanRemove dims m root t elsewhere
-  pub taken : HasTaken dims most m m' t.level id bounds t.row [] held items
+  pub taken : HasTaken dims most m m' t.level id removed t.row [] held items
 
 -- no object was removed and no page touched: the root's page is answered as damaged, unless memory or the device
 -- refused before
@@ -60,13 +60,13 @@ IsRefused page result = IsErrAnd result (λ b. (b.touched ≡ false) × (IsOfDev
 -- the old tree has the objects of the new one, and the one that was removed
 abbrev pub RemovalKeepsObjects : Type 0
 RemovalKeepsObjects =
-    (dims most : ℕ) (elsewhere : ℕ → ℕ) (id : ℕ) (bounds : Bounds) (old new : Tree)
-    → IsRemoval dims most elsewhere id bounds old new
-    → IsPermutation ((id, bounds) ∷ objects_in new.row) (objects_in old.row)
+    (dims most : ℕ) (elsewhere : ℕ → ℕ) (id : ℕ) (removed : Object) (old new : Tree)
+    → IsRemoval dims most elsewhere id removed old new
+    → IsPermutation ((id, removed) ∷ objects_in new.row) (objects_in old.row)
 
 -- a tree of the shape of an R-tree keeps that shape
 abbrev pub RemovalKeepsShape : Type 0
 RemovalKeepsShape =
-    (dims most : ℕ) (elsewhere : ℕ → ℕ) (id : ℕ) (bounds : Bounds) (old new : Tree)
-    → IsRemoval dims most elsewhere id bounds old new → 4 ≤ most → RowHasBoxes dims old.row
+    (dims most : ℕ) (elsewhere : ℕ → ℕ) (id : ℕ) (removed : Object) (old new : Tree)
+    → IsRemoval dims most elsewhere id removed old new → 4 ≤ most → RowHasBoxes dims old.row
     → HasShape dims most old → HasShape dims most new × RowHasBoxes dims new.row

@@ -1,7 +1,7 @@
 //! The entries that a removal keeps to insert them again: their types, and what their fields keep.
 
 ghost use Rattle.std.specs.Prelude.{All};
-ghost use Rattle.node_page.specs.Layout.{IsReference};
+ghost use Rattle.node_page.specs.Layout.{IsOfLevel};
 
 mod list;
 
@@ -20,5 +20,5 @@ pub(crate) struct Orphan<const D: usize> {
 pub struct Kept<const D: usize> {
     // the first to be inserted is the last
     orphans: ArrayVec<Orphan<D>, 1560>,
-    ghost refers: { All (λ o. IsReference o.level o.entry.reference) orphans.items },
+    ghost refers: { All (λ o. IsOfLevel o.level o.entry.reference o.entry.tag) orphans.items },
 }

@@ -20,19 +20,25 @@ use std::alloc::Allocator;
 use tree_node::Node;
 
 // Where a leaf has the object first.
-fn position_of<const D: usize>(leaf: &NodeView<D>, id: u64, bounds: &BBox<D>) -> Option<usize>
+fn position_of<const D: usize>(
+    leaf: &NodeView<D>,
+    id: u64,
+    bounds: &BBox<D>,
+    tag: u32,
+) -> Option<usize>
     ensures within { IfSome result (λ at. at < length (content_in leaf.now).entries) }
     ensures found { IfSome result (λ at. (d : Item) → slice_index_or (content_in leaf.now).entries at d
-        ≡ record { bounds = bounds.now; reference = id }) }
+        ≡ record { bounds = bounds.now; reference = id; tag = tag }) }
     ensures none { IfNone result ((at : ℕ) (d : Item) → at < length (content_in leaf.now).entries
-        → ¬ (slice_index_or (content_in leaf.now).entries at d ≡ record { bounds = bounds.now; reference = id })) }
+        → ¬ (slice_index_or (content_in leaf.now).entries at d
+        ≡ record { bounds = bounds.now; reference = id; tag = tag })) }
 {
     let _ = bounds.low();
     let mask = leaf.mask(bounds);
     let mut place = next_set(mask, 0);
     'entries: while place < leaf.len() {
         let entry = leaf.entry(place);
-        if entry.reference == id && entry.bounds == *bounds {
+        if entry.reference == id && entry.tag == tag && entry.bounds == *bounds {
             return Some(place);
         }
         place = next_set(mask, place + 1);
@@ -47,6 +53,7 @@ pub(crate) fn take_here<const D: usize, B: BlockDevice, A: Allocator + Copy>(
     page: u32,
     id: u64,
     bounds: &BBox<D>,
+    tag: u32,
     node: &mut Node<D>,
 ) -> Result<bool, Fault>
     requires dims { IsDims D }
@@ -54,16 +61,16 @@ pub(crate) fn take_here<const D: usize, B: BlockDevice, A: Allocator + Copy>(
     ensures cut { IfOk result (λ found. found ≡ true → IsCut 0 (content_of node.new)) }
     ensures taken { IsHonest cache.old → (c : NodeContent) → node_in D (pages cache.old page) ≡ Some c
         → IfOk result (λ found. found ≡ true
-        → IsTakenFrom id bounds.now c.entries (map item_of node.new.entries.items)) }
+        → IsTakenFrom id (bounds.now, tag) c.entries (map item_of node.new.entries.items)) }
     ensures none { IsHonest cache.old → (c : NodeContent) → node_in D (pages cache.old page) ≡ Some c
         → IfOk result (λ found. found ≡ false → (at : ℕ) (d : Item) → at < length c.entries
-        → ¬ (slice_index_or c.entries at d ≡ record { bounds = bounds.now; reference = id })) }
+        → ¬ (slice_index_or c.entries at d ≡ record { bounds = bounds.now; reference = id; tag = tag })) }
     ensures there { IsHonest cache.old → (c : NodeContent) → node_in D (pages cache.old page) ≡ Some c
         → c.level ≡ 0 → IfErr result IsOfDevice }
     ensures other_faults { IfErr result (λ f. IsOfDevice f ⊎ IsDamage f) }
 {
     let leaf = view_node::<D, B, A>(cache, page, 0)?;
-    let Some(place) = position_of(&leaf, id, bounds) else {
+    let Some(place) = position_of(&leaf, id, bounds, tag) else {
         return Ok(false);
     };
     leaf.decode_into(node);

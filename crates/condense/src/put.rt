@@ -3,7 +3,8 @@
 ghost use Rattle.std.specs.Prelude.{◌≡◌, ◌+◌, ◌*◌, ◌-◌, ◌<◌, ◌≤◌, ◌++◌, ℕ, List, IfErr, None, Some};
 ghost use Rattle.std.specs.Prelude.{◌⊎◌, OnOk, map, reverse, true};
 ghost use Rattle.arrayvec.specs.ArrayVec.{array_vec_len};
-ghost use Rattle.box_math.specs.Bounds.{Bounds, IsDims};
+ghost use Rattle.box_math.specs.Bounds.{IsDims};
+ghost use Rattle.box_math.specs.Objects.{Object};
 ghost use Rattle.page_file.specs.Fault.{IsDamage, IsOfDevice};
 ghost use Rattle.page_file.specs.Pages.{SameBut};
 ghost use Rattle.page_file.specs.declared.gate.Gate.TheVariants.{Open};
@@ -60,15 +61,17 @@ pub(crate) fn put_child<const D: usize, B: BlockDevice, A: Allocator + Copy>(
     ensures grows { Grows 0 cache.old cache.new }
     ensures cut { OnOk result (IsCut node.old.level (content_of node.new)) }
     ensures room { array_vec_len kept.new.orphans ≤ array_vec_len kept.old.orphans + 39 }
-    ensures taken { IsPageMap cache.old → (m : PageMap) (page id : ℕ) (bounds : Bounds) (row : Row) (held : List Held)
-        → TookBelow D m_max m (pages cache.old) page node.old.level id bounds row place held (held_now kept.old)
+    ensures taken { IsPageMap cache.old → (m : PageMap) (page id : ℕ) (removed : Object) (row : Row)
+        (held : List Held)
+        → TookBelow D m_max m (pages cache.old) page node.old.level id removed row place held (held_now kept.old)
         (map item_of node.old.entries.items) (map item_of lower.now.entries.items)
         → IsSettledBelow D (pages cache.old) (map item_of node.old.entries.items) place (content_of lower.now)
         settled.old
         → OnOk result (IsPageMap cache.new × HasTaken D m_max m (pages cache.new)
-        node.old.level id bounds row held (held_now kept.new) (map item_of node.new.entries.items)) }
-    ensures faults { IsPageMap cache.old → (m : PageMap) (page id : ℕ) (bounds : Bounds) (row : Row) (held : List Held)
-        → TookBelow D m_max m (pages cache.old) page node.old.level id bounds row place held (held_now kept.old)
+        node.old.level id removed row held (held_now kept.new) (map item_of node.new.entries.items)) }
+    ensures faults { IsPageMap cache.old → (m : PageMap) (page id : ℕ) (removed : Object) (row : Row)
+        (held : List Held)
+        → TookBelow D m_max m (pages cache.old) page node.old.level id removed row place held (held_now kept.old)
         (map item_of node.old.entries.items) (map item_of lower.now.entries.items)
         → IsSettledBelow D (pages cache.old) (map item_of node.old.entries.items) place (content_of lower.now)
         settled.old

@@ -4,7 +4,8 @@ ghost use Rattle.std.specs.Prelude.{◌≡◌, ◌*◌, ◌<◌, ◌≤◌, ◌�
 ghost use Rattle.std.specs.List.{Contains};
 ghost use Rattle.std.specs.List.Sorted.{IsPermutation};
 ghost use Rattle.arrayvec.specs.ArrayVec.{array_vec_len};
-ghost use Rattle.box_math.specs.Bounds.{Bounds, IsDims};
+ghost use Rattle.box_math.specs.Bounds.{IsDims};
+ghost use Rattle.box_math.specs.Objects.{Object};
 ghost use Rattle.page_file.specs.declared.gate.Gate.TheVariants.{Open};
 ghost use Rattle.page_cache.specs.Cache.{Grows, IsPageMap, gate_of, pages};
 ghost use Rattle.page_cache.specs.Calls.{Changes};
@@ -34,7 +35,8 @@ use reinsert::Waiting;
 use std::alloc::Allocator;
 use tree_node::{Node, Root};
 
-/// Removes the object with that identifier and box from the tree at that root (docs/RULES.md). The gate has to be open.
+/// Removes the object of that identifier, box and tag from the tree at that root (docs/RULES.md). The gate has to be
+/// open.
 ///
 /// Where the map is sound and the pages stand for a tree at the root, they stand after `Ok` for a tree that a lawful
 /// removal leads to. Pages outside of these trees stay, those that came in were not live, and those that went are no
@@ -50,6 +52,7 @@ pub fn remove<const D: usize, B: BlockDevice, A: Allocator + Copy, H: Allocator 
     root: Root,
     id: u64,
     bounds: &BBox<D>,
+    tag: u32,
     m_max: usize,
 ) -> Result<Root, Broken>
     requires dims { IsDims D }
@@ -61,22 +64,22 @@ pub fn remove<const D: usize, B: BlockDevice, A: Allocator + Copy, H: Allocator 
     ensures root { IfOk result IsRoot }
     ensures removed { IsPageMap cache.old → (t : Tree) (elsewhere : ℕ → ℕ)
         → CanRemove D (pages cache.old) root t elsewhere → IfOk result (λ after. IsPageMap cache.new
-        × RemovesTo D m_max (pages cache.old) (pages cache.new) elsewhere id bounds.now t after) }
+        × RemovesTo D m_max (pages cache.old) (pages cache.new) elsewhere id (bounds.now, tag) t after) }
     ensures shape { IsPageMap cache.old → (t : Tree) (elsewhere : ℕ → ℕ)
         → CanRemove D (pages cache.old) root t elsewhere → HasShape D m_max t → RowHasBoxes D t.row
         → IfOk result (λ after. (new : Tree) → IsRootOf after new → Stands D (pages cache.new) new
-        → HasShape D m_max new × IsPermutation ((id, bounds.now) ∷ objects_in new.row) (objects_in t.row)) }
+        → HasShape D m_max new × IsPermutation ((id, (bounds.now, tag)) ∷ objects_in new.row) (objects_in t.row)) }
     ensures absent { IsPageMap cache.old → (t : Tree) (elsewhere : ℕ → ℕ)
-        → CanRemove D (pages cache.old) root t elsewhere → ¬ Contains (objects_in t.row) (id, bounds.now)
+        → CanRemove D (pages cache.old) root t elsewhere → ¬ Contains (objects_in t.row) (id, (bounds.now, tag))
         → IsRefused root.page result }
     ensures faults { IsPageMap cache.old → (t : Tree) (elsewhere : ℕ → ℕ)
         → CanRemove D (pages cache.old) root t elsewhere → HasShape D m_max t → RowHasBoxes D t.row
-        → Contains (objects_in t.row) (id, bounds.now) → IfErr result (λ b. IsNoDamage cache.new b.cause) }
+        → Contains (objects_in t.row) (id, (bounds.now, tag)) → IfErr result (λ b. IsNoDamage cache.new b.cause) }
     ensures other_faults { IfErr result (λ b. IsChangeFault b.cause) }
 {
     let mut waiting = Waiting::make(alloc)?;
     let mut kept = Kept::make(alloc)?;
-    remove_with(cache, root, id, bounds, m_max, &mut waiting, &mut kept)
+    remove_with(cache, root, id, bounds, tag, m_max, &mut waiting, &mut kept)
 }
 
 /// Removes an object as `remove` does, and takes no memory but what the cache takes. The `Waiting` and the `Kept` serve
@@ -86,6 +89,7 @@ pub fn remove_with<const D: usize, B: BlockDevice, A: Allocator + Copy>(
     root: Root,
     id: u64,
     bounds: &BBox<D>,
+    tag: u32,
     m_max: usize,
     waiting: &mut Waiting<D>,
     kept: &mut Kept<D>,
@@ -99,17 +103,17 @@ pub fn remove_with<const D: usize, B: BlockDevice, A: Allocator + Copy>(
     ensures root { IfOk result IsRoot }
     ensures removed { IsPageMap cache.old → (t : Tree) (elsewhere : ℕ → ℕ)
         → CanRemove D (pages cache.old) root t elsewhere → IfOk result (λ after. IsPageMap cache.new
-        × RemovesTo D m_max (pages cache.old) (pages cache.new) elsewhere id bounds.now t after) }
+        × RemovesTo D m_max (pages cache.old) (pages cache.new) elsewhere id (bounds.now, tag) t after) }
     ensures shape { IsPageMap cache.old → (t : Tree) (elsewhere : ℕ → ℕ)
         → CanRemove D (pages cache.old) root t elsewhere → HasShape D m_max t → RowHasBoxes D t.row
         → IfOk result (λ after. (new : Tree) → IsRootOf after new → Stands D (pages cache.new) new
-        → HasShape D m_max new × IsPermutation ((id, bounds.now) ∷ objects_in new.row) (objects_in t.row)) }
+        → HasShape D m_max new × IsPermutation ((id, (bounds.now, tag)) ∷ objects_in new.row) (objects_in t.row)) }
     ensures absent { IsPageMap cache.old → (t : Tree) (elsewhere : ℕ → ℕ)
-        → CanRemove D (pages cache.old) root t elsewhere → ¬ Contains (objects_in t.row) (id, bounds.now)
+        → CanRemove D (pages cache.old) root t elsewhere → ¬ Contains (objects_in t.row) (id, (bounds.now, tag))
         → IsRefused root.page result }
     ensures faults { IsPageMap cache.old → (t : Tree) (elsewhere : ℕ → ℕ)
         → CanRemove D (pages cache.old) root t elsewhere → HasShape D m_max t → RowHasBoxes D t.row
-        → Contains (objects_in t.row) (id, bounds.now) → IfErr result (λ b. IsNoDamage cache.new b.cause) }
+        → Contains (objects_in t.row) (id, (bounds.now, tag)) → IfErr result (λ b. IsNoDamage cache.new b.cause) }
     ensures other_faults { IfErr result (λ b. IsChangeFault b.cause) }
 {
     kept.begin();
@@ -123,6 +127,7 @@ pub fn remove_with<const D: usize, B: BlockDevice, A: Allocator + Copy>(
         root,
         id,
         bounds,
+        tag,
         m_max,
         kept,
         &mut settled,
@@ -155,14 +160,16 @@ fn put_root<const D: usize, B: BlockDevice, A: Allocator + Copy>(
     ensures changes { Changes cache.old cache.new result }
     ensures grows { Grows (most_new_pages * array_vec_len kept.old.orphans) cache.old cache.new }
     ensures root { IfOk result IsRoot }
-    ensures removed { IsPageMap cache.old → (m : PageMap) (t : Tree) (elsewhere : ℕ → ℕ) (id : ℕ) (bounds : Bounds)
-        → TookOut D m_max m (pages cache.old) root t elsewhere id bounds (held_now kept.old)
+    ensures removed { IsPageMap cache.old → (m : PageMap) (t : Tree) (elsewhere : ℕ → ℕ) (id : ℕ)
+        (removed : Object)
+        → TookOut D m_max m (pages cache.old) root t elsewhere id removed (held_now kept.old)
         (map item_of node.now.entries.items)
         → (settled ≡ true → node_in D (pages cache.old root.page) ≡ Some (content_of node.now))
         → IfOk result (λ after. IsPageMap cache.new
-        × RemovesTo D m_max m (pages cache.new) elsewhere id bounds t after) }
-    ensures faults { IsPageMap cache.old → (m : PageMap) (t : Tree) (elsewhere : ℕ → ℕ) (id : ℕ) (bounds : Bounds)
-        → TookOut D m_max m (pages cache.old) root t elsewhere id bounds (held_now kept.old)
+        × RemovesTo D m_max m (pages cache.new) elsewhere id removed t after) }
+    ensures faults { IsPageMap cache.old → (m : PageMap) (t : Tree) (elsewhere : ℕ → ℕ) (id : ℕ)
+        (removed : Object)
+        → TookOut D m_max m (pages cache.old) root t elsewhere id removed (held_now kept.old)
         (map item_of node.now.entries.items)
         → (settled ≡ true → node_in D (pages cache.old root.page) ≡ Some (content_of node.now))
         → HasShape D m_max t → RowHasBoxes D t.row

@@ -36,6 +36,7 @@ pub(crate) fn take_out<const D: usize, B: BlockDevice, A: Allocator + Copy>(
     at: Root,
     id: u64,
     bounds: &BBox<D>,
+    tag: u32,
     m_max: usize,
     kept: &mut Kept<D>,
     settled: &mut bool,
@@ -53,22 +54,22 @@ pub(crate) fn take_out<const D: usize, B: BlockDevice, A: Allocator + Copy>(
         × (kept.new.orphans.items ≡ kept.old.orphans.items)) }
     ensures taken { IsPageMap cache.old → (row : Row) → Stands D (pages cache.old) (tree_at at row)
         → IfOk result (λ found. found ≡ true → IsPageMap cache.new × HasTaken D m_max (pages cache.old)
-        (pages cache.new) at.level id bounds.now row (held_now kept.old) (held_now kept.new)
+        (pages cache.new) at.level id (bounds.now, tag) row (held_now kept.old) (held_now kept.new)
         (map item_of node.new.entries.items)) }
     ensures settled { IsPageMap cache.old → (row : Row) → Stands D (pages cache.old) (tree_at at row)
         → settled.new ≡ true → IfOk result (λ found. found ≡ true
         → node_in D (pages cache.new at.page) ≡ Some (content_of node.new)) }
     ensures found { IsPageMap cache.old → (row : Row) → Stands D (pages cache.old) (tree_at at row)
-        → LeadsTo D id bounds.now row → IfOk result (λ found. found ≡ true) }
+        → LeadsTo D id (bounds.now, tag) row → IfOk result (λ found. found ≡ true) }
     ensures absent { IsPageMap cache.old → (row : Row) → Stands D (pages cache.old) (tree_at at row)
-        → ¬ Contains (objects_in row) (id, bounds.now) → IfErr result (λ b. b.touched ≡ false) }
+        → ¬ Contains (objects_in row) (id, (bounds.now, tag)) → IfErr result (λ b. b.touched ≡ false) }
     ensures faults { IsPageMap cache.old → (row : Row) → Stands D (pages cache.old) (tree_at at row)
         → IfErr result (λ b. IsOfDevice b.cause) }
     ensures other_faults { IfErr result (λ b. IsOfDevice b.cause ⊎ IsDamage b.cause) }
 {
     if at.level == 0 {
         *settled = false;
-        return Ok(take_here(cache, at.page, id, bounds, node)?);
+        return Ok(take_here(cache, at.page, id, bounds, tag, node)?);
     }
     let Some(first) = read_enclosing(cache, at, bounds, node)? else {
         return Ok(false);
@@ -82,7 +83,9 @@ pub(crate) fn take_out<const D: usize, B: BlockDevice, A: Allocator + Copy>(
             continue;
         }
         let below = child_of(node, place);
-        let taken = take_out(cache, below, id, bounds, m_max, kept, settled, &mut lower)?;
+        let taken = take_out(
+            cache, below, id, bounds, tag, m_max, kept, settled, &mut lower,
+        )?;
         if !taken {
             continue;
         }

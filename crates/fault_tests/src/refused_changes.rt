@@ -27,7 +27,7 @@ const MADE: [&[Command]; 3] = [&TWO, &FIVE, &EMPTY];
 const CHANGES: [Command; 6] = [
     Command::Create(b"r", 2, 4),
     Command::Insert(b"l", 6, RawBox::Two([11, 0], [11, 0])),
-    Command::Load(b"u", &[(1, RawBox::Two([0, 0], [1, 1]))]),
+    Command::Load(b"u", &[(1, RawBox::Two([0, 0], [1, 1]), 0)]),
     Command::Move(b"l", 3, RawBox::Two([9, 0], [9, 0])),
     Command::Delete(b"l", 1),
     Command::Drop(b"l"),

@@ -1,48 +1,49 @@
 -- An object more in a chain, and in the table.
 use Rattle.std.proofs.Common.{◌≡◌, ◌∙◌, ℕ, ◌+◌, ◌<◌, ◌≤◌, All, drop, is_some, rules, Bool, true, false, cond, eqb, Option, Some, None, IsSome, List, [], ◌∷◌, ◌++◌, length, sum_by, refl, sym, ap, subst, ⊎_elim, arith}
+use Rattle.box_math.specs.Objects.{Object}
+use Rattle.bucket_page.specs.Layout.{Entry}
 use Rattle.std.proofs.lemmas.Bool.{cases_eq}
 use Rattle.std.proofs.lemmas.Bool.Decides.{nat_tests}
 use Rattle.std.proofs.lemmas.List.Elements.{All-cons, All-head, All-tail}
 use Rattle.std.specs.FinMap as map
-use Rattle.box_math.specs.Bounds.{Bounds}
 use Rattle.node_page.specs.Standing.{PageMap}
-use Rattle.id_table.specs.Table.{Bucket, ChainStands, IdTable, IdsStand, Object, box_in, chain_at, class_of, entries_in, link_at, objects_of, occurs_in_chain, occurs_in_ids, times_in}
+use Rattle.id_table.specs.Table.{Bucket, ChainStands, IdTable, IdsStand, kept_in, chain_at, class_of, entries_in, link_at, objects_of, occurs_in_chain, occurs_in_ids, times_in}
 use Rattle.id_table.specs.Pages.{BeginsFull, HasObject, PutsBefore}
 use Rattle.node_page.proofs.PartLemmas.{there_not_missing}
 use Rattle.id_table.proofs.ReplaceLemmas.{Replaces, chain_stays}
 use Rattle.id_table.proofs.TableLemmas.{chain_in_table, found_by_class, not_there, occurs_here, table_there}
 
 -- objects with one more, wherever it is put
-pub one_more : (q : ℕ) (x : Object) (xs ys : List Object) → box_in x.0 (xs ++ ys) ≡ None → box_in q (xs ++ x ∷ ys) ≡ cond (eqb x.0 q) (Some x.1) (box_in q (xs ++ ys))
+pub one_more : (q : ℕ) (x : Entry) (xs ys : List Entry) → kept_in x.0 (xs ++ ys) ≡ None → kept_in q (xs ++ x ∷ ys) ≡ cond (eqb x.0 q) (Some x.1) (kept_in q (xs ++ ys))
 one_more q x [] ys none = refl
-one_more q x (y ∷ xs) ys none = step (eqb y.0 x.0) (eqb y.0 q) (eqb x.0 q) (box_in x.0 (xs ++ ys)) (box_in q (xs ++ ys)) (box_in q (xs ++ x ∷ ys)) (differ y.0 x.0 q) (one_more q x xs ys) none
+one_more q x (y ∷ xs) ys none = step (eqb y.0 x.0) (eqb y.0 q) (eqb x.0 q) (kept_in x.0 (xs ++ ys)) (kept_in q (xs ++ ys)) (kept_in q (xs ++ x ∷ ys)) (differ y.0 x.0 q) (one_more q x xs ys) none
   where
     differ : (a b q : ℕ) → eqb a b ≡ false → eqb a q ≡ true → eqb b q ≡ false
     differ a b q h k = grind (arith, nat_tests)
 
-    step : (yx yq xq : Bool) (there rest all : Option Bounds) → (yx ≡ false → yq ≡ true → xq ≡ false) → (there ≡ None → all ≡ cond xq (Some x.1) rest) → cond yx (Some y.1) there ≡ None
+    step : (yx yq xq : Bool) (there rest all : Option Object) → (yx ≡ false → yq ≡ true → xq ≡ false) → (there ≡ None → all ≡ cond xq (Some x.1) rest) → cond yx (Some y.1) there ≡ None
         → cond yq (Some y.1) all ≡ cond xq (Some x.1) (cond yq (Some y.1) rest)
     step true yq xq there rest all apart later e = absurd (cc)
     step false true xq there rest all apart later e = let no = apart refl refl in rw no refl
     step false false xq there rest all apart later e = later e
 
-pub times_more : (q : ℕ) (x : Object) (xs ys : List Object) → times_in q (xs ++ x ∷ ys) ≡ (cond (eqb x.0 q) 1 0) + times_in q (xs ++ ys)
+pub times_more : (q : ℕ) (x : Entry) (xs ys : List Entry) → times_in q (xs ++ x ∷ ys) ≡ (cond (eqb x.0 q) 1 0) + times_in q (xs ++ ys)
 times_more q x [] ys = refl
 times_more q x (y ∷ xs) ys = omega (arith, times_more q x xs ys)
 
-pub none_times : (q : ℕ) (xs : List Object) → box_in q xs ≡ None → times_in q xs ≡ 0
+pub none_times : (q : ℕ) (xs : List Entry) → kept_in q xs ≡ None → times_in q xs ≡ 0
 none_times q [] none = refl
-none_times q (x ∷ xs) none = step (eqb x.0 q) (box_in q xs) (times_in q xs) (none_times q xs) none
+none_times q (x ∷ xs) none = step (eqb x.0 q) (kept_in q xs) (times_in q xs) (none_times q xs) none
   where
-    step : (b : Bool) (there : Option Bounds) (n : ℕ) → (there ≡ None → n ≡ 0) → cond b (Some x.1) there ≡ None → (cond b 1 0) + n ≡ 0
+    step : (b : Bool) (there : Option Object) (n : ℕ) → (there ≡ None → n ≡ 0) → cond b (Some x.1) there ≡ None → (cond b 1 0) + n ≡ 0
     step true there n later e = absurd (cc)
     step false there n later e = omega (arith, later e)
 
 -- an object that the table does not have is not in its chain
-pub not_in_chain : (dims : ℕ) (pages : PageMap) (t : IdTable) (id : ℕ) → IdsStand dims pages t → map.contains_key (objects_of t) id ≡ false → box_in id (entries_in (chain_at t (class_of id))) ≡ None
+pub not_in_chain : (dims : ℕ) (pages : PageMap) (t : IdTable) (id : ℕ) → IdsStand dims pages t → map.contains_key (objects_of t) id ≡ false → kept_in id (entries_in (chain_at t (class_of id))) ≡ None
 not_in_chain dims pages t id stands absent = sym (found_by_class t id stands.whole stands.filled) ∙ is_none (map.get (objects_of t) id) absent
   where
-    is_none : (b : Option Bounds) → is_some b ≡ false → b ≡ None
+    is_none : (b : Option Object) → is_some b ≡ false → b ≡ None
     is_none None e = refl
     is_none (Some x) e = absurd (cc)
 
@@ -50,13 +51,13 @@ not_in_chain dims pages t id stands absent = sym (found_by_class t id stands.who
 pub in_chain : (dims : ℕ) (pages : PageMap) (t : IdTable) (id : ℕ) → IdsStand dims pages t → map.contains_key (objects_of t) id ≡ true → HasObject id (chain_at t (class_of id))
 in_chain dims pages t id stands there = subst IsSome (found_by_class t id stands.whole stands.filled) there
 
-pub all_more : (P : Object → Type 0) (x : Object) (xs ys : List Object) → All P (xs ++ ys) → P x → All P (xs ++ x ∷ ys)
+pub all_more : (P : Entry → Type 0) (x : Entry) (xs ys : List Entry) → All P (xs ++ ys) → P x → All P (xs ++ x ∷ ys)
 all_more P x [] ys all here = All-cons P x ys here all
 all_more P x (y ∷ xs) ys all here = All-cons P y (xs ++ x ∷ ys) (All-head P y (xs ++ ys) all) (all_more P x xs ys (All-tail P y (xs ++ ys) all) here)
 
-pub single_more : (id : ℕ) (x : Object) (xs ys : List Object) → times_in id (xs ++ ys) ≤ 1 → box_in x.0 (xs ++ ys) ≡ None → times_in id (xs ++ x ∷ ys) ≤ 1
+pub single_more : (id : ℕ) (x : Entry) (xs ys : List Entry) → times_in id (xs ++ ys) ≤ 1 → kept_in x.0 (xs ++ ys) ≡ None → times_in id (xs ++ x ∷ ys) ≤ 1
 single_more id x xs ys single none = ⊎_elim
-    (λ (is : x.0 ≡ id). let zero_times = none_times id (xs ++ ys) (subst (λ k. box_in k (xs ++ ys) ≡ None) is none) in let few = at_most (eqb x.0 id) in omega (arith, zero_times, few, times_more id x xs ys))
+    (λ (is : x.0 ≡ id). let zero_times = none_times id (xs ++ ys) (subst (λ k. kept_in k (xs ++ ys) ≡ None) is none) in let few = at_most (eqb x.0 id) in omega (arith, zero_times, few, times_more id x xs ys))
     (λ (other : ¬ (x.0 ≡ id)). let no = not_there x.0 id other in omega (arith, no, single, times_more id x xs ys))
     (cases_eq x.0 id)
   where
@@ -77,11 +78,11 @@ all_full : (chain : List Bucket) → BeginsFull chain → All (λ b. length b.en
 all_full [] first rest = search rules
 all_full (b ∷ bs) first rest = All-cons (λ (b : Bucket). length b.entries ≡ 100) b bs first rest
 
-pub all_both : (P : Object → Type 0) (xs ys : List Object) → All P xs → All P ys → All P (xs ++ ys)
+pub all_both : (P : Entry → Type 0) (xs ys : List Entry) → All P xs → All P ys → All P (xs ++ ys)
 all_both P [] ys here there = there
 all_both P (x ∷ xs) ys here there = All-cons P x (xs ++ ys) (All-head P x xs here) (all_both P xs ys (All-tail P x xs here) there)
 
-pub replaced_before : (dims : ℕ) (old new : PageMap) (t : IdTable) (class first : ℕ) (es : List Object) → (stands : IdsStand dims old t) → class < 1000 → first ≡ link_at class stands.directory
+pub replaced_before : (dims : ℕ) (old new : PageMap) (t : IdTable) (class first : ℕ) (es : List Entry) → (stands : IdsStand dims old t) → class < 1000 → first ≡ link_at class stands.directory
     → (put : PutsBefore dims old new t.page class first es stands.directory) → BeginsFull (chain_at t class) → All (λ object. class_of object.0 ≡ class) es
     → ((id : ℕ) → times_in id (es ++ entries_in (chain_at t class)) ≤ 1) → Replaces dims old new t stands.directory class (record { page = put.number; entries = es } ∷ chain_at t class)
 replaced_before dims old new t class first es stands small link put full placed single =
@@ -110,7 +111,7 @@ replaced_before dims old new t class first es stands small link put full placed 
       links = put.link.others;
       filled = record {
         full = all_full chain full (stands.filled class small).full;
-        placed = all_both (λ (object : Object). class_of object.0 ≡ class) es (entries_in chain) placed (stands.filled class small).placed;
+        placed = all_both (λ (object : Entry). class_of object.0 ≡ class) es (entries_in chain) placed (stands.filled class small).placed;
         single = single;
       };
       others = λ n off gone none. put.others n (λ is. let here : ◌≡◌ {A = ℕ} (cond (eqb put.number n) 1 0) 1 = ap (λ k. cond (eqb put.number k) 1 0) is ∙ occurs_here put.number in omega (arith, here, none)) off;
@@ -124,7 +125,7 @@ replaced_before dims old new t class first es stands small link put full placed 
     }
 
 -- the same, from pages that are equal
-pub puts_from : (dims : ℕ) (old mid new : PageMap) (directory class first : ℕ) (es : List Object) (page : List ℕ) → ((n : ℕ) → mid n ≡ old n)
+pub puts_from : (dims : ℕ) (old mid new : PageMap) (directory class first : ℕ) (es : List Entry) (page : List ℕ) → ((n : ℕ) → mid n ≡ old n)
     → PutsBefore dims mid new directory class first es page → PutsBefore dims old new directory class first es page
 puts_from dims old mid new directory class first es page same put = record {
   number = put.number;

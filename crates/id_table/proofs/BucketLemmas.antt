@@ -3,12 +3,12 @@ use Rattle.std.proofs.Common.{◌≡◌, ◌∙◌, ℕ, ◌+◌, ◌<◌, Resul
 use Rattle.std.proofs.lemmas.Bool.Decides.{nat_tests}
 use Rattle.std.proofs.lemmas.List.{drop_more}
 use Rattle.box_math.specs.Bounds.{origin_box}
-use Rattle.bucket_page.specs.Layout.{BucketContent, bucket_at}
-use Rattle.id_table.specs.Table.{Object, box_in, bucket_in}
+use Rattle.bucket_page.specs.Layout.{BucketContent, bucket_at, Entry}
+use Rattle.id_table.specs.Table.{kept_in, bucket_in}
 
 -- an object, where it is of no matter which
-abbrev pub some_object : Object
-some_object = (0, origin_box 2)
+abbrev pub some_object : Entry
+some_object = (0, (origin_box 2, 0))
 
 is_same : (a b : ℕ) → a ≡ b → eqb a b ≡ true
 is_same a b h = grind (arith, nat_tests)
@@ -17,20 +17,20 @@ is_other : (a b : ℕ) → ¬ (a ≡ b) → eqb a b ≡ false
 is_other a b h = grind (arith, nat_tests)
 
 -- the object at a place does not have the identifier
-pub passed : (id here place : ℕ) (es : List Object) → place < length es → here ≡ (get_or es place some_object).0 → ¬ (here ≡ id) → box_in id es ≡ box_in id (drop place es) → box_in id es ≡ box_in id (drop (place + 1) es)
+pub passed : (id here place : ℕ) (es : List Entry) → place < length es → here ≡ (get_or es place some_object).0 → ¬ (here ≡ id) → kept_in id es ≡ kept_in id (drop place es) → kept_in id es ≡ kept_in id (drop (place + 1) es)
 passed id here place es within is other so_far =
     let x = get_or es place some_object in
-    so_far ∙ ap (box_in id) (drop_more es place some_object within)
-    ∙ ap (λ b. cond b (Some x.1) (box_in id (drop (place + 1) es))) (is_other x.0 id (λ same. other (is ∙ same)))
+    so_far ∙ ap (kept_in id) (drop_more es place some_object within)
+    ∙ ap (λ b. cond b (Some x.1) (kept_in id (drop (place + 1) es))) (is_other x.0 id (λ same. other (is ∙ same)))
 
 -- it has it
-pub met : (id here place : ℕ) (es : List Object) (object : Object) → place < length es → here ≡ (get_or es place some_object).0 → here ≡ id → ◌≡◌ {A = Option Object} (Some object) (Some (get_or es place some_object))
-    → box_in id es ≡ box_in id (drop place es) → Some object.1 ≡ box_in id es
+pub met : (id here place : ℕ) (es : List Entry) (object : Entry) → place < length es → here ≡ (get_or es place some_object).0 → here ≡ id → ◌≡◌ {A = Option Entry} (Some object) (Some (get_or es place some_object))
+    → kept_in id es ≡ kept_in id (drop place es) → Some object.1 ≡ kept_in id es
 met id here place es object within is same read so_far =
     let x = get_or es place some_object in
     let object_is : object ≡ x = cc in
-    ap (λ (o : Object). Some o.1) object_is
-    ∙ sym (so_far ∙ ap (box_in id) (drop_more es place some_object within) ∙ ap (λ b. cond b (Some x.1) (box_in id (drop (place + 1) es))) (is_same x.0 id (sym is ∙ same)))
+    ap (λ (o : Entry). Some o.1) object_is
+    ∙ sym (so_far ∙ ap (kept_in id) (drop_more es place some_object within) ∙ ap (λ b. cond b (Some x.1) (kept_in id (drop (place + 1) es))) (is_same x.0 id (sym is ∙ same)))
 
 -- ---- pages
 

@@ -8,12 +8,12 @@ use Rattle.std.specs.BTreeSet.{BTreeSet, contains}
 use Rattle.std.specs.Ordering.{nat_cmp}
 use Rattle.block_bytes.specs.PlaceLaws.{first_places-more, get_or-first_places, length-first_places}
 use Rattle.block_bytes.specs.Places.{first_places}
-use Rattle.bucket_page.specs.Layout.{BucketContent}
+use Rattle.bucket_page.specs.Layout.{BucketContent, Entry}
 use Rattle.node_page.specs.Checked.{named_pages}
 use Rattle.node_page.specs.Standing.{PageMap}
 use Rattle.node_page.proofs.VisitLemmas.{times_more}
 use Rattle.id_table.specs.Checked.{AddsBucket, AddsChain, AddsObjects, MayFollow, SeesOne, seen_times}
-use Rattle.id_table.specs.Table.{Bucket, ChainStands, IsFilled, Object, bucket_in, class_of, entries_in, occurs_in_chain, times_in}
+use Rattle.id_table.specs.Table.{Bucket, ChainStands, IsFilled, bucket_in, class_of, entries_in, occurs_in_chain, times_in}
 use Rattle.id_table.proofs.BucketLemmas.{some_object}
 use Rattle.id_table.proofs.PlaceLemmas.{here_at, occurs-append}
 use Rattle.id_table.proofs.TableLemmas.{chain_short, chain_there, not_there}
@@ -21,7 +21,7 @@ use Rattle.id_table.proofs.WalkLemmas.{begins_at}
 
 -- ---- objects
 
-pub times-append : (id : ℕ) (xs ys : List Object) → times_in id (xs ++ ys) ≡ times_in id xs + times_in id ys
+pub times-append : (id : ℕ) (xs ys : List Entry) → times_in id (xs ++ ys) ≡ times_in id xs + times_in id ys
 times-append id [] ys = omega arith
 times-append id (x ∷ xs) ys = let rest = times-append id xs ys in omega (arith, rest)
 
@@ -35,24 +35,24 @@ seen_once seen id = at_most (contains nat_cmp seen id)
 pub none_seen : (seen : BTreeSet ℕ) (id : ℕ) → seen.keys ≡ [] → seen_times seen id ≡ 0
 none_seen seen id none = ap (λ (keys : List ℕ). seen_times (record { keys = keys }) id) none
 
-pub adds_none : (class : ℕ) (objects pairs : List Object) (seen : BTreeSet ℕ) → objects ≡ [] → AddsObjects class objects pairs pairs seen seen
-adds_none class objects pairs seen none = subst (λ (os : List Object). AddsObjects class os pairs pairs seen seen) (sym none) (record {
+pub adds_none : (class : ℕ) (objects pairs : List Entry) (seen : BTreeSet ℕ) → objects ≡ [] → AddsObjects class objects pairs pairs seen seen
+adds_none class objects pairs seen none = subst (λ (os : List Entry). AddsObjects class os pairs pairs seen seen) (sym none) (record {
   pairs_are = sym (append-nil pairs);
-  placed = All-nil (λ (object : Object). class_of object.0 ≡ class);
+  placed = All-nil (λ (object : Entry). class_of object.0 ≡ class);
   seen_are = λ id. omega arith;
 })
 
-pub adds_one : (class : ℕ) (objects more before pairs pairs_next : List Object) (seen_before seen seen_next : BTreeSet ℕ) (x : Object) → AddsObjects class objects before pairs seen_before seen → class_of x.0 ≡ class → pairs_next ≡ pairs ++ x ∷ []
+pub adds_one : (class : ℕ) (objects more before pairs pairs_next : List Entry) (seen_before seen seen_next : BTreeSet ℕ) (x : Entry) → AddsObjects class objects before pairs seen_before seen → class_of x.0 ≡ class → pairs_next ≡ pairs ++ x ∷ []
     → SeesOne seen seen_next x.0 → more ≡ objects ++ x ∷ [] → AddsObjects class more before pairs_next seen_before seen_next
-adds_one class objects more before pairs pairs_next seen_before seen seen_next x so_far is pushed sees grown = subst (λ (os : List Object). AddsObjects class os before pairs_next seen_before seen_next) (sym grown) (record {
-  pairs_are = pushed ∙ ap (λ (ps : List Object). ps ++ x ∷ []) so_far.pairs_are ∙ append_assoc before objects (x ∷ []);
-  placed = All-append (λ (object : Object). class_of object.0 ≡ class) objects (x ∷ []) so_far.placed
-      (All-cons (λ (object : Object). class_of object.0 ≡ class) x [] is (All-nil (λ (object : Object). class_of object.0 ≡ class)));
+adds_one class objects more before pairs pairs_next seen_before seen seen_next x so_far is pushed sees grown = subst (λ (os : List Entry). AddsObjects class os before pairs_next seen_before seen_next) (sym grown) (record {
+  pairs_are = pushed ∙ ap (λ (ps : List Entry). ps ++ x ∷ []) so_far.pairs_are ∙ append_assoc before objects (x ∷ []);
+  placed = All-append (λ (object : Entry). class_of object.0 ≡ class) objects (x ∷ []) so_far.placed
+      (All-cons (λ (object : Entry). class_of object.0 ≡ class) x [] is (All-nil (λ (object : Entry). class_of object.0 ≡ class)));
   seen_are = λ id. let times = times-append id objects (x ∷ []) in omega (arith, sees id, so_far.seen_are id, times);
 })
 
 -- the object in a place, beside those in the places before it
-pub times_places : (id : ℕ) (at : ℕ → Object) (place count : ℕ) → place < count → times_in id (first_places at place) + cond (eqb (at place).0 id) 1 0 ≤ times_in id (first_places at count)
+pub times_places : (id : ℕ) (at : ℕ → Entry) (place count : ℕ) → place < count → times_in id (first_places at place) + cond (eqb (at place).0 id) 1 0 ≤ times_in id (first_places at count)
 times_places id at place zero lt = absurd (omega (arith, lt))
 times_places id at place (suc count) lt =
     let more : first_places at (suc count) ≡ first_places at count ++ at count ∷ [] = ap (λ (n : ℕ). first_places at n) (let e : suc count ≡ count + 1 = omega arith in e) ∙ first_places-more at count in
@@ -62,13 +62,13 @@ times_places id at place (suc count) lt =
     (λ (other : ¬ (place ≡ count)). let before = times_places id at place count (omega (arith, lt, other)) in omega (arith, times, before))
     (cases_eq place count)
 
-pub placed_at : (P : Object → Type 0) (at : ℕ → Object) (place count : ℕ) → place < count → All P (first_places at count) → P (at place)
+pub placed_at : (P : Entry → Type 0) (at : ℕ → Entry) (place count : ℕ) → place < count → All P (first_places at count) → P (at place)
 placed_at P at place count lt all = subst P (get_or-first_places at count place some_object lt) (All-get_or P (first_places at count) place some_object (omega (arith, length-first_places at count, lt)) all)
 
 -- ---- buckets
 
 entries-more : (bs : List Bucket) (b : Bucket) → entries_in (bs ++ b ∷ []) ≡ entries_in bs ++ b.entries
-entries-more bs b = flat_map-append (λ (c : Bucket). c.entries) bs (b ∷ []) ∙ ap (λ (es : List Object). entries_in bs ++ es) (append-nil b.entries)
+entries-more bs b = flat_map-append (λ (c : Bucket). c.entries) bs (b ∷ []) ∙ ap (λ (es : List Entry). entries_in bs ++ es) (append-nil b.entries)
 
 abbrev IsFull : Bucket → Type 0
 IsFull b = length b.entries ≡ 100
@@ -92,7 +92,7 @@ pub record Behind (dims : ℕ) (pages : PageMap) (number : ℕ) (chain before : 
   pub stands : ChainStands dims pages number rest
 
 -- the buckets so far, and the page from which the chain has to go on
-pub record Prefix (dims : ℕ) (pages : PageMap) (class first walked number : ℕ) (pairs_before pairs : List Object) (list_before list : List ℕ) (seen : BTreeSet ℕ) : Type 0 where
+pub record Prefix (dims : ℕ) (pages : PageMap) (class first walked number : ℕ) (pairs_before pairs : List Entry) (list_before list : List ℕ) (seen : BTreeSet ℕ) : Type 0 where
   pub before : List Bucket
   pub many : length before ≡ walked
   pub joins : (rest : List Bucket) → ChainStands dims pages number rest → ChainStands dims pages first (before ++ rest)
@@ -103,7 +103,7 @@ pub record Prefix (dims : ℕ) (pages : PageMap) (class first walked number : �
   pub pairs_are : pairs ≡ pairs_before ++ entries_in before
   pub pages_are : (n : ℕ) → named_pages list n ≡ named_pages list_before n + occurs_in_chain n before
 
-module _ (dims : ℕ) (pages : PageMap) (class first : ℕ) (pairs_before : List Object) (list_before : List ℕ) where
+module _ (dims : ℕ) (pages : PageMap) (class first : ℕ) (pairs_before : List Entry) (list_before : List ℕ) where
   pub prefix_none : (seen : BTreeSet ℕ) → seen.keys ≡ [] → Prefix dims pages class first 0 first pairs_before pairs_before list_before list_before seen
   prefix_none seen none = record {
     before = [];
@@ -111,28 +111,28 @@ module _ (dims : ℕ) (pages : PageMap) (class first : ℕ) (pairs_before : List
     joins = λ rest stands. stands;
     parts = λ chain stands. record { rest = chain; is = refl; stands = stands };
     full = All-nil IsFull;
-    placed = All-nil (λ (object : Object). class_of object.0 ≡ class);
+    placed = All-nil (λ (object : Entry). class_of object.0 ≡ class);
     seen_are = λ id. none_seen seen id none;
     pairs_are = sym (append-nil pairs_before);
     pages_are = λ n. omega arith;
   }
 
-  module _ (walked number : ℕ) (pairs : List Object) (list : List ℕ) (seen : BTreeSet ℕ) (p : Prefix dims pages class first walked number pairs_before pairs list_before list seen) where
-    pub prefix_more : (next : ℕ) (whole : Bool) (pairs_next : List Object) (list_next : List ℕ) (seen_next : BTreeSet ℕ) → (0 < walked → whole ≡ true) → AddsBucket dims pages class number next whole pairs pairs_next list list_next seen seen_next
+  module _ (walked number : ℕ) (pairs : List Entry) (list : List ℕ) (seen : BTreeSet ℕ) (p : Prefix dims pages class first walked number pairs_before pairs list_before list seen) where
+    pub prefix_more : (next : ℕ) (whole : Bool) (pairs_next : List Entry) (list_next : List ℕ) (seen_next : BTreeSet ℕ) → (0 < walked → whole ≡ true) → AddsBucket dims pages class number next whole pairs pairs_next list list_next seen seen_next
         → Prefix dims pages class first (walked + 1) next pairs_before pairs_next list_before list_next seen_next
     prefix_more next whole pairs_next list_next seen_next must a =
         let b : Bucket = record { page = number; entries = a.entries } in
         let es = entries-more p.before b in
-        let placed : All (λ (object : Object). class_of object.0 ≡ class) (entries_in p.before ++ a.entries) = All-append (λ (object : Object). class_of object.0 ≡ class) (entries_in p.before) a.entries p.placed a.objects.placed in
+        let placed : All (λ (object : Entry). class_of object.0 ≡ class) (entries_in p.before ++ a.entries) = All-append (λ (object : Entry). class_of object.0 ≡ class) (entries_in p.before) a.entries p.placed a.objects.placed in
         record {
           before = p.before ++ b ∷ [];
           many = omega (arith, length-append p.before (b ∷ []), p.many);
           joins = λ rest stands. subst (ChainStands dims pages first) (sym (append_assoc p.before (b ∷ []) rest)) (p.joins (b ∷ rest) (refl, a.low, next, a.there, stands));
           parts = λ chain stands. let q = p.parts chain stands in next_part chain q.rest q.is q.stands;
           full = full_more p.before b p.full (λ some. a.full (must (omega (arith, some, p.many))));
-          placed = subst (All (λ (object : Object). class_of object.0 ≡ class)) (sym es) placed;
+          placed = subst (All (λ (object : Entry). class_of object.0 ≡ class)) (sym es) placed;
           seen_are = λ id. let counted = ap (times_in id) es ∙ times-append id (entries_in p.before) a.entries in omega (arith, a.objects.seen_are id, p.seen_are id, counted);
-          pairs_are = a.objects.pairs_are ∙ ap (λ (ps : List Object). ps ++ a.entries) p.pairs_are ∙ append_assoc pairs_before (entries_in p.before) a.entries ∙ ap (λ (ps : List Object). pairs_before ++ ps) (sym es);
+          pairs_are = a.objects.pairs_are ∙ ap (λ (ps : List Entry). ps ++ a.entries) p.pairs_are ∙ append_assoc pairs_before (entries_in p.before) a.entries ∙ ap (λ (ps : List Entry). pairs_before ++ ps) (sym es);
           pages_are = λ n. let visited = ap (λ (l : List ℕ). named_pages l n) a.visited ∙ times_more n number list in omega (arith, visited, p.pages_are n, occurs-append n p.before (b ∷ []));
         }
       where
@@ -171,7 +171,7 @@ module _ (dims : ℕ) (pages : PageMap) (class first : ℕ) (pairs_before : List
         let b = begins_at dims pages number q.rest q.stands some in
         let is : chain ≡ p.before ++ b.bucket ∷ b.behind = q.is ∙ ap (λ (bs : List Bucket). p.before ++ bs) b.is in
         let all : entries_in chain ≡ entries_in p.before ++ (b.bucket.entries ++ entries_in b.behind) = ap entries_in is ∙ flat_map-append (λ (c : Bucket). c.entries) p.before (b.bucket ∷ b.behind) in
-        let placed = subst (All (λ (object : Object). class_of object.0 ≡ class)) all filled.placed in
+        let placed = subst (All (λ (object : Entry). class_of object.0 ≡ class)) all filled.placed in
         let counted = ap (occurs_in_chain number) is ∙ occurs-append number p.before (b.bucket ∷ b.behind) in
         record {
           content = b.content;
@@ -180,8 +180,8 @@ module _ (dims : ℕ) (pages : PageMap) (class first : ℕ) (pairs_before : List
             low = b.low;
             unvisited = omega (arith, once number, counted, p.pages_are number, here_at b.bucket.page number b.page);
             full = λ yes. ap length b.entries ∙ full_at p.before b.bucket b.behind (subst (λ (bs : List Bucket). All IsFull (drop 1 bs)) is filled.full) (omega (arith, p.many, must yes));
-            placed = subst (All (λ (object : Object). class_of object.0 ≡ class)) (sym b.entries)
-                (front (λ (object : Object). class_of object.0 ≡ class) b.bucket.entries (entries_in b.behind) (back (λ (object : Object). class_of object.0 ≡ class) (entries_in p.before) (b.bucket.entries ++ entries_in b.behind) placed));
+            placed = subst (All (λ (object : Entry). class_of object.0 ≡ class)) (sym b.entries)
+                (front (λ (object : Entry). class_of object.0 ≡ class) b.bucket.entries (entries_in b.behind) (back (λ (object : Entry). class_of object.0 ≡ class) (entries_in p.before) (b.bucket.entries ++ entries_in b.behind) placed));
             single = λ id.
                 let times = ap (times_in id) all ∙ times-append id (entries_in p.before) (b.bucket.entries ++ entries_in b.behind) in
                 let here = times-append id b.bucket.entries (entries_in b.behind) in
@@ -190,11 +190,11 @@ module _ (dims : ℕ) (pages : PageMap) (class first : ℕ) (pairs_before : List
           };
         }
       where
-        back : (P : Object → Type 0) (xs ys : List Object) → All P (xs ++ ys) → All P ys
+        back : (P : Entry → Type 0) (xs ys : List Entry) → All P (xs ++ ys) → All P ys
         back P [] ys all = all
         back P (x ∷ xs) ys all = back P xs ys (All-tail P x (xs ++ ys) all)
 
-        front : (P : Object → Type 0) (xs ys : List Object) → All P (xs ++ ys) → All P xs
+        front : (P : Entry → Type 0) (xs ys : List Entry) → All P (xs ++ ys) → All P xs
         front P [] ys all = All-nil P
         front P (x ∷ xs) ys all = All-cons P x xs (All-head P x (xs ++ ys) all) (front P xs ys (All-tail P x (xs ++ ys) all))
 

@@ -8,7 +8,7 @@ use Rattle.std.proofs.lemmas.List.Concat.{flat_map-append}
 use Rattle.std.proofs.lemmas.List.Sums.{sum_by-append, sum_by-cons}
 use Rattle.std.specs.BTreeSet.{BTreeSet}
 use Rattle.std.specs.List.{flat_map}
-use Rattle.bucket_page.specs.Layout.{BucketContent, bucket_at}
+use Rattle.bucket_page.specs.Layout.{BucketContent, bucket_at, Entry}
 use Rattle.bucket_page.proofs.Reading.{spells}
 use Rattle.page_file.specs.Given.{given_is}
 use Rattle.page_file.specs.Layout.{kind_of}
@@ -19,7 +19,7 @@ use Rattle.page_cache.specs.declared.cache.PageCache.{PageCache}
 use Rattle.node_page.specs.Checked.{named_pages}
 use Rattle.node_page.specs.Standing.{PageMap}
 use Rattle.id_table.specs.Checked.{AddsBucket, AddsChain, AddsChains, IsCheckedTable, LeadsAlong, MayStand}
-use Rattle.id_table.specs.Table.{Bucket, ChainStands, IdTable, IdsStand, IsDirectory, IsFilled, Object, bucket_in, entries_in, link_at, occurs_in_chain}
+use Rattle.id_table.specs.Table.{Bucket, ChainStands, IdTable, IdsStand, IsDirectory, IsFilled, bucket_in, entries_in, link_at, occurs_in_chain}
 use Rattle.id_table.proofs.CheckLemmas.{Prefix}
 use Rattle.id_table.proofs.ReplaceLemmas.{chain_stays}
 
@@ -48,7 +48,7 @@ sums_at f (x ∷ xs) (c ∷ cs) lt same =
     let rest = sums_at f xs cs (omega (arith, lt)) (λ k below. same (suc k) (omega (arith, below))) in
     omega (arith, first, rest, sum_by-cons f x xs, sum_by-cons f c cs)
 
-module _ (dims : ℕ) (live : PageMap) (directory : List ℕ) (pairs_before : List Object) (list_before : List ℕ) where
+module _ (dims : ℕ) (live : PageMap) (directory : List ℕ) (pairs_before : List Entry) (list_before : List ℕ) where
   pub chains_none : AddsChains dims live directory 0 pairs_before pairs_before list_before list_before
   chains_none = record {
     chains = [];
@@ -59,13 +59,13 @@ module _ (dims : ℕ) (live : PageMap) (directory : List ℕ) (pairs_before : Li
     pages_are = λ n. omega arith;
   }
 
-  module _ (count : ℕ) (pairs : List Object) (list : List ℕ) (so_far : AddsChains dims live directory count pairs_before pairs list_before list) where
-    pub chains_more : (first : ℕ) (pairs_next : List Object) (list_next : List ℕ) → first ≡ link_at count directory → AddsChain dims live count first pairs pairs_next list list_next
+  module _ (count : ℕ) (pairs : List Entry) (list : List ℕ) (so_far : AddsChains dims live directory count pairs_before pairs list_before list) where
+    pub chains_more : (first : ℕ) (pairs_next : List Entry) (list_next : List ℕ) → first ≡ link_at count directory → AddsChain dims live count first pairs pairs_next list list_next
         → AddsChains dims live directory (count + 1) pairs_before pairs_next list_before list_next
     chains_more first pairs_next list_next is a =
         let here : get_or (so_far.chains ++ a.chain ∷ []) count [] ≡ a.chain = ap (λ (n : ℕ). get_or (so_far.chains ++ a.chain ∷ []) n []) (sym so_far.whole) ∙ get_or-append_seam so_far.chains a.chain [] [] in
         let there : (class : ℕ) → class < count → get_or (so_far.chains ++ a.chain ∷ []) class [] ≡ get_or so_far.chains class [] = λ class lt. get_or-append so_far.chains (a.chain ∷ []) [] class (omega (arith, lt, so_far.whole)) in
-        let es = flat_map-append entries_in so_far.chains (a.chain ∷ []) ∙ ap (λ (xs : List Object). flat_map entries_in so_far.chains ++ xs) (append-nil (entries_in a.chain)) in
+        let es = flat_map-append entries_in so_far.chains (a.chain ∷ []) ∙ ap (λ (xs : List Entry). flat_map entries_in so_far.chains ++ xs) (append-nil (entries_in a.chain)) in
         record {
           chains = so_far.chains ++ a.chain ∷ [];
           whole = omega (arith, length-append so_far.chains (a.chain ∷ []), so_far.whole);
@@ -78,7 +78,7 @@ module _ (dims : ℕ) (live : PageMap) (directory : List ℕ) (pairs_before : Li
               (λ (now : class ≡ count). subst (λ (c : List Bucket). IsFilled class c) (sym (ap (λ (n : ℕ). get_or (so_far.chains ++ a.chain ∷ []) n []) now ∙ here)) (subst (λ (n : ℕ). IsFilled n a.chain) (sym now) a.filled))
               (λ (other : ¬ (class ≡ count)). subst (IsFilled class) (sym (there class (omega (arith, lt, other)))) (so_far.filled class (omega (arith, lt, other))))
               (cases_eq class count);
-          pairs_are = a.pairs_are ∙ ap (λ (ps : List Object). ps ++ entries_in a.chain) so_far.pairs_are ∙ append_assoc pairs_before (flat_map entries_in so_far.chains) (entries_in a.chain) ∙ ap (λ (ps : List Object). pairs_before ++ ps) (sym es);
+          pairs_are = a.pairs_are ∙ ap (λ (ps : List Entry). ps ++ entries_in a.chain) so_far.pairs_are ∙ append_assoc pairs_before (flat_map entries_in so_far.chains) (entries_in a.chain) ∙ ap (λ (ps : List Entry). pairs_before ++ ps) (sym es);
           pages_are = λ n.
               let one = sum_by-cons (occurs_in_chain n) a.chain [] in
               omega (arith, a.pages_are n, so_far.pages_are n, sum_by-append (occurs_in_chain n) so_far.chains (a.chain ∷ []), one);
@@ -98,7 +98,7 @@ module _ (dims : ℕ) (live : PageMap) (directory : List ℕ) (pairs_before : Li
 only_directory : (n page : ℕ) (list : List ℕ) → list ≡ page ∷ [] → named_pages list n ≡ cond (eqb page n) 1 0
 only_directory n page list is = ap (λ (l : List ℕ). named_pages l n) is ∙ (let e : cond (eqb page n) 1 0 + 0 ≡ cond (eqb page n) 1 0 = omega arith in e)
 
-pub table_checked : (dims : ℕ) (live : PageMap) (directory : ℕ) (bytes : List ℕ) (pairs_before pairs : List Object) (list_before list : List ℕ) → live directory ≡ Some bytes → 2 < directory → IsDirectory dims bytes → pairs_before ≡ []
+pub table_checked : (dims : ℕ) (live : PageMap) (directory : ℕ) (bytes : List ℕ) (pairs_before pairs : List Entry) (list_before list : List ℕ) → live directory ≡ Some bytes → 2 < directory → IsDirectory dims bytes → pairs_before ≡ []
     → list_before ≡ directory ∷ [] → ((n : ℕ) → named_pages list n ≤ 1) → AddsChains dims live bytes 1000 pairs_before pairs list_before list → IsCheckedTable dims live directory pairs list
 table_checked dims live directory bytes pairs_before pairs list_before list there low spelled none first once a =
     let parts : (n : ℕ) → named_pages list n ≡ cond (eqb directory n) 1 0 + sum_by (occurs_in_chain n) a.chains = λ n. omega (arith, a.pages_are n, only_directory n directory list_before first) in
@@ -115,7 +115,7 @@ table_checked dims live directory bytes pairs_before pairs list_before list ther
         filled = a.filled;
         once = λ n. omega (arith, parts n, once n);
       };
-      pairs_are = a.pairs_are ∙ ap (λ (ps : List Object). ps ++ flat_map entries_in a.chains) none;
+      pairs_are = a.pairs_are ∙ ap (λ (ps : List Entry). ps ++ flat_map entries_in a.chains) none;
       pages_are = parts;
     }
 
@@ -156,7 +156,7 @@ module _ (dims : ℕ) (old new : PageMap) (bucket : (n : ℕ) (c : BucketContent
     once = stands.once;
   }
 
-pub adds_on : (dims : ℕ) (old new : PageMap) (class number next : ℕ) (whole : Bool) (pairs_before pairs : List Object) (list_before list : List ℕ) (seen_before seen : BTreeSet ℕ) → ((n : ℕ) → new n ≡ old n)
+pub adds_on : (dims : ℕ) (old new : PageMap) (class number next : ℕ) (whole : Bool) (pairs_before pairs : List Entry) (list_before list : List ℕ) (seen_before seen : BTreeSet ℕ) → ((n : ℕ) → new n ≡ old n)
     → AddsBucket dims old class number next whole pairs_before pairs list_before list seen_before seen → AddsBucket dims new class number next whole pairs_before pairs list_before list seen_before seen
 adds_on dims old new class number next whole pairs_before pairs list_before list seen_before seen same a = record {
   entries = a.entries;
@@ -167,7 +167,7 @@ adds_on dims old new class number next whole pairs_before pairs list_before list
   visited = a.visited;
 }
 
-pub chain_on : (dims : ℕ) (old new : PageMap) (class first : ℕ) (pairs_before pairs : List Object) (list_before list : List ℕ) → ((n : ℕ) → new n ≡ old n) → AddsChain dims old class first pairs_before pairs list_before list
+pub chain_on : (dims : ℕ) (old new : PageMap) (class first : ℕ) (pairs_before pairs : List Entry) (list_before list : List ℕ) → ((n : ℕ) → new n ≡ old n) → AddsChain dims old class first pairs_before pairs list_before list
     → AddsChain dims new class first pairs_before pairs list_before list
 chain_on dims old new class first pairs_before pairs list_before list same a = record {
   chain = a.chain;
@@ -177,7 +177,7 @@ chain_on dims old new class first pairs_before pairs list_before list same a = r
   pages_are = a.pages_are;
 }
 
-pub chains_on : (dims : ℕ) (old new : PageMap) (directory : List ℕ) (count : ℕ) (pairs_before pairs : List Object) (list_before list : List ℕ) → ((n : ℕ) → new n ≡ old n) → AddsChains dims old directory count pairs_before pairs list_before list
+pub chains_on : (dims : ℕ) (old new : PageMap) (directory : List ℕ) (count : ℕ) (pairs_before pairs : List Entry) (list_before list : List ℕ) → ((n : ℕ) → new n ≡ old n) → AddsChains dims old directory count pairs_before pairs list_before list
     → AddsChains dims new directory count pairs_before pairs list_before list
 chains_on dims old new directory count pairs_before pairs list_before list same a = record {
   chains = a.chains;
@@ -228,7 +228,7 @@ module _ {B A : Type 0} {m : _} where
           case None e is = absurd (cc)
           case (Some page) e is = ap (bucket_in dims) (a_page_in_use_is_live cache n page map e (bucket_kind_of dims page c is)) ∙ is
 
-  pub checked_live : (dims : ℕ) (cache : PageCache B A m) (directory : ℕ) (pairs : List Object) (list : List ℕ) → IsPageMap cache → IsCheckedTable dims (given cache) directory pairs list → IsCheckedTable dims (pages cache) directory pairs list
+  pub checked_live : (dims : ℕ) (cache : PageCache B A m) (directory : ℕ) (pairs : List Entry) (list : List ℕ) → IsPageMap cache → IsCheckedTable dims (given cache) directory pairs list → IsCheckedTable dims (pages cache) directory pairs list
   checked_live dims cache directory pairs list map is = record {
     table = is.table;
     page_is = is.page_is;
@@ -239,14 +239,14 @@ module _ {B A : Type 0} {m : _} where
 
   -- ---- what the loops have found
 
-  pub record Chained (dims class first : ℕ) (old now : PageCache B A m) (walked number : ℕ) (pairs_before pairs : List Object) (list_before list : List ℕ) (seen : BTreeSet ℕ) (marks_before marks : ℕ) : Type 0 where
+  pub record Chained (dims class first : ℕ) (old now : PageCache B A m) (walked number : ℕ) (pairs_before pairs : List Entry) (list_before list : List ℕ) (seen : BTreeSet ℕ) (marks_before marks : ℕ) : Type 0 where
     pub asks : AsksUntil old now None
     pub found : IsHonest old → Prefix dims (given old) class first walked number pairs_before pairs list_before list seen
     pub leads : IsHonest old → (walk : List ℕ) × LeadsAlong dims (given old) first walk number
     pub numbers : marks ≡ marks_before
     pub looks : looks_of now + length list_before ≤ looks_of old + length list
 
-  pub record AllChained (dims : ℕ) (directory : List ℕ) (old now : PageCache B A m) (count : ℕ) (pairs_before pairs : List Object) (list_before list : List ℕ) (marks_before marks : ℕ) : Type 0 where
+  pub record AllChained (dims : ℕ) (directory : List ℕ) (old now : PageCache B A m) (count : ℕ) (pairs_before pairs : List Entry) (list_before list : List ℕ) (marks_before marks : ℕ) : Type 0 where
     pub asks : AsksUntil old now None
     pub found : IsHonest old → AddsChains dims (given old) directory count pairs_before pairs list_before list
     pub numbers : marks ≡ marks_before

@@ -1,13 +1,13 @@
 -- A search at a cache.
 use Rattle.std.proofs.Common.{◌≡◌, ◌∙◌, ℕ, ◌+◌, ◌<◌, ◌≤◌, true, false, is_some, Some, None, Option, List, [], ◌∷◌, length, refl, sym, ap, subst, arith}
+use Rattle.box_math.specs.Objects.{Object}
 use Rattle.std.specs.FinMap as map
-use Rattle.box_math.specs.Bounds.{Bounds}
 use Rattle.bucket_page.specs.Layout.{BucketContent}
 use Rattle.page_cache.specs.Cache.{IsHonest, next_of, pages}
 use Rattle.page_cache.specs.Calls.{AsksUntil, asks_in_turn}
 use Rattle.page_cache.specs.Laws.{a_live_page_was_given_out}
 use Rattle.page_cache.specs.declared.cache.PageCache.{PageCache}
-use Rattle.id_table.specs.Table.{Bucket, ChainStands, IdTable, IdsStand, IsDirectory, box_in, bucket_in, chain_at, class_of, entries_in, link_at, objects_of}
+use Rattle.id_table.specs.Table.{Bucket, ChainStands, IdTable, IdsStand, IsDirectory, kept_in, bucket_in, chain_at, class_of, entries_in, link_at, objects_of}
 use Rattle.id_table.proofs.TableLemmas.{chain_in_table, chain_short, found_by_class, table_there}
 use Rattle.id_table.proofs.WalkLemmas.{Rest, Here, all_left, found_here, is_here, nothing_left, walk_on}
 
@@ -39,7 +39,7 @@ module _ {B A : Type 0} {m : _} where
 
   module _ {dims id directory : ℕ} {old now : PageCache B A m} {walked number : ℕ} (so_far : Walking dims id directory old now walked number) where
     -- what the chain has is what the table has
-    has : (t : IdTable) → IdsStand dims (pages old) t → map.get (objects_of t) id ≡ box_in id (entries_in (chain_at t (class_of id)))
+    has : (t : IdTable) → IdsStand dims (pages old) t → map.get (objects_of t) id ≡ kept_in id (entries_in (chain_at t (class_of id)))
     has t stands = found_by_class t id stands.whole stands.filled
 
     pub ends_without : number ≡ 0 → IsHonest old → (t : IdTable) → t.page ≡ directory → IdsStand dims (pages old) t → None ≡ map.get (objects_of t) id
@@ -52,7 +52,7 @@ module _ {B A : Type 0} {m : _} where
         → bucket_in dims (pages now number) ≡ Some ((here_is some h t at stands).content)
     there_now some h t at stands = ap (bucket_in dims) (so_far.asks.map.pages_stay h number) ∙ (here_is some h t at stands).there
 
-    pub ends_with : (b : Option Bounds) → ¬ (number ≡ 0) → is_some b ≡ true → (IsHonest now → (c : BucketContent) → bucket_in dims (pages now number) ≡ Some c → b ≡ box_in id c.entries)
+    pub ends_with : (b : Option Object) → ¬ (number ≡ 0) → is_some b ≡ true → (IsHonest now → (c : BucketContent) → bucket_in dims (pages now number) ≡ Some c → b ≡ kept_in id c.entries)
         → IsHonest old → (t : IdTable) → t.page ≡ directory → IdsStand dims (pages old) t → b ≡ map.get (objects_of t) id
     ends_with None some there reads h t at stands = absurd (cc)
     ends_with (Some b) some there reads h t at stands =
@@ -60,8 +60,8 @@ module _ {B A : Type 0} {m : _} where
         let read = reads (so_far.asks.gate.honest.0 h) here.content (there_now some h t at stands) in
         sym (has t stands ∙ found_here dims (pages old) id (chain_at t (class_of id)) walked number b here (sym read))
 
-    pub goes_on : (b : Option Bounds) (next_number : ℕ) (next : PageCache B A m) → ¬ (number ≡ 0) → is_some b ≡ false → AsksUntil now next None
-        → (IsHonest now → (c : BucketContent) → bucket_in dims (pages now number) ≡ Some c → (b ≡ box_in id c.entries) × (next_number ≡ c.next)) → Walking dims id directory old next (walked + 1) next_number
+    pub goes_on : (b : Option Object) (next_number : ℕ) (next : PageCache B A m) → ¬ (number ≡ 0) → is_some b ≡ false → AsksUntil now next None
+        → (IsHonest now → (c : BucketContent) → bucket_in dims (pages now number) ≡ Some c → (b ≡ kept_in id c.entries) × (next_number ≡ c.next)) → Walking dims id directory old next (walked + 1) next_number
     goes_on b next_number next some none asks reads = record {
       asks = asks_in_turn old now next None so_far.asks asks;
       left = λ h t at stands.
@@ -70,7 +70,7 @@ module _ {B A : Type 0} {m : _} where
           walk_on dims (pages old) id (chain_at t (class_of id)) walked number next_number here (sym read.0 ∙ is_none b none) read.1;
     }
       where
-        is_none : (b : Option Bounds) → is_some b ≡ false → b ≡ None
+        is_none : (b : Option Object) → is_some b ≡ false → b ≡ None
         is_none None e = refl
         is_none (Some x) e = absurd (cc)
 

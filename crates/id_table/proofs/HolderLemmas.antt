@@ -2,20 +2,20 @@
 use Rattle.std.proofs.Common.{◌≡◌, ◌∙◌, ℕ, ◌<◌, ◌≤◌, All, set, Some, List, [], ◌∷◌, ◌++◌, length, refl, sym, ap, arith}
 use Rattle.std.proofs.lemmas.List.{append_assoc}
 use Rattle.std.proofs.lemmas.List.Elements.{All-cons, All-head, All-tail}
-use Rattle.bucket_page.specs.Layout.{BucketContent, replaced}
+use Rattle.bucket_page.specs.Layout.{BucketContent, replaced, Entry}
 use Rattle.page_file.specs.Pages.{SameBut}
 use Rattle.node_page.specs.Standing.{PageMap}
-use Rattle.id_table.specs.Table.{Bucket, ChainStands, Object, bucket_in, occurs_in_chain}
+use Rattle.id_table.specs.Table.{Bucket, ChainStands, bucket_in, occurs_in_chain}
 use Rattle.id_table.proofs.PlaceLemmas.{here_at, occurs-append}
 use Rattle.id_table.proofs.ReplaceLemmas.{chain_stays}
 
 -- the bucket at a page has an object in a place, and all other pages stay
-pub record PutsAt (dims : ℕ) (old new : PageMap) (page place : ℕ) (x : Object) : Type 0 where
+pub record PutsAt (dims : ℕ) (old new : PageMap) (page place : ℕ) (x : Entry) : Type 0 where
   pub others : SameBut page old new
   pub written : (c : BucketContent) → bucket_in dims (old page) ≡ Some c → place < length c.entries → bucket_in dims (new page) ≡ Some (replaced c place x)
 
 -- a chain stands with another bucket on one of its pages
-stands_changed : (dims : ℕ) (old mid : PageMap) (first : ℕ) (bs : List Bucket) (b : Bucket) (es : List Object) (after : List Bucket) → ((n : ℕ) → occurs_in_chain n (bs ++ b ∷ after) ≤ 1) → SameBut b.page old mid
+stands_changed : (dims : ℕ) (old mid : PageMap) (first : ℕ) (bs : List Bucket) (b : Bucket) (es : List Entry) (after : List Bucket) → ((n : ℕ) → occurs_in_chain n (bs ++ b ∷ after) ≤ 1) → SameBut b.page old mid
     → ((c : BucketContent) → bucket_in dims (old b.page) ≡ Some c → c.entries ≡ b.entries → bucket_in dims (mid b.page) ≡ Some (record { next = c.next; entries = es }))
     → ChainStands dims old first (bs ++ b ∷ after) → ChainStands dims mid first (bs ++ record { page = b.page; entries = es } ∷ after)
 stands_changed dims old mid first [] b es after once same written h = (
@@ -34,7 +34,7 @@ stands_changed dims old mid first (a ∷ bs) b es after once same written h = (
 )
 
 -- and is as full
-pub full_changed : (bs : List Bucket) (b : Bucket) (es : List Object) (after : List Bucket) → length es ≡ length b.entries → All (λ (b : Bucket). length b.entries ≡ 100) (bs ++ b ∷ after)
+pub full_changed : (bs : List Bucket) (b : Bucket) (es : List Entry) (after : List Bucket) → length es ≡ length b.entries → All (λ (b : Bucket). length b.entries ≡ 100) (bs ++ b ∷ after)
     → All (λ (b : Bucket). length b.entries ≡ 100) (bs ++ record { page = b.page; entries = es } ∷ after)
 full_changed [] b es after size full =
     All-cons (λ (b : Bucket). length b.entries ≡ 100) (record { page = b.page; entries = es }) after (size ∙ All-head (λ (b : Bucket). length b.entries ≡ 100) b after full) (All-tail (λ (b : Bucket). length b.entries ≡ 100) b after full)
@@ -43,14 +43,14 @@ full_changed (a ∷ bs) b es after size full =
     (full_changed bs b es after size (All-tail (λ (b : Bucket). length b.entries ≡ 100) a (bs ++ b ∷ after) full))
 
 -- the chain of a bucket in which an object has been written into a place
-pub puts_in_chain : (dims : ℕ) (old new : PageMap) (first page place : ℕ) (x : Object) (bs : List Bucket) (b : Bucket) (after : List Bucket) → b.page ≡ page → place < length b.entries
+pub puts_in_chain : (dims : ℕ) (old new : PageMap) (first page place : ℕ) (x : Entry) (bs : List Bucket) (b : Bucket) (after : List Bucket) → b.page ≡ page → place < length b.entries
     → ((n : ℕ) → occurs_in_chain n (bs ++ b ∷ after) ≤ 1) → PutsAt dims old new page place x → ChainStands dims old first (bs ++ b ∷ after)
     → ChainStands dims new first (bs ++ record { page = b.page; entries = set b.entries place x } ∷ after)
 puts_in_chain dims old new first page place x bs b after page_is within once puts stands =
     stands_changed dims old new first bs b (set b.entries place x) after once (λ n other. puts.others n (λ at_page. other (at_page ∙ sym page_is)))
     (λ c there entries. ap (λ n. bucket_in dims (new n)) page_is ∙ puts.written c (ap (λ n. bucket_in dims (old n)) (sym page_is) ∙ there) (let e = ap length entries in omega (arith, e, within))
-    ∙ ap (λ (es : List Object). Some (record { next = c.next; entries = set es place x })) entries)
+    ∙ ap (λ (es : List Entry). Some (record { next = c.next; entries = set es place x })) entries)
     stands
 
-pub regroup : (F G A B E : List Object) (y : Object) → F ++ (G ++ ((A ++ y ∷ B) ++ E)) ≡ (F ++ (G ++ A)) ++ y ∷ (B ++ E)
+pub regroup : (F G A B E : List Entry) (y : Entry) → F ++ (G ++ ((A ++ y ∷ B) ++ E)) ≡ (F ++ (G ++ A)) ++ y ∷ (B ++ E)
 regroup F G A B E y = simp append_assoc

@@ -2,13 +2,13 @@
 use Rattle.std.proofs.Common.{◌≡◌, ◌∙◌, ℕ, ◌+◌, ◌<◌, ◌≤◌, Some, None, Option, List, [], ◌∷◌, ◌++◌, cond, eqb, length, length-append, refl, sym, ap, subst, arith}
 use Rattle.std.proofs.lemmas.Bool.Decides.{nat_tests}
 use Rattle.std.proofs.lemmas.List.{append_assoc}
-use Rattle.bucket_page.specs.Layout.{BucketContent}
+use Rattle.bucket_page.specs.Layout.{BucketContent, Entry}
 use Rattle.page_cache.specs.Cache.{IsHonest, pages}
 use Rattle.page_cache.specs.Calls.{AsksUntil, asks_in_turn}
 use Rattle.page_cache.specs.declared.cache.PageCache.{PageCache}
 use Rattle.node_page.specs.Standing.{PageMap}
 use Rattle.id_table.specs.Pages.{HasAt, HasObject, IsFoundAt, IsInChain}
-use Rattle.id_table.specs.Table.{Bucket, ChainStands, IdTable, IdsStand, Object, box_in, bucket_in, chain_at, entries_in, occurs_in_chain}
+use Rattle.id_table.specs.Table.{Bucket, ChainStands, IdTable, IdsStand, kept_in, bucket_in, chain_at, entries_in, occurs_in_chain}
 use Rattle.id_table.proofs.TableLemmas.{chain_in_table, not_here}
 use Rattle.id_table.proofs.WalkLemmas.{Begins, begins_at}
 use Rattle.node_page.proofs.PartLemmas.{there_not_missing}
@@ -19,7 +19,7 @@ pub record Passed (dims : ℕ) (pages : PageMap) (id : ℕ) (chain : List Bucket
   pub rest : List Bucket
   pub is : chain ≡ before ++ rest
   pub stands : ChainStands dims pages number rest
-  pub same : box_in id (entries_in chain) ≡ box_in id (entries_in rest)
+  pub same : kept_in id (entries_in chain) ≡ kept_in id (entries_in rest)
   pub long : length chain ≡ walked + length rest
 
 module _ {B A : Type 0} {m : _} where
@@ -44,16 +44,16 @@ module _ {B A : Type 0} {m : _} where
     pub not_ended : IsHonest old → (chain : List Bucket) → ChainStands dims (pages old) first chain → HasObject id chain → ¬ (number ≡ 0)
     not_ended h chain stands has none = let p = so_far.left h chain stands in ended p.rest p.stands p.same
       where
-        ended : (rest : List Bucket) → ChainStands dims (pages old) number rest → box_in id (entries_in chain) ≡ box_in id (entries_in rest) → ⊥
-        ended [] stands same = there_not_missing (box_in id (entries_in chain)) has same
+        ended : (rest : List Bucket) → ChainStands dims (pages old) number rest → kept_in id (entries_in chain) ≡ kept_in id (entries_in rest) → ⊥
+        ended [] stands same = there_not_missing (kept_in id (entries_in chain)) has same
         ended (b ∷ bs) stands same = omega (arith, none, stands.1)
 
     -- nor is it longer than it is
     pub not_so_long : IsHonest old → (chain : List Bucket) → ChainStands dims (pages old) first chain → length chain ≤ walked → HasObject id chain → ⊥
     not_so_long h chain stands short has = let p = so_far.left h chain stands in ended p.rest p.same (omega (arith, p.long, short))
       where
-        ended : (rest : List Bucket) → box_in id (entries_in chain) ≡ box_in id (entries_in rest) → length rest ≡ 0 → ⊥
-        ended [] same e = there_not_missing (box_in id (entries_in chain)) has same
+        ended : (rest : List Bucket) → kept_in id (entries_in chain) ≡ kept_in id (entries_in rest) → length rest ≡ 0 → ⊥
+        ended [] same e = there_not_missing (kept_in id (entries_in chain)) has same
         ended (b ∷ bs) same e = omega (arith, e)
 
     pub found_place : (place : ℕ) → ¬ (number ≡ 0) → (IsHonest now → (c : BucketContent) → bucket_in dims (pages now number) ≡ Some c → HasAt id c.entries place)
@@ -67,7 +67,7 @@ module _ {B A : Type 0} {m : _} where
           after = b.behind;
           is = p.is ∙ ap (λ (bs : List Bucket). p.before ++ bs) b.is;
           page_is = b.page;
-          has = subst (λ (es : List Object). HasAt id es place) b.entries (reads (so_far.asks.gate.honest.0 h) b.content (there_now some h chain stands));
+          has = subst (λ (es : List Entry). HasAt id es place) b.entries (reads (so_far.asks.gate.honest.0 h) b.content (there_now some h chain stands));
         }
 
     pub goes_past : (found : Option ℕ) (next_number : ℕ) (next : PageCache B A m) → ¬ (number ≡ 0) → found ≡ None → AsksUntil now next None
@@ -78,13 +78,13 @@ module _ {B A : Type 0} {m : _} where
           let p = so_far.left h chain stands in
           let b = begins_here some h chain stands in
           let read = reads (so_far.asks.gate.honest.0 h) b.content (there_now some h chain stands) in
-          let not_in : box_in id b.bucket.entries ≡ None = ap (box_in id) (sym b.entries) ∙ subst (IsFoundAt id b.content.entries) none read.0 in
+          let not_in : kept_in id b.bucket.entries ≡ None = ap (kept_in id) (sym b.entries) ∙ subst (IsFoundAt id b.content.entries) none read.0 in
           record {
             before = p.before ++ b.bucket ∷ [];
             rest = b.behind;
             is = p.is ∙ ap (λ (bs : List Bucket). p.before ++ bs) b.is ∙ sym (append_assoc p.before (b.bucket ∷ []) b.behind);
             stands = subst (λ n. ChainStands dims (pages old) n b.behind) (sym read.1) b.rest;
-            same = p.same ∙ ap (λ (bs : List Bucket). box_in id (entries_in bs)) b.is ∙ not_here id b.bucket.entries (entries_in b.behind) not_in;
+            same = p.same ∙ ap (λ (bs : List Bucket). kept_in id (entries_in bs)) b.is ∙ not_here id b.bucket.entries (entries_in b.behind) not_in;
             long = let e = ap length b.is in omega (arith, p.long, e);
           };
     }
@@ -114,6 +114,17 @@ holder_there dims pages id chain first holder place stands p = at p.before first
   where
     at : (before : List Bucket) (first : ℕ) → ChainStands dims pages first (before ++ p.bucket ∷ p.after) → HoldsAt dims pages holder place
     at [] first h = record { content = record { next = h.2; entries = p.bucket.entries }; there = ap (λ n. bucket_in dims (pages n)) (sym p.page_is) ∙ h.3; within = p.has.within }
+    at (b ∷ bs) first h = at bs h.2 h.4
+
+-- and what that bucket has
+pub holder_entries : (dims : ℕ) (pages : PageMap) (id : ℕ) (chain : List Bucket) (first holder place : ℕ) → ChainStands dims pages first chain → (p : IsInChain id chain holder place)
+    → (c : BucketContent) → bucket_in dims (pages holder) ≡ Some c → c.entries ≡ p.bucket.entries
+holder_entries dims pages id chain first holder place stands p c is = at p.before first (subst (ChainStands dims pages first) p.is stands)
+  where
+    at : (before : List Bucket) (first : ℕ) → ChainStands dims pages first (before ++ p.bucket ∷ p.after) → c.entries ≡ p.bucket.entries
+    at [] first h =
+        let there : bucket_in dims (pages holder) ≡ Some (record { next = h.2; entries = p.bucket.entries }) = ap (λ n. bucket_in dims (pages n)) (sym p.page_is) ∙ h.3 in
+        let same : c ≡ record { next = h.2; entries = p.bucket.entries } = cc (is, there) in ap (λ (k : BucketContent). k.entries) same
     at (b ∷ bs) first h = at bs h.2 h.4
 
 -- a page of a chain is not the directory

@@ -1,14 +1,14 @@
 -- One chain of a table replaced by another.
 use Rattle.std.proofs.Common.{◌≡◌, ◌∙◌, ℕ, ◌+◌, ◌<◌, ◌≤◌, false, cond, eqb, Option, Some, None, List, [], ◌∷◌, length, set, sum_by, sym, ap, subst, ⊎_elim, arith}
+use Rattle.box_math.specs.Objects.{Object}
 use Rattle.std.proofs.lemmas.Bool.{cases_eq}
 use Rattle.std.proofs.lemmas.Bool.Decides.{nat_tests}
 use Rattle.std.proofs.lemmas.List.{get_or-set_other, get_or-set_same, length-set}
 use Rattle.std.proofs.lemmas.List.Sums.{sum_by-set}
 use Rattle.std.specs.FinMap.{get}
-use Rattle.box_math.specs.Bounds.{Bounds}
 use Rattle.node_page.specs.Parts.{Moves}
 use Rattle.node_page.specs.Standing.{PageMap}
-use Rattle.id_table.specs.Table.{Bucket, ChainStands, IdTable, IdsStand, IsDirectory, IsFilled, box_in, bucket_in, chain_at, class_of, entries_in, link_at, objects_of, occurs_in_chain, occurs_in_ids, part_of}
+use Rattle.id_table.specs.Table.{Bucket, ChainStands, IdTable, IdsStand, IsDirectory, IsFilled, kept_in, bucket_in, chain_at, class_of, entries_in, link_at, objects_of, occurs_in_chain, occurs_in_ids, part_of}
 use Rattle.id_table.proofs.TableLemmas.{chain_in_table, found_by_class, occurs_here, table_there}
 
 -- the table with another chain for a remainder
@@ -117,8 +117,8 @@ module _ (dims : ℕ) (old new : PageMap) (t : IdTable) (class : ℕ) (chain : L
 
 -- ---- what it has, where its chain has another box for one identifier, or none, and is otherwise as before
 
-pub found_with : (dims : ℕ) (old new : PageMap) (t : IdTable) (id : ℕ) (chain : List Bucket) (now : Option Bounds) → IdsStand dims old t → IdsStand dims new (with_chain t (class_of id) chain)
-    → ((q : ℕ) → box_in q (entries_in chain) ≡ cond (eqb id q) now (box_in q (entries_in (chain_at t (class_of id)))))
+pub found_with : (dims : ℕ) (old new : PageMap) (t : IdTable) (id : ℕ) (chain : List Bucket) (now : Option Object) → IdsStand dims old t → IdsStand dims new (with_chain t (class_of id) chain)
+    → ((q : ℕ) → kept_in q (entries_in chain) ≡ cond (eqb id q) now (kept_in q (entries_in (chain_at t (class_of id)))))
     → (q : ℕ) → get (objects_of (with_chain t (class_of id) chain)) q ≡ cond (eqb id q) now (get (objects_of t) q)
 found_with dims old new t id chain now stands after other q =
     found_by_class (with_chain t (class_of id) chain) q after.whole after.filled ∙ in_its_chain (omega (arith, stands.whole))
@@ -130,12 +130,12 @@ found_with dims old new t id chain now stands after other q =
         is_no : (a b : ℕ) → ¬ (a ≡ b) → eqb a b ≡ false
         is_no a b h = grind (arith, nat_tests)
 
-    in_its_chain : class_of id < length t.chains → box_in q (entries_in (chain_at (with_chain t (class_of id) chain) (class_of q))) ≡ cond (eqb id q) now (box_in q (entries_in (chain_at t (class_of q))))
+    in_its_chain : class_of id < length t.chains → kept_in q (entries_in (chain_at (with_chain t (class_of id) chain) (class_of q))) ≡ cond (eqb id q) now (kept_in q (entries_in (chain_at t (class_of q))))
     in_its_chain within = ⊎_elim
         (λ (is : class_of q ≡ class_of id).
-        ap (λ k. box_in q (entries_in (chain_at (with_chain t (class_of id) chain) k))) is ∙ ap (λ c. box_in q (entries_in c)) (this_chain t (class_of id) chain within)
-        ∙ other q ∙ ap (λ k. cond (eqb id q) now (box_in q (entries_in (chain_at t k)))) (sym is))
+        ap (λ k. kept_in q (entries_in (chain_at (with_chain t (class_of id) chain) k))) is ∙ ap (λ c. kept_in q (entries_in c)) (this_chain t (class_of id) chain within)
+        ∙ other q ∙ ap (λ k. cond (eqb id q) now (kept_in q (entries_in (chain_at t k)))) (sym is))
         (λ (differ : ¬ (class_of q ≡ class_of id)).
-        ap (λ c. box_in q (entries_in c)) (other_chain t (class_of id) chain within (class_of q) differ)
-        ∙ ap (λ b. cond b now (box_in q (entries_in (chain_at t (class_of q))))) (sym (other_key differ)))
+        ap (λ c. kept_in q (entries_in c)) (other_chain t (class_of id) chain within (class_of q) differ)
+        ∙ ap (λ b. cond b now (kept_in q (entries_in (chain_at t (class_of q))))) (sym (other_key differ)))
         (cases_eq (class_of q) (class_of id))

@@ -7,13 +7,13 @@ use Rattle.std.proofs.lemmas.List.Concat.{flat_map-append}
 use Rattle.std.proofs.lemmas.List.Elements.{All-tail}
 use Rattle.std.specs.FinMap as map
 use Rattle.std.specs.FinMap.{get-remove, nat_cmp-IsAntisymmetric, same_map}
-use Rattle.bucket_page.specs.Layout.{BucketContent, popped, replaced}
+use Rattle.bucket_page.specs.Layout.{BucketContent, popped, replaced, Entry}
 use Rattle.page_file.specs.Pages.{SameBut}
 use Rattle.bucket_page.proofs.Reading.{count_of_bucket, spells}
 use Rattle.node_page.specs.Standing.{PageMap}
 use Rattle.id_table.specs.Changes.{Removes}
 use Rattle.id_table.specs.Pages.{HasAt, IsInChain, Shrinks, Shortens, Unlinks}
-use Rattle.id_table.specs.Table.{Bucket, ChainStands, IdTable, IdsStand, IsFilled, Object, box_in, bucket_in, chain_at, class_of, entries_in, link_at, objects_of, occurs_in_chain, times_in}
+use Rattle.id_table.specs.Table.{Bucket, ChainStands, IdTable, IdsStand, IsFilled, kept_in, bucket_in, chain_at, class_of, entries_in, link_at, objects_of, occurs_in_chain, times_in}
 use Rattle.id_table.proofs.BucketLemmas.{some_object}
 use Rattle.id_table.proofs.HolderLemmas.{PutsAt, full_changed, puts_in_chain, regroup}
 use Rattle.id_table.proofs.PlaceLemmas.{here_at, holder_there, occurs-append}
@@ -26,7 +26,7 @@ is_full b = length b.entries ≡ 100
 
 -- the table with a chain that lost an object
 pub removes : (dims : ℕ) (old new : PageMap) (t : IdTable) (id : ℕ) (chain : List Bucket) → (stands : IdsStand dims old t) → Replaces dims old new t stands.directory (class_of id) chain
-    → ((q : ℕ) → box_in q (entries_in chain) ≡ cond (eqb id q) None (box_in q (entries_in (chain_at t (class_of id))))) → Removes dims old new t id
+    → ((q : ℕ) → kept_in q (entries_in chain) ≡ cond (eqb id q) None (kept_in q (entries_in (chain_at t (class_of id))))) → Removes dims old new t id
 removes dims old new t id chain stands r less =
     let small : class_of id < 1000 = omega arith in
     let after = stands_with dims old new t (class_of id) chain small stands r in
@@ -122,37 +122,37 @@ full_after [] full = full
 full_after (b ∷ bs) full = All-tail (λ (b : Bucket). length b.entries ≡ 100) b bs full
 
 -- the table without the object, from what the chain holds then
-pub removes_by : (dims : ℕ) (old mid new : PageMap) (t : IdTable) (id first : ℕ) (c : BucketContent) (x : Object) (front : List Object) → (stands : IdsStand dims old t) → first ≡ link_at (class_of id) stands.directory
+pub removes_by : (dims : ℕ) (old mid new : PageMap) (t : IdTable) (id first : ℕ) (c : BucketContent) (x : Entry) (front : List Entry) → (stands : IdsStand dims old t) → first ≡ link_at (class_of id) stands.directory
     → (s : Shrunk dims old mid t (class_of id) first c) → Shrinks dims mid new t.page (class_of id) first c stands.directory → s.head.entries ≡ front ++ x ∷ []
     → Takes id x (front ++ entries_in s.tail) ((popped c).entries ++ entries_in s.tail_now) → All (λ (b : Bucket). length b.entries ≡ 100) s.tail_now → Removes dims old new t id
 removes_by dims old mid new t id first c x front stands link s shrinks last takes full =
     let small : class_of id < 1000 = omega arith in
     let rest = entries_in s.tail in
     let now = (popped c).entries ++ entries_in s.tail_now in
-    let all_is : entries_in (chain_at t (class_of id)) ≡ front ++ x ∷ rest = ap entries_in s.is ∙ ap (λ (es : List Object). es ++ rest) last ∙ append_assoc front (x ∷ []) rest in
+    let all_is : entries_in (chain_at t (class_of id)) ≡ front ++ x ∷ rest = ap entries_in s.is ∙ ap (λ (es : List Entry). es ++ rest) last ∙ append_assoc front (x ∷ []) rest in
     let filled = stands.filled (class_of id) small in
-    let single : (i : ℕ) → times_in i (front ++ x ∷ rest) ≤ 1 = λ i. subst (λ (es : List Object). times_in i es ≤ 1) all_is (filled.single i) in
-    let placed : All (λ (object : Object). class_of object.0 ≡ class_of id) now = taken_placed id x front rest now single (λ (object : Object). class_of object.0 ≡ class_of id) (subst (All (λ (object : Object). class_of object.0 ≡ class_of id)) all_is filled.placed) takes in
+    let single : (i : ℕ) → times_in i (front ++ x ∷ rest) ≤ 1 = λ i. subst (λ (es : List Entry). times_in i es ≤ 1) all_is (filled.single i) in
+    let placed : All (λ (object : Entry). class_of object.0 ≡ class_of id) now = taken_placed id x front rest now single (λ (object : Entry). class_of object.0 ≡ class_of id) (subst (All (λ (object : Entry). class_of object.0 ≡ class_of id)) all_is filled.placed) takes in
     let once : (i : ℕ) → times_in i now ≤ 1 = taken_single id x front rest now single takes in
-    let found : (q : ℕ) → box_in q now ≡ cond (eqb id q) None (box_in q (entries_in (chain_at t (class_of id)))) = λ q. taken_box id x front rest now single takes q ∙ ap (λ (es : List Object). cond (eqb id q) None (box_in q es)) (sym all_is) in
+    let found : (q : ℕ) → kept_in q now ≡ cond (eqb id q) None (kept_in q (entries_in (chain_at t (class_of id)))) = λ q. taken_box id x front rest now single takes q ∙ ap (λ (es : List Entry). cond (eqb id q) None (kept_in q es)) (sym all_is) in
     ⊎_elim
     (λ (less : Shortens dims mid new first c).
     removes dims old new t id (record { page = first; entries = (popped c).entries } ∷ s.tail_now) stands
     (shortened dims old mid new t (class_of id) first c stands small link s less (record { full = full; placed = placed; single = once })) found)
     (λ (less : Unlinks mid new t.page (class_of id) first c stands.directory).
     let none : (popped c).entries ≡ [] = take_none (length c.entries - 1) c.entries (omega (arith, less.only)) in
-    let now_is : now ≡ entries_in s.tail_now = ap (λ (es : List Object). es ++ entries_in s.tail_now) none in
+    let now_is : now ≡ entries_in s.tail_now = ap (λ (es : List Entry). es ++ entries_in s.tail_now) none in
     removes dims old new t id s.tail_now stands
     (unlinked dims old mid new t (class_of id) first c stands small link s less (record {
       full = full_after s.tail_now full;
-      placed = subst (All (λ (object : Object). class_of object.0 ≡ class_of id)) now_is placed;
-      single = λ i. subst (λ (es : List Object). times_in i es ≤ 1) now_is (once i);
-    })) (λ q. ap (box_in q) (sym now_is) ∙ found q))
+      placed = subst (All (λ (object : Entry). class_of object.0 ≡ class_of id)) now_is placed;
+      single = λ i. subst (λ (es : List Entry). times_in i es ≤ 1) now_is (once i);
+    })) (λ q. ap (kept_in q) (sym now_is) ∙ found q))
     shrinks
 
 -- ---- where the object is
 
-take_set : (m : ℕ) (es : List Object) (place : ℕ) (x : Object) → take m (set es place x) ≡ set (take m es) place x
+take_set : (m : ℕ) (es : List Entry) (place : ℕ) (x : Entry) → take m (set es place x) ≡ set (take m es) place x
 take_set zero [] place x = refl
 take_set zero (e ∷ es) zero x = refl
 take_set zero (e ∷ es) (suc p) x = refl
@@ -160,13 +160,13 @@ take_set (suc m) [] place x = refl
 take_set (suc m) (e ∷ es) zero x = refl
 take_set (suc m) (e ∷ es) (suc p) x = ap (λ l. e ∷ l) (take_set m es p x)
 
-set_beyond : (es : List Object) (place : ℕ) (x : Object) → length es ≤ place → set es place x ≡ es
+set_beyond : (es : List Entry) (place : ℕ) (x : Entry) → length es ≤ place → set es place x ≡ es
 set_beyond [] place x le = refl
 set_beyond (e ∷ es) zero x le = absurd (omega (arith, le))
 set_beyond (e ∷ es) (suc p) x le = ap (λ l. e ∷ l) (set_beyond es p x (omega (arith, le)))
 
 -- the last object of the first page taken for one of that page
-takes_there : (id place : ℕ) (x : Object) (es rest : List Object) → HasAt id es place → x ≡ get_or es (length es - 1) some_object
+takes_there : (id place : ℕ) (x : Entry) (es rest : List Entry) → HasAt id es place → x ≡ get_or es (length es - 1) some_object
     → Takes id x (take (length es - 1) es ++ rest) (take (length (set es place x) - 1) (set es place x) ++ rest)
 takes_there id place x es rest has is =
     let front = take (length es - 1) es in
@@ -182,19 +182,19 @@ takes_there id place x es rest has is =
       before = A;
       object = y;
       after = B ++ rest;
-      was = ap (λ (l : List Object). l ++ rest) at.0 ∙ append_assoc A (y ∷ B) rest;
-      id_is = ap (λ (o : Object). o.0) (get_or-take (length es - 1) es place some_object before) ∙ has.id_is some_object;
-      is = ap (λ (l : List Object). l ++ rest) (now ∙ at.1) ∙ append_assoc A (x ∷ B) rest;
+      was = ap (λ (l : List Entry). l ++ rest) at.0 ∙ append_assoc A (y ∷ B) rest;
+      id_is = ap (λ (o : Entry). o.0) (get_or-take (length es - 1) es place some_object before) ∙ has.id_is some_object;
+      is = ap (λ (l : List Entry). l ++ rest) (now ∙ at.1) ∙ append_assoc A (x ∷ B) rest;
     }))
     (λ (last : length es - 1 ≤ place).
     let here : place ≡ length es - 1 = omega (arith, last, has.within) in
     inr (
-      ap (λ (o : Object). o.0) (is ∙ ap (λ k. get_or es k some_object) (sym here)) ∙ has.id_is some_object,
-      ap (λ (l : List Object). l ++ rest) (now ∙ set_beyond front place x (omega (arith, size, last))),
+      ap (λ (o : Entry). o.0) (is ∙ ap (λ k. get_or es k some_object) (sym here)) ∙ has.id_is some_object,
+      ap (λ (l : List Entry). l ++ rest) (now ∙ set_beyond front place x (omega (arith, size, last))),
     ))
     (cases_lt place (length es - 1))
 
-removes_from_first : (dims : ℕ) (old mid new : PageMap) (t : IdTable) (id first place : ℕ) (c : BucketContent) (x : Object) → (stands : IdsStand dims old t) → first ≡ link_at (class_of id) stands.directory
+removes_from_first : (dims : ℕ) (old mid new : PageMap) (t : IdTable) (id first place : ℕ) (c : BucketContent) (x : Entry) → (stands : IdsStand dims old t) → first ≡ link_at (class_of id) stands.directory
     → IsInChain id (chain_at t (class_of id)) first place → bucket_in dims (old first) ≡ Some c → x ≡ get_or c.entries (length c.entries - 1) some_object → SameBut first old mid
     → Shrinks dims mid new t.page (class_of id) first (replaced c place x) stands.directory → Removes dims old new t id
 removes_from_first dims old mid new t id first place c x stands link p there last same shrinks =
@@ -215,7 +215,7 @@ removes_from_first dims old mid new t id first place c x stands link p there las
         let h = subst (ChainStands dims old first) is chain in
         let same_content : c ≡ record { next = h.2; entries = p.bucket.entries } = let was = ap (λ n. bucket_in dims (old n)) h.0 ∙ h.3 in cc (there, was) in
         let entries : p.bucket.entries ≡ c.entries = ap (λ (k : BucketContent). k.entries) (sym same_content) in
-        let has : HasAt id c.entries place = subst (λ (es : List Object). HasAt id es place) entries p.has in
+        let has : HasAt id c.entries place = subst (λ (es : List Entry). HasAt id es place) entries p.has in
         removes_by dims old mid new t id first (replaced c place x) x (take (length c.entries - 1) c.entries) stands link
         (record {
           head = p.bucket;
@@ -229,7 +229,7 @@ removes_from_first dims old mid new t id first place c x stands link p there las
           outside = λ n off none. same n off;
         })
         shrinks
-        (entries ∙ split_last c.entries some_object (omega (arith, has.within)) ∙ ap (λ (o : Object). take (length c.entries - 1) c.entries ++ o ∷ []) (sym last))
+        (entries ∙ split_last c.entries some_object (omega (arith, has.within)) ∙ ap (λ (o : Entry). take (length c.entries - 1) c.entries ++ o ∷ []) (sym last))
         (takes_there id place x c.entries (entries_in p.after) has last)
         (subst (λ (bs : List Bucket). All (λ (b : Bucket). length b.entries ≡ 100) (drop 1 bs)) is (stands.filled (class_of id) small).full)
     go (b ∷ bs) is chain =
@@ -242,7 +242,7 @@ removes_from_first dims old mid new t id first place c x stands link p there las
         let more = occurs-append first bs (p.bucket ∷ p.after) in
         absurd (omega (arith, one, two, part, counted, more, stands.once first))
 
-removes_from_other : (dims : ℕ) (old mid new : PageMap) (t : IdTable) (id first holder place : ℕ) (c : BucketContent) (x : Object) → (stands : IdsStand dims old t) → first ≡ link_at (class_of id) stands.directory
+removes_from_other : (dims : ℕ) (old mid new : PageMap) (t : IdTable) (id first holder place : ℕ) (c : BucketContent) (x : Entry) → (stands : IdsStand dims old t) → first ≡ link_at (class_of id) stands.directory
     → IsInChain id (chain_at t (class_of id)) holder place → ¬ (holder ≡ first) → bucket_in dims (old first) ≡ Some c → x ≡ get_or c.entries (length c.entries - 1) some_object → PutsAt dims old mid holder place x
     → Shrinks dims mid new t.page (class_of id) first c stands.directory → Removes dims old new t id
 removes_from_other dims old mid new t id first holder place c x stands link p apart there last puts shrinks =
@@ -281,14 +281,14 @@ removes_from_other dims old mid new t id first holder place c x stands link p ap
           outside = λ n off none. puts.others n (λ at_holder. let one = here_at p.bucket.page n (p.page_is ∙ sym at_holder) in let more = occurs-append n bs (p.bucket ∷ p.after) in omega (arith, one, more, none));
         })
         shrinks
-        (entries ∙ split_last c.entries some_object some ∙ ap (λ (o : Object). front ++ o ∷ []) (sym last))
+        (entries ∙ split_last c.entries some_object some ∙ ap (λ (o : Entry). front ++ o ∷ []) (sym last))
         (inl (record {
           before = front ++ (G ++ A);
           object = y;
           after = B ++ E;
-          was = ap (λ (l : List Object). front ++ l) (flat_map-append (λ (b : Bucket). b.entries) bs (p.bucket ∷ p.after)) ∙ ap (λ (l : List Object). front ++ (G ++ (l ++ E))) at.0 ∙ regroup front G A B E y;
+          was = ap (λ (l : List Entry). front ++ l) (flat_map-append (λ (b : Bucket). b.entries) bs (p.bucket ∷ p.after)) ∙ ap (λ (l : List Entry). front ++ (G ++ (l ++ E))) at.0 ∙ regroup front G A B E y;
           id_is = p.has.id_is some_object;
-          is = ap (λ (l : List Object). front ++ l) (flat_map-append (λ (b : Bucket). b.entries) bs (b_now ∷ p.after)) ∙ ap (λ (l : List Object). front ++ (G ++ (l ++ E))) at.1 ∙ regroup front G A B E x;
+          is = ap (λ (l : List Entry). front ++ l) (flat_map-append (λ (b : Bucket). b.entries) bs (b_now ∷ p.after)) ∙ ap (λ (l : List Entry). front ++ (G ++ (l ++ E))) at.1 ∙ regroup front G A B E x;
         }))
         (full_changed bs p.bucket es p.after (length-set p.bucket.entries place x)
         (subst (λ (bs : List Bucket). All (λ (b : Bucket). length b.entries ≡ 100) (drop 1 bs)) is (stands.filled (class_of id) small).full))
@@ -299,7 +299,7 @@ removes_from_other dims old mid new t id first holder place c x stands link p ap
 
 -- ---- one or the other
 
-module _ (dims : ℕ) (old mid : PageMap) (t : IdTable) (id first holder place : ℕ) (c : BucketContent) (x : Object) (stands : IdsStand dims old t) (link : first ≡ link_at (class_of id) stands.directory)
+module _ (dims : ℕ) (old mid : PageMap) (t : IdTable) (id first holder place : ℕ) (c : BucketContent) (x : Entry) (stands : IdsStand dims old t) (link : first ≡ link_at (class_of id) stands.directory)
     (p : IsInChain id (chain_at t (class_of id)) holder place) (there : bucket_in dims (old first) ≡ Some c) (puts : PutsAt dims old mid holder place x) where
   -- the place is one of the first bucket, if that has it
   in_first : holder ≡ first → place < length c.entries

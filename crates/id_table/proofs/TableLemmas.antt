@@ -1,5 +1,7 @@
 -- What a table holds, chain by chain, and where its pages are.
 use Rattle.std.proofs.Common.{◌≡◌, ◌∙◌, ℕ, zero, suc, ◌+◌, ◌<◌, ◌≤◌, Bool, true, false, cond, eqb, ◌||◌, Option, Some, None, IsSome, List, [], ◌∷◌, ◌++◌, length, map, get_or, sum_by, All, refl, sym, ap, subst, ⊎_elim, arith}
+use Rattle.box_math.specs.Objects.{Object}
+use Rattle.bucket_page.specs.Layout.{Entry}
 use Rattle.std.proofs.lemmas.Bool.{cases_eq}
 use Rattle.std.proofs.lemmas.Bool.Decides.{nat_tests}
 use Rattle.std.proofs.lemmas.Cmp.{nat_cmp_total}
@@ -10,36 +12,35 @@ use Rattle.std.specs.FinMap.{get, get-from_entries}
 use Rattle.std.specs.FinMap.Entries.{find}
 use Rattle.std.specs.List.{IsDistinct, AllByRecursion, flat_map, list_any}
 use Rattle.std.specs.Ordering.{eq_by_cmp, nat_cmp}
-use Rattle.box_math.specs.Bounds.{Bounds}
 use Rattle.node_page.specs.Standing.{PageMap}
-use Rattle.id_table.specs.Table.{Bucket, ChainStands, IdTable, IdsStand, IsFilled, Object, box_in, bucket_in, chain_at, class_of, entries_in, entries_of, link_at, objects_of, occurs_in_chain, occurs_in_ids}
+use Rattle.id_table.specs.Table.{Bucket, ChainStands, IdTable, IdsStand, IsFilled, kept_in, bucket_in, chain_at, class_of, entries_in, entries_of, link_at, objects_of, occurs_in_chain, occurs_in_ids}
 
 -- ---- what is found
 
 pub same_key : (q k : ℕ) → eq_by_cmp nat_cmp q k ≡ eqb k q
 same_key q k = grind (arith, nat_tests)
 
-pub found_is : (q : ℕ) (es : List Object) → find nat_cmp q es ≡ box_in q es
+pub found_is : (q : ℕ) (es : List Entry) → find nat_cmp q es ≡ kept_in q es
 found_is q [] = refl
 found_is q (e ∷ es) = ap (λ b. cond b (Some e.1) (find nat_cmp q es)) (same_key q e.0) ∙ ap (λ o. cond (eqb e.0 q) (Some e.1) o) (found_is q es)
 
-pub not_here : (q : ℕ) (xs ys : List Object) → box_in q xs ≡ None → box_in q (xs ++ ys) ≡ box_in q ys
+pub not_here : (q : ℕ) (xs ys : List Entry) → kept_in q xs ≡ None → kept_in q (xs ++ ys) ≡ kept_in q ys
 not_here q [] ys none = refl
-not_here q (x ∷ xs) ys none = step (eqb x.0 q) (box_in q xs) (box_in q (xs ++ ys)) (not_here q xs ys) none
+not_here q (x ∷ xs) ys none = step (eqb x.0 q) (kept_in q xs) (kept_in q (xs ++ ys)) (not_here q xs ys) none
   where
-    step : (b : Bool) (front all : Option Bounds) → (front ≡ None → all ≡ box_in q ys) → cond b (Some x.1) front ≡ None → cond b (Some x.1) all ≡ box_in q ys
+    step : (b : Bool) (front all : Option Object) → (front ≡ None → all ≡ kept_in q ys) → cond b (Some x.1) front ≡ None → cond b (Some x.1) all ≡ kept_in q ys
     step true front all later e = absurd (cc)
     step false front all later e = later e
 
-pub not_behind : (q : ℕ) (xs ys : List Object) → box_in q ys ≡ None → box_in q (xs ++ ys) ≡ box_in q xs
+pub not_behind : (q : ℕ) (xs ys : List Entry) → kept_in q ys ≡ None → kept_in q (xs ++ ys) ≡ kept_in q xs
 not_behind q [] ys none = none
 not_behind q (x ∷ xs) ys none = ap (λ o. cond (eqb x.0 q) (Some x.1) o) (not_behind q xs ys none)
 
-pub elsewhere : (q class : ℕ) (xs : List Object) → All (λ object. class_of object.0 ≡ class) xs → ¬ (class_of q ≡ class) → box_in q xs ≡ None
+pub elsewhere : (q class : ℕ) (xs : List Entry) → All (λ object. class_of object.0 ≡ class) xs → ¬ (class_of q ≡ class) → kept_in q xs ≡ None
 elsewhere q class [] placed other = refl
 elsewhere q class (x ∷ xs) placed other =
-    let differs : eqb x.0 q ≡ false = apart x.0 q (λ is. other (ap class_of (sym is) ∙ All-head (λ (object : Object). class_of object.0 ≡ class) x xs placed)) in
-    ap (λ b. cond b (Some x.1) (box_in q xs)) differs ∙ elsewhere q class xs (All-tail (λ (object : Object). class_of object.0 ≡ class) x xs placed) other
+    let differs : eqb x.0 q ≡ false = apart x.0 q (λ is. other (ap class_of (sym is) ∙ All-head (λ (object : Entry). class_of object.0 ≡ class) x xs placed)) in
+    ap (λ b. cond b (Some x.1) (kept_in q xs)) differs ∙ elsewhere q class xs (All-tail (λ (object : Entry). class_of object.0 ≡ class) x xs placed) other
   where
     apart : (a b : ℕ) → ¬ (a ≡ b) → eqb a b ≡ false
     apart a b h = grind (arith, nat_tests)
@@ -49,13 +50,13 @@ abbrev pub ArePlaced : ℕ → List (List Bucket) → Type 0
 ArePlaced class [] = Unit {0}
 ArePlaced class (c ∷ cs) = All (λ object. class_of object.0 ≡ class) (entries_in c) × ArePlaced (class + 1) cs
 
-none_before : (q class : ℕ) (cs : List (List Bucket)) → ArePlaced class cs → class_of q < class → box_in q (flat_map entries_in cs) ≡ None
+none_before : (q class : ℕ) (cs : List (List Bucket)) → ArePlaced class cs → class_of q < class → kept_in q (flat_map entries_in cs) ≡ None
 none_before q class [] placed before = refl
 none_before q class (c ∷ cs) placed before =
     not_here q (entries_in c) (flat_map entries_in cs) (elsewhere q class (entries_in c) placed.0 (λ is. omega (arith, is, before)))
     ∙ none_before q (class + 1) cs placed.1 (omega (arith, before))
 
-found_in_chain : (q class i : ℕ) (cs : List (List Bucket)) → ArePlaced class cs → i < length cs → class_of q ≡ class + i → box_in q (flat_map entries_in cs) ≡ box_in q (entries_in (get_or cs i []))
+found_in_chain : (q class i : ℕ) (cs : List (List Bucket)) → ArePlaced class cs → i < length cs → class_of q ≡ class + i → kept_in q (flat_map entries_in cs) ≡ kept_in q (entries_in (get_or cs i []))
 found_in_chain q class i [] placed within is = absurd (omega (arith, within))
 found_in_chain q class zero (c ∷ cs) placed within is = not_behind q (entries_in c) (flat_map entries_in cs) (none_before q (class + 1) cs placed.1 (omega (arith, is)))
 found_in_chain q class (suc i) (c ∷ cs) placed within is =
@@ -72,7 +73,7 @@ are_placed class (c ∷ cs) each = (
 )
 
 -- what a table has for an identifier is what its chain has
-pub found_by_class : (t : IdTable) (q : ℕ) → length t.chains ≡ 1000 → ((class : ℕ) → class < 1000 → IsFilled class (chain_at t class)) → get (objects_of t) q ≡ box_in q (entries_in (chain_at t (class_of q)))
+pub found_by_class : (t : IdTable) (q : ℕ) → length t.chains ≡ 1000 → ((class : ℕ) → class < 1000 → IsFilled class (chain_at t class)) → get (objects_of t) q ≡ kept_in q (entries_in (chain_at t (class_of q)))
 found_by_class t q whole filled =
     let within : class_of q < 1000 = omega arith in
     get-from_entries nat_cmp_total (entries_of t) q ∙ found_is q (entries_of t)

@@ -5,9 +5,11 @@ use Rattle.std.specs.FinMap as map
 use Rattle.std.specs.FinMap.{FinMap}
 use Rattle.std.specs.Ordering.{nat_cmp}
 use Rattle.box_math.specs.Bounds.{Bounds}
+use Rattle.box_math.specs.Objects.{Object, tag_of}
+use Rattle.bucket_page.specs.Layout.{Entry}
 use Rattle.node_page.specs.Parts.{Moves, no_page}
 use Rattle.node_page.specs.Standing.{PageMap}
-use Rattle.id_table.specs.Table.{IdTable, IdsStand, Object, objects_of, part_of}
+use Rattle.id_table.specs.Table.{IdTable, IdsStand, objects_of, part_of}
 
 -- a new table of no objects, in pages of its own
 pub record Makes (dims : ℕ) (old new : PageMap) (directory : ℕ) : Type 0 where
@@ -17,12 +19,16 @@ pub record Makes (dims : ℕ) (old new : PageMap) (directory : ℕ) : Type 0 whe
   pub objects : objects_of table ≡ map.empty
   pub moves : Moves old new no_page (part_of table)
 
--- the table with this box for an identifier: with an object more, or another box of one that it has
-pub record Sets (dims : ℕ) (old new : PageMap) (t : IdTable) (id : ℕ) (bounds : Bounds) : Type 0 where
+-- an object with another box
+abbrev pub with_box : Object → Bounds → Object
+with_box object box = (box, tag_of object)
+
+-- the table with an object with this identifier, of which this is kept: with one more, or another box of one that it has
+pub record Sets (dims : ℕ) (old new : PageMap) (t : IdTable) (id : ℕ) (kept : Object) : Type 0 where
   pub table : IdTable
   pub page : table.page ≡ t.page
   pub stands : IdsStand dims new table
-  pub objects : objects_of table ≡ map.insert (objects_of t) id bounds
+  pub objects : objects_of table ≡ map.insert (objects_of t) id kept
   pub moves : Moves old new (part_of t) (part_of table)
 
 -- the table without an object
@@ -34,17 +40,17 @@ pub record Removes (dims : ℕ) (old new : PageMap) (t : IdTable) (id : ℕ) : T
   pub moves : Moves old new (part_of t) (part_of table)
 
 -- a map with objects added one after the other
-abbrev pub with_all : FinMap nat_cmp Bounds → List Object → FinMap nat_cmp Bounds
+abbrev pub with_all : FinMap nat_cmp Object → List Entry → FinMap nat_cmp Object
 with_all m [] = m
 with_all m (object ∷ objects) = with_all (map.insert m object.0 object.1) objects
 
 -- none of the objects has an identifier of the map, or one that an object before it has
-abbrev pub AreNew : FinMap nat_cmp Bounds → List Object → Type 0
+abbrev pub AreNew : FinMap nat_cmp Object → List Entry → Type 0
 AreNew m [] = ⊤
 AreNew m (object ∷ objects) = (map.contains_key m object.0 ≡ false) × AreNew (map.insert m object.0 object.1) objects
 
 -- the table with all these objects more
-pub record Fills (dims : ℕ) (old new : PageMap) (t : IdTable) (added : List Object) : Type 0 where
+pub record Fills (dims : ℕ) (old new : PageMap) (t : IdTable) (added : List Entry) : Type 0 where
   pub table : IdTable
   pub page : table.page ≡ t.page
   pub stands : IdsStand dims new table

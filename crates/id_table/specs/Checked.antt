@@ -3,13 +3,13 @@ use Rattle.std.specs.Prelude.{◌≡◌, ◌⊎◌, ℕ, Bool, true, ◌+◌, �
 use Rattle.std.specs.BTreeSet.{BTreeSet, contains}
 use Rattle.std.specs.List.{flat_map}
 use Rattle.std.specs.Ordering.{nat_cmp}
-use Rattle.bucket_page.specs.Layout.{BucketContent}
+use Rattle.bucket_page.specs.Layout.{BucketContent, Entry}
 use Rattle.node_page.specs.Checked.{named_pages}
 use Rattle.node_page.specs.Standing.{PageMap}
-use Rattle.id_table.specs.Table.{Bucket, ChainStands, IdTable, IdsStand, IsDirectory, IsFilled, Object, bucket_in, class_of, entries_in, entries_of, link_at, occurs_in_chain, part_of, times_in}
+use Rattle.id_table.specs.Table.{Bucket, ChainStands, IdTable, IdsStand, IsDirectory, IsFilled, bucket_in, class_of, entries_in, entries_of, link_at, occurs_in_chain, part_of, times_in}
 
 -- the pages stand for a table with its directory at this page, with these objects chain after chain, and with these pages
-pub record IsCheckedTable (dims : ℕ) (pages : PageMap) (directory : ℕ) (pairs : List Object) (list : List ℕ) : Type 0 where
+pub record IsCheckedTable (dims : ℕ) (pages : PageMap) (directory : ℕ) (pairs : List Entry) (list : List ℕ) : Type 0 where
   pub table : IdTable
   pub page_is : table.page ≡ directory
   pub stands : IdsStand dims pages table
@@ -27,14 +27,14 @@ abbrev pub SeesOne : BTreeSet ℕ → BTreeSet ℕ → ℕ → Type 0
 SeesOne seen_before seen id = (other : ℕ) → seen_times seen other ≡ seen_times seen_before other + (if id == other then 1 else 0)
 
 -- objects of a chain were appended to those before: each has its remainder, and an identifier that was not seen before
-pub record AddsObjects (class : ℕ) (objects pairs_before pairs : List Object) (seen_before seen : BTreeSet ℕ) : Type 0 where
+pub record AddsObjects (class : ℕ) (objects pairs_before pairs : List Entry) (seen_before seen : BTreeSet ℕ) : Type 0 where
   pub pairs_are : pairs ≡ pairs_before ++ objects
   pub placed : All (λ object. class_of object.0 ≡ class) objects
   pub seen_are : (id : ℕ) → seen_times seen id ≡ seen_times seen_before id + times_in id objects
 
 -- the objects of the bucket at a page were appended, and its page; where it has to be it is full
-pub record AddsBucket (dims : ℕ) (pages : PageMap) (class number next : ℕ) (whole : Bool) (pairs_before pairs : List Object) (list_before list : List ℕ) (seen_before seen : BTreeSet ℕ) : Type 0 where
-  pub entries : List Object
+pub record AddsBucket (dims : ℕ) (pages : PageMap) (class number next : ℕ) (whole : Bool) (pairs_before pairs : List Entry) (list_before list : List ℕ) (seen_before seen : BTreeSet ℕ) : Type 0 where
+  pub entries : List Entry
   pub low : 2 < number
   pub there : bucket_in dims (pages number) ≡ Some (record { next = next; entries = entries })
   pub full : whole ≡ true → length entries ≡ 100
@@ -50,7 +50,7 @@ pub record MayFollow (class number : ℕ) (whole : Bool) (c : BucketContent) (li
   pub single : (id : ℕ) → seen_times seen id + times_in id c.entries ≤ 1
 
 -- a chain stands from a page on, filled: its objects and its pages were appended
-pub record AddsChain (dims : ℕ) (pages : PageMap) (class first : ℕ) (pairs_before pairs : List Object) (list_before list : List ℕ) : Type 0 where
+pub record AddsChain (dims : ℕ) (pages : PageMap) (class first : ℕ) (pairs_before pairs : List Entry) (list_before list : List ℕ) : Type 0 where
   pub chain : List Bucket
   pub stands : ChainStands dims pages first chain
   pub filled : IsFilled class chain
@@ -58,7 +58,7 @@ pub record AddsChain (dims : ℕ) (pages : PageMap) (class first : ℕ) (pairs_b
   pub pages_are : (n : ℕ) → named_pages list n ≡ named_pages list_before n + occurs_in_chain n chain
 
 -- so do the first chains that a directory names
-pub record AddsChains (dims : ℕ) (pages : PageMap) (directory : List ℕ) (count : ℕ) (pairs_before pairs : List Object) (list_before list : List ℕ) : Type 0 where
+pub record AddsChains (dims : ℕ) (pages : PageMap) (directory : List ℕ) (count : ℕ) (pairs_before pairs : List Entry) (list_before list : List ℕ) : Type 0 where
   pub chains : List (List Bucket)
   pub whole : length chains ≡ count
   pub stands : (class : ℕ) → class < count → ChainStands dims pages (link_at class directory) (slice_index_or chains class [])

@@ -6,19 +6,15 @@ use Rattle.std.specs.List.{flat_map}
 use Rattle.std.specs.Ordering.{nat_cmp}
 use Rattle.block_bytes.specs.Kinds.{directory_kind}
 use Rattle.block_bytes.specs.Numbers.{number_at}
-use Rattle.box_math.specs.Bounds.{Bounds}
-use Rattle.bucket_page.specs.Layout.{BucketContent, bucket_at}
+use Rattle.box_math.specs.Objects.{Object}
+use Rattle.bucket_page.specs.Layout.{BucketContent, Entry, bucket_at}
 use Rattle.node_page.specs.Parts.{Part}
 use Rattle.node_page.specs.Standing.{PageMap}
-
--- an object: its identifier and its box
-abbrev pub Object : Type 0
-Object = ℕ × Bounds
 
 -- a bucket: its page and its objects
 pub record Bucket : Type 0 where
   pub page : ℕ
-  pub entries : List Object
+  pub entries : List Entry
 
 -- a table: the page of its directory, and its chains by remainder
 pub record IdTable : Type 0 where
@@ -27,24 +23,24 @@ pub record IdTable : Type 0 where
 
 -- ---- what it holds
 
-abbrev pub entries_in : List Bucket → List Object
+abbrev pub entries_in : List Bucket → List Entry
 entries_in bs = flat_map (λ b. b.entries) bs
 
 -- the objects, chain after chain
-abbrev pub entries_of : IdTable → List Object
+abbrev pub entries_of : IdTable → List Entry
 entries_of t = flat_map entries_in t.chains
 
--- as a map from identifier to box
-abbrev pub objects_of : IdTable → FinMap nat_cmp Bounds
+-- as a map from identifier to what is kept of the object
+abbrev pub objects_of : IdTable → FinMap nat_cmp Object
 objects_of t = from_entries (entries_of t)
 
--- the box of the first of the objects with an identifier
-abbrev pub box_in : ℕ → List Object → Option Bounds
-box_in id [] = None
-box_in id (x ∷ xs) = if x.0 == id then Some x.1 else box_in id xs
+-- what is kept of the first of the objects with an identifier
+abbrev pub kept_in : ℕ → List Entry → Option Object
+kept_in id [] = None
+kept_in id (x ∷ xs) = if x.0 == id then Some x.1 else kept_in id xs
 
 -- how many of the objects have an identifier
-abbrev pub times_in : ℕ → List Object → ℕ
+abbrev pub times_in : ℕ → List Entry → ℕ
 times_in id [] = 0
 times_in id (x ∷ xs) = (if x.0 == id then 1 else 0) + times_in id xs
 

@@ -38,6 +38,7 @@ pub fn add<const D: usize, B: BlockDevice, A: Allocator + Copy>(
     directory: u32,
     id: u64,
     bounds: &BBox<D>,
+    tag: u32,
 ) -> Result<(), Broken>
     requires dims { IsDims D }
     requires open { gate_of cache.old ≡ Open }
@@ -46,13 +47,13 @@ pub fn add<const D: usize, B: BlockDevice, A: Allocator + Copy>(
         → IsPageMap cache.new }
     ensures added { IsPageMap cache.old → (t : IdTable) → t.page ≡ directory → IdsStand D (pages cache.old) t
         → map.contains_key (objects_of t) id ≡ false
-        → OnOk result (Sets D (pages cache.old) (pages cache.new) t id bounds.now) }
+        → OnOk result (Sets D (pages cache.old) (pages cache.new) t id (bounds.now, tag)) }
     ensures grows { Grows 1 cache.old cache.new }
     ensures faults { IsPageMap cache.old → (t : IdTable) → t.page ≡ directory → IdsStand D (pages cache.old) t
         → IfErr result (λ b. IsNoDamage cache.new b.cause) }
     ensures other_faults { IfErr result (λ b. IsNoDamage cache.new b.cause ⊎ IsDamage b.cause) }
 {
-    match add_run(cache, directory, &[(id, *bounds)]) {
+    match add_run(cache, directory, &[(id, (*bounds, tag))]) {
         Ok(_) => Ok(()),
         Err(broken) => Err(broken),
     }
@@ -63,7 +64,7 @@ pub fn add<const D: usize, B: BlockDevice, A: Allocator + Copy>(
 pub(crate) fn add_run<const D: usize, B: BlockDevice, A: Allocator + Copy>(
     cache: &mut PageCache<B, A>,
     directory: u32,
-    objects: &[(u64, BBox<D>)],
+    objects: &[(u64, (BBox<D>, u32))],
 ) -> Result<usize, Broken>
     requires dims { IsDims D }
     requires open { gate_of cache.old ≡ Open }
@@ -97,7 +98,7 @@ fn put_in<const D: usize, B: BlockDevice, A: Allocator + Copy>(
     cache: &mut PageCache<B, A>,
     number: u32,
     class: usize,
-    objects: &[(u64, BBox<D>)],
+    objects: &[(u64, (BBox<D>, u32))],
 ) -> Result<usize, Fault>
     requires dims { IsDims D }
     requires open { gate_of cache.old ≡ Open }
@@ -134,7 +135,7 @@ fn put_in<const D: usize, B: BlockDevice, A: Allocator + Copy>(
 fn push_where_room<const D: usize>(
     page: &mut [u8; 4096],
     class: usize,
-    objects: &[(u64, BBox<D>)],
+    objects: &[(u64, (BBox<D>, u32))],
 ) -> Option<usize>
     requires dims { IsDims D }
     requires some { 0 < length objects.now }
@@ -152,7 +153,7 @@ fn push_where_room<const D: usize>(
 fn push_run<const D: usize>(
     page: &mut [u8; 4096],
     class: usize,
-    objects: &[(u64, BBox<D>)],
+    objects: &[(u64, (BBox<D>, u32))],
 ) -> usize
     requires dims { IsDims D }
     requires room { number_at 2 2 page.old < 100 }
@@ -179,7 +180,7 @@ fn put_alone<const D: usize, B: BlockDevice, A: Allocator + Copy>(
     directory: u32,
     class: usize,
     first: u32,
-    objects: &[(u64, BBox<D>)],
+    objects: &[(u64, (BBox<D>, u32))],
 ) -> Result<usize, Fault>
     requires dims { IsDims D }
     requires class { class < 1000 }
@@ -207,7 +208,10 @@ fn put_alone<const D: usize, B: BlockDevice, A: Allocator + Copy>(
 }
 
 // The objects from the first one on that are of the chain, as many as a page has room for.
-fn run_of<const D: usize>(class: usize, objects: &[(u64, BBox<D>)]) -> ArrayVec<(u64, BBox<D>), 100>
+fn run_of<const D: usize>(
+    class: usize,
+    objects: &[(u64, (BBox<D>, u32))],
+) -> ArrayVec<(u64, (BBox<D>, u32)), 100>
     requires some { 0 < length objects.now }
     requires first { class ≡ first_class objects.now }
     ensures taken { result.items ≡ take (length result.items) objects.now }

@@ -11,7 +11,7 @@ ghost use Rattle.page_file.specs.declared.gate.Gate.TheVariants.{Open};
 ghost use Rattle.page_cache.specs.Cache.{Grows, IsHonest, IsLive, IsPageMap, gate_of, next_of, pages};
 ghost use Rattle.page_cache.specs.Calls.{Asks, Changes};
 ghost use Rattle.id_table.specs.Pages.{BeginsFull, IsFoundAt};
-ghost use Rattle.id_table.specs.Table.{Bucket as Linked, ChainStands, box_in, bucket_in};
+ghost use Rattle.id_table.specs.Table.{Bucket as Linked, ChainStands, kept_in, bucket_in};
 
 use block_device::BlockDevice;
 use box_math::BBox;
@@ -20,11 +20,12 @@ use page_cache::PageCache;
 use page_file::Fault;
 use std::alloc::Allocator;
 
-// The box of an identifier on a bucket page, if an object there has it: identifiers are compared in their places, and
-// only that object is decoded. `None` where the page begins as no bucket of this dimension, or that object has no box.
-pub(crate) fn box_on<const D: usize>(page: &[u8; 4096], id: u64) -> Option<Option<BBox<D>>>
+// What is kept of an identifier on a bucket page, if an object there has it: identifiers are compared in
+// their places, and only that object is decoded. `None` where the page begins as no bucket of this dimension,
+// or that object has no box.
+pub(crate) fn kept_on<const D: usize>(page: &[u8; 4096], id: u64) -> Option<Option<(BBox<D>, u32)>>
     requires dims { IsDims D }
-    ensures of_bucket { (c : BucketContent) → bucket_at D page.now ≡ Some c → result ≡ Some (box_in id c.entries) }
+    ensures of_bucket { (c : BucketContent) → bucket_at D page.now ≡ Some c → result ≡ Some (kept_in id c.entries) }
 {
     if !has_bucket_head::<D>(page) {
         return None;
@@ -40,26 +41,26 @@ pub(crate) fn box_on<const D: usize>(page: &[u8; 4096], id: u64) -> Option<Optio
     Some(None)
 }
 
-// Looks for an identifier in the bucket at a page, in one look: its box, if it is there, and the page of the next
-// bucket.
+// Looks for an identifier in the bucket at a page, in one look: its box and its tag, if it is there, and the
+// page of the next bucket.
 #[tactic(auto, using(page_cache::specs::Calls::ends_so))]
 pub(crate) fn look<const D: usize, B: BlockDevice, A: Allocator + Copy>(
     cache: &mut PageCache<B, A>,
     number: u32,
     id: u64,
-) -> Result<(Option<BBox<D>>, u32), Fault>
+) -> Result<(Option<(BBox<D>, u32)>, u32), Fault>
     requires dims { IsDims D }
     ensures asks { Asks cache.old cache.new result }
     ensures found { IsHonest cache.old → (c : BucketContent) → bucket_in D (pages cache.old number) ≡ Some c
-        → IfOk result (λ r. (r.0 ≡ box_in id c.entries) × (r.1 ≡ c.next)) }
+        → IfOk result (λ r. (r.0 ≡ kept_in id c.entries) × (r.1 ≡ c.next)) }
     ensures there { IsHonest cache.old → (c : BucketContent) → bucket_in D (pages cache.old number) ≡ Some c
         → IfErr result IsOfDevice }
     ensures damage { IsHonest cache.old → IfErr result (λ f. IsOfDevice f ⊎ (f ≡ fault.Damaged number)) }
     ensures other_faults { IfErr result (λ f. IsOfDevice f ⊎ IsDamage f) }
 {
     let page = cache.page(number)?;
-    match box_on::<D>(page, id) {
-        Some(bounds) => Ok((bounds, next_at(page))),
+    match kept_on::<D>(page, id) {
+        Some(kept) => Ok((kept, next_at(page))),
         None => Err(Fault::Damaged(number)),
     }
 }
@@ -83,8 +84,8 @@ pub(crate) fn place_on<const D: usize>(page: &[u8; 4096], id: u64) -> Option<Opt
     Some(None)
 }
 
-// Looks for the place of an identifier in the bucket at a page, in one look: the place, if it is there, and the page of
-// the next bucket.
+// Looks for the place of an identifier in the bucket at a page, in one look: the place, if it is there, and
+// the page of the next bucket.
 #[tactic(auto, using(page_cache::specs::Calls::ends_so))]
 pub(crate) fn place_at<const D: usize, B: BlockDevice, A: Allocator + Copy>(
     cache: &mut PageCache<B, A>,

@@ -30,8 +30,8 @@ use std::collections::BTreeSet;
 /// What a table holds.
 #[derive(Drop)]
 pub struct TableFacts<const D: usize, H: Allocator> {
-    /// The identifier and the box of each object, chain after chain.
-    pub pairs: Vec<(u64, BBox<D>), H>,
+    /// The identifier of each object, and then its box and its tag, chain after chain.
+    pub pairs: Vec<(u64, (BBox<D>, u32)), H>,
     /// The page of the directory, and those of the chains.
     pub pages: Vec<u32, H>,
 }
@@ -94,7 +94,7 @@ fn add_chains<const D: usize, B: BlockDevice, A: Allocator + Copy, H: Allocator 
     cache: &mut PageCache<B, A>,
     directory: &[u8; 4096],
     visits: &mut Visits<H>,
-    pairs: &mut Vec<(u64, BBox<D>), H>,
+    pairs: &mut Vec<(u64, (BBox<D>, u32)), H>,
 ) -> Result<(), Fault>
     requires dims { IsDims D }
     requires numbers { length visits.old.marks.items ≡ next_of cache.old }
@@ -130,7 +130,7 @@ fn add_chain<const D: usize, B: BlockDevice, A: Allocator + Copy, H: Allocator +
     first: u32,
     class: usize,
     visits: &mut Visits<H>,
-    pairs: &mut Vec<(u64, BBox<D>), H>,
+    pairs: &mut Vec<(u64, (BBox<D>, u32)), H>,
 ) -> Result<(), Fault>
     requires dims { IsDims D }
     requires numbers { length visits.old.marks.items ≡ next_of cache.old }
@@ -176,7 +176,7 @@ fn add_bucket<const D: usize, B: BlockDevice, A: Allocator + Copy, H: Allocator 
     whole: bool,
     visits: &mut Visits<H>,
     seen: &mut BTreeSet<u64, H>,
-    pairs: &mut Vec<(u64, BBox<D>), H>,
+    pairs: &mut Vec<(u64, (BBox<D>, u32)), H>,
 ) -> Result<u32, Fault>
     requires dims { IsDims D }
     requires numbers { length visits.old.marks.items ≡ next_of cache.old }
@@ -213,7 +213,7 @@ fn add_objects<const D: usize, H: Allocator + Copy>(
     number: u32,
     class: usize,
     seen: &mut BTreeSet<u64, H>,
-    pairs: &mut Vec<(u64, BBox<D>), H>,
+    pairs: &mut Vec<(u64, (BBox<D>, u32)), H>,
 ) -> Result<(), Fault>
     requires dims { IsDims D }
     requires few { number_at 2 2 page.now ≤ 100 }

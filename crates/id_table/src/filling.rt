@@ -31,7 +31,7 @@ use std::alloc::Allocator;
 pub fn fill<const D: usize, B: BlockDevice, A: Allocator + Copy>(
     cache: &mut PageCache<B, A>,
     directory: u32,
-    objects: &[(u64, BBox<D>)],
+    objects: &[(u64, (BBox<D>, u32))],
 ) -> Result<(), Broken>
     requires dims { IsDims D }
     requires open { gate_of cache.old ≡ Open }

@@ -1,5 +1,5 @@
-//! The identifier table of a layer in pages: the box of each identifier, by a directory of chains of buckets
-//! (docs/FORMAT.md, "Identifier tables").
+//! The identifier table of a layer in pages: the box and the tag of each identifier, by a directory of chains
+//! of buckets (docs/FORMAT.md, "Identifier tables").
 #![tactic(auto)]
 
 mod adding;

@@ -1,20 +1,20 @@
 //! The place of an object in its chain: found by a walk along it, and written anew.
 
-ghost use Rattle.std.specs.Prelude.{◌≡◌, ◌≤◌, ◌<◌, ◌⊎◌, List, Some, length, IfErr, IfOk, OnErr, OnOk};
+ghost use Rattle.std.specs.Prelude.{◌≡◌, ◌≤◌, ◌<◌, ◌⊎◌, List, Some, length, slice_index_or, IfErr, IfOk, OnErr, OnOk};
 ghost use Rattle.box_math.specs.Bounds.{IsDims};
-ghost use Rattle.bucket_page.specs.Layout.{BucketContent, bucket_at, replaced};
+ghost use Rattle.bucket_page.specs.Layout.{BucketContent, Entry, bucket_at, replaced};
 ghost use Rattle.page_file.specs.Fault.{IsDamage, IsOfDevice};
 ghost use Rattle.page_file.specs.Pages.{SameBut};
 ghost use Rattle.page_file.specs.declared.gate.Gate.TheVariants.{Open};
 ghost use Rattle.page_cache.specs.Cache.{Grows, IsHonest, IsLive, IsPageMap, KeepsMap, gate_of, next_of, pages};
 ghost use Rattle.page_cache.specs.Calls.{Asks, Changes};
-ghost use Rattle.id_table.specs.Pages.{HasObject, IsInChain};
+ghost use Rattle.id_table.specs.Pages.{HasObject, IsInChain, moved};
 ghost use Rattle.id_table.specs.Table.{Bucket, ChainStands, bucket_in};
 
 use crate::bucket::place_at;
 use block_device::BlockDevice;
 use box_math::BBox;
-use bucket_page::set_entry;
+use bucket_page::{entry_at, set_entry};
 use page_cache::PageCache;
 use page_file::Fault;
 use std::alloc::Allocator;
@@ -51,7 +51,7 @@ pub(crate) fn put_at<const D: usize, B: BlockDevice, A: Allocator + Copy>(
     cache: &mut PageCache<B, A>,
     number: u32,
     place: usize,
-    object: &(u64, BBox<D>),
+    object: &(u64, (BBox<D>, u32)),
 ) -> Result<(), Fault>
     requires dims { IsDims D }
     requires open { gate_of cache.old ≡ Open }
@@ -77,4 +77,51 @@ pub(crate) fn put_at<const D: usize, B: BlockDevice, A: Allocator + Copy>(
                 → bucket_at D page.new ≡ Some (replaced c place object.entry.now) }
         { set_entry(page, place, object) },
     )
+}
+
+// Writes another box of an object of a bucket page, where it lies in memory. After a refusal the map is as before.
+pub(crate) fn move_at<const D: usize, B: BlockDevice, A: Allocator + Copy>(
+    cache: &mut PageCache<B, A>,
+    number: u32,
+    place: usize,
+    bounds: &BBox<D>,
+) -> Result<(), Fault>
+    requires dims { IsDims D }
+    requires open { gate_of cache.old ≡ Open }
+    requires within { place < 100 }
+    ensures changes { Changes cache.old cache.new result }
+    ensures refused { OnErr result (KeepsMap cache.old cache.new) }
+    ensures written { IsHonest cache.old → (c : BucketContent) (other : Entry)
+        → bucket_in D (pages cache.old number) ≡ Some c → place < length c.entries
+        → OnOk result (bucket_in D (pages cache.new number)
+        ≡ Some (replaced c place (moved (slice_index_or c.entries place other) bounds.now))) }
+    ensures others { IsHonest cache.old → IsLive cache.old number
+        → SameBut number (pages cache.old) (pages cache.new) }
+    ensures sound { IsPageMap cache.old → IsLive cache.old number → IsPageMap cache.new }
+    ensures grows { Grows 0 cache.old cache.new }
+    ensures faults { IsHonest cache.old → IsLive cache.old number → IfErr result IsOfDevice }
+    ensures other_faults { IfErr result (λ f. IsOfDevice f ⊎ IsDamage f) }
+{
+    cache.edit(
+        number,
+        |page: &mut [u8; 4096]|
+            requires { IsDims D × (place < 100) }
+            ensures { (c : BucketContent) (other : Entry) → bucket_at D page.old ≡ Some c → place < length c.entries
+                → bucket_at D page.new
+                ≡ Some (replaced c place (moved (slice_index_or c.entries place other) bounds.entry.now)) }
+        { set_box(page, place, bounds) },
+    )
+}
+
+// Writes another box of the object in a place of a bucket page, and keeps its identifier and its tag. A place without
+// an object stays.
+fn set_box<const D: usize>(page: &mut [u8; 4096], place: usize, bounds: &BBox<D>)
+    requires dims { IsDims D }
+    requires within { place < 100 }
+    ensures { (c : BucketContent) (other : Entry) → bucket_at D page.old ≡ Some c → place < length c.entries
+        → bucket_at D page.new ≡ Some (replaced c place (moved (slice_index_or c.entries place other) bounds.now)) }
+{
+    if let Some((id, (_, tag))) = entry_at::<D>(page, place) {
+        set_entry(page, place, &(id, (*bounds, tag)));
+    }
 }

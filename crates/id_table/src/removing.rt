@@ -4,7 +4,7 @@ ghost use Rattle.std.specs.Prelude.{◌≡◌, ◌<◌, ◌⊎◌, List, ℕ, So
 ghost use Rattle.std.specs.Prelude.{◌-◌, IfErr, IfOk, OnOk};
 ghost use Rattle.std.specs.FinMap as map;
 ghost use Rattle.box_math.specs.Bounds.{IsDims};
-ghost use Rattle.bucket_page.specs.Layout.{BucketContent, bucket_at};
+ghost use Rattle.bucket_page.specs.Layout.{BucketContent, bucket_at, Entry};
 ghost use Rattle.page_file.specs.Fault.{IsDamage, IsOfDevice};
 ghost use Rattle.page_file.specs.declared.gate.Gate.TheVariants.{Open};
 ghost use Rattle.page_cache.specs.Cache.{Grows, IsHonest, IsLive, IsPageMap, gate_of, pages};
@@ -12,7 +12,7 @@ ghost use Rattle.page_cache.specs.Calls.{Asks, Changes};
 ghost use Rattle.node_page.specs.Broken.{Alters};
 ghost use Rattle.id_table.specs.Changes.{Removes};
 ghost use Rattle.id_table.specs.Pages.{PopsLast, Shrinks, Unlinks};
-ghost use Rattle.id_table.specs.Table.{IdTable, IdsStand, Object, bucket_in, objects_of};
+ghost use Rattle.id_table.specs.Table.{IdTable, IdsStand, bucket_in, objects_of};
 
 use crate::broken::midway;
 use crate::directory::{class_of, read_link, write_link};
@@ -60,10 +60,10 @@ pub fn remove<const D: usize, B: BlockDevice, A: Allocator + Copy>(
 fn last_in<const D: usize, B: BlockDevice, A: Allocator + Copy>(
     cache: &mut PageCache<B, A>,
     number: u32,
-) -> Result<(u64, BBox<D>), Fault>
+) -> Result<(u64, (BBox<D>, u32)), Fault>
     requires dims { IsDims D }
     ensures asks { Asks cache.old cache.new result }
-    ensures last { IsHonest cache.old → (c : BucketContent) (other : Object)
+    ensures last { IsHonest cache.old → (c : BucketContent) (other : Entry)
         → bucket_in D (pages cache.old number) ≡ Some c
         → IfOk result (λ last. last ≡ slice_index_or c.entries (length c.entries - 1) other) }
     ensures there { IsHonest cache.old → (c : BucketContent) → bucket_in D (pages cache.old number) ≡ Some c
@@ -79,9 +79,9 @@ fn last_in<const D: usize, B: BlockDevice, A: Allocator + Copy>(
 
 // The last object of a bucket page, or `None` where the page begins as none of this dimension, or that object has no
 // box.
-fn last_on<const D: usize>(page: &[u8; 4096]) -> Option<(u64, BBox<D>)>
+fn last_on<const D: usize>(page: &[u8; 4096]) -> Option<(u64, (BBox<D>, u32))>
     requires dims { IsDims D }
-    ensures of_bucket { (c : BucketContent) (other : Object) → bucket_at D page.now ≡ Some c
+    ensures of_bucket { (c : BucketContent) (other : Entry) → bucket_at D page.now ≡ Some c
         → result ≡ Some (slice_index_or c.entries (length c.entries - 1) other) }
 {
     if !has_bucket_head::<D>(page) {
@@ -98,6 +98,7 @@ fn drop_last<const D: usize, B: BlockDevice, A: Allocator + Copy>(
     class: usize,
     first: u32,
 ) -> Result<(), Fault>
+    requires dims { IsDims D }
     requires class { class < 1000 }
     requires open { gate_of cache.old ≡ Open }
     ensures changes { Changes cache.old cache.new result }
@@ -114,8 +115,9 @@ fn drop_last<const D: usize, B: BlockDevice, A: Allocator + Copy>(
     let emptied = cache.edit(
         first,
         |page: &mut [u8; 4096]| -> Option<u32>
-            ensures { PopsLast page.old page.new result }
-        { pop_or_next(page) },
+            requires { IsDims D }
+            ensures { PopsLast D page.old page.new result }
+        { pop_or_next::<D>(page) },
     )?;
     match emptied {
         Some(next) => unlink(cache, directory, class, first, next),
@@ -124,14 +126,15 @@ fn drop_last<const D: usize, B: BlockDevice, A: Allocator + Copy>(
 }
 
 // Takes the last object out of a bucket page that has more. The next page of its chain is answered where it has not.
-fn pop_or_next(page: &mut [u8; 4096]) -> Option<u32>
-    ensures { PopsLast page.old page.new result }
+fn pop_or_next<const D: usize>(page: &mut [u8; 4096]) -> Option<u32>
+    requires { IsDims D }
+    ensures { PopsLast D page.old page.new result }
 {
     let count = count_at(page);
     if count <= 1 || count > 100 {
         return Some(next_at(page));
     }
-    pop_entry(page);
+    pop_entry::<D>(page);
     None
 }
 

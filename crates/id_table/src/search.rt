@@ -16,19 +16,20 @@ use page_cache::PageCache;
 use page_file::Fault;
 use std::alloc::Allocator;
 
-/// The box of an object, if the table has its identifier. A chain longer than the file has pages is `Damaged`.
+/// The box and the tag of an object, if the table has its identifier. A chain longer than the file has pages
+/// is `Damaged`.
 ///
-/// On an honest device, where the pages stand for a table at that directory, a refusal is `Memory` or `Device`. Map and
-/// gate stay, also after a refusal.
+/// On an honest device, where the pages stand for a table at that directory, a refusal is `Memory` or
+/// `Device`. Map and gate stay, also after a refusal.
 pub fn get<const D: usize, B: BlockDevice, A: Allocator + Copy>(
     cache: &mut PageCache<B, A>,
     directory: u32,
     id: u64,
-) -> Result<Option<BBox<D>>, Fault>
+) -> Result<Option<(BBox<D>, u32)>, Fault>
     requires dims { IsDims D }
     ensures asks { Asks cache.old cache.new result }
     ensures found { IsHonest cache.old → (t : IdTable) → t.page ≡ directory → IdsStand D (pages cache.old) t
-        → IfOk result (λ bounds. bounds ≡ map.get (objects_of t) id) }
+        → IfOk result (λ kept. kept ≡ map.get (objects_of t) id) }
     ensures stands { IsHonest cache.old → (t : IdTable) → t.page ≡ directory → IdsStand D (pages cache.old) t
         → IfErr result IsOfDevice }
     ensures other_faults { IfErr result (λ f. IsOfDevice f ⊎ IsDamage f) }
@@ -38,9 +39,9 @@ pub fn get<const D: usize, B: BlockDevice, A: Allocator + Copy>(
         if number == 0 {
             return Ok(None);
         }
-        let (bounds, next) = look::<D, B, A>(cache, number, id)?;
-        if bounds.is_some() {
-            return Ok(bounds);
+        let (kept, next) = look::<D, B, A>(cache, number, id)?;
+        if kept.is_some() {
+            return Ok(kept);
         }
         number = next;
     }

@@ -1,25 +1,26 @@
 //! An object that gets another box.
 
-ghost use Rattle.std.specs.Prelude.{◌≡◌, ◌⊎◌, true, IfErr, OnErr, OnOk};
+ghost use Rattle.std.specs.Prelude.{◌≡◌, ◌⊎◌, Some, true, IfErr, OnErr, OnOk};
 ghost use Rattle.std.specs.FinMap as map;
 ghost use Rattle.box_math.specs.Bounds.{IsDims};
+ghost use Rattle.box_math.specs.Objects.{Object};
 ghost use Rattle.page_file.specs.Fault.{IsDamage, IsOfDevice};
 ghost use Rattle.page_file.specs.declared.gate.Gate.TheVariants.{Open};
 ghost use Rattle.page_cache.specs.Cache.{Grows, IsPageMap, KeepsMap, gate_of, pages};
 ghost use Rattle.page_cache.specs.Calls.{Changes};
-ghost use Rattle.id_table.specs.Changes.{Sets};
+ghost use Rattle.id_table.specs.Changes.{Sets, with_box};
 ghost use Rattle.id_table.specs.Table.{IdTable, IdsStand, objects_of};
 
 use crate::directory::{class_of, read_link};
-use crate::places::{place_in, put_at};
+use crate::places::{move_at, place_in};
 use block_device::BlockDevice;
 use box_math::BBox;
 use page_cache::PageCache;
 use page_file::Fault;
 use std::alloc::Allocator;
 
-/// Gives the object with that identifier, which the table has, another box, where it lies: one page is written. The
-/// gate has to be open.
+/// Gives the object with that identifier, which the table has, another box, where it lies: one page is written. Its
+/// tag stays. The gate has to be open.
 ///
 /// With a sound map, where the pages stand for a table at that directory, a refusal is `Memory` or `Device`. After one
 /// the map is as before.
@@ -37,8 +38,8 @@ pub fn update<const D: usize, B: BlockDevice, A: Allocator + Copy>(
     ensures sound { IsPageMap cache.old → (t : IdTable) → t.page ≡ directory → IdsStand D (pages cache.old) t
         → IsPageMap cache.new }
     ensures updated { IsPageMap cache.old → (t : IdTable) → t.page ≡ directory → IdsStand D (pages cache.old) t
-        → map.contains_key (objects_of t) id ≡ true
-        → OnOk result (Sets D (pages cache.old) (pages cache.new) t id bounds.now) }
+        → (kept : Object) → map.get (objects_of t) id ≡ Some kept
+        → OnOk result (Sets D (pages cache.old) (pages cache.new) t id (with_box kept bounds.now)) }
     ensures grows { Grows 0 cache.old cache.new }
     ensures faults { IsPageMap cache.old → (t : IdTable) → t.page ≡ directory → IdsStand D (pages cache.old) t
         → map.contains_key (objects_of t) id ≡ true → IfErr result IsOfDevice }
@@ -47,5 +48,5 @@ pub fn update<const D: usize, B: BlockDevice, A: Allocator + Copy>(
     let class = class_of(id);
     let first = read_link::<D, B, A>(cache, directory, class)?;
     let (holder, place) = place_in::<D, B, A>(cache, first, id)?;
-    put_at(cache, holder, place, &(id, *bounds))
+    move_at(cache, holder, place, bounds)
 }

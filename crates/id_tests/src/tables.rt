@@ -52,18 +52,24 @@ fn new_table<const D: usize>(cache: &mut Cache) -> Result<u32, Fault>
     make::<D, _, _>(cache).map_err(|broken| broken.cause)
 }
 
-fn put<const D: usize>(cache: &mut Cache, table: u32, id: u64, at: i32) -> Result<(), Fault>
+fn put<const D: usize>(
+    cache: &mut Cache,
+    table: u32,
+    id: u64,
+    at: i32,
+    tag: u32,
+) -> Result<(), Fault>
     requires dims { IsDims D }
     requires open { gate_of cache.old ≡ Open }
     ensures open { gate_of cache.new ≡ Open }
 {
-    add(cache, table, id, &point::<D>(at)?).map_err(|broken| broken.cause)
+    add(cache, table, id, &point::<D>(at)?, tag).map_err(|broken| broken.cause)
 }
 
 fn fill_in<const D: usize>(
     cache: &mut Cache,
     table: u32,
-    objects: &[(u64, BBox<D>)],
+    objects: &[(u64, (BBox<D>, u32))],
 ) -> Result<(), Fault>
     requires dims { IsDims D }
     requires open { gate_of cache.old ≡ Open }
@@ -88,12 +94,18 @@ fn set<const D: usize>(cache: &mut Cache, table: u32, id: u64, at: i32) -> Resul
     update(cache, table, id, &point::<D>(at)?)
 }
 
-// Whether the identifier leads to the point.
-fn is_at<const D: usize>(cache: &mut Cache, table: u32, id: u64, at: i32) -> Result<bool, Fault>
+// Whether the identifier leads to the point and the tag.
+fn is_at<const D: usize>(
+    cache: &mut Cache,
+    table: u32,
+    id: u64,
+    at: i32,
+    tag: u32,
+) -> Result<bool, Fault>
     requires dims { IsDims D }
     ensures { gate_of cache.new ≡ gate_of cache.old }
 {
-    Ok(get::<D, _, _>(cache, table, id)? == Some(point(at)?))
+    Ok(get::<D, _, _>(cache, table, id)? == Some((point(at)?, tag)))
 }
 
 // Whether the identifier leads to no box.
@@ -111,7 +123,7 @@ fn add_sevens(cache: &mut Cache, table: u32) -> Result<(), Fault>
 {
     for k in 0..250u16 {
         let id = 1000 * u64::from(k) + 7;
-        put::<3>(cache, table, id, i32::from(k))?;
+        put::<3>(cache, table, id, i32::from(k), 70 + u32::from(k))?;
     }
     Ok(())
 }
@@ -122,8 +134,8 @@ fn table_of_two(cache: &mut Cache) -> Result<u32, Fault>
     ensures { gate_of cache.new ≡ Open }
 {
     let table = new_table::<2>(cache)?;
-    put::<2>(cache, table, 7, 1)?;
-    put::<2>(cache, table, 1007, 2)?;
+    put::<2>(cache, table, 7, 1, 70)?;
+    put::<2>(cache, table, 1007, 2, u32::MAX)?;
     Ok(table)
 }
 
@@ -133,8 +145,8 @@ fn seven_and_a_thousand_and_seven_share_a_bucket(rt: HostRuntime) -> Result<(), 
     let table = table_of_two(&mut cache)?;
     assert_eq!(rt; table, 3);
     assert_eq!(rt; head(&mut cache, 4)?, (2, 0));
-    assert!(rt; is_at::<2>(&mut cache, table, 7, 1)?);
-    assert!(rt; is_at::<2>(&mut cache, table, 1007, 2)?);
+    assert!(rt; is_at::<2>(&mut cache, table, 7, 1, 70)?);
+    assert!(rt; is_at::<2>(&mut cache, table, 1007, 2, u32::MAX)?);
     assert!(rt; is_missing::<2>(&mut cache, table, 2007)?);
     Ok(())
 }
@@ -145,7 +157,7 @@ fn one_of_two_in_a_bucket_is_taken_out(rt: HostRuntime) -> Result<(), Fail> {
     let table = table_of_two(&mut cache)?;
     take::<2>(&mut cache, table, 7)?;
     assert!(rt; is_missing::<2>(&mut cache, table, 7)?);
-    assert!(rt; is_at::<2>(&mut cache, table, 1007, 2)?);
+    assert!(rt; is_at::<2>(&mut cache, table, 1007, 2, u32::MAX)?);
     Ok(())
 }
 
@@ -154,9 +166,89 @@ fn one_of_two_in_a_bucket_gets_another_box(rt: HostRuntime) -> Result<(), Fail> 
     let mut cache = scene(rt.alloc())?;
     let table = table_of_two(&mut cache)?;
     set::<2>(&mut cache, table, 7, 5)?;
-    assert!(rt; is_at::<2>(&mut cache, table, 7, 5)?);
-    assert!(rt; is_at::<2>(&mut cache, table, 1007, 2)?);
+    assert!(rt; is_at::<2>(&mut cache, table, 7, 5, 70)?);
+    assert!(rt; is_at::<2>(&mut cache, table, 1007, 2, u32::MAX)?);
     assert_eq!(rt; head(&mut cache, 4)?, (2, 0));
+    Ok(())
+}
+
+// The page of format 1 of the bucket of that table, whose objects have no tags.
+fn old_page_of_two() -> [u8; 4096] {
+    let mut page = [0; 4096];
+    page[..4].copy_from_slice(&[4, 2, 0, 2]);
+    for (at, byte) in [(23, 7), (27, 1), (31, 1), (35, 1), (39, 1)] {
+        page[at] = byte;
+    }
+    for (at, byte) in [(46, 3), (47, 0xef), (51, 2), (55, 2), (59, 2), (63, 2)] {
+        page[at] = byte;
+    }
+    page
+}
+
+// A table of two objects whose bucket is a page of format 1.
+fn old_table_of_two(cache: &mut Cache) -> Result<u32, Fault>
+    requires { gate_of cache.old ≡ Open }
+    ensures { gate_of cache.new ≡ Open }
+{
+    let table = table_of_two(cache)?;
+    cache.put(4, &old_page_of_two())?;
+    Ok(table)
+}
+
+#[test]
+fn objects_of_an_old_bucket_have_the_tag_0(rt: HostRuntime) -> Result<(), Fail> {
+    let mut cache = scene(rt.alloc())?;
+    let table = old_table_of_two(&mut cache)?;
+    assert!(rt; is_at::<2>(&mut cache, table, 7, 1, 0)?);
+    assert!(rt; is_at::<2>(&mut cache, table, 1007, 2, 0)?);
+    assert!(rt; is_missing::<2>(&mut cache, table, 2007)?);
+    assert_eq!(rt; cache.page(4)?[0], 4);
+    Ok(())
+}
+
+#[test]
+fn an_old_bucket_that_gets_an_object_becomes_one_with_tags(rt: HostRuntime) -> Result<(), Fail> {
+    let mut cache = scene(rt.alloc())?;
+    let table = old_table_of_two(&mut cache)?;
+    put::<2>(&mut cache, table, 2007, 3, 9)?;
+    assert!(rt; is_at::<2>(&mut cache, table, 7, 1, 0)?);
+    assert!(rt; is_at::<2>(&mut cache, table, 1007, 2, 0)?);
+    assert!(rt; is_at::<2>(&mut cache, table, 2007, 3, 9)?);
+    assert_eq!(rt; head(&mut cache, 4)?, (3, 0));
+    assert_eq!(rt; cache.page(4)?[0], 7);
+    Ok(())
+}
+
+#[test]
+fn an_object_of_an_old_bucket_gets_another_box(rt: HostRuntime) -> Result<(), Fail> {
+    let mut cache = scene(rt.alloc())?;
+    let table = old_table_of_two(&mut cache)?;
+    set::<2>(&mut cache, table, 1007, 5)?;
+    assert!(rt; is_at::<2>(&mut cache, table, 7, 1, 0)?);
+    assert!(rt; is_at::<2>(&mut cache, table, 1007, 5, 0)?);
+    assert_eq!(rt; cache.page(4)?[0], 7);
+    Ok(())
+}
+
+#[test]
+fn an_object_that_is_taken_leaves_zeros(rt: HostRuntime) -> Result<(), Fail> {
+    for old in [false, true] {
+        let mut cache = scene(rt.alloc())?;
+        let table = table_of_two(&mut cache)?;
+        if old {
+            cache.put(4, &old_page_of_two())?;
+        }
+        take::<2>(&mut cache, table, 7)?;
+        let mut left = [0; 4096];
+        left[..4].copy_from_slice(&[7, 2, 0, 1]);
+        for (at, byte) in [(22, 3), (23, 0xef), (27, 2), (31, 2), (35, 2), (39, 2)] {
+            left[at] = byte;
+        }
+        if !old {
+            left[40..44].copy_from_slice(&[255, 255, 255, 255]);
+        }
+        assert!(rt; *cache.page(4)? == left, "{old}");
+    }
     Ok(())
 }
 
@@ -165,23 +257,23 @@ fn a_filled_table_has_its_objects(rt: HostRuntime) -> Result<(), Fail> {
     let mut cache = scene(rt.alloc())?;
     let table = new_table::<2>(&mut cache)?;
     let (first, second, third) = (point(1)?, point(2)?, point(3)?);
-    let objects = [(7, first), (8, second), (1007, third)];
+    let objects = [(7, (first, 4)), (8, (second, 5)), (1007, (third, 6))];
     fill_in::<2>(&mut cache, table, &objects)?;
     assert_eq!(rt; head(&mut cache, 4)?, (2, 0));
-    assert!(rt; is_at::<2>(&mut cache, table, 8, 2)?);
-    assert!(rt; is_at::<2>(&mut cache, table, 1007, 3)?);
+    assert!(rt; is_at::<2>(&mut cache, table, 8, 2, 5)?);
+    assert!(rt; is_at::<2>(&mut cache, table, 1007, 3, 6)?);
     Ok(())
 }
 
-// 249 objects of one chain, and one of the next, all at the same point.
-fn one_chain(alloc: Global) -> Result<Vec<(u64, BBox<2>)>, Fault> {
+// 249 objects of one chain, and one of the next, all at the same point and with the same tag.
+fn one_chain(alloc: Global) -> Result<Vec<(u64, (BBox<2>, u32))>, Fault> {
     let at = point(1)?;
     let mut objects = Vec::new(alloc);
     for k in 0..249u16 {
         let id = 1000 * u64::from(k) + 7;
-        objects.push((id, at))?;
+        objects.push((id, (at, 3)))?;
     }
-    objects.push((8, at))?;
+    objects.push((8, (at, 3)))?;
     Ok(objects)
 }
 
@@ -197,12 +289,12 @@ fn a_filled_chain_has_full_buckets_behind_its_first(rt: HostRuntime) -> Result<(
     fill_in::<2>(
         &mut cache,
         table,
-        &[(1008, point(1)?), (249_007, point(1)?)],
+        &[(1008, (point(1)?, 8)), (249_007, (point(1)?, 9))],
     )?;
     for (page, want) in [(7, (2, 0)), (6, (50, 5))] {
         assert_eq!(rt; head(&mut cache, page)?, want);
     }
-    assert!(rt; is_at::<2>(&mut cache, table, 249_007, 1)?);
+    assert!(rt; is_at::<2>(&mut cache, table, 249_007, 1, 9)?);
     assert!(rt; is_missing::<2>(&mut cache, table, 250_007)?);
     Ok(())
 }
@@ -211,7 +303,7 @@ fn a_filled_chain_has_full_buckets_behind_its_first(rt: HostRuntime) -> Result<(
 fn has_sevens(cache: &mut Cache, table: u32) -> Result<bool, Fault> {
     for k in 0..250u16 {
         let id = 1000 * u64::from(k) + 7;
-        if !is_at::<3>(cache, table, id, i32::from(k))? {
+        if !is_at::<3>(cache, table, id, i32::from(k), 70 + u32::from(k))? {
             return Ok(false);
         }
     }
@@ -238,8 +330,8 @@ fn an_object_of_the_last_bucket_gets_another_box(rt: HostRuntime) -> Result<(), 
     let table = new_table::<3>(&mut cache)?;
     add_sevens(&mut cache, table)?;
     set::<3>(&mut cache, table, 7, 9)?;
-    assert!(rt; is_at::<3>(&mut cache, table, 7, 9)?);
-    assert!(rt; is_at::<3>(&mut cache, table, 1007, 1)?);
+    assert!(rt; is_at::<3>(&mut cache, table, 7, 9, 70)?);
+    assert!(rt; is_at::<3>(&mut cache, table, 1007, 1, 71)?);
     assert_eq!(rt; head(&mut cache, 4)?, (100, 0));
     Ok(())
 }
@@ -251,7 +343,7 @@ fn remove_sevens(cache: &mut Cache, table: u32) -> Result<bool, Fault>
 {
     for k in 0..250u16 {
         let id = 1000 * u64::from(k) + 7;
-        if !is_at::<3>(cache, table, id, i32::from(k))? {
+        if !is_at::<3>(cache, table, id, i32::from(k), 70 + u32::from(k))? {
             return Ok(false);
         }
         take::<3>(cache, table, id)?;
@@ -283,7 +375,7 @@ fn a_first_page_that_becomes_empty_is_freed(rt: HostRuntime) -> Result<(), Fail>
     take::<3>(&mut cache, table, 7)?;
     assert_eq!(rt; head(&mut cache, 6)?, (49, 5));
     assert_eq!(rt; head(&mut cache, 4)?, (100, 0));
-    put::<3>(&mut cache, table, 7, 0)?;
+    put::<3>(&mut cache, table, 7, 0, 70)?;
     assert!(rt; remove_sevens(&mut cache, table)?);
     assert!(rt; is_given_up(&mut cache, table)?);
     Ok(())
@@ -301,7 +393,7 @@ fn fault<const D: usize>(cache: &mut Cache, table: u32, id: u64) -> Option<Fault
 fn pages_of_no_table_are_damaged(rt: HostRuntime) -> Result<(), Fail> {
     let mut cache = scene(rt.alloc())?;
     let table = new_table::<2>(&mut cache)?;
-    put::<2>(&mut cache, table, 5, 1)?;
+    put::<2>(&mut cache, table, 5, 1, 6)?;
     assert_eq!(rt; fault::<3>(&mut cache, table, 5), Some(Fault::Damaged(3)));
     assert_eq!(rt; fault::<2>(&mut cache, 4, 5), Some(Fault::Damaged(4)));
     Ok(())
@@ -321,9 +413,9 @@ fn close_the_chain(cache: &mut Cache) -> Result<(), Fault>
 fn a_chain_without_an_end_is_damaged(rt: HostRuntime) -> Result<(), Fail> {
     let mut cache = scene(rt.alloc())?;
     let table = new_table::<2>(&mut cache)?;
-    put::<2>(&mut cache, table, 5, 1)?;
+    put::<2>(&mut cache, table, 5, 1, 6)?;
     close_the_chain(&mut cache)?;
-    assert!(rt; is_at::<2>(&mut cache, table, 5, 1)?);
+    assert!(rt; is_at::<2>(&mut cache, table, 5, 1, 6)?);
     let before = cache.looks();
     assert_eq!(rt;
         fault::<2>(&mut cache, table, 1005),

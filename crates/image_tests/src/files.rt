@@ -59,12 +59,14 @@ const NUMBERS: [(u32, usize, usize, u64); 36] = [
 ];
 
 // A number of gate, header or catalog in its place, and why opening refuses the file then, if it does.
-const DAMAGES: [(u32, usize, usize, u64, Option<Refusal>); 43] = [
+const DAMAGES: [(u32, usize, usize, u64, Option<Refusal>); 45] = [
     (0, 0, 1, 0x72, Some(Refusal::NotAStore)),
     (0, 8, 1, 0, Some(Refusal::NotClosed)),
     (0, 8, 1, 2, Some(Refusal::NotClosed)),
     (1, 7, 1, 0x72, Some(Refusal::NotAStore)),
     (1, 8, 2, 0, Some(Refusal::WrongVersion)),
+    (1, 8, 2, 2, None),
+    (1, 8, 2, 3, Some(Refusal::WrongVersion)),
     (1, 8, 2, 9, Some(Refusal::WrongVersion)),
     (1, 8, 2, 0x0101, Some(Refusal::WrongVersion)),
     // next, first and count
@@ -113,8 +115,8 @@ const DAMAGES: [(u32, usize, usize, u64, Option<Refusal>); 43] = [
     (7, 0, 8, u64::MAX, None),
 ];
 
-// The first blocks of the file.
-fn file(alloc: Global, count: u32) -> Result<MemoryDevice, DeviceError> {
+/// The first blocks of the file.
+pub fn file(alloc: Global, count: u32) -> Result<MemoryDevice, DeviceError> {
     let mut device = MemoryDevice::new(alloc);
     for block in 0..count {
         let mut page = [0; 4096];
@@ -168,6 +170,7 @@ fn a_file_written_by_hand_is_opened(rt: HostRuntime) -> Result<(), Fail> {
 fn a_new_store_has_the_blocks_of_the_format(rt: HostRuntime) -> Result<(), Fail> {
     let mut device = device_of(new_store(rt.alloc(), 64)?)?;
     let mut wanted = file(rt.alloc(), 2)?;
+    patch(&mut wanted, 1, 8, 2, 2)?;
     patch(&mut wanted, 1, 12, 4, 3)?;
     patch(&mut wanted, 2, 0, 1, 1)?;
     assert_eq!(rt; device.blocks(), 3);
@@ -233,7 +236,7 @@ fn a_damaged_page_is_answered_where_it_is_read(rt: HostRuntime) -> Result<(), Fa
         damaged
     );
     assert_eq!(rt; store.count(b"a"), Ok(1));
-    let object = store.insert(b"c", 1, RawBox::Three([0; 3], [0; 3]));
+    let object = store.insert(b"c", 1, RawBox::Three([0; 3], [0; 3]), 0);
     assert_eq!(rt; object, Err(Refusal::TooManyObjects));
     Ok(())
 }

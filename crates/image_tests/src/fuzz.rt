@@ -4,14 +4,13 @@
 use crate::blocks::{block_of, patch, put};
 use crate::language::may_answer;
 use block_device::{BlockDevice, DeviceError, MemoryDevice};
-use layer_store::{DumpRow, RawBox, RawPoint, Refusal, Store};
+use layer_store::{AnyBox, DumpRow, RawBox, RawPoint, Refusal, Store};
 use list_table::ListTable;
 use std::alloc::Global;
 use std::process::Abort;
 use std::test::Fail;
 use store_commands::{
-    Answer, Command, Dice, PLANE, SPACE, answer, closed, device_of, given, listed, new_store,
-    opened,
+    Answer, Command, Dice, PLANE, SPACE, answer, closed, device_of, listed, new_store, opened,
 };
 
 // How many files are damaged.
@@ -64,7 +63,13 @@ const CHANGES: [[Command<'static>; 7]; 2] = [
         Command::Move(b"a", 2, RawBox::Two([1, 1], [20, 20])),
         Command::Load(
             b"c",
-            &[(1, PLANE), (2, PLANE), (3, PLANE), (4, PLANE), (5, PLANE)],
+            &[
+                (1, PLANE, 0),
+                (2, PLANE, 0),
+                (3, PLANE, 0),
+                (4, PLANE, 0),
+                (5, PLANE, 0),
+            ],
         ),
         Command::Create(b"d", 3, 4),
         Command::Drop(b"b"),
@@ -75,7 +80,7 @@ const CHANGES: [[Command<'static>; 7]; 2] = [
         Command::Move(b"b", 1000, RawBox::Three([1; 3], [2; 3])),
         Command::Delete(b"b", 1),
         Command::Create(b"e", 2, 4),
-        Command::Load(b"e", &[(7, PLANE)]),
+        Command::Load(b"e", &[(7, PLANE, 0)]),
         Command::Reopen,
         Command::Drop(b"a"),
     ],
@@ -149,7 +154,7 @@ fn any_page(dice: &mut Dice, device: &MemoryDevice) -> u32 {
     dice.below(device.blocks().saturating_add(1))
 }
 
-// A new number for a node: its level, its count, a reference, a bound, or its kind or dimension.
+// A new number for a node: its level, its count, a reference, a bound, a tag, or its kind or dimension.
 fn damage_node(
     dice: &mut Dice,
     device: &mut MemoryDevice,
@@ -161,24 +166,25 @@ fn damage_node(
     let place = dice.below(6) as usize;
     let axis = dice.below(2) as usize;
     let small = u64::from(dice.below(30));
-    match dice.below(10) {
+    match dice.below(11) {
         0 => patch(device, page, 4, 1, small % 4),
         1 => patch(device, page, 2, 2, small % 7),
         2..=4 => patch(device, page, 16 + 800 * axes + 8 * place, 8, other),
         5 | 6 => patch(device, page, 16 + 800 * axis + 4 * place, 4, small),
         7 | 8 => patch(device, page, 416 + 800 * axis + 4 * place, 4, small),
-        _ => patch(device, page, axis, 1, small % 6),
+        9 => patch(device, page, 816 + 800 * axes + 4 * place, 4, small % 2),
+        _ => patch(device, page, axis, 1, small % 9),
     }
 }
 
-// A new number for a bucket: the next page, its count, an identifier, a bound, or its kind or dimension.
+// A new number for a bucket: the next page, its count, an identifier, a bound, a tag, or its kind or dimension.
 fn damage_bucket(
     dice: &mut Dice,
     device: &mut MemoryDevice,
     page: u32,
     is_space: bool,
 ) -> Result<(), DeviceError> {
-    let size = if is_space { 32 } else { 24 };
+    let size = if is_space { 36 } else { 28 };
     let other = u64::from(any_page(dice, device));
     let at = 16 + size * dice.below(6) as usize;
     let small = u64::from(dice.below(30));
@@ -187,8 +193,8 @@ fn damage_bucket(
         1 => patch(device, page, 4, 4, u64::from(page)),
         2 => patch(device, page, 2, 2, small % 7),
         3 | 4 => patch(device, page, at, 8, 1000 * (small % 5) + small % 3),
-        5..=7 => patch(device, page, at + 8 + 4 * dice.below(4) as usize, 4, small),
-        _ => patch(device, page, dice.below(2) as usize, 1, small % 6),
+        5..=7 => patch(device, page, at + 8 + 4 * dice.below(5) as usize, 4, small),
+        _ => patch(device, page, dice.below(2) as usize, 1, small % 9),
     }
 }
 
@@ -251,13 +257,13 @@ fn damage(dice: &mut Dice, device: &mut MemoryDevice) -> Result<(), DeviceError>
     let block = block_of(device, page)?;
     let is_space = block[1] == 3;
     match block[0] {
-        2 => damage_node(dice, device, page, is_space),
+        2 | 6 => damage_node(dice, device, page, is_space),
         3 => {
             let at = 16 + 4 * dice.below(4) as usize;
             let other = u64::from(any_page(dice, device));
             patch(device, page, at, 4, other)
         }
-        4 => damage_bucket(dice, device, page, is_space),
+        4 | 7 => damage_bucket(dice, device, page, is_space),
         _ => Ok(()),
     }
 }
@@ -321,6 +327,14 @@ fn change_all(
     true
 }
 
+// A box as it is given.
+fn given(bounds: AnyBox) -> RawBox {
+    match bounds {
+        AnyBox::Two(bounds) => RawBox::Two(bounds.low(), bounds.high()),
+        AnyBox::Three(bounds) => RawBox::Three(bounds.low(), bounds.high()),
+    }
+}
+
 // The plain list that a dump makes again. The identifier tables have the same objects as the dump.
 fn table_of(
     rt: &impl Abort,
@@ -334,10 +348,13 @@ fn table_of(
             DumpRow::Create(name, dims, fanout) => {
                 table.create(name.as_slice(), u64::from(*dims), u64::from(*fanout))?
             }
-            DumpRow::Insert(name, id, bounds) => {
-                table.insert(name.as_slice(), *id, given(*bounds))?;
+            DumpRow::Insert(name, id, bounds, tag) => {
+                table.insert(name.as_slice(), *id, given(*bounds), *tag)?;
                 let found = store.get(name.as_slice(), *id);
-                assert!(rt; found == Ok(*bounds), "file {file}, {id}: {found:?}");
+                assert!(rt;
+                    found == Ok((*bounds, *tag)),
+                    "file {file}, {id}: {found:?}"
+                );
             }
         }
     }

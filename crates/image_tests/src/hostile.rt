@@ -54,9 +54,9 @@ const HEADS: [Number; 17] = [
     // the gate, shut: RSTARGAT
     (0, 0, 8, 0x5253_5441_5247_4154),
     (0, 8, 1, 1),
-    // the header: RSTARHDR, version 1, next 15, the first of 2 free pages is 13
+    // the header: RSTARHDR, version 2, next 15, the first of 2 free pages is 13
     (1, 0, 8, 0x5253_5441_5248_4452),
-    (1, 8, 2, 1),
+    (1, 8, 2, 2),
     (1, 12, 4, 15),
     (1, 16, 8, 0x0000_000d_0000_0002),
     // the catalog of two layers
@@ -83,7 +83,7 @@ const WHOLE: [Command; 34] = [
     Command::Insert(b"a", 7, RawBox::Two([11, 11], [12, 12])),
     Command::Insert(b"b", 6, RawBox::Two([1, 1], [1, 1])),
     Command::Insert(b"a", 1, RawBox::Two([0, 0], [0, 0])),
-    Command::Load(b"a", &[(8, PLANE)]),
+    Command::Load(b"a", &[(8, PLANE, 0)]),
     Command::Load(b"b", &[]),
     Command::Move(b"a", 1, RawBox::Two([1, 1], [2, 2])),
     Command::Move(b"a", 1001, RawBox::Two([0, 0], [0, 0])),
@@ -242,7 +242,7 @@ const TREES: [Damage; 15] = [
 ];
 
 // Tables that are none, or not the tree's; and a wrong count.
-const TABLES: [Damage; 11] = [
+const TABLES: [Damage; 12] = [
     // a chain that goes on with itself
     Damage {
         numbers: &[(7, 4, 4, 7)],
@@ -297,6 +297,11 @@ const TABLES: [Damage; 11] = [
         numbers: &[(6, 20, 4, 15)],
         met: &[(FIRST, Refusal::Damaged(15))],
     },
+    // a tag in the tree that the table does not have
+    Damage {
+        numbers: &[(4, 2416, 4, 1)],
+        met: &[],
+    },
     // more objects than the tree has
     Damage {
         numbers: &[(2, 292, 8, 5)],
@@ -339,14 +344,14 @@ const CHAINS: [Damage; 8] = [
         met: &[],
     },
     Damage {
-        numbers: &[(15, 0, 2, 0x0202), (1, 12, 4, 16)],
+        numbers: &[(15, 0, 2, 0x0602), (1, 12, 4, 16)],
         met: &[],
     },
 ];
 
 // A node of two axes.
 fn set_node(block: &mut [u8; 4096], level: u64, entries: &[Entry]) {
-    set(block, 0, 2, 0x0202);
+    set(block, 0, 2, 0x0602);
     set(block, 2, 2, entries.len() as u64);
     set(block, 4, 1, level);
     for (k, &(reference, low, high)) in entries.iter().enumerate() {
@@ -360,7 +365,7 @@ fn set_node(block: &mut [u8; 4096], level: u64, entries: &[Entry]) {
     }
 }
 
-// A bucket of two axes.
+// A bucket of two axes, of format 1.
 fn set_bucket(block: &mut [u8; 4096], next: u64, entries: &[Entry]) {
     set(block, 0, 2, 0x0402);
     set(block, 2, 2, entries.len() as u64);
@@ -530,7 +535,7 @@ fn shared_file(alloc: Global) -> Result<MemoryDevice, DeviceError> {
     for level in (0..=40).rev() {
         let child = u64::from(device.blocks()) + 1;
         let mut block = [0; 4096];
-        set(&mut block, 0, 2, 0x0202);
+        set(&mut block, 0, 2, 0x0602);
         set(&mut block, 2, 2, 100);
         set(&mut block, 4, 1, level);
         for k in 0..100 {

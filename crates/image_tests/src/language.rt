@@ -15,10 +15,12 @@ fn reads_pages(command: Command<'_>) -> bool {
 fn refusals_of(command: Command<'_>) -> &'static [u8] {
     match command {
         Command::Create(..) => &[1, 2, 4, 5, 6],
-        Command::Insert(..) => &[1, 3, 7, 8, 9, 11],
+        Command::Insert(..) | Command::InsertTagged(..) => &[1, 3, 7, 8, 9, 11],
         Command::Get(..) | Command::Delete(..) => &[1, 3, 10],
         Command::Count(_) | Command::Drop(_) => &[1, 3],
-        Command::Window(..) | Command::Inside(..) | Command::Around(..) => &[1, 3, 7, 8],
+        Command::Window(..) | Command::Inside(..) | Command::Around(..) | Command::Tagged(..) => &[
+            1, 3, 7, 8,
+        ],
         Command::Point(..) => &[1, 3, 8],
         Command::Nearest(..) => &[1, 3, 8, 14],
         Command::Load(..) => &[1, 3, 7, 8, 11, 12, 13],

@@ -12,4 +12,6 @@ mod hostile;
 #[cfg(test)]
 mod language;
 #[cfg(test)]
+mod old_files;
+#[cfg(test)]
 mod stops;

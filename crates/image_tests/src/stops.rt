@@ -48,11 +48,11 @@ const REMOVALS: [Command; 15] = [
     Command::Load(
         b"l",
         &[
-            (1, RawBox::Two([0, 0], [0, 0])),
-            (2, RawBox::Two([1, 0], [1, 0])),
-            (3, RawBox::Two([2, 0], [2, 0])),
-            (4, RawBox::Two([3, 0], [3, 0])),
-            (5, RawBox::Two([10, 0], [10, 0])),
+            (1, RawBox::Two([0, 0], [0, 0]), 0),
+            (2, RawBox::Two([1, 0], [1, 0]), 0),
+            (3, RawBox::Two([2, 0], [2, 0]), 0),
+            (4, RawBox::Two([3, 0], [3, 0]), 0),
+            (5, RawBox::Two([10, 0], [10, 0]), 0),
         ],
     ),
     Command::Create(b"m", 3, 4),

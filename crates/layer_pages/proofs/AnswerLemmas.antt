@@ -1,10 +1,12 @@
 -- What searches of a tree answer, said of the objects of its layer.
-use Rattle.std.proofs.Common.{◌≡◌, ◌∙◌, ℕ, Bool, List, [], ◌∷◌, ◌+◌, cond, map, take, refl, sym, ap}
+use Rattle.std.proofs.Common.{◌≡◌, ◌∙◌, ℕ, Bool, true, false, ◌&&◌, List, [], ◌∷◌, ◌+◌, cond, map, take, refl, sym, ap, subst}
 use Rattle.std.specs.Prelude.{IsPermutation, filter, ℤ}
 use Rattle.std.specs.FinMap.{entries, entries_sorted}
 use Rattle.std.proofs.lemmas.List.Sorted.{IsPermutation-sym, IsPermutation-trans}
-use Rattle.box_math.specs.Bounds.{Bounds}
 use Rattle.box_math.specs.Nearest.{by_distance, nearest_first, with_distance}
+use Rattle.box_math.specs.Objects.{bounds_of, tag_of}
+use Rattle.bucket_page.specs.Layout.{Entry}
+use Rattle.range_query.specs.Queries.{has_tag, having}
 use Rattle.tree_node.specs.Positions.{total}
 use Rattle.tree_node.specs.Searches.{passing_objects}
 use Rattle.tree_node.specs.Trees.{objects_in}
@@ -17,18 +19,28 @@ use Rattle.layer_pages.proofs.ObjectLemmas.{filter_permuted, filter_sorted, one_
 pub objects_give_boxes : ObjectsGiveBoxes
 objects_give_boxes dims most t shape boxes = row_boxes dims most t.row shape.below boxes
 
-pub ranges_answer_objects : RangesAnswerObjects
-ranges_answer_objects dims most pages root directory l objects test rows is answer =
-    let pass : ℕ × Bounds → Bool = λ o. test o.1 in
-    one_order rows (filter pass (entries objects)) answer.order (filter_sorted pass (entries objects) (entries_sorted objects))
-    (IsPermutation-trans rows (passing_objects test l.tree.row) (filter pass (entries objects)) (IsPermutation-sym (passing_objects test l.tree.row) rows answer.all)
-    (filter_permuted pass (objects_in l.tree.row) (entries objects) is.leaves))
+-- those that pass one test, and of them those that pass another
+filter_twice : (one other : Entry → Bool) (xs : List Entry) → filter other (filter one xs) ≡ filter (λ x. one x && other x) xs
+filter_twice one other [] = refl
+filter_twice one other (x ∷ xs) = elim (one x) as (λ b. filter other (cond b (x ∷ filter one xs) (filter one xs)) ≡ cond (b && other x) (x ∷ filter (λ y. one y && other y) xs) (filter (λ y. one y && other y) xs)) [
+  | true ↦ ap (λ (os : List Entry). cond (other x) (x ∷ os) os) (filter_twice one other xs)
+  | false ↦ filter_twice one other xs
+]
 
-listed-map : (z : ℕ × ℕ) (row_of : ℕ × Bounds → ℕ × ℕ) (objects : List (ℕ × Bounds)) → listed z (map row_of objects) ≡ total (λ o. cond (same_row z (row_of o)) 1 0) objects
+pub ranges_answer_objects : RangesAnswerObjects
+ranges_answer_objects dims most pages root directory l objects test asked rows is answer =
+    let found = having asked (passing_objects test l.tree.row) in
+    let pass : Entry → Bool = λ o. test (bounds_of o.1) && has_tag asked (tag_of o.1) in
+    let twice = filter_twice (λ o. test (bounds_of o.1)) (λ o. has_tag asked (tag_of o.1)) (objects_in l.tree.row) in
+    one_order rows (filter pass (entries objects)) answer.order (filter_sorted pass (entries objects) (entries_sorted objects))
+    (IsPermutation-trans rows found (filter pass (entries objects)) (IsPermutation-sym found rows answer.all)
+    (subst (λ (os : List Entry). IsPermutation os (filter pass (entries objects))) (sym twice) (filter_permuted pass (objects_in l.tree.row) (entries objects) is.leaves)))
+
+listed-map : (z : ℕ × ℕ) (row_of : Entry → ℕ × ℕ) (objects : List Entry) → listed z (map row_of objects) ≡ total (λ o. cond (same_row z (row_of o)) 1 0) objects
 listed-map z row_of [] = refl
 listed-map z row_of (o ∷ objects) = ap (λ n. cond (same_row z (row_of o)) 1 0 + n) (listed-map z row_of objects)
 
-same_order : (dims : ℕ) (point : List ℤ) (xs ys : List (ℕ × Bounds)) → IsPermutation xs ys → by_distance dims point xs ≡ by_distance dims point ys
+same_order : (dims : ℕ) (point : List ℤ) (xs ys : List Entry) → IsPermutation xs ys → by_distance dims point xs ≡ by_distance dims point ys
 same_order dims point xs ys same =
     let ds = map (with_distance dims point) xs in
     let es = map (with_distance dims point) ys in

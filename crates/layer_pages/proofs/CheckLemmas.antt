@@ -1,5 +1,5 @@
 -- What a check of a layer finds: a tree and a table of the same objects, on pages of their own.
-use Rattle.std.proofs.Common.{Result, Ok, Err, IfErr, IfOk, ◌⊎◌, ◌≡◌, ◌∙◌, ℕ, suc, ◌+◌, ◌<◌, ◌≤◌, Bool, true, false, cond, eqb, Option, Some, None, IsSome, List, [], ◌∷◌, ◌++◌, length, get_or, not, All, refl, sym, ap, subst, ⊎_elim, arith}
+use Rattle.std.proofs.Common.{Result, Ok, Err, IfErr, IfOk, ◌⊎◌, ◌≡◌, ◌∙◌, ℕ, suc, ◌+◌, ◌<◌, ◌≤◌, ◌==◌, ◌||◌, Bool, true, false, cond, eqb, Option, Some, None, IsSome, List, [], ◌∷◌, ◌++◌, length, get_or, not, All, refl, sym, ap, subst, ⊎_elim, inl, inr, arith}
 use Rattle.std.specs.Prelude.{IsPermutation, is_some}
 use Rattle.std.specs.Cmp.{nat_cmp_total}
 use Rattle.std.specs.FinMap.{contains_key, entries, entries_sorted, from_entries, get-from_entries, len-entries}
@@ -9,9 +9,10 @@ use Rattle.std.specs.Ordering.{nat_cmp}
 use Rattle.std.proofs.lemmas.Bool.{cases_eq}
 use Rattle.std.proofs.lemmas.Bool.Decides.{nat_tests}
 use Rattle.std.proofs.lemmas.List.Sorted.{IsPermutation-cons, IsPermutation-sym, IsPermutation-trans, length_permutation}
-use Rattle.block_bytes.specs.Kinds.{node_kind}
+use Rattle.block_bytes.specs.Kinds.{directory_kind, node_kind, untagged_node_kind}
 use Rattle.box_math.specs.Bounds.{IsBox}
-use Rattle.bucket_page.specs.Layout.{BucketContent}
+use Rattle.box_math.specs.Objects.{bounds_of}
+use Rattle.bucket_page.specs.Layout.{BucketContent, Entry, IsBucketKind}
 use Rattle.bucket_page.proofs.Reading.{spells as bucket_spells}
 use Rattle.page_file.specs.Fault.{IsDamage, faults_after}
 use Rattle.page_file.specs.Layout.{kind_of}
@@ -25,13 +26,14 @@ use Rattle.tree_node.specs.Trees.{Tree, objects_in, occurs_in}
 use Rattle.tree_node.specs.declared.node.Root.{Root}
 use Rattle.tree_node.proofs.PositionLemmas.{total-append}
 use Rattle.node_page.specs.Checked.{IsCheckedTree, named_pages}
+use Rattle.node_page.specs.Layout.{IsNodeKind}
 use Rattle.node_page.specs.Standing.{PageMap, Stands, node_in}
 use Rattle.node_page.proofs.GivenLemmas.{live_tree_is_given, tree_carried}
 use Rattle.node_page.proofs.PartLemmas.{none_or_some}
 use Rattle.node_page.proofs.Reading.{spells as node_spells}
 use Rattle.node_page.proofs.StandingLemmas.{one_tree_stands, pages_are_there}
 use Rattle.id_table.specs.Checked.{IsCheckedTable}
-use Rattle.id_table.specs.Table.{Bucket, ChainStands, IdTable, IdsStand, IsDirectory, Object, box_in, bucket_in, class_of, entries_in, entries_of, link_at, objects_of, occurs_in_ids, times_in}
+use Rattle.id_table.specs.Table.{Bucket, ChainStands, IdTable, IdsStand, IsDirectory, kept_in, bucket_in, class_of, entries_in, entries_of, link_at, objects_of, occurs_in_ids, times_in}
 use Rattle.id_table.proofs.AddLemmas.{none_times}
 use Rattle.id_table.proofs.CheckLemmas.{times-append}
 use Rattle.id_table.proofs.CheckedLemmas.{live_table_is_given, one_chain, table_carried}
@@ -43,7 +45,7 @@ use Rattle.layer_pages.proofs.ObjectLemmas.{no_objects, one_entry_more, one_orde
 
 -- ---- a table has each identifier once
 
-abbrev IsOfClass : ℕ → Object → Type 0
+abbrev IsOfClass : ℕ → Entry → Type 0
 IsOfClass class object = class_of object.0 ≡ class
 
 -- in chains of remainders from one on, an identifier is once, and not at all where its remainder lies before them
@@ -70,16 +72,16 @@ once_in_table dims pages t q stands =
     (λ i lt. let same : i ≡ 0 + i = omega arith in subst (λ (k : ℕ). All (IsOfClass k) (entries_in (get_or t.chains i []))) same (stands.filled i (omega (arith, lt, stands.whole))).placed)
     (λ i lt. (stands.filled i (omega (arith, lt, stands.whole))).single q)).0
 
-none_found : (q : ℕ) (es : List Object) → times_in q es ≡ 0 → box_in q es ≡ None
+none_found : (q : ℕ) (es : List Entry) → times_in q es ≡ 0 → kept_in q es ≡ None
 none_found q [] none = refl
 none_found q (e ∷ es) none = step (eqb e.0 q) (times_in q es) none (none_found q es)
   where
-    step : (b : Bool) (n : ℕ) → cond b 1 0 + n ≡ 0 → (n ≡ 0 → box_in q es ≡ None) → cond b (Some e.1) (box_in q es) ≡ None
+    step : (b : Bool) (n : ℕ) → cond b 1 0 + n ≡ 0 → (n ≡ 0 → kept_in q es ≡ None) → cond b (Some e.1) (kept_in q es) ≡ None
     step true n none rest = absurd (omega (arith, none))
     step false n none rest = rest (omega (arith, none))
 
 -- so its objects are the entries of their map
-entries_once : (es : List Object) → ((q : ℕ) → times_in q es ≤ 1) → IsPermutation es (entries (from_entries {R = nat_cmp} es))
+entries_once : (es : List Entry) → ((q : ℕ) → times_in q es ≤ 1) → IsPermutation es (entries (from_entries {R = nat_cmp} es))
 entries_once [] once = no_objects
 entries_once (e ∷ es) once =
     let alone : times_in e.0 es ≡ 0 = omega (arith, once e.0, occurs_here e.0) in
@@ -121,34 +123,40 @@ passing test (Some page) = cond (test page) (Some page) None
 passes : (test : List ℕ → Bool) (page : Option (List ℕ)) (bytes : List ℕ) → page ≡ Some bytes → test bytes ≡ true → passing test page ≡ Some bytes
 passes test page bytes is good = ap (passing test) is ∙ ap (λ (b : Bool). cond b (Some bytes) None) good
 
+abbrev is_node_kind : ℕ → Bool
+is_node_kind kind = kind == node_kind || kind == untagged_node_kind
+
 abbrev is_node : List ℕ → Bool
-is_node page = eqb (kind_of page) node_kind
+is_node page = is_node_kind (kind_of page)
 
 abbrev is_other : List ℕ → Bool
-is_other page = not (eqb (kind_of page) node_kind)
+is_other page = not (is_node_kind (kind_of page))
+
+node_is : (kind : ℕ) → IsNodeKind kind → is_node_kind kind ≡ true
+node_is kind (inl is) = grind (arith, nat_tests)
+node_is kind (inr is) = grind (arith, nat_tests)
+
+bucket_is_other : (kind : ℕ) → IsBucketKind kind → not (is_node_kind kind) ≡ true
+bucket_is_other kind (inl is) = grind (arith, nat_tests)
+bucket_is_other kind (inr is) = grind (arith, nat_tests)
+
+directory_is_other : (kind : ℕ) → kind ≡ directory_kind → not (is_node_kind kind) ≡ true
+directory_is_other kind is = grind (arith, nat_tests)
 
 nodes_pass : (dims : ℕ) (page : Option (List ℕ)) (c : NodeContent) → node_in dims page ≡ Some c → node_in dims (passing is_node page) ≡ Some c
 nodes_pass dims None c is = absurd (cc)
-nodes_pass dims (Some page) c is = ap (node_in dims) (passes is_node (Some page) page refl (of_kind (kind_of page) (node_spells dims page c is).head.kind)) ∙ is
-  where
-    of_kind : (kind : ℕ) → kind ≡ node_kind → eqb kind node_kind ≡ true
-    of_kind kind is = grind (arith, nat_tests)
-
-other_kind : (kind : ℕ) → ¬ (kind ≡ node_kind) → not (eqb kind node_kind) ≡ true
-other_kind kind other = grind (arith, nat_tests)
+nodes_pass dims (Some page) c is = ap (node_in dims) (passes is_node (Some page) page refl (node_is (kind_of page) (node_spells dims page c is).head.kind)) ∙ is
 
 buckets_pass : (dims : ℕ) (page : Option (List ℕ)) (c : BucketContent) → bucket_in dims page ≡ Some c → bucket_in dims (passing is_other page) ≡ Some c
 buckets_pass dims None c is = absurd (cc)
-buckets_pass dims (Some page) c is =
-    let kind = (bucket_spells dims page c is).head.kind in
-    ap (bucket_in dims) (passes is_other (Some page) page refl (other_kind (kind_of page) (λ node. omega (arith, kind, node)))) ∙ is
+buckets_pass dims (Some page) c is = ap (bucket_in dims) (passes is_other (Some page) page refl (bucket_is_other (kind_of page) (bucket_spells dims page c is).head.kind)) ∙ is
 
 directories_pass : (dims : ℕ) (page : Option (List ℕ)) (bytes : List ℕ) → page ≡ Some bytes → IsDirectory dims bytes → passing is_other page ≡ Some bytes
-directories_pass dims page bytes is spelled = let kind = spelled.kind in passes is_other page bytes is (other_kind (kind_of bytes) (λ node. omega (arith, kind, node)))
+directories_pass dims page bytes is spelled = passes is_other page bytes is (directory_is_other (kind_of bytes) spelled.kind)
 
 not_both : (page : Option (List ℕ)) → IsSome (passing is_node page) → IsSome (passing is_other page) → ⊥
 not_both None node other = absurd (cc)
-not_both (Some page) node other = case (eqb (kind_of page) node_kind) node other
+not_both (Some page) node other = case (is_node_kind (kind_of page)) node other
   where
     case : (b : Bool) → IsSome (cond b (Some page) None) → IsSome (cond (not b) (Some page) None) → ⊥
     case true node other = absurd (cc)
@@ -173,13 +181,13 @@ once_in_both dims m t ids n tree table = ⊎_elim
 
 -- ---- a tree and a table that were checked
 
-module _ (dims most : ℕ) (m : PageMap) (root : Root) (directory : ℕ) (pairs listed : List Object) (held_pages listed_pages : List ℕ) (tree : IsCheckedTree dims most m root.page root.level pairs held_pages) (table : IsCheckedTable dims m directory listed listed_pages) where
+module _ (dims most : ℕ) (m : PageMap) (root : Root) (directory : ℕ) (pairs listed : List Entry) (held_pages listed_pages : List ℕ) (tree : IsCheckedTree dims most m root.page root.level pairs held_pages) (table : IsCheckedTable dims m directory listed listed_pages) where
   -- their pages together
   both_pages : (n : ℕ) → named_pages (held_pages ++ listed_pages) n ≡ part_of_layer (record { tree = tree.tree; ids = table.table }) n
   both_pages n = omega (arith, total-append (λ (page : ℕ). cond (eqb page n) 1 0) held_pages listed_pages, tree.pages_are n, table.pages_are n)
 
   -- are a layer where they have the same objects
-  pub layer_checked : (count : ℕ) → IsPermutation pairs listed → All (λ (object : Object). IsBox dims object.1) pairs → length pairs ≡ count → IsCheckedLayer dims most m root directory count (held_pages ++ listed_pages)
+  pub layer_checked : (count : ℕ) → IsPermutation pairs listed → All (λ (object : Entry). IsBox dims (bounds_of object.1)) pairs → length pairs ≡ count → IsCheckedLayer dims most m root directory count (held_pages ++ listed_pages)
   layer_checked count same boxes many =
       let all = table_entries dims m table.table table.stands in
       let held = IsPermutation-trans pairs (entries_of table.table) (entries (objects_of table.table)) (subst (IsPermutation pairs) table.pairs_are same) all in
@@ -188,10 +196,10 @@ module _ (dims most : ℕ) (m : PageMap) (root : Root) (directory : ℕ) (pairs 
         objects = objects_of table.table;
         stands = record {
           tree = record { page_is = tree.page_is; level_is = tree.level_is; stands = tree.stands; shape = tree.shape };
-          boxes = row_boxes dims most tree.tree.row tree.shape.below (subst (All (λ (object : Object). IsBox dims object.1)) tree.pairs_are boxes);
+          boxes = row_boxes dims most tree.tree.row tree.shape.below (subst (All (λ (object : Entry). IsBox dims (bounds_of object.1))) tree.pairs_are boxes);
           directory_is = table.page_is;
           ids = table.stands;
-          leaves = subst (λ (os : List Object). IsPermutation os (entries (objects_of table.table))) tree.pairs_are held;
+          leaves = subst (λ (os : List Entry). IsPermutation os (entries (objects_of table.table))) tree.pairs_are held;
           table = refl;
           once = λ n. once_in_both dims m tree.tree table.table n tree.stands table.stands;
         };
@@ -208,15 +216,15 @@ module _ (dims most : ℕ) (m : PageMap) (root : Root) (directory : ℕ) (pairs 
     table_same = one_table dims m table.table l.ids (table.page_is ∙ sym is.directory_is) table.stands is.ids
 
     pub pairs_there : IsPermutation pairs (entries objects)
-    pairs_there = subst (λ (os : List Object). IsPermutation os (entries objects)) (sym (tree.pairs_are ∙ ap (λ (t : Tree). objects_in t.row) tree_same)) is.leaves
+    pairs_there = subst (λ (os : List Entry). IsPermutation os (entries objects)) (sym (tree.pairs_are ∙ ap (λ (t : Tree). objects_in t.row) tree_same)) is.leaves
 
     pub listed_there : IsPermutation listed (entries objects)
-    listed_there = subst (λ (os : List Object). IsPermutation os (entries objects)) (sym (table.pairs_are ∙ ap entries_of table_same))
+    listed_there = subst (λ (os : List Entry). IsPermutation os (entries objects)) (sym (table.pairs_are ∙ ap entries_of table_same))
         (subst (λ (o : Objects). IsPermutation (entries_of l.ids) (entries o)) is.table (table_entries dims m l.ids is.ids))
 
 -- ---- lists in the order of identifiers
 
-pub in_order : (objects sorted : List Object) (all : Objects) → IsPermutation objects sorted → IsNonDecreasingBy (λ (o : Object). o.0) sorted → IsPermutation objects (entries all) → sorted ≡ entries all
+pub in_order : (objects sorted : List Entry) (all : Objects) → IsPermutation objects sorted → IsNonDecreasingBy (λ (o : Entry). o.0) sorted → IsPermutation objects (entries all) → sorted ≡ entries all
 in_order objects sorted all moved order same = one_order sorted (entries all) order (entries_sorted all) (IsPermutation-trans sorted objects (entries all) (IsPermutation-sym objects sorted moved) same)
 
 -- ---- in the pages given out
@@ -244,7 +252,7 @@ module _ {B A : Type 0} {m : _} where
 -- ---- a check, call after call
 
 -- a table that was checked in equal pages
-pub table_on : (dims : ℕ) (old new : PageMap) (directory : ℕ) (listed : List Object) (list : List ℕ) → ((n : ℕ) → new n ≡ old n) → IsCheckedTable dims old directory listed list → IsCheckedTable dims new directory listed list
+pub table_on : (dims : ℕ) (old new : PageMap) (directory : ℕ) (listed : List Entry) (list : List ℕ) → ((n : ℕ) → new n ≡ old n) → IsCheckedTable dims old directory listed list → IsCheckedTable dims new directory listed list
 table_on dims old new directory listed list same table = record {
   table = table.table;
   page_is = table.page_is;
@@ -253,7 +261,7 @@ table_on dims old new directory listed list same table = record {
   pages_are = table.pages_are;
 }
 
-module _ (dims most : ℕ) (m : PageMap) (root : Root) (directory count : ℕ) (held listed : List Object) (held_pages listed_pages : List ℕ) (tree : IsCheckedTree dims most m root.page root.level held held_pages) (table : IsCheckedTable dims m directory listed listed_pages) where
+module _ (dims most : ℕ) (m : PageMap) (root : Root) (directory count : ℕ) (held listed : List Entry) (held_pages listed_pages : List ℕ) (tree : IsCheckedTree dims most m root.page root.level held held_pages) (table : IsCheckedTable dims m directory listed listed_pages) where
   -- what was joined is a layer
   pub all_checked : {V : Type 0} (r : Result V Fault) (list_of : V → List ℕ) → IfOk r (λ v. AreOfOneLayer dims count held listed held_pages listed_pages (list_of v)) → IfOk r (λ v. IsCheckedLayer dims most m root directory count (list_of v))
   all_checked (Ok v) list_of a = subst (IsCheckedLayer dims most m root directory count) (sym a.pages_are)

@@ -6,6 +6,8 @@ use Rattle.std.specs.FinMap.{entries}
 use Rattle.std.proofs.lemmas.List.Elements.{All-map}
 use Rattle.std.proofs.lemmas.List.Sorted.{All-permutation, IsPermutation-sym, IsPermutation-trans}
 use Rattle.box_math.specs.Bounds.{IsBox}
+use Rattle.box_math.specs.Objects.{bounds_of}
+use Rattle.bucket_page.specs.Layout.{Entry}
 use Rattle.page_cache.specs.Cache.{next_of, pages}
 use Rattle.page_cache.specs.Laws.{a_live_page_was_given_out, the_catalog_is_live}
 use Rattle.page_cache.specs.declared.cache.PageCache.{PageCache}
@@ -19,7 +21,7 @@ use Rattle.node_page.proofs.PartLemmas.{moves_same, there_not_missing}
 use Rattle.node_page.proofs.RootedLemmas.{loose}
 use Rattle.node_page.proofs.StandingLemmas.{pages_are_there}
 use Rattle.id_table.specs.Changes.{AreNew, Fills, with_all}
-use Rattle.id_table.specs.Table.{Object, objects_of, part_of}
+use Rattle.id_table.specs.Table.{objects_of, part_of}
 use Rattle.id_table.proofs.TableLemmas.{occurs_here}
 use Rattle.bulk_load.specs.Loads.{Loads}
 use Rattle.reinsert.proofs.LevelLemmas.{shape_bounds_level}
@@ -32,12 +34,12 @@ use Rattle.layer_pages.proofs.ObjectLemmas.{all_are_new, entries_of_all, no_entr
 -- ---- the table
 
 pub new_objects_are_entries : NewObjectsAreEntries
-new_objects_are_entries pairs fresh = subst (λ (es : List Object). IsPermutation (es ++ pairs) (entries (with_all map.empty pairs))) no_entries (entries_of_all pairs map.empty fresh)
+new_objects_are_entries pairs fresh = subst (λ (es : List Entry). IsPermutation (es ++ pairs) (entries (with_all map.empty pairs))) no_entries (entries_of_all pairs map.empty fresh)
 
-module _ (dims most : ℕ) (old : PageMap) (root : Root) (directory : ℕ) (l : LayerPages) (is : IsLayerAt dims most old root directory l map.empty) (objects : List Object) (all : Objects) (same : IsPermutation objects (entries all)) where
+module _ (dims most : ℕ) (old : PageMap) (root : Root) (directory : ℕ) (l : LayerPages) (is : IsLayerAt dims most old root directory l map.empty) (objects : List Entry) (all : Objects) (same : IsPermutation objects (entries all)) where
   both_facts : AreNew (objects_of l.ids) objects × (with_all (objects_of l.ids) objects ≡ all)
   both_facts = all_are_new objects (objects_of l.ids) all
-      (subst (λ (es : List Object). IsPermutation (es ++ objects) (entries all)) (sym (ap (λ (m : Objects). entries m) is.table ∙ no_entries)) same)
+      (subst (λ (es : List Entry). IsPermutation (es ++ objects) (entries all)) (sym (ap (λ (m : Objects). entries m) is.table ∙ no_entries)) same)
 
   pub all_new : AreNew (objects_of l.ids) objects
   all_new = both_facts.0
@@ -65,14 +67,14 @@ module _ (dims most : ℕ) (old : PageMap) (root : Root) (directory : ℕ) (l : 
 
 -- ---- the tree, and the whole layer
 
-abbrev object_of : Item → Object
-object_of item = (item.reference, item.bounds)
+abbrev object_of : Item → Entry
+object_of item = (item.reference, (item.bounds, item.tag))
 
-as_they_were : (objects : List Object) → each object_of (each item_of_object objects) ≡ objects
+as_they_were : (objects : List Entry) → each object_of (each item_of_object objects) ≡ objects
 as_they_were [] = refl
-as_they_were (o ∷ objects) = ap (λ (os : List Object). o ∷ os) (as_they_were objects)
+as_they_were (o ∷ objects) = ap (λ (os : List Entry). o ∷ os) (as_they_were objects)
 
-module _ (dims most before : ℕ) (old mid : PageMap) (root after : Root) (directory : ℕ) (l : LayerPages) (is : IsLayerAt dims before old root directory l map.empty) (objects : List Object)
+module _ (dims most before : ℕ) (old mid : PageMap) (root after : Root) (directory : ℕ) (l : LayerPages) (is : IsLayerAt dims before old root directory l map.empty) (objects : List Entry)
     (loads : Loads dims most old mid (each item_of_object objects) after) where
   -- the layer meanwhile
   pub layer_still : IsLayerAt dims before mid root directory l map.empty
@@ -86,11 +88,11 @@ module _ (dims most before : ℕ) (old mid : PageMap) (root after : Root) (direc
     alone n = omega (arith, is.once n)
 
     held : IsPermutation objects (objects_in loads.tree.row)
-    held = subst (λ (os : List Object). IsPermutation os (objects_in loads.tree.row)) (as_they_were objects) loads.objects
+    held = subst (λ (os : List Entry). IsPermutation os (objects_in loads.tree.row)) (as_they_were objects) loads.objects
 
-    boxes_held : All (λ (o : Object). IsBox dims o.1) (objects_in loads.tree.row)
-    boxes_held = All-permutation (λ (o : Object). IsBox dims o.1) (each object_of (each item_of_object objects)) (objects_in loads.tree.row) loads.objects
-        (All-map (λ (o : Object). IsBox dims o.1) object_of (each item_of_object objects) boxes)
+    boxes_held : All (λ (o : Entry). IsBox dims (bounds_of o.1)) (objects_in loads.tree.row)
+    boxes_held = All-permutation (λ (o : Entry). IsBox dims (bounds_of o.1)) (each object_of (each item_of_object objects)) (objects_in loads.tree.row) loads.objects
+        (All-map (λ (o : Entry). IsBox dims (bounds_of o.1)) object_of (each item_of_object objects) boxes)
 
     all_moves : Moves old new (both no_page (part_of_layer l)) (both (λ n. occurs_in n loads.tree) (part_of ids.table))
     all_moves = both_change old mid new no_page (λ n. occurs_in n loads.tree) (part_of_layer l) (part_of ids.table) loads.moves ids.moves all_live alone

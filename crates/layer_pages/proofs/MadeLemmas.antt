@@ -2,7 +2,8 @@
 use Rattle.std.proofs.Common.{◌≡◌, ◌∙◌, ℕ, ◌+◌, ◌≤◌, false, Option, Some, None, List, [], refl, sym, ap, subst, arith}
 use Rattle.std.specs.FinMap as map
 use Rattle.std.specs.Prelude.{IsSome}
-use Rattle.box_math.specs.Bounds.{Bounds, IsBox}
+use Rattle.box_math.specs.Bounds.{IsBox}
+use Rattle.box_math.specs.Objects.{Object, bounds_of, tag_of}
 use Rattle.page_file.specs.Pages.{SameBut}
 use Rattle.tree_node.specs.Nodes.{NodeContent}
 use Rattle.tree_node.specs.Trees.{Tree, Branch, end, object, occurs_in}
@@ -70,16 +71,16 @@ module _ (dims most : ℕ) (old mid new : PageMap) (page directory : ℕ) (fresh
 -- ---- an object more
 
 -- an entry of a leaf has no pages
-pub tree_alone : (dims most : ℕ) (old new : PageMap) (t : Tree) (id : ℕ) (bounds : Bounds) (elsewhere : Part) (after : Root) → (to : InsertsTo dims most old new 0 t (object bounds id) elsewhere after)
+pub tree_alone : (dims most : ℕ) (old new : PageMap) (t : Tree) (id : ℕ) (kept : Object) (elsewhere : Part) (after : Root) → (to : InsertsTo dims most old new 0 t (object kept id) elsewhere after)
     → Moves old new (λ n. occurs_in n t) (λ n. occurs_in n to.new)
-tree_alone dims most old new t id bounds elsewhere after to =
+tree_alone dims most old new t id kept elsewhere after to =
     moves_same old new (λ n. occurs_in n t + 0) (λ n. occurs_in n t) (λ n. occurs_in n to.new) (λ n. occurs_in n to.new) (λ n. omega arith) (λ n. refl) to.moves
 
-module _ (dims most : ℕ) (old : PageMap) (root : Root) (directory : ℕ) (l : LayerPages) (objects : Objects) (is : IsLayerAt dims most old root directory l objects) (id : ℕ) (bounds : Bounds) where
+module _ (dims most : ℕ) (old : PageMap) (root : Root) (directory : ℕ) (l : LayerPages) (objects : Objects) (is : IsLayerAt dims most old root directory l objects) (id : ℕ) (kept : Object) where
   abbrev pub branch : Branch
-  branch = object bounds id
+  branch = object kept id
 
-  pub can_insert : CanInsert dims old root (record { bounds = bounds; reference = id }) 0 l.tree branch (part_of l.ids)
+  pub can_insert : CanInsert dims old root (record { bounds = bounds_of kept; reference = id; tag = tag_of kept }) 0 l.tree branch (part_of l.ids)
   can_insert = record {
     at = root_of dims most old root directory l objects is;
     stands = is.tree.stands;
@@ -90,12 +91,12 @@ module _ (dims most : ℕ) (old : PageMap) (root : Root) (directory : ℕ) (l : 
     live = ids_live dims most old root directory l objects is;
   }
 
-  pub entry_has_shape : IsBox dims bounds → EntryHasShape dims most 0 branch
+  pub entry_has_shape : IsBox dims (bounds_of kept) → EntryHasShape dims most 0 branch
   entry_has_shape box = (tt, (box, tt), (refl, tt))
 
   module _ (mid : PageMap) (after : Root) (to : InsertsTo dims most old mid 0 l.tree branch (part_of l.ids) after) where
     tree_moves : Moves old mid (λ n. occurs_in n l.tree) (λ n. occurs_in n to.new)
-    tree_moves = tree_alone dims most old mid l.tree id bounds (part_of l.ids) after to
+    tree_moves = tree_alone dims most old mid l.tree id kept (part_of l.ids) after to
 
     pub ids_meanwhile : IdsStand dims mid l.ids
     ids_meanwhile = ids_still dims most old root directory l objects is mid (λ n. occurs_in n to.new) tree_moves
@@ -103,10 +104,10 @@ module _ (dims most : ℕ) (old : PageMap) (root : Root) (directory : ℕ) (l : 
     pub absent_meanwhile : map.contains_key objects id ≡ false → map.contains_key (objects_of l.ids) id ≡ false
     absent_meanwhile absent = subst (λ (m : Objects). map.contains_key m id ≡ false) (sym is.table) absent
 
-    pub layer_inserted : (new : PageMap) → Sets dims mid new l.ids id bounds → 2 ≤ most → IsBox dims bounds → map.contains_key objects id ≡ false
-        → BecomesLayer dims most old new (part_of_layer l) after directory (map.insert objects id bounds) (HasInserted dims most l id bounds)
+    pub layer_inserted : (new : PageMap) → Sets dims mid new l.ids id kept → 2 ≤ most → IsBox dims (bounds_of kept) → map.contains_key objects id ≡ false
+        → BecomesLayer dims most old new (part_of_layer l) after directory (map.insert objects id kept) (HasInserted dims most l id kept)
     layer_inserted new ids two box absent =
-        let kept = insertion_keeps_shape dims most (part_of l.ids) branch 0 l.tree to.new to.insertion two (entry_has_shape box) is.boxes is.tree.shape in
-        layer_changed dims most old root directory l objects is mid new to.new ids.table tree_moves ids.moves after (map.insert objects id bounds) (HasInserted dims most l id bounds) to.at to.stands kept.0 kept.1 ids.page ids.stands
-        (ids.objects ∙ ap (λ (m : Objects). map.insert m id bounds) is.table)
-        (more_leaves _ _ objects id bounds (insertion_keeps_objects dims most (part_of l.ids) branch 0 l.tree to.new to.insertion) is.leaves absent) to.insertion
+        let shape = insertion_keeps_shape dims most (part_of l.ids) branch 0 l.tree to.new to.insertion two (entry_has_shape box) is.boxes is.tree.shape in
+        layer_changed dims most old root directory l objects is mid new to.new ids.table tree_moves ids.moves after (map.insert objects id kept) (HasInserted dims most l id kept) to.at to.stands shape.0 shape.1 ids.page ids.stands
+        (ids.objects ∙ ap (λ (m : Objects). map.insert m id kept) is.table)
+        (more_leaves _ _ objects id kept (insertion_keeps_objects dims most (part_of l.ids) branch 0 l.tree to.new to.insertion) is.leaves absent) to.insertion

@@ -3,7 +3,7 @@ use Rattle.std.proofs.Common.{◌≡◌, ◌∙◌, ℕ, ◌≤◌, true, Some, 
 use Rattle.std.specs.FinMap as map
 use Rattle.std.specs.List.{Contains}
 use Rattle.std.specs.Prelude.{is_some}
-use Rattle.box_math.specs.Bounds.{Bounds}
+use Rattle.box_math.specs.Objects.{Object}
 use Rattle.tree_node.specs.Trees.{objects_in, occurs_in}
 use Rattle.tree_node.specs.declared.node.Root.{Root}
 use Rattle.node_page.specs.Standing.{PageMap}
@@ -28,24 +28,27 @@ module _ (dims most : ℕ) (old : PageMap) (root : Root) (directory : ℕ) (l : 
     live = ids_live dims most old root directory l objects is;
   }
 
-  module _ (id : ℕ) (bounds : Bounds) where
-    pub in_a_leaf : map.get objects id ≡ Some bounds → Contains (objects_in l.tree.row) (id, bounds)
-    in_a_leaf there = object_there (objects_in l.tree.row) objects id bounds is.leaves there
+  module _ (id : ℕ) (kept : Object) where
+    pub in_a_leaf : map.get objects id ≡ Some kept → Contains (objects_in l.tree.row) (id, kept)
+    in_a_leaf there = object_there (objects_in l.tree.row) objects id kept is.leaves there
 
-    pub in_no_leaf : ¬ (map.get objects id ≡ Some bounds) → ¬ Contains (objects_in l.tree.row) (id, bounds)
-    in_no_leaf absent held = absent (object_known (objects_in l.tree.row) objects id bounds is.leaves held)
+    pub in_no_leaf : ¬ (map.get objects id ≡ Some kept) → ¬ Contains (objects_in l.tree.row) (id, kept)
+    in_no_leaf absent held = absent (object_known (objects_in l.tree.row) objects id kept is.leaves held)
 
-    pub in_table : map.get objects id ≡ Some bounds → map.contains_key (objects_of l.ids) id ≡ true
-    in_table there = ap (λ (m : Objects). map.contains_key m id) is.table ∙ ap is_some there
+    pub kept_in_table : map.get objects id ≡ Some kept → map.get (objects_of l.ids) id ≡ Some kept
+    kept_in_table there = ap (λ (m : Objects). map.get m id) is.table ∙ there
 
-    module _ (mid : PageMap) (after : Root) (to : RemovesTo dims most old mid (part_of l.ids) id bounds l.tree after) where
+    pub in_table : map.get objects id ≡ Some kept → map.contains_key (objects_of l.ids) id ≡ true
+    in_table there = ap is_some (kept_in_table there)
+
+    module _ (mid : PageMap) (after : Root) (to : RemovesTo dims most old mid (part_of l.ids) id kept l.tree after) where
       pub ids_between : IdsStand dims mid l.ids
       ids_between = ids_still dims most old root directory l objects is mid (λ n. occurs_in n to.new) to.moves
 
-      pub layer_removed : (new : PageMap) → Removes dims mid new l.ids id → 4 ≤ most → map.get objects id ≡ Some bounds
-          → BecomesLayer dims most old new (part_of_layer l) after directory (map.remove objects id) (HasRemoved dims most l id bounds)
+      pub layer_removed : (new : PageMap) → Removes dims mid new l.ids id → 4 ≤ most → map.get objects id ≡ Some kept
+          → BecomesLayer dims most old new (part_of_layer l) after directory (map.remove objects id) (HasRemoved dims most l id kept)
       layer_removed new ids four there =
-          let kept = removal_keeps_shape dims most (part_of l.ids) id bounds l.tree to.new to.removal four is.boxes is.tree.shape in
-          layer_changed dims most old root directory l objects is mid new to.new ids.table to.moves ids.moves after (map.remove objects id) (HasRemoved dims most l id bounds) to.at to.stands kept.0 kept.1 ids.page ids.stands
+          let shape = removal_keeps_shape dims most (part_of l.ids) id kept l.tree to.new to.removal four is.boxes is.tree.shape in
+          layer_changed dims most old root directory l objects is mid new to.new ids.table to.moves ids.moves after (map.remove objects id) (HasRemoved dims most l id kept) to.at to.stands shape.0 shape.1 ids.page ids.stands
           (ids.objects ∙ ap (λ (m : Objects). map.remove m id) is.table)
-          (fewer_leaves _ _ objects id bounds (removal_keeps_objects dims most (part_of l.ids) id bounds l.tree to.new to.removal) is.leaves there) to.removal
+          (fewer_leaves _ _ objects id kept (removal_keeps_objects dims most (part_of l.ids) id kept l.tree to.new to.removal) is.leaves there) to.removal

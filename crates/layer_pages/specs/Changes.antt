@@ -1,7 +1,7 @@
 -- What the calls on the pages of a layer make of them (our rule, docs/FORMAT.md, "Trees of pages" and "Identifier
 -- tables").
 use Rattle.std.specs.Prelude.{◌≡◌, ℕ, ◌+◌, ◌/◌, List, map}
-use Rattle.box_math.specs.Bounds.{Bounds}
+use Rattle.box_math.specs.Objects.{Object, bounds_of, tag_of}
 use Rattle.tree_node.specs.Nodes.{Item}
 use Rattle.tree_node.specs.Trees.{Tree, end, object}
 use Rattle.tree_node.specs.declared.node.Root.{Root}
@@ -30,25 +30,25 @@ pub record IsEmptyLeaf (t : Tree) : Type 0 where
   pub row : t.row ≡ end
 
 -- the tree of a layer after a lawful insertion of an object, with no page of the layer's table
-abbrev pub HasInserted : ℕ → ℕ → LayerPages → ℕ → Bounds → Tree → Type 0
-HasInserted dims most l id bounds t = IsInsertion dims most (part_of l.ids) (object bounds id) 0 l.tree t
+abbrev pub HasInserted : ℕ → ℕ → LayerPages → ℕ → Object → Tree → Type 0
+HasInserted dims most l id kept t = IsInsertion dims most (part_of l.ids) (object kept id) 0 l.tree t
 
 -- the tree of a layer after a lawful removal of an object, with no page of the layer's table
-abbrev pub HasRemoved : ℕ → ℕ → LayerPages → ℕ → Bounds → Tree → Type 0
-HasRemoved dims most l id bounds t = IsRemoval dims most (part_of l.ids) id bounds l.tree t
+abbrev pub HasRemoved : ℕ → ℕ → LayerPages → ℕ → Object → Tree → Type 0
+HasRemoved dims most l id kept t = IsRemoval dims most (part_of l.ids) id kept l.tree t
 
 -- the tree of a layer after an object has got another box: by a lawful removal, and then a lawful insertion
-pub record HasReplaced (dims most : ℕ) (l : LayerPages) (id : ℕ) (old new : Bounds) (t : Tree) : Type 0 where
+pub record HasReplaced (dims most : ℕ) (l : LayerPages) (id : ℕ) (old new : Object) (t : Tree) : Type 0 where
   pub between : Tree
   pub removed : HasRemoved dims most l id old between
   pub inserted : HasInserted dims most (record { tree = between; ids = l.ids }) id new t
 
 -- an object as an entry of a leaf
-abbrev pub item_of_object : ℕ × Bounds → Item
-item_of_object o = record { bounds = o.1; reference = o.0 }
+abbrev pub item_of_object : ℕ × Object → Item
+item_of_object o = record { bounds = bounds_of o.1; reference = o.0; tag = tag_of o.1 }
 
 -- a tree packed from these objects
-abbrev pub HasPacked : ℕ → ℕ → List (ℕ × Bounds) → Tree → Type 0
+abbrev pub HasPacked : ℕ → ℕ → List (ℕ × Object) → Tree → Type 0
 HasPacked dims most objects t = IsPacked dims most (map item_of_object objects) t
 
 -- A part of the pages became those of an identifier table of these objects.

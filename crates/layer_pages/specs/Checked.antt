@@ -2,10 +2,11 @@
 use Rattle.std.specs.Prelude.{◌≡◌, ℕ, List, ◌++◌, ◌==◌, All, IsPermutation, if◌then◌else◌, length}
 use Rattle.std.specs.FinMap.{len}
 use Rattle.box_math.specs.Bounds.{IsBox}
+use Rattle.box_math.specs.Objects.{bounds_of}
+use Rattle.bucket_page.specs.Layout.{Entry}
 use Rattle.tree_node.specs.declared.node.Root.{Root}
 use Rattle.node_page.specs.Checked.{named_pages}
 use Rattle.node_page.specs.Standing.{PageMap}
-use Rattle.id_table.specs.Table.{Object}
 use Rattle.layer_pages.specs.Layers.{IsLayerAt, LayerPages, Objects, part_of_layer}
 
 -- the pages stand for a layer at that root and directory, of so many objects, and the list has its pages
@@ -19,15 +20,15 @@ pub record IsCheckedLayer (dims most : ℕ) (pages : PageMap) (root : Root) (dir
 
 -- the page of a tree of these objects and a table that are no layer of so many: that of the catalog, and where the tree
 -- has so many, that of the directory
-abbrev pub odd_page : ℕ → ℕ → List Object → ℕ
+abbrev pub odd_page : ℕ → ℕ → List Entry → ℕ
 odd_page directory count held = if length held == count then directory else 2
 
 -- ---- its steps
 
 -- a tree and a table have the same objects, so many, with boxes, and the list has the pages of both
-pub record AreOfOneLayer (dims count : ℕ) (held listed : List Object) (held_pages listed_pages list : List ℕ)
+pub record AreOfOneLayer (dims count : ℕ) (held listed : List Entry) (held_pages listed_pages list : List ℕ)
     : Type 0 where
   pub same : IsPermutation held listed
-  pub boxes : All (λ object. IsBox dims object.1) held
+  pub boxes : All (λ object. IsBox dims (bounds_of object.1)) held
   pub many : length held ≡ count
   pub pages_are : list ≡ held_pages ++ listed_pages

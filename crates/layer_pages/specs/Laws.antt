@@ -1,8 +1,9 @@
 -- Laws of the pages of a layer: what stands beside a change, and what searches of the tree answer.
-use Rattle.std.specs.Prelude.{◌≡◌, ℕ, ◌<◌, Bool, List, ℤ, All, IsSome, IsPermutation}
+use Rattle.std.specs.Prelude.{◌≡◌, ℕ, ◌<◌, Bool, List, Option, ℤ, All, IsSome, IsPermutation}
 use Rattle.std.specs.FinMap as map
 use Rattle.std.specs.FinMap.{entries}
 use Rattle.box_math.specs.Bounds.{Bounds, IsBox}
+use Rattle.box_math.specs.Objects.{Object, bounds_of}
 use Rattle.tree_node.specs.Boxes.{RowHasBoxes}
 use Rattle.tree_node.specs.Shape.{HasShape}
 use Rattle.tree_node.specs.Trees.{Tree, objects_in}
@@ -41,7 +42,7 @@ LayersStandInEqualPages =
 -- the boxes of a tree are boxes where those of its objects are, since each box above them is a least box
 abbrev pub ObjectsGiveBoxes : Type 0
 ObjectsGiveBoxes =
-    (dims most : ℕ) (t : Tree) → HasShape dims most t → All (λ (o : ℕ × Bounds). IsBox dims o.1) (objects_in t.row)
+    (dims most : ℕ) (t : Tree) → HasShape dims most t → All (λ (o : ℕ × Object). IsBox dims (bounds_of o.1)) (objects_in t.row)
     → RowHasBoxes dims t.row
 
 -- ---- objects
@@ -49,18 +50,18 @@ ObjectsGiveBoxes =
 -- objects whose identifiers are all different are the entries of the map that they make
 abbrev pub NewObjectsAreEntries : Type 0
 NewObjectsAreEntries =
-    (objects : List (ℕ × Bounds)) → AreNew map.empty objects
+    (objects : List (ℕ × Object)) → AreNew map.empty objects
     → IsPermutation objects (entries (with_all map.empty objects))
 
 -- ---- answers
 
--- a range query of the tree answers the objects of the layer that pass
+-- a range query of the tree answers the objects of the layer that pass, of those with the tag that is asked for, if one is
 abbrev pub RangesAnswerObjects : Type 0
 RangesAnswerObjects =
     (dims most : ℕ) (pages : PageMap) (root : Root) (directory : ℕ) (l : LayerPages) (objects : Objects)
-    (test : Bounds → Bool) (rows : List (ℕ × Bounds))
-    → IsLayerAt dims most pages root directory l objects → IsRangeAnswer test l.tree rows
-    → rows ≡ objects_that test objects
+    (test : Bounds → Bool) (asked : Option ℕ) (rows : List (ℕ × Object))
+    → IsLayerAt dims most pages root directory l objects → IsRangeAnswer test asked l.tree rows
+    → rows ≡ objects_that test asked objects
 
 -- a search for the nearest answers the nearest objects of the layer
 abbrev pub NearestAreObjects : Type 0

@@ -3,7 +3,7 @@
 use Rattle.std.specs.Prelude.{◌≡◌, ℕ, ◌+◌, ◌^◌, ◌<◌, ◌≤◌, IsPermutation}
 use Rattle.std.specs.FinMap.{FinMap, entries}
 use Rattle.std.specs.Ordering.{nat_cmp}
-use Rattle.box_math.specs.Bounds.{Bounds}
+use Rattle.box_math.specs.Objects.{Object}
 use Rattle.tree_node.specs.Boxes.{RowHasBoxes}
 use Rattle.tree_node.specs.Trees.{Tree, objects_in, occurs_in}
 use Rattle.tree_node.specs.declared.node.Root.{Root}
@@ -17,9 +17,9 @@ pub record LayerPages : Type 0 where
   pub tree : Tree
   pub ids : IdTable
 
--- a box for each identifier
+-- what is kept of each object, by its identifier
 abbrev pub Objects : Type 0
-Objects = FinMap nat_cmp Bounds
+Objects = FinMap nat_cmp Object
 
 -- the part of the pages that a layer has
 abbrev pub part_of_layer : LayerPages → Part

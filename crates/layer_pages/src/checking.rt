@@ -3,6 +3,7 @@
 ghost use Rattle.std.specs.Prelude.{◌≡◌, ◌⊎◌, ◌+◌, ◌*◌, ◌≤◌, ◌↔◌, true, All, IfErr, IfOk, IsPermutation, IsTrue};
 ghost use Rattle.std.specs.FinMap as map;
 ghost use Rattle.box_math.specs.Bounds.{IsBox, IsDims};
+ghost use Rattle.box_math.specs.Objects.{bounds_of};
 ghost use Rattle.page_file.specs.Fault.{IsDamage, IsOfDevice};
 ghost use Rattle.page_file.specs.declared.fault.Fault.TheVariants as fault;
 ghost use Rattle.page_cache.specs.Cache.{IsHonest, IsPageMap, given, looks_of, next_of, pages};
@@ -85,9 +86,12 @@ fn pages_of_both<'a, const D: usize, H: Allocator>(
 }
 
 // Whether both lists have the same objects. They are left in the order of identifiers.
-fn have_same<const D: usize>(held: &mut [(u64, BBox<D>)], listed: &mut [(u64, BBox<D>)]) -> bool
+fn have_same<const D: usize>(
+    held: &mut [(u64, (BBox<D>, u32))],
+    listed: &mut [(u64, (BBox<D>, u32))],
+) -> bool
     ensures same { result ≡ true → IsPermutation held.old listed.old }
-    ensures boxes { result ≡ true → All (λ object. IsBox D object.1) held.old }
+    ensures boxes { result ≡ true → All (λ object. IsBox D (bounds_of object.1)) held.old }
     ensures found { (objects : Objects) → IsPermutation held.old (map.entries objects)
         → IsPermutation listed.old (map.entries objects) → result ≡ true }
 {
@@ -105,9 +109,12 @@ fn have_same<const D: usize>(held: &mut [(u64, BBox<D>)], listed: &mut [(u64, BB
 }
 
 // Whether both lists are the same.
-fn are_equal<const D: usize>(held: &[(u64, BBox<D>)], listed: &[(u64, BBox<D>)]) -> bool
+fn are_equal<const D: usize>(
+    held: &[(u64, (BBox<D>, u32))],
+    listed: &[(u64, (BBox<D>, u32))],
+) -> bool
     ensures equal { IsTrue result ↔ (held.now ≡ listed.now) }
-    ensures boxes { result ≡ true → All (λ object. IsBox D object.1) held.now }
+    ensures boxes { result ≡ true → All (λ object. IsBox D (bounds_of object.1)) held.now }
 {
     if held.len() != listed.len() {
         return false;
@@ -121,11 +128,18 @@ fn are_equal<const D: usize>(held: &[(u64, BBox<D>)], listed: &[(u64, BBox<D>)])
 }
 
 // Whether both objects are the same.
-fn is_same<const D: usize>(object: &(u64, BBox<D>), other: &(u64, BBox<D>)) -> bool
+fn is_same<const D: usize>(object: &(u64, (BBox<D>, u32)), other: &(u64, (BBox<D>, u32))) -> bool
     ensures equal { IsTrue result ↔ (object.now ≡ other.now) }
-    ensures is_box { IsBox D object.now.1 }
+    ensures is_box { IsBox D (bounds_of object.now.1) }
 {
     // a box that was looked at is known to be one
-    let _ = object.1.low();
-    object.0 == other.0 && object.1 == other.1
+    let _ = (object.1).0.low();
+    object.0 == other.0 && is_same_kept(&object.1, &other.1)
+}
+
+// Whether the same is kept of two objects.
+fn is_same_kept<const D: usize>(kept: &(BBox<D>, u32), other: &(BBox<D>, u32)) -> bool
+    ensures { IsTrue result ↔ (kept.now ≡ other.now) }
+{
+    kept.1 == other.1 && kept.0 == other.0
 }

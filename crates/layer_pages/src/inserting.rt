@@ -44,8 +44,8 @@ pub fn insert<const D: usize, B: BlockDevice, A: Allocator + Copy>(
         → IsLayerAt D m_max (pages cache.old) root directory l objects
         → map.contains_key objects object.now.reference ≡ false → IfOk result (λ after.
         BecomesLayer D m_max (pages cache.old) (pages cache.new) (part_of_layer l) after directory
-        (map.insert objects object.now.reference object.now.bounds)
-        (HasInserted D m_max l object.now.reference object.now.bounds)) }
+        (map.insert objects object.now.reference (object.now.bounds, object.now.tag))
+        (HasInserted D m_max l object.now.reference (object.now.bounds, object.now.tag))) }
     ensures grows { Grows most_inserted_pages cache.old cache.new }
     ensures faults { IsPageMap cache.old → (l : LayerPages) (objects : Objects)
         → IsLayerAt D m_max (pages cache.old) root directory l objects
@@ -55,7 +55,13 @@ pub fn insert<const D: usize, B: BlockDevice, A: Allocator + Copy>(
     // a box that was looked at is known to be one
     let _ = object.bounds.low();
     let after = insert_with(cache, root, object, 0, usize::from(m_max), waiting)?;
-    match id_table::add(cache, directory, object.reference, &object.bounds) {
+    match id_table::add(
+        cache,
+        directory,
+        object.reference,
+        &object.bounds,
+        object.tag,
+    ) {
         Ok(()) => Ok(after),
         Err(broken) => Err(Broken::midway(broken.cause)),
     }

@@ -35,7 +35,7 @@ pub fn load<const D: usize, B: BlockDevice, A: Allocator + Copy, H: Allocator + 
     cache: &mut PageCache<B, A>,
     root: Root,
     directory: u32,
-    objects: &mut [(u64, BBox<D>)],
+    objects: &mut [(u64, (BBox<D>, u32))],
     m_max: u8,
 ) -> Result<Root, Broken>
     requires dims { IsDims D }
@@ -71,7 +71,7 @@ pub fn load<const D: usize, B: BlockDevice, A: Allocator + Copy, H: Allocator + 
 // The objects as entries of leaves.
 fn entries_of<const D: usize, H: Allocator>(
     alloc: H,
-    objects: &[(u64, BBox<D>)],
+    objects: &[(u64, (BBox<D>, u32))],
 ) -> Result<Vec<Entry<D>, H>, Fault>
     ensures items { IfOk result (λ entries. items_of entries.items ≡ each item_of_object objects.now) }
     ensures boxes { IfOk result (λ entries. All (λ item. IsBox D item.bounds) (items_of entries.items)) }
@@ -80,10 +80,11 @@ fn entries_of<const D: usize, H: Allocator>(
     let mut entries = Vec::with_capacity(alloc, objects.len())?;
     for object in objects {
         // a box that was looked at is known to be one
-        let _ = object.1.low();
+        let _ = (object.1).0.low();
         entries.push(Entry {
-            bounds: object.1,
+            bounds: (object.1).0,
             reference: object.0,
+            tag: (object.1).1,
         })?;
     }
     Ok(entries)
@@ -102,7 +103,7 @@ fn put_ids<const D: usize, B: BlockDevice, A: Allocator + Copy>(
     cache: &mut PageCache<B, A>,
     root: Root,
     directory: u32,
-    objects: &mut [(u64, BBox<D>)],
+    objects: &mut [(u64, (BBox<D>, u32))],
 ) -> Result<(), Broken>
     requires dims { IsDims D }
     requires open { gate_of cache.old ≡ Open }

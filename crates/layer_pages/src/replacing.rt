@@ -19,21 +19,22 @@ use page_cache::PageCache;
 use reinsert::{Waiting, insert_with};
 use std::alloc::Allocator;
 
-/// Gives the object with that identifier, which the layer has with the box `old`, the box `new`, and answers the root
-/// of its tree: by a lawful removal from the tree, whose nodes have at most `m_max` entries, then a lawful insertion,
-/// and then its other box in the identifier table. The gate has to be open.
+/// Gives the object with that identifier, which the layer has with the box `old` and that tag, the box `new`, and
+/// answers the root of its tree: by a lawful removal from the tree, whose nodes have at most `m_max` entries, then a
+/// lawful insertion, and then its other box in the identifier table. Its tag stays. The gate has to be open.
 ///
 /// With a sound map, where the pages stand for a layer at that root and directory, a refusal is `Memory` or `Device`,
 /// or `NoPages` where each page number is live. One that is not `touched` leaves the map as it was; each one of the
 /// insertion and of the table is touched, since the object was removed before them. Where the layer does not have the
-/// object with the box `old`, that is `Damaged` with the root's page, untouched, unless memory or the device refused
-/// before. Also after a refusal at most `most_replaced_pages` more pages are live.
+/// object with the box `old` and that tag, that is `Damaged` with the root's page, untouched, unless memory or the
+/// device refused before. Also after a refusal at most `most_replaced_pages` more pages are live.
 pub fn replace<const D: usize, B: BlockDevice, A: Allocator + Copy>(
     cache: &mut PageCache<B, A>,
     root: Root,
     directory: u32,
     id: u64,
     old: &BBox<D>,
+    tag: u32,
     new: &BBox<D>,
     m_max: u8,
     waiting: &mut Waiting<D>,
@@ -46,28 +47,29 @@ pub fn replace<const D: usize, B: BlockDevice, A: Allocator + Copy>(
     ensures alters { Alters cache.old cache.new result }
     ensures root { IfOk result CanBeRoot }
     ensures sound { IsPageMap cache.old → (l : LayerPages) (objects : Objects)
-        → IsLayerAt D m_max (pages cache.old) root directory l objects → map.get objects id ≡ Some old.now
+        → IsLayerAt D m_max (pages cache.old) root directory l objects → map.get objects id ≡ Some (old.now, tag)
         → IfOk result (λ _. IsPageMap cache.new) }
     ensures replaced { IsPageMap cache.old → (l : LayerPages) (objects : Objects)
-        → IsLayerAt D m_max (pages cache.old) root directory l objects → map.get objects id ≡ Some old.now
+        → IsLayerAt D m_max (pages cache.old) root directory l objects → map.get objects id ≡ Some (old.now, tag)
         → IfOk result (λ after. BecomesLayer D m_max (pages cache.old) (pages cache.new) (part_of_layer l) after
-        directory (map.insert objects id new.now) (HasReplaced D m_max l id old.now new.now)) }
+        directory (map.insert objects id (new.now, tag)) (HasReplaced D m_max l id (old.now, tag) (new.now, tag))) }
     ensures absent { IsPageMap cache.old → (l : LayerPages) (objects : Objects)
-        → IsLayerAt D m_max (pages cache.old) root directory l objects → ¬ (map.get objects id ≡ Some old.now)
+        → IsLayerAt D m_max (pages cache.old) root directory l objects → ¬ (map.get objects id ≡ Some (old.now, tag))
         → IsRefused root.page result }
     ensures grows { Grows most_replaced_pages cache.old cache.new }
     ensures faults { IsPageMap cache.old → (l : LayerPages) (objects : Objects)
-        → IsLayerAt D m_max (pages cache.old) root directory l objects → map.get objects id ≡ Some old.now
+        → IsLayerAt D m_max (pages cache.old) root directory l objects → map.get objects id ≡ Some (old.now, tag)
         → IfErr result (λ b. IsNoDamage cache.new b.cause) }
     ensures other_faults { IfErr result (λ b. IsChangeFault b.cause) }
 {
     // a box that was looked at is known to be one
     let _ = new.low();
     let most = usize::from(m_max);
-    let between = remove_with(cache, root, id, old, most, waiting, kept)?;
+    let between = remove_with(cache, root, id, old, tag, most, waiting, kept)?;
     let object = Entry {
         bounds: *new,
         reference: id,
+        tag,
     };
     let after = match insert_with(cache, between, &object, 0, most, waiting) {
         Ok(after) => after,

@@ -33,14 +33,14 @@ module _ {D A : Type 0} {m : _} (cache : PageCache D A m) (t : Table) (stops : S
     among = either_among t (tables_left stops.now) stops.so_far was.among;
   }
   wanting_leaves (Create name dims fanout) = of_change (changes t (Create name dims fanout))
-  wanting_leaves (Insert name id box) = of_change (changes t (Insert name id box))
+  wanting_leaves (Insert name id box tag) = of_change (changes t (Insert name id box tag))
   wanting_leaves (Load name objects) = of_change (changes t (Load name objects))
   wanting_leaves (Move name id box) = of_change (changes t (Move name id box))
   wanting_leaves (Delete name id) = of_change (changes t (Delete name id))
   wanting_leaves (Drop name) = of_change (changes t (Drop name))
   wanting_leaves (Get name id) = was
   wanting_leaves (Count name) = was
-  wanting_leaves (Range name query) = was
+  wanting_leaves (Range name query tag) = was
   wanting_leaves (Nearest name k point) = was
   wanting_leaves (Join first second within) = was
   wanting_leaves Layers = was

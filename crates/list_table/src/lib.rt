@@ -1,10 +1,8 @@
-//! The plain table as a list of layers in memory, each with its objects in a list.
+//! The plain table as lists in memory: the slow reference that tests compare the store with. It is written to be read at
+//! a glance, each command as docs/COMMANDS.md says it; nothing is proved of it but that it is safe and ends.
 #![tactic(auto)]
 
 mod layer;
-mod objects;
 mod table;
 
-pub use layer::ListedLayer;
-pub use objects::ListedObjects;
 pub use table::ListTable;

@@ -6,7 +6,7 @@ use Rattle.std.proofs.lemmas.Bool.{cases_lt}
 use Rattle.std.proofs.lemmas.Bool.Decides.{nat_tests}
 use Rattle.std.specs.FinMap.{contains_key, get-entries}
 use Rattle.block_device.specs.Device.{HasRisen, one_more}
-use Rattle.box_math.specs.Bounds.{Bounds}
+use Rattle.box_math.specs.Objects.{Object, bounds_of, tag_of}
 use Rattle.page_file.specs.Fault.{IsOfDevice, faults_after}
 use Rattle.page_file.specs.declared.fault.Fault.{Fault}
 use Rattle.page_file.specs.declared.fault.Fault.TheVariants as fault
@@ -53,13 +53,13 @@ same_count fault.NoPages before = refl
 
 -- ---- rows of either dimension
 
-pub two_rows : (rows : List (ℕ × Bounds)) → map row_of (map (λ (row : ℕ × Bounds). (row.0, Two row.1)) rows) ≡ rows
+pub two_rows : (rows : List (ℕ × Object)) → map row_of (map (λ (row : ℕ × Object). (row.0, Two (bounds_of row.1), tag_of row.1)) rows) ≡ rows
 two_rows [] = refl
-two_rows (r ∷ rs) = ap (λ (xs : List (ℕ × Bounds)). r ∷ xs) (two_rows rs)
+two_rows (r ∷ rs) = ap (λ (xs : List (ℕ × Object)). r ∷ xs) (two_rows rs)
 
-pub three_rows : (rows : List (ℕ × Bounds)) → map row_of (map (λ (row : ℕ × Bounds). (row.0, Three row.1)) rows) ≡ rows
+pub three_rows : (rows : List (ℕ × Object)) → map row_of (map (λ (row : ℕ × Object). (row.0, Three (bounds_of row.1), tag_of row.1)) rows) ≡ rows
 three_rows [] = refl
-three_rows (r ∷ rs) = ap (λ (xs : List (ℕ × Bounds)). r ∷ xs) (three_rows rs)
+three_rows (r ∷ rs) = ap (λ (xs : List (ℕ × Object)). r ∷ xs) (three_rows rs)
 
 -- ---- the layer of a name
 

@@ -10,7 +10,7 @@ use Rattle.std.proofs.lemmas.Bool.{cases_lt}
 use Rattle.std.proofs.lemmas.List.{length-map}
 use Rattle.std.proofs.lemmas.List.Edits.{get_or-insert_above, get_or-insert_at, get_or-insert_below, length-insert}
 use Rattle.std.proofs.lemmas.List.Sums.{sum_by-insert}
-use Rattle.box_math.specs.Bounds.{Bounds}
+use Rattle.box_math.specs.Objects.{Object}
 use Rattle.catalog_page.specs.Layout.{Record, record_of, records_of}
 use Rattle.catalog_page.specs.declared.layer_record.LayerRecord.{LayerRecord}
 use Rattle.layer_pages.specs.Changes.{BecomesLayer, IsEmptyLeaf}
@@ -54,7 +54,7 @@ no_more_objects t name place dims fanout belongs =
     let value : List ℕ × Layer → Layer = λ e. e.1 in
     let size : Layer → ℕ = λ l. len l.objects in
     let is : map value (entries (map_insert t name layer)) ≡ insert (map value (entries t)) place layer = ap (map value) (entries_more t name place belongs layer) ∙ map-insert value (entries t) place (name, layer) in
-    omega (arith, ap (sum_by size) is, sum_by-insert size (map value (entries t)) place layer, len-empty nat_cmp Bounds)
+    omega (arith, ap (sum_by size) is, sum_by-insert size (map value (entries t)) place layer, len-empty nat_cmp Object)
 
 pub one_more_layer : (t : Table) (name : List ℕ) (layer : Layer) → contains_key t name ≡ false → len (map_insert t name layer) ≡ len t + 1
 one_more_layer t name layer absent = len-insert nat_list_cmp_total t name layer ∙ ap (λ (b : Bool). cond b (len t) (len t + 1)) absent
@@ -102,7 +102,7 @@ module _ {D A : Type 0} {m : _} (kept new : Layers D A m) (t : Table) (name : Li
   made = record { row = made_record name dims fanout root directory; pages = became.layer; layer = new_layer dims fanout }
 
   stands : LayerStands (pages new.cache) made
-  stands = record { at = became.stands; dims = refl; fanout = refl; count = sym (len-entries empty) ∙ len-empty nat_cmp Bounds }
+  stands = record { at = became.stands; dims = refl; fanout = refl; count = sym (len-entries empty) ∙ len-empty nat_cmp Object }
 
   given : (n : ℕ) → IsSome (pages new.cache n) → (2 ≤ n) × (n < next_of new.cache)
   given n live = let l = a_live_page_was_given_out new.cache n live in (l.0, l.1)

@@ -1,7 +1,7 @@
 -- All objects of a layer, and the lines of layers in a dump.
 use Rattle.std.proofs.Common.{◌≡◌, ◌∙◌, ℕ, ◌+◌, ◌<◌, ◌≤ℤ◌, pos, negsuc, Bool, true, cond, List, [], ◌∷◌, ◌++◌, All, append-nil, append_assoc, get_or, length, map, replicate, take, refl, sym, ap, subst, arith}
 use Rattle.std.specs.Int.{w32}
-use Rattle.std.specs.Prelude.{FitsSigned, filter, flat_map}
+use Rattle.std.specs.Prelude.{◌&&◌, FitsSigned, None, filter, flat_map}
 use Rattle.std.specs.FinMap.{entries}
 use Rattle.std.proofs.lemmas.Grind.{flat_map-append}
 use Rattle.std.proofs.lemmas.Int.{ints}
@@ -9,6 +9,7 @@ use Rattle.std.proofs.lemmas.List.{get_or-replicate, map-append, take_more}
 use Rattle.std.proofs.lemmas.List.Elements.{All-append, All-cons, All-head, All-nil, All-tail}
 use Rattle.std.proofs.lemmas.List.Sorted.{All-permutation}
 use Rattle.box_math.specs.Bounds.{Bounds, IsBox, meets_test}
+use Rattle.box_math.specs.Objects.{Object, bounds_of, tag_of}
 use Rattle.box_math.proofs.TestLaws.{meets_test_true}
 use Rattle.catalog_page.specs.Layout.{Record, record_of}
 use Rattle.catalog_page.specs.declared.layer_record.LayerRecord.{LayerRecord}
@@ -18,6 +19,7 @@ use Rattle.plain_table.specs.Answers.{line_of_row}
 use Rattle.plain_table.specs.Listings.{DumpLine, dump_lines}
 use Rattle.plain_table.specs.Listings.DumpLine.{CreateLine, InsertLine}
 use Rattle.plain_table.specs.declared.rows.DumpRow.{DumpRow}
+use Rattle.range_query.specs.Queries.{has_tag}
 use Rattle.tree_node.specs.Boxes.{RowHasBoxes}
 use Rattle.tree_node.specs.Trees.{Row, child, end, more, object, objects_in}
 use Rattle.tree_node.specs.declared.node.Root.{Root}
@@ -49,41 +51,41 @@ meets_everywhere dims b box =
     not_below (negsuc n) fits = omega (arith, ints, fits.sfits)
 
 -- the boxes of a tree are those of its objects, among others
-abbrev HasBox : ℕ → ℕ × Bounds → Type 0
-HasBox dims o = IsBox dims o.1
+abbrev HasBox : ℕ → ℕ × Object → Type 0
+HasBox dims o = IsBox dims (bounds_of o.1)
 
 boxes_in : (dims : ℕ) (row : Row) → RowHasBoxes dims row → All (HasBox dims) (objects_in row)
 boxes_in dims end boxes = All-nil (HasBox dims)
-boxes_in dims (more (object bounds id) rest) boxes = All-cons (HasBox dims) (id, bounds) (objects_in rest) boxes.0 (boxes_in dims rest boxes.1)
+boxes_in dims (more (object o id) rest) boxes = All-cons (HasBox dims) (id, o) (objects_in rest) boxes.0 (boxes_in dims rest boxes.1)
 boxes_in dims (more (child bounds page below) rest) boxes = All-append (HasBox dims) (objects_in below) (objects_in rest) (boxes_in dims below boxes.1) (boxes_in dims rest boxes.2)
 
-all_meet : (dims : ℕ) (objects : List (ℕ × Bounds)) → All (HasBox dims) objects → filter (λ (o : ℕ × Bounds). meets_test dims o.1 (everywhere dims)) objects ≡ objects
+all_meet : (dims : ℕ) (objects : List (ℕ × Object)) → All (HasBox dims) objects → filter (λ (o : ℕ × Object). meets_test dims (bounds_of o.1) (everywhere dims) && has_tag None (tag_of o.1)) objects ≡ objects
 all_meet dims [] boxes = refl
 all_meet dims (o ∷ os) boxes =
-    let rest = filter (λ (x : ℕ × Bounds). meets_test dims x.1 (everywhere dims)) os in
-    ap (λ (b : Bool). cond b (o ∷ rest) rest) (meets_everywhere dims o.1 (All-head (HasBox dims) o os boxes))
-    ∙ ap (λ (xs : List (ℕ × Bounds)). o ∷ xs) (all_meet dims os (All-tail (HasBox dims) o os boxes))
+    let rest = filter (λ (x : ℕ × Object). meets_test dims (bounds_of x.1) (everywhere dims) && has_tag None (tag_of x.1)) os in
+    ap (λ (b : Bool). cond (b && true) (o ∷ rest) rest) (meets_everywhere dims (bounds_of o.1) (All-head (HasBox dims) o os boxes))
+    ∙ ap (λ (xs : List (ℕ × Object)). o ∷ xs) (all_meet dims os (All-tail (HasBox dims) o os boxes))
 
 -- so all objects of a layer meet it
 pub all_objects_meet : (dims most : ℕ) (pages : PageMap) (root : Root) (directory : ℕ) (l : LayerPages) (objects : Objects) → IsLayerAt dims most pages root directory l objects
-    → filter (λ (o : ℕ × Bounds). meets_test dims o.1 (everywhere dims)) (entries objects) ≡ entries objects
+    → filter (λ (o : ℕ × Object). meets_test dims (bounds_of o.1) (everywhere dims) && has_tag None (tag_of o.1)) (entries objects) ≡ entries objects
 all_objects_meet dims most pages root directory l objects at =
     all_meet dims (entries objects) (All-permutation (HasBox dims) (objects_in l.tree.row) (entries objects) at.leaves (boxes_in dims l.tree.row at.boxes))
 
 -- ---- the lines of a layer
 
 -- the line that makes it, and then those of its objects
-pub layer_dumped : (pages : PageMap) (r : LayerRecord) (h : Reading) → h.row ≡ record_of r → LayerStands pages h → (before pushed now : List DumpRow) (create : DumpRow) (objects : List (ℕ × Bounds))
+pub layer_dumped : (pages : PageMap) (r : LayerRecord) (h : Reading) → h.row ≡ record_of r → LayerStands pages h → (before pushed now : List DumpRow) (create : DumpRow) (objects : List (ℕ × Object))
     → pushed ≡ before ++ create ∷ [] → line_of_row create ≡ CreateLine r.name.items r.dims r.fanout → objects ≡ entries h.layer.objects
-    → lines_of now ≡ lines_of pushed ++ map (λ (o : ℕ × Bounds). InsertLine r.name.items o.0 o.1) objects → lines_of now ≡ lines_of before ++ dump_lines (entry_of h)
+    → lines_of now ≡ lines_of pushed ++ map (λ (o : ℕ × Object). InsertLine r.name.items o.0 o.1) objects → lines_of now ≡ lines_of before ++ dump_lines (entry_of h)
 layer_dumped pages r h row stands before pushed now create objects added made all rest =
     let name : r.name.items ≡ h.row.name = sym (ap (λ (x : Record). x.name) row) in
     let dims : r.dims ≡ h.layer.dims = sym (stands.dims ∙ ap (λ (x : Record). x.dims) row) in
     let fanout : r.fanout ≡ h.layer.fanout = sym (stands.fanout ∙ ap (λ (x : Record). x.fanout) row) in
-    let inserts : List DumpLine = map (λ (o : ℕ × Bounds). InsertLine r.name.items o.0 o.1) objects in
+    let inserts : List DumpLine = map (λ (o : ℕ × Object). InsertLine r.name.items o.0 o.1) objects in
     let first : lines_of pushed ≡ lines_of before ++ CreateLine r.name.items r.dims r.fanout ∷ [] =
     ap lines_of added ∙ map-append line_of_row before (create ∷ []) ∙ ap (λ (line : DumpLine). lines_of before ++ line ∷ []) made in
-    let same : CreateLine r.name.items r.dims r.fanout ∷ inserts ≡ dump_lines (entry_of h) = λ i. CreateLine (name i) (dims i) (fanout i) ∷ map (λ (o : ℕ × Bounds). InsertLine (name i) o.0 o.1) (all i) in
+    let same : CreateLine r.name.items r.dims r.fanout ∷ inserts ≡ dump_lines (entry_of h) = λ i. CreateLine (name i) (dims i) (fanout i) ∷ map (λ (o : ℕ × Object). InsertLine (name i) o.0 o.1) (all i) in
     rest ∙ ap (λ (lines : List DumpLine). lines ++ inserts) first ∙ append_assoc (lines_of before) (CreateLine r.name.items r.dims r.fanout ∷ []) inserts
     ∙ ap (λ (lines : List DumpLine). lines_of before ++ lines) same
 

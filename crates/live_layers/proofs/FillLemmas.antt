@@ -5,7 +5,7 @@ use Rattle.std.specs.Cmp.{nat_cmp_total}
 use Rattle.std.specs.Ordering.{nat_cmp}
 use Rattle.std.specs.FinMap.{contains_key, empty, empty_of_len, entries, find, from_entries, get-from_entries, insert as map_insert, len, len-empty, len-entries}
 use Rattle.std.proofs.lemmas.List.Sorted.{IsPermutation-cons, IsPermutation-refl, IsPermutation-trans, length_permutation}
-use Rattle.box_math.specs.Bounds.{Bounds}
+use Rattle.box_math.specs.Objects.{Object}
 use Rattle.catalog_page.specs.Layout.{Record, records_of}
 use Rattle.layer_pages.specs.Changes.{BecomesLayer, HasPacked}
 use Rattle.layer_pages.specs.Layers.{CanBeRoot, IsLayerAt, Objects, part_of_layer}
@@ -30,7 +30,7 @@ module _ {D A : Type 0} {m : _} (kept : Layers D A m) (t : Table) (name : List �
       subst (λ (o : Objects). IsLayerAt dims located.fanout (pages kept.cache) located.root located.directory (reading kept t name place sound finds).pages o) (empty_of_len (layer_at t name).objects none)
       (stands_at kept t name place sound finds located by_record dims is_dims)
 
-  module _ (objects : List (ℕ × Bounds)) (all : Objects) (same_objects : IsPermutation objects (entries all)) (cache : PageCache D A m) (root : Root)
+  module _ (objects : List (ℕ × Object)) (all : Objects) (same_objects : IsPermutation objects (entries all)) (cache : PageCache D A m) (root : Root)
       (became : BecomesLayer dims located.fanout (pages kept.cache) (pages cache) (part_of_layer (reading kept t name place sound finds).pages) root located.directory all (HasPacked dims located.fanout objects))
       (new : Layers D A m) (same : new.cache ≡ cache) (can : CanBeRoot root) (le : next_of kept.cache ≤ next_of cache) (room : kept.object_count + length objects ≤ most_objects)
       (records : (d : Record) → records_of new.records ≡ slice_set (records_of kept.records) place (with_tree (get_or (records_of kept.records) place d) root (length objects))) where
@@ -66,17 +66,17 @@ module _ {D A : Type 0} {m : _} (kept : Layers D A m) (t : Table) (name : List �
 -- ---- objects of different identifiers
 
 -- each has an identifier that none behind it has
-abbrev pub AreApart : List (ℕ × Bounds) → Type 0
+abbrev pub AreApart : List (ℕ × Object) → Type 0
 AreApart [] = Unit {0}
 AreApart (o ∷ rest) = (find nat_cmp o.0 rest ≡ None) × AreApart rest
 
-no_entries : (es : List (ℕ × Bounds)) → length es ≡ 0 → IsPermutation [] es
+no_entries : (es : List (ℕ × Object)) → length es ≡ 0 → IsPermutation [] es
 no_entries [] none = IsPermutation-refl []
 no_entries (e ∷ es) none = absurd (omega (arith, none))
 
 -- they are the entries of the map that they make
-pub entries_made : (objects : List (ℕ × Bounds)) → AreApart objects → IsPermutation objects (entries (from_entries {R = nat_cmp} objects))
-entries_made [] apart = no_entries (entries (empty {X = Bounds} {R = nat_cmp})) (sym (len-entries (empty {X = Bounds} {R = nat_cmp})) ∙ len-empty nat_cmp Bounds)
+pub entries_made : (objects : List (ℕ × Object)) → AreApart objects → IsPermutation objects (entries (from_entries {R = nat_cmp} objects))
+entries_made [] apart = no_entries (entries (empty {X = Object} {R = nat_cmp})) (sym (len-entries (empty {X = Object} {R = nat_cmp})) ∙ len-empty nat_cmp Object)
 entries_made (o ∷ rest) apart =
     let absent : contains_key (from_entries {R = nat_cmp} rest) o.0 ≡ false = ap is_some (get-from_entries nat_cmp_total rest o.0 ∙ apart.0) in
     IsPermutation-trans (o ∷ rest) (o ∷ entries (from_entries {R = nat_cmp} rest)) (entries (map_insert (from_entries {R = nat_cmp} rest) o.0 o.1))

@@ -4,6 +4,7 @@ use Rattle.std.specs.Prelude.{nat_le, ◌==◌, unwrap_or}
 use Rattle.std.proofs.lemmas.Bool.Decides.{nat_tests}
 use Rattle.std.specs.FinMap.{contains_key, get, get-entries, insert as map_insert}
 use Rattle.box_math.specs.Bounds.{Bounds}
+use Rattle.box_math.specs.Objects.{Object}
 use Rattle.plain_table.specs.Boxes.{dims_of, given_bounds, is_ordered}
 use Rattle.plain_table.specs.Commands.Command.{Insert}
 use Rattle.plain_table.specs.Step.{after, changed, first_refusal, kept_or, object_refusals, refusal_of}
@@ -15,8 +16,8 @@ use Rattle.live_layers.specs.Inserting.{ReachesBox}
 use Rattle.live_layers.specs.Keeping.{Finds}
 use Rattle.live_layers.proofs.ReplaceLemmas.{count_replaced}
 
-pub bad_name : (t : Table) (name : List ℕ) (id : ℕ) (box : RawBox) → is_layer_name name ≡ false → refusal_of t (Insert name id box) ≡ Some refusal.BadName
-bad_name t name id box e = rw e refl
+pub bad_name : (t : Table) (name : List ℕ) (id : ℕ) (box : RawBox) (tag : ℕ) → is_layer_name name ≡ false → refusal_of t (Insert name id box tag) ≡ Some refusal.BadName
+bad_name t name id box tag e = rw e refl
 
 -- ---- objects
 
@@ -53,19 +54,19 @@ room_so a b c lt e = grind (arith, nat_tests)
 -- ---- the table
 
 -- an object that is new makes one more
-pub one_more_object : (t : Table) (name : List ℕ) (place : ℕ) → Finds t name place → (id : ℕ) (b : Bounds) → contains_key (layer_at t name).objects id ≡ false → object_count (map_insert t name (with_object (layer_at t name) id b)) ≡ object_count t + 1
-one_more_object t name place finds id b absent = omega (arith, count_replaced t name place finds (with_object (layer_at t name) id b), len-with_object (layer_at t name) id b absent)
+pub one_more_object : (t : Table) (name : List ℕ) (place : ℕ) → Finds t name place → (id : ℕ) (o : Object) → contains_key (layer_at t name).objects id ≡ false → object_count (map_insert t name (with_object (layer_at t name) id o)) ≡ object_count t + 1
+one_more_object t name place finds id o absent = omega (arith, count_replaced t name place finds (with_object (layer_at t name) id o), len-with_object (layer_at t name) id o absent)
 
-module _ (t : Table) (name : List ℕ) (place : ℕ) (id : ℕ) (box : RawBox) (dims : ℕ) (bounds : Bounds) (reaches : ReachesBox t name place box dims bounds) where
+module _ (t : Table) (name : List ℕ) (place : ℕ) (id : ℕ) (box : RawBox) (tag dims : ℕ) (bounds : Bounds) (reaches : ReachesBox t name place box dims bounds) where
   there : get t name ≡ Some (layer_at t name)
   there =
       let found = get-entries t name ∙ reaches.finds.stands.found (name, no_layer) in
       found ∙ ap (λ (l : Layer). Some l) (ap (λ (o : Option Layer). unwrap_or o no_layer) (sym found))
 
-  pub as_object : refusal_of t (Insert name id box) ≡ first_refusal (object_refusals (layer_at t name) id box (nat_le most_objects (object_count t)))
-  as_object = insert_refusal t name reaches.good id box (layer_at t name) (nat_le most_objects (object_count t)) there refl
+  pub as_object : refusal_of t (Insert name id box tag) ≡ first_refusal (object_refusals (layer_at t name) id box (nat_le most_objects (object_count t)))
+  as_object = insert_refusal t name reaches.good id box tag (layer_at t name) (nat_le most_objects (object_count t)) there refl
 
-  pub it_grows : refusal_of t (Insert name id box) ≡ None → contains_key (layer_at t name).objects id ≡ false → ¬ (after t (Insert name id box) ≡ t)
+  pub it_grows : refusal_of t (Insert name id box tag) ≡ None → contains_key (layer_at t name).objects id ≡ false → ¬ (after t (Insert name id box tag) ≡ t)
   it_grows none absent = λ same.
-      let then : after t (Insert name id box) ≡ map_insert t name (with_object (layer_at t name) id (given_bounds box)) = ap (λ o. kept_or o t (changed t (Insert name id box))) none in
-      omega (arith, ap object_count (sym then ∙ same), one_more_object t name place reaches.finds id (given_bounds box) absent)
+      let then : after t (Insert name id box tag) ≡ map_insert t name (with_object (layer_at t name) id (given_bounds box, tag)) = ap (λ o. kept_or o t (changed t (Insert name id box tag))) none in
+      omega (arith, ap object_count (sym then ∙ same), one_more_object t name place reaches.finds id (given_bounds box, tag) absent)

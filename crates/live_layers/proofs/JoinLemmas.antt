@@ -11,7 +11,7 @@ use Rattle.std.proofs.lemmas.Bool.{cases_eq, cases_lt}
 use Rattle.std.proofs.lemmas.Bool.Decides.{nat_tests}
 use Rattle.std.proofs.lemmas.List.{map-append}
 use Rattle.std.proofs.lemmas.List.Sorted.{IsPermutation-map}
-use Rattle.box_math.specs.Bounds.{Bounds}
+use Rattle.box_math.specs.Objects.{Object, bounds_of}
 use Rattle.box_math.specs.Measures.{near_test}
 use Rattle.bulk_load.proofs.RowWords.{total-permutation}
 use Rattle.layer_pages.specs.Layers.{IsLayerAt, LayerPages}
@@ -88,23 +88,23 @@ rises a b h = ⊎_elim (λ (lt : a < b). lt) (λ (ge : b ≤ a). absurd (subst T
     not_less : (a b : ℕ) → b ≤ a → is_lt (nat_cmp a b) ≡ false
     not_less a b ge = grind (arith, nat_tests)
 
-module _ (o : ℕ × Bounds) where
+module _ (o : ℕ × Object) where
   -- an object with each of some others
-  abbrev with_each : List (ℕ × Bounds) → List (ℕ × ℕ)
+  abbrev with_each : List (ℕ × Object) → List (ℕ × ℕ)
   with_each es = map (λ other. (o.0, other.0)) es
 
-  each_leads : (x : ℕ) (es : List (ℕ × Bounds)) → T (below_all nat_cmp x es) → Heads (x, o.0) (map turned (with_each es))
+  each_leads : (x : ℕ) (es : List (ℕ × Object)) → T (below_all nat_cmp x es) → Heads (x, o.0) (map turned (with_each es))
   each_leads x [] h = tt
   each_leads x (e ∷ es) h = (below x e.0 (rises x e.0 (left_of (is_lt (nat_cmp x e.0)) (below_all nat_cmp x es) h)), each_leads x es (right_of (is_lt (nat_cmp x e.0)) (below_all nat_cmp x es) h))
     where
       below : (x y : ℕ) → x < y → comes_first (x, o.0) (y, o.0) ≡ true
       below x y lt = grind (arith, nat_tests)
 
-  each_ascends : (es : List (ℕ × Bounds)) → T (is_sorted nat_cmp es) → Ascends (map turned (with_each es))
+  each_ascends : (es : List (ℕ × Object)) → T (is_sorted nat_cmp es) → Ascends (map turned (with_each es))
   each_ascends [] h = tt
   each_ascends (e ∷ es) h = (each_leads e.0 es (left_of (below_all nat_cmp e.0 es) (is_sorted nat_cmp es) h), each_ascends es (right_of (below_all nat_cmp e.0 es) (is_sorted nat_cmp es) h))
 
-  each_has : (z : ℕ × ℕ) (es : List (ℕ × Bounds)) → 0 < listed z (map turned (with_each es)) → z.1 ≡ o.0
+  each_has : (z : ℕ × ℕ) (es : List (ℕ × Object)) → 0 < listed z (map turned (with_each es)) → z.1 ≡ o.0
   each_has z [] there = absurd (omega (arith, there))
   each_has z (e ∷ es) there = at (each_has z es) (same_row z (e.0, o.0)) refl
     where
@@ -112,16 +112,16 @@ module _ (o : ℕ × Bounds) where
       at later true is = ap (λ (p : ℕ × ℕ). p.1) (same_row-is z (e.0, o.0) is)
       at later false is = later (omega (arith, rw is at there))
 
-  after_each : (z : ℕ × ℕ) (es : List (ℕ × Bounds)) → z.1 < o.0 → Heads z (map turned (with_each es))
+  after_each : (z : ℕ × ℕ) (es : List (ℕ × Object)) → z.1 < o.0 → Heads z (map turned (with_each es))
   after_each z [] lt = tt
   after_each z (e ∷ es) lt = (nearer_first z (e.0, o.0) lt, after_each z es lt)
 
-module _ (dims within : ℕ) (ys : List (ℕ × Bounds)) where
+module _ (dims within : ℕ) (ys : List (ℕ × Object)) where
   -- the others that an object meets
-  abbrev met : ℕ × Bounds → List (ℕ × Bounds)
-  met o = filter (λ other. near_test dims within o.1 other.1) ys
+  abbrev met : ℕ × Object → List (ℕ × Object)
+  met o = filter (λ other. near_test dims within (bounds_of o.1) (bounds_of other.1)) ys
 
-  later_lead : (z : ℕ × ℕ) (xs : List (ℕ × Bounds)) → T (below_all nat_cmp z.1 xs) → Heads z (map turned (near_objects dims within xs ys))
+  later_lead : (z : ℕ × ℕ) (xs : List (ℕ × Object)) → T (below_all nat_cmp z.1 xs) → Heads z (map turned (near_objects dims within xs ys))
   later_lead z [] h = tt
   later_lead z (x ∷ xs) h =
       subst (Heads z) (sym (map-append turned (pairs_with dims within ys x) (near_objects dims within xs ys)))
@@ -129,34 +129,34 @@ module _ (dims within : ℕ) (ys : List (ℕ × Bounds)) where
       (after_each x z (met x) (rises z.1 x.0 (left_of (is_lt (nat_cmp z.1 x.0)) (below_all nat_cmp z.1 xs) h)))
       (later_lead z xs (right_of (is_lt (nat_cmp z.1 x.0)) (below_all nat_cmp z.1 xs) h)))
 
-  near_ascend : (xs : List (ℕ × Bounds)) → T (is_sorted nat_cmp xs) → T (is_sorted nat_cmp ys) → Ascends (map turned (near_objects dims within xs ys))
+  near_ascend : (xs : List (ℕ × Object)) → T (is_sorted nat_cmp xs) → T (is_sorted nat_cmp ys) → Ascends (map turned (near_objects dims within xs ys))
   near_ascend [] s s' = tt
   near_ascend (x ∷ xs) s s' =
       let block = map turned (pairs_with dims within ys x) in
       let after : T (below_all nat_cmp x.0 xs) = left_of (below_all nat_cmp x.0 xs) (is_sorted nat_cmp xs) s in
       subst Ascends (sym (map-append turned (pairs_with dims within ys x) (near_objects dims within xs ys)))
-      (Ascends-append block (map turned (near_objects dims within xs ys)) (each_ascends x (met x) (filter_sorted (λ other. near_test dims within x.1 other.1) ys s'))
+      (Ascends-append block (map turned (near_objects dims within xs ys)) (each_ascends x (met x) (filter_sorted (λ other. near_test dims within (bounds_of x.1) (bounds_of other.1)) ys s'))
       (near_ascend xs (right_of (below_all nat_cmp x.0 xs) (is_sorted nat_cmp xs) s) s')
       (λ z there. later_lead z xs (subst (λ (n : ℕ). T (below_all nat_cmp n xs)) (sym (each_has x z (met x) there)) after)))
 
 -- ---- the pairs of the same objects in another order
 
-sum_near : (dims within : ℕ) (f : ℕ × ℕ → ℕ) (xs ys : List (ℕ × Bounds)) → total f (near_objects dims within xs ys) ≡ total (λ x. total f (pairs_with dims within ys x)) xs
+sum_near : (dims within : ℕ) (f : ℕ × ℕ → ℕ) (xs ys : List (ℕ × Object)) → total f (near_objects dims within xs ys) ≡ total (λ x. total f (pairs_with dims within ys x)) xs
 sum_near dims within f [] ys = refl
 sum_near dims within f (x ∷ xs) ys = total-append f (pairs_with dims within ys x) (near_objects dims within xs ys) ∙ ap (λ (n : ℕ). total f (pairs_with dims within ys x) + n) (sum_near dims within f xs ys)
 
-same_sums : (dims within : ℕ) (f : ℕ × ℕ → ℕ) (xs xs' ys ys' : List (ℕ × Bounds)) → IsPermutation xs xs' → IsPermutation ys ys' → total f (near_objects dims within xs ys) ≡ total f (near_objects dims within xs' ys')
+same_sums : (dims within : ℕ) (f : ℕ × ℕ → ℕ) (xs xs' ys ys' : List (ℕ × Object)) → IsPermutation xs xs' → IsPermutation ys ys' → total f (near_objects dims within xs ys) ≡ total f (near_objects dims within xs' ys')
 same_sums dims within f xs xs' ys ys' same same' =
     sum_near dims within f xs ys
     ∙ total-same (λ x. total f (pairs_with dims within ys x)) (λ x. total f (pairs_with dims within ys' x)) xs
     (λ x. sym (total-permutation f (pairs_with dims within ys x) (pairs_with dims within ys' x)
-    (IsPermutation-map (λ other. (x.0, other.0)) (filter (λ other. near_test dims within x.1 other.1) ys) (filter (λ other. near_test dims within x.1 other.1) ys') (filter_permuted (λ other. near_test dims within x.1 other.1) ys ys' same'))))
+    (IsPermutation-map (λ other. (x.0, other.0)) (filter (λ other. near_test dims within (bounds_of x.1) (bounds_of other.1)) ys) (filter (λ other. near_test dims within (bounds_of x.1) (bounds_of other.1)) ys') (filter_permuted (λ other. near_test dims within (bounds_of x.1) (bounds_of other.1)) ys ys' same'))))
     ∙ sym (total-permutation (λ x. total f (pairs_with dims within ys' x)) xs xs' same)
     ∙ sym (sum_near dims within f xs' ys')
 
 -- ---- the answer
 
-pub joins_answer : (dims within : ℕ) (s t : Tree) (xs ys : List (ℕ × Bounds)) (pairs : List (ℕ × ℕ)) → IsPermutation (objects_in s.row) xs → IsPermutation (objects_in t.row) ys → T (is_sorted nat_cmp xs) → T (is_sorted nat_cmp ys)
+pub joins_answer : (dims within : ℕ) (s t : Tree) (xs ys : List (ℕ × Object)) (pairs : List (ℕ × ℕ)) → IsPermutation (objects_in s.row) xs → IsPermutation (objects_in t.row) ys → T (is_sorted nat_cmp xs) → T (is_sorted nat_cmp ys)
     → IsJoinAnswer dims within s t pairs → pairs ≡ near_objects dims within xs ys
 joins_answer dims within s t xs ys pairs same same' sorted sorted' answer =
     let all = near_objects dims within xs ys in

@@ -5,7 +5,7 @@ use Rattle.std.specs.FinMap.{contains_key, entries, find, from_entries, len, len
 use Rattle.std.specs.Ordering.{nat_cmp}
 use Rattle.std.proofs.lemmas.Bool.Decides.{nat_tests}
 use Rattle.std.proofs.lemmas.List.{length-map}
-use Rattle.box_math.specs.Bounds.{Bounds}
+use Rattle.box_math.specs.Objects.{Object}
 use Rattle.catalog_page.specs.Layout.{Record, records_of}
 use Rattle.id_table.proofs.TableLemmas.{same_key}
 use Rattle.plain_table.specs.Commands.Command.{Load}
@@ -59,11 +59,11 @@ box_refused_there t name place given dims good finds axes r (inl is) =
 box_refused_there t name place given dims good finds axes r (inr h) = inr h
 
 -- where none is refused, the objects reach the layer
-pub all_reach : (t : Table) (name : List ℕ) (place : ℕ) (given : GivenObjects) (dims : ℕ) (objects : List (ℕ × Bounds)) → is_layer_name name ≡ true → Finds t name place → (layer_at t name).dims ≡ dims
+pub all_reach : (t : Table) (name : List ℕ) (place : ℕ) (given : GivenObjects) (dims : ℕ) (objects : List (ℕ × Object)) → is_layer_name name ≡ true → Finds t name place → (layer_at t name).dims ≡ dims
     → first_refusal (boxes_refusals dims given) ≡ None → objects ≡ map given_object given → ReachesObjects t name place given dims objects
 all_reach t name place given dims objects good finds axes none boxes =
     let hold = none_holds (boxes_refusals dims given) none in
-    record { good = good; finds = finds; axes = axes; right = no_more (have_dims dims given) hold.0; ordered = no_more (are_ordered given) hold.1.0; boxes = boxes }
+    record { good = good; finds = finds; axes = axes; right = no_more (have_dims dims given) hold.0; ordered = no_more (are_ordered given) hold.1.0; objects_are = boxes }
   where
     no_more : (b : Bool) → not b ≡ false → b ≡ true
     no_more true e = refl
@@ -83,24 +83,24 @@ allowed_anyhow rose why r (inr h) = inr (only_memory rose r h)
 
 -- ---- objects of different identifiers
 
-same_ids : (given : GivenObjects) → map (λ (o : ℕ × Bounds). o.0) (map given_object given) ≡ ids_of given
+same_ids : (given : GivenObjects) → map (λ (o : ℕ × Object). o.0) (map given_object given) ≡ ids_of given
 same_ids [] = refl
 same_ids (o ∷ rest) = ap (λ (ids : List ℕ). o.0 ∷ ids) (same_ids rest)
 
-not_found : (q : ℕ) (os : List (ℕ × Bounds)) → times_in q (map (λ (o : ℕ × Bounds). o.0) os) ≡ 0 → find nat_cmp q os ≡ None
+not_found : (q : ℕ) (os : List (ℕ × Object)) → times_in q (map (λ (o : ℕ × Object). o.0) os) ≡ 0 → find nat_cmp q os ≡ None
 not_found q [] none = refl
 not_found q (o ∷ os) none = ap (λ b. cond b (Some o.1) (find nat_cmp q os)) (same_key q o.0)
-    ∙ step (eqb o.0 q) (times_in q (map (λ (o : ℕ × Bounds). o.0) os)) (sym (times_more q o.0 (map (λ (o : ℕ × Bounds). o.0) os)) ∙ none) (not_found q os)
+    ∙ step (eqb o.0 q) (times_in q (map (λ (o : ℕ × Object). o.0) os)) (sym (times_more q o.0 (map (λ (o : ℕ × Object). o.0) os)) ∙ none) (not_found q os)
   where
     step : (b : Bool) (n : ℕ) → cond b 1 0 + n ≡ 0 → (n ≡ 0 → find nat_cmp q os ≡ None) → cond b (Some o.1) (find nat_cmp q os) ≡ None
     step true n none rest = absurd (omega (arith, none))
     step false n none rest = rest (omega (arith, none))
 
-are_apart : (os : List (ℕ × Bounds)) → ((q : ℕ) → times_in q (map (λ (o : ℕ × Bounds). o.0) os) ≤ 1) → AreApart os
+are_apart : (os : List (ℕ × Object)) → ((q : ℕ) → times_in q (map (λ (o : ℕ × Object). o.0) os) ≤ 1) → AreApart os
 are_apart [] once = tt
 are_apart (o ∷ os) once = (
-  not_found o.0 os (alone (times_more o.0 o.0 (map (λ (o : ℕ × Bounds). o.0) os)) (once o.0)),
-  are_apart os (λ q. fewer q (times_more q o.0 (map (λ (o : ℕ × Bounds). o.0) os)) (once q)),
+  not_found o.0 os (alone (times_more o.0 o.0 (map (λ (o : ℕ × Object). o.0) os)) (once o.0)),
+  are_apart os (λ q. fewer q (times_more q o.0 (map (λ (o : ℕ × Object). o.0) os)) (once q)),
 )
   where
     itself : (x n : ℕ) → cond (eqb x x) 1 0 + n ≡ 1 + n
@@ -114,15 +114,15 @@ are_apart (o ∷ os) once = (
 
 -- ---- objects that reach a layer
 
-module _ (t : Table) (name : List ℕ) (place : ℕ) (given : GivenObjects) (dims : ℕ) (objects : List (ℕ × Bounds)) (reaches : ReachesObjects t name place given dims objects) where
+module _ (t : Table) (name : List ℕ) (place : ℕ) (given : GivenObjects) (dims : ℕ) (objects : List (ℕ × Object)) (reaches : ReachesObjects t name place given dims objects) where
   right : have_dims (layer_at t name).dims given ≡ true
   right = ap (λ (k : ℕ). have_dims k given) reaches.axes ∙ reaches.right
 
-  pub ids_are : map (λ (o : ℕ × Bounds). o.0) objects ≡ ids_of given
-  ids_are = ap (map (λ (o : ℕ × Bounds). o.0)) reaches.boxes ∙ same_ids given
+  pub ids_are : map (λ (o : ℕ × Object). o.0) objects ≡ ids_of given
+  ids_are = ap (map (λ (o : ℕ × Object). o.0)) reaches.objects_are ∙ same_ids given
 
   pub as_many : length objects ≡ length given
-  as_many = ap length reaches.boxes ∙ length-map given given_object
+  as_many = ap length reaches.objects_are ∙ length-map given given_object
 
   -- why they are refused
   pub not_empty : 0 < len (layer_at t name).objects → first_refusal (load_refusals (layer_at t name) given (object_count t)) ≡ Some refusal.NotEmpty
@@ -133,14 +133,14 @@ module _ (t : Table) (name : List ℕ) (place : ℕ) (given : GivenObjects) (dim
   none_there : len (layer_at t name).objects ≡ 0 → nat_lt 0 (len (layer_at t name).objects) ≡ false
   none_there none = grind (arith, nat_tests)
 
-  pub twice_given : (id : ℕ) → len (layer_at t name).objects ≡ 0 → Some id ≡ least_repeated (map (λ (o : ℕ × Bounds). o.0) objects) → first_refusal (load_refusals (layer_at t name) given (object_count t)) ≡ Some (refusal.DuplicateInLoad id)
+  pub twice_given : (id : ℕ) → len (layer_at t name).objects ≡ 0 → Some id ≡ least_repeated (map (λ (o : ℕ × Object). o.0) objects) → first_refusal (load_refusals (layer_at t name) given (object_count t)) ≡ Some (refusal.DuplicateInLoad id)
   twice_given id none least =
       let wide = right in
       let empty = none_there none in
       let is : least_repeated (ids_of given) ≡ Some id = sym (least ∙ ap least_repeated ids_are) in
       rw (wide, reaches.ordered, empty, is) refl
 
-  pub too_many_given : len (layer_at t name).objects ≡ 0 → None ≡ least_repeated (map (λ (o : ℕ × Bounds). o.0) objects) → most_objects < object_count t + length objects
+  pub too_many_given : len (layer_at t name).objects ≡ 0 → None ≡ least_repeated (map (λ (o : ℕ × Object). o.0) objects) → most_objects < object_count t + length objects
       → first_refusal (load_refusals (layer_at t name) given (object_count t)) ≡ Some refusal.TooManyObjects
   too_many_given none once many =
       let wide = right in
@@ -152,7 +152,7 @@ module _ (t : Table) (name : List ℕ) (place : ℕ) (given : GivenObjects) (dim
       over : (n : ℕ) → most_objects < n → nat_lt most_objects n ≡ true
       over n lt = grind (arith, nat_tests)
 
-  pub may_be_given : len (layer_at t name).objects ≡ 0 → None ≡ least_repeated (map (λ (o : ℕ × Bounds). o.0) objects) → object_count t + length objects ≤ most_objects
+  pub may_be_given : len (layer_at t name).objects ≡ 0 → None ≡ least_repeated (map (λ (o : ℕ × Object). o.0) objects) → object_count t + length objects ≤ most_objects
       → first_refusal (load_refusals (layer_at t name) given (object_count t)) ≡ None
   may_be_given none once few =
       let wide = right in
@@ -177,7 +177,7 @@ module _ (t : Table) (name : List ℕ) (place : ℕ) (given : GivenObjects) (dim
     made_of =
         let once = nothing (least_repeated (ids_of given)) (none_holds (load_refusals (layer_at t name) given (object_count t)) none).1.1.1.0 in
         let apart = are_apart (map given_object given) (λ q. subst (λ (ids : List ℕ). times_in q ids ≤ 1) (sym (same_ids given)) (each_once (ids_of given) once q)) in
-        subst (λ (os : List (ℕ × Bounds)). IsPermutation os (entries (from_entries {R = nat_cmp} (map given_object given)))) (sym reaches.boxes) (entries_made (map given_object given) apart)
+        subst (λ (os : List (ℕ × Object)). IsPermutation os (entries (from_entries {R = nat_cmp} (map given_object given)))) (sym reaches.objects_are) (entries_made (map given_object given) apart)
       where
         nothing : (o : Option ℕ) → is_some o ≡ false → o ≡ None
         nothing None e = refl

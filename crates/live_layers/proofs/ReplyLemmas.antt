@@ -1,15 +1,17 @@
 -- What questions are answered of the layer of a name: as the table answers them, or a fault.
-use Rattle.std.proofs.Common.{◌≡◌, ◌∙◌, ◌⊎◌, ℕ, List, [], ◌∷◌, true, false, not, Option, Some, None, refl, sym, ap, subst, inl, inr}
+use Rattle.std.proofs.Common.{◌≡◌, ◌∙◌, ◌⊎◌, ℕ, List, [], ◌∷◌, ◌&&◌, true, false, not, Option, Some, None, refl, sym, ap, subst, inl, inr}
 use Rattle.std.specs.Prelude.{IsErrAnd, Ok, Err, Result, Vec, ◌==◌, filter, is_some, unwrap_or}
 use Rattle.std.specs.FinMap.{entries, get}
-use Rattle.box_math.specs.Bounds.{Bounds}
-use Rattle.plain_table.specs.Answers.{box_answer, boxes_answer, count_answer, distances_answer}
+use Rattle.box_math.specs.Objects.{Object, bounds_of}
+use Rattle.layer_pages.specs.Layers.{Objects}
+use Rattle.layer_pages.specs.Questions.{objects_that}
+use Rattle.plain_table.specs.Answers.{boxes_answer, count_answer, distances_answer, object_answer}
 use Rattle.plain_table.specs.Commands.{Command}
 use Rattle.plain_table.specs.Nearest.{is_count}
-use Rattle.plain_table.specs.Queries.{given_query, is_sought, seeks}
+use Rattle.plain_table.specs.Queries.{given_query, has_tag, is_wanted, seeks}
 use Rattle.plain_table.specs.Step.{Answer, answer_of, first_refusal, missing_refusals, object_row, query_refusals, range_rows, refusal_of, refused_or, reply_of}
 use Rattle.plain_table.specs.Step.Answer.{Boxes, Refused}
-use Rattle.plain_table.specs.Table.{Layer, Table, is_layer_name, no_box}
+use Rattle.plain_table.specs.Table.{Layer, Table, is_layer_name, no_object}
 use Rattle.plain_table.specs.declared.boxes.AnyBox.{AnyBox}
 use Rattle.plain_table.specs.declared.queries.Query.{Query}
 use Rattle.plain_table.specs.declared.queries.RawQuery.{RawQuery}
@@ -45,13 +47,13 @@ pub reply_failed : (rose : Type 0) (why : Option Refusal) (answer a : Answer) (r
 reply_failed rose why answer a r failed is = inr (subst (RefusedBy (IsFault rose)) (sym is) failed)
 
 -- the answers of a refusal that is known
-pub err_boxes : {A : Type 0} (result : Result (Vec (ℕ × AnyBox) A) Refusal) (r : Refusal) → IsErrAnd result (λ e. e ≡ r) → boxes_answer result ≡ Refused r
+pub err_boxes : {A : Type 0} (result : Result (Vec (ℕ × AnyBox × ℕ) A) Refusal) (r : Refusal) → IsErrAnd result (λ e. e ≡ r) → boxes_answer result ≡ Refused r
 err_boxes (Ok rows) r is = absurd is
 err_boxes (Err e) r is = ap Refused is
 
-pub err_box : (id : ℕ) (result : Result AnyBox Refusal) (r : Refusal) → IsErrAnd result (λ e. e ≡ r) → box_answer id result ≡ Refused r
-err_box id (Ok box) r is = absurd is
-err_box id (Err e) r is = ap Refused is
+pub err_object : (id : ℕ) (result : Result (AnyBox × ℕ) Refusal) (r : Refusal) → IsErrAnd result (λ e. e ≡ r) → object_answer id result ≡ Refused r
+err_object id (Ok kept) r is = absurd is
+err_object id (Err e) r is = ap Refused is
 
 pub err_count : (result : Result ℕ Refusal) (r : Refusal) → IsErrAnd result (λ e. e ≡ r) → count_answer result ≡ Refused r
 err_count (Ok count) r is = absurd is
@@ -77,20 +79,25 @@ module _ (D : ℕ) where
   looks_same old new name layer query asked dims is looks = subst (LooksAtTree old new name) (nodes_same layer query asked dims is) looks
 
   -- the rows that it is answered
-  pub rows_replied : (rose : Type 0) (layer : Layer) (query : RawQuery) (asked : Query D) (rows : List (ℕ × Bounds)) → layer.dims ≡ D → first_refusal (query_refusals D query) ≡ None → asked ≡ given_query query
-      → rows ≡ filter (λ row. seeks asked row.1) (entries layer.objects) → IsReply rose (first_refusal (query_refusals layer.dims query)) (Boxes (range_rows layer query)) (Boxes rows)
-  rows_replied rose layer query asked rows dims good is found =
+  pub rows_replied : (rose : Type 0) (layer : Layer) (query : RawQuery) (asked : Query D) (tag : Option ℕ) (rows : List (ℕ × Object)) → layer.dims ≡ D → first_refusal (query_refusals D query) ≡ None → asked ≡ given_query query
+      → rows ≡ filter (λ row. seeks asked (bounds_of row.1) && has_tag tag row.1) (entries layer.objects) → IsReply rose (first_refusal (query_refusals layer.dims query)) (Boxes (range_rows layer query tag)) (Boxes rows)
+  rows_replied rose layer query asked tag rows dims good is found =
       let none : first_refusal (query_refusals layer.dims query) ≡ None = ap (λ (d : ℕ). first_refusal (query_refusals d query)) dims ∙ good in
-      let same : rows ≡ range_rows layer query =
-      found ∙ ap (λ (q : Query D). filter (λ row. seeks q row.1) (entries layer.objects)) is
-      ∙ ap (λ (d : ℕ). filter (λ row. is_sought d query row.1) (entries layer.objects)) (sym dims) in
-      inl (ap Boxes same ∙ ap (λ (o : Option Refusal). refused_or o (Boxes (range_rows layer query))) (sym none))
+      let same : rows ≡ range_rows layer query tag =
+      found ∙ ap (λ (q : Query D). filter (λ row. seeks q (bounds_of row.1) && has_tag tag row.1) (entries layer.objects)) is
+      ∙ ap (λ (d : ℕ). filter (λ row. is_wanted d query tag row.1) (entries layer.objects)) (sym dims) in
+      inl (ap Boxes same ∙ ap (λ (o : Option Refusal). refused_or o (Boxes (range_rows layer query tag))) (sym none))
+
+-- an object has the tag that is asked for, by either word
+pub same_tags : (D : ℕ) (query : Query D) (tag : Option ℕ) (objects : Objects) → objects_that (seeks query) tag objects ≡ filter (λ row. seeks query (bounds_of row.1) && has_tag tag row.1) (entries objects)
+same_tags D query None objects = refl
+same_tags D query (Some tag) objects = refl
 
 -- ---- one object
 
 pub object_missing : (rose : Type 0) (layer : Layer) (id : ℕ) → get layer.objects id ≡ None → IsReply rose (first_refusal (missing_refusals layer id)) (Boxes (object_row layer id ∷ [])) (Refused refusal.NoObject)
 object_missing rose layer id e =
-    inl (ap (λ (o : Option Bounds). refused_or (first_refusal ((not (is_some o), refusal.NoObject) ∷ [])) (Boxes ((id, unwrap_or o no_box) ∷ []))) (sym e))
+    inl (ap (λ (o : Option Object). refused_or (first_refusal ((not (is_some o), refusal.NoObject) ∷ [])) (Boxes ((id, unwrap_or o no_object) ∷ []))) (sym e))
 
 -- ---- the nearest
 

@@ -4,7 +4,7 @@ use Rattle.std.specs.Prelude.{is_some, slice_set, unwrap_or}
 use Rattle.std.specs.Cmp.{nat_cmp_total}
 use Rattle.std.specs.FinMap.{empty_of_len, get, get-empty, insert as map_insert, len, len-entries, len-remove, remove}
 use Rattle.std.specs.Ordering.{nat_cmp}
-use Rattle.box_math.specs.Bounds.{Bounds}
+use Rattle.box_math.specs.Objects.{Object}
 use Rattle.catalog_page.specs.Layout.{Record, records_of}
 use Rattle.condense.specs.Removal.{IsRemoval}
 use Rattle.id_table.specs.Table.{part_of}
@@ -12,7 +12,7 @@ use Rattle.layer_pages.specs.Changes.{BecomesLayer, HasInserted, HasRemoved}
 use Rattle.layer_pages.specs.Layers.{CanBeRoot, LayerPages, Objects, part_of_layer}
 use Rattle.page_cache.specs.Cache.{IsPageMap, next_of, pages}
 use Rattle.page_cache.specs.declared.cache.PageCache.{PageCache}
-use Rattle.plain_table.specs.Table.{Layer, Table, layer_at, most_objects, no_box, object_box, object_count, without_object}
+use Rattle.plain_table.specs.Table.{Layer, Table, layer_at, most_objects, no_object, object_at, object_count, without_object}
 use Rattle.reinsert.specs.Insertion.{IsInsertion}
 use Rattle.tree_node.specs.Trees.{Tree, object}
 use Rattle.tree_node.specs.declared.node.Root.{Root}
@@ -28,7 +28,7 @@ use Rattle.live_layers.proofs.ReplaceLemmas.{count_replaced, fanout_here, readin
 
 -- ---- one object less
 
-module _ (layer : Layer) (id : ℕ) (b : Bounds) (there : get layer.objects id ≡ Some b) where
+module _ (layer : Layer) (id : ℕ) (o : Object) (there : get layer.objects id ≡ Some o) where
   pub one_object_less : len (without_object layer id).objects + 1 ≡ len layer.objects
   one_object_less = case (len layer.objects) refl
     where
@@ -39,25 +39,25 @@ module _ (layer : Layer) (id : ℕ) (b : Bounds) (there : get layer.objects id �
           let less = len-remove nat_cmp_total layer.objects id ∙ ap (λ (c : Bool). cond c (len layer.objects - 1) (len layer.objects)) (ap is_some there) in
           omega (arith, less, some)
 
-  pub its_box : b ≡ object_box layer id
-  its_box = ap (λ (o : Option Bounds). unwrap_or o no_box) (sym there)
+  pub its_object : o ≡ object_at layer id
+  its_object = ap (λ (found : Option Object). unwrap_or found no_object) (sym there)
 
 -- ---- the rules of trees
 
-module _ (layer : Layer) (dims most : ℕ) (is_dims : layer.dims ≡ dims) (is_most : layer.fanout ≡ most) (l : LayerPages) (id : ℕ) (b : Bounds) (s : Tree) where
-  pub lost : b ≡ object_box layer id → HasRemoved dims most l id b s → HasLost layer id l.tree s
-  lost box removed = (
+module _ (layer : Layer) (dims most : ℕ) (is_dims : layer.dims ≡ dims) (is_most : layer.fanout ≡ most) (l : LayerPages) (id : ℕ) (o : Object) (s : Tree) where
+  pub lost : o ≡ object_at layer id → HasRemoved dims most l id o s → HasLost layer id l.tree s
+  lost its removed = (
     part_of l.ids,
-    subst (λ (k : ℕ). IsRemoval k layer.fanout (part_of l.ids) id (object_box layer id) l.tree s) (sym is_dims)
-        (subst (λ (k : ℕ). IsRemoval dims k (part_of l.ids) id (object_box layer id) l.tree s) (sym is_most)
-        (subst (λ (x : Bounds). IsRemoval dims most (part_of l.ids) id x l.tree s) box removed)),
+    subst (λ (k : ℕ). IsRemoval k layer.fanout (part_of l.ids) id (object_at layer id) l.tree s) (sym is_dims)
+        (subst (λ (k : ℕ). IsRemoval dims k (part_of l.ids) id (object_at layer id) l.tree s) (sym is_most)
+        (subst (λ (x : Object). IsRemoval dims most (part_of l.ids) id x l.tree s) its removed)),
   )
 
-  pub gained : HasInserted dims most l id b s → HasGained layer id b l.tree s
+  pub gained : HasInserted dims most l id o s → HasGained layer id o l.tree s
   gained inserted = (
     part_of l.ids,
-    subst (λ (k : ℕ). IsInsertion k layer.fanout (part_of l.ids) (object b id) 0 l.tree s) (sym is_dims)
-        (subst (λ (k : ℕ). IsInsertion dims k (part_of l.ids) (object b id) 0 l.tree s) (sym is_most) inserted),
+    subst (λ (k : ℕ). IsInsertion k layer.fanout (part_of l.ids) (object o id) 0 l.tree s) (sym is_dims)
+        (subst (λ (k : ℕ). IsInsertion dims k (part_of l.ids) (object o id) 0 l.tree s) (sym is_most) inserted),
   )
 
 -- ---- the layer has other objects
@@ -96,13 +96,13 @@ module _ {D A : Type 0} {m : _} (kept : Layers D A m) (t : Table) (name : List �
 
   -- ---- an object was taken out
 
-  module _ (id : ℕ) (bounds : Bounds) (there : get (layer_at t name).objects id ≡ Some bounds) (cache : PageCache D A m) (root : Root)
-      (became : BecomesLayer dims located.fanout (pages kept.cache) (pages cache) (part_of_layer read) root located.directory (remove (layer_at t name).objects id) (HasRemoved dims located.fanout read id bounds))
+  module _ (id : ℕ) (o : Object) (there : get (layer_at t name).objects id ≡ Some o) (cache : PageCache D A m) (root : Root)
+      (became : BecomesLayer dims located.fanout (pages kept.cache) (pages cache) (part_of_layer read) root located.directory (remove (layer_at t name).objects id) (HasRemoved dims located.fanout read id o))
       (new : Layers D A m) (same : new.cache ≡ cache) (was count : ℕ) (was_is : (d : Record) → was ≡ (get_or (records_of kept.records) place d).count) (count_is : count ≡ was - 1)
       (can : CanBeRoot root) (le : next_of kept.cache ≤ next_of cache)
       (records : (d : Record) → records_of new.records ≡ slice_set (records_of kept.records) place (with_tree (get_or (records_of kept.records) place d) root count)) where
     less : len (remove (layer_at t name).objects id) + 1 ≡ len (layer_at t name).objects
-    less = one_object_less (layer_at t name) id bounds there
+    less = one_object_less (layer_at t name) id o there
 
     counts : len (remove (layer_at t name).objects id) ≡ count
     counts = omega (arith, less, count_is, counted_there kept t name place sound finds was was_is)
@@ -116,11 +116,11 @@ module _ {D A : Type 0} {m : _} (kept : Layers D A m) (t : Table) (name : List �
     -- the layers are sound without it
     pub sound_taken : IsPageMap cache → new.object_count ≡ kept.object_count - 1 → new.written ≡ false → IsSound new (map_insert t name (without_object (layer_at t name) id))
     sound_taken is_map total unwritten =
-        sound_with cache root (remove (layer_at t name).objects id) (HasRemoved dims located.fanout read id bounds) became new same count counts can le few records is_map
+        sound_with cache root (remove (layer_at t name).objects id) (HasRemoved dims located.fanout read id o) became new same count counts can le few records is_map
         (omega (arith, total, fewer, sound.counted)) unwritten
 
     -- and the tree of the layer became one by a lawful removal
     pub tree_taken : ChangesTree kept new name (HasLost (layer_at t name) id)
     tree_taken =
-        tree_with cache root (remove (layer_at t name).objects id) (HasRemoved dims located.fanout read id bounds) became new same count counts can le few records (HasLost (layer_at t name) id)
-        (λ s removed. lost (layer_at t name) dims located.fanout is_dims fanout_there read id bounds s (its_box (layer_at t name) id bounds there) removed)
+        tree_with cache root (remove (layer_at t name).objects id) (HasRemoved dims located.fanout read id o) became new same count counts can le few records (HasLost (layer_at t name) id)
+        (λ s removed. lost (layer_at t name) dims located.fanout is_dims fanout_there read id o s (its_object (layer_at t name) id o there) removed)

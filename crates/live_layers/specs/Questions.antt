@@ -2,6 +2,7 @@
 -- 1984; Beckmann, Kriegel, Schneider and Seeger 1990; of a join: Brinkhoff, Kriegel and Seeger 1993).
 use Rattle.std.specs.Prelude.{ℕ, ◌≡◌, ◌+◌, ◌≤◌, ◌⊎◌, Bool, List, [], ◌∷◌, Option, Some, Result, Ok, Err, Vec}
 use Rattle.box_math.specs.Bounds.{Bounds, holds_test, meets_test, within_test}
+use Rattle.box_math.specs.Objects.{Object}
 use Rattle.page_cache.specs.Cache.{looks_of}
 use Rattle.plain_table.specs.Queries.{given_query}
 use Rattle.plain_table.specs.Step.{Answer, first_refusal, layer_refusals, refused_or}
@@ -41,12 +42,12 @@ is_admitted dims query b = admits {D = dims} (given_query query) b
 
 -- ---- answers
 
--- the answers that a box and rows of boxes of a known dimension are
-abbrev pub bounds_answer : ℕ → Result Bounds Refusal → Answer
-bounds_answer id (Ok b) = Boxes ((id, b) ∷ [])
-bounds_answer id (Err r) = Refused r
+-- the answers that an object and rows of objects of a known dimension are
+abbrev pub kept_answer : ℕ → Result Object Refusal → Answer
+kept_answer id (Ok kept) = Boxes ((id, kept) ∷ [])
+kept_answer id (Err r) = Refused r
 
-abbrev pub rows_answer : {A : Type 0} → Result (Vec (ℕ × Bounds) A) Refusal → Answer
+abbrev pub rows_answer : {A : Type 0} → Result (Vec (ℕ × Object) A) Refusal → Answer
 rows_answer (Ok rows) = Boxes rows.items
 rows_answer (Err r) = Refused r
 

@@ -14,16 +14,16 @@ use std::alloc::Allocator;
 /// The objects of a layer of two axes. Refused, in this order, by WrongDims and BadBox.
 pub(crate) fn objects_in_plane<A: Allocator>(
     alloc: A,
-    objects: &[(u64, RawBox)],
-) -> Result<Vec<(u64, BBox<2>), A>, Refusal>
+    objects: &[(u64, RawBox, u32)],
+) -> Result<Vec<(u64, (BBox<2>, u32)), A>, Refusal>
     ensures allowed { IsAllowedOr ⊥ (first_refusal (boxes_refusals 2 objects.now)) result }
-    ensures boxes { IfOk result (λ boxes. boxes.items ≡ map given_object objects.now) }
+    ensures given { IfOk result (λ boxed. boxed.items ≡ map given_object objects.now) }
     ensures quiet { IfErr result (λ r. blames_device r ≡ false) }
 {
     if !are_plane(objects) {
         return Err(Refusal::WrongDims);
     }
-    let mut boxes = Vec::with_capacity(alloc, objects.len())?;
+    let mut boxed = Vec::with_capacity(alloc, objects.len())?;
     for object in objects {
         let RawBox::Two(low, high) = object.1 else {
             return Err(Refusal::WrongDims);
@@ -31,24 +31,24 @@ pub(crate) fn objects_in_plane<A: Allocator>(
         let Some(bounds) = BBox::try_new(low, high) else {
             return Err(Refusal::BadBox);
         };
-        boxes.push((object.0, bounds))?;
+        boxed.push((object.0, (bounds, object.2)))?;
     }
-    Ok(boxes)
+    Ok(boxed)
 }
 
 /// The objects of a layer of three axes. Refused, in this order, by WrongDims and BadBox.
 pub(crate) fn objects_in_space<A: Allocator>(
     alloc: A,
-    objects: &[(u64, RawBox)],
-) -> Result<Vec<(u64, BBox<3>), A>, Refusal>
+    objects: &[(u64, RawBox, u32)],
+) -> Result<Vec<(u64, (BBox<3>, u32)), A>, Refusal>
     ensures allowed { IsAllowedOr ⊥ (first_refusal (boxes_refusals 3 objects.now)) result }
-    ensures boxes { IfOk result (λ boxes. boxes.items ≡ map given_object objects.now) }
+    ensures given { IfOk result (λ boxed. boxed.items ≡ map given_object objects.now) }
     ensures quiet { IfErr result (λ r. blames_device r ≡ false) }
 {
     if !are_spatial(objects) {
         return Err(Refusal::WrongDims);
     }
-    let mut boxes = Vec::with_capacity(alloc, objects.len())?;
+    let mut boxed = Vec::with_capacity(alloc, objects.len())?;
     for object in objects {
         let RawBox::Three(low, high) = object.1 else {
             return Err(Refusal::WrongDims);
@@ -56,13 +56,13 @@ pub(crate) fn objects_in_space<A: Allocator>(
         let Some(bounds) = BBox::try_new(low, high) else {
             return Err(Refusal::BadBox);
         };
-        boxes.push((object.0, bounds))?;
+        boxed.push((object.0, (bounds, object.2)))?;
     }
-    Ok(boxes)
+    Ok(boxed)
 }
 
 // Whether all boxes have two axes.
-fn are_plane(objects: &[(u64, RawBox)]) -> bool
+fn are_plane(objects: &[(u64, RawBox, u32)]) -> bool
     ensures { result ≡ have_dims 2 objects.now }
 {
     for object in objects {
@@ -74,7 +74,7 @@ fn are_plane(objects: &[(u64, RawBox)]) -> bool
 }
 
 // Whether all boxes have three axes.
-fn are_spatial(objects: &[(u64, RawBox)]) -> bool
+fn are_spatial(objects: &[(u64, RawBox, u32)]) -> bool
     ensures { result ≡ have_dims 3 objects.now }
 {
     for object in objects {

@@ -11,7 +11,7 @@ use std::alloc::{AllocError, Allocator};
 /// The least identifier that more than one object has.
 pub(crate) fn repeated<const D: usize, A: Allocator>(
     alloc: A,
-    objects: &[(u64, BBox<D>)],
+    objects: &[(u64, (BBox<D>, u32))],
 ) -> Result<Option<u64>, AllocError>
     ensures { IfOk result (λ id. id ≡ least_repeated (map (λ object. object.0) objects.now)) }
 {
@@ -23,7 +23,7 @@ pub(crate) fn repeated<const D: usize, A: Allocator>(
 // The identifiers of objects, in their order.
 fn ids_of<const D: usize, A: Allocator>(
     alloc: A,
-    objects: &[(u64, BBox<D>)],
+    objects: &[(u64, (BBox<D>, u32))],
 ) -> Result<Vec<u64, A>, AllocError>
     ensures { IfOk result (λ ids. ids.items ≡ map (λ object. object.0) objects.now) }
 {

@@ -22,8 +22,8 @@ tree : Tree
 tree = record {
   page = 5;
   level = 1;
-  row = more (child (at (negsuc 5) (negsuc 4)) 3 (more (object (at (negsuc 4) (negsuc 4)) 8) (more (object (at (negsuc 5) (negsuc 5)) 9) end)))
-      (more (child (at (pos 5) (pos 7)) 4 (more (object (at (pos 5) (pos 5)) 1) (more (object (at (pos 6) (pos 6)) 2) (more (object (at (pos 7) (pos 7)) 3) end)))) end);
+  row = more (child (at (negsuc 5) (negsuc 4)) 3 (more (object (at (negsuc 4) (negsuc 4), 8) 8) (more (object (at (negsuc 5) (negsuc 5), 9) 9) end)))
+      (more (child (at (pos 5) (pos 7)) 4 (more (object (at (pos 5) (pos 5), 1) 1) (more (object (at (pos 6) (pos 6), 2) 2) (more (object (at (pos 7) (pos 7), 3) 3) end)))) end);
 }
 
 origin : List ℤ

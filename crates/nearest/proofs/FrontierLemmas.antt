@@ -6,6 +6,7 @@ use Rattle.std.proofs.lemmas.List.Sums.{sum_by-cons, sum_by-append}
 use Rattle.std.proofs.lemmas.List.Sorted.{All-permutation, sum_by-IsPermutation}
 use Rattle.block_device.specs.Device.{one_more}
 use Rattle.box_math.specs.Bounds.{Bounds}
+use Rattle.box_math.specs.Objects.{bounds_of}
 use Rattle.tree_node.specs.Searches.{counted, reached}
 use Rattle.tree_node.specs.Trees.{Row, end, more, object, child, row_items}
 use Rattle.node_page.specs.Standing.{PageMap, RowStands, StandsAt}
@@ -43,7 +44,7 @@ IsThere dims m p = StandsAt dims m p.page p.level p.row
 -- below a node no box is nearer than the one above it, and none is nearer than this
 abbrev pub Nested : (Bounds → ℕ) → ℕ → Row → Type 0
 Nested far d end = ⊤
-Nested far d (more (object bounds id) rest) = (d ≤ far bounds) × Nested far d rest
+Nested far d (more (object kept id) rest) = (d ≤ far (bounds_of kept)) × Nested far d rest
 Nested far d (more (child bounds page below) rest) = (d ≤ far bounds) × Nested far (far bounds) below × Nested far d rest
 
 abbrev pub IsAtLeast : (Bounds → ℕ) → ℕ → Pending → Type 0
@@ -56,7 +57,7 @@ IsPast far k seen p = Nested far p.distance p.row × Past p.distance k (nearest_
 -- the objects below a node with their distances
 abbrev pub near_in : (Bounds → ℕ) → Row → List (ℕ × ℕ)
 near_in far end = []
-near_in far (more (object bounds id) rest) = (id, far bounds) ∷ near_in far rest
+near_in far (more (object kept id) rest) = (id, far (bounds_of kept)) ∷ near_in far rest
 near_in far (more (child bounds page below) rest) = near_in far below ++ near_in far rest
 
 abbrev pub listed_under : (Bounds → ℕ) → ℕ × ℕ → Pending → ℕ
@@ -69,43 +70,43 @@ admitted_of far within p = cond (within p.distance) (1 + reached (λ b. within (
 -- the children of a node, as what waits
 abbrev pub branches : (Bounds → ℕ) → ℕ → Row → List Pending
 branches far level end = []
-branches far level (more (object bounds id) rest) = branches far level rest
+branches far level (more (object kept id) rest) = branches far level rest
 branches far level (more (child bounds page below) rest) = record { distance = far bounds; page = page; level = level - 1; row = below } ∷ branches far level rest
 
 -- ---- the entries of a node
 
 pub branches_candidates : (dims : ℕ) (m : PageMap) (far : Bounds → ℕ) (level : ℕ) (row : Row) → 0 < level → RowStands dims m level row → map candidate_for (branches far level row) ≡ map (candidate_at far level) (row_items row)
 branches_candidates dims m far level end above stands = refl
-branches_candidates dims m far level (more (object bounds id) rest) above stands = absurd (omega (arith, above, stands.0))
+branches_candidates dims m far level (more (object kept id) rest) above stands = absurd (omega (arith, above, stands.0))
 branches_candidates dims m far level (more (child bounds page below) rest) above stands =
     ap (λ (cs : List Candidate). record { distance = far bounds; page = page; level = level - 1 } ∷ cs) (branches_candidates dims m far level rest above stands.3)
 
 pub rows_of_leaf : (dims : ℕ) (m : PageMap) (far : Bounds → ℕ) (row : Row) → RowStands dims m 0 row → map (row_at far) (row_items row) ≡ near_in far row
 rows_of_leaf dims m far end stands = refl
-rows_of_leaf dims m far (more (object bounds id) rest) stands = ap (λ (rs : List (ℕ × ℕ)). (id, far bounds) ∷ rs) (rows_of_leaf dims m far rest stands.1)
+rows_of_leaf dims m far (more (object kept id) rest) stands = ap (λ (rs : List (ℕ × ℕ)). (id, far (bounds_of kept)) ∷ rs) (rows_of_leaf dims m far rest stands.1)
 rows_of_leaf dims m far (more (child bounds page below) rest) stands = absurd (omega (arith, stands.0))
 
 pub branches_there : (dims : ℕ) (m : PageMap) (far : Bounds → ℕ) (level : ℕ) (row : Row) → RowStands dims m level row → All (IsThere dims m) (branches far level row)
 branches_there dims m far level end stands = All-nil (IsThere dims m)
-branches_there dims m far level (more (object bounds id) rest) stands = branches_there dims m far level rest stands.1
+branches_there dims m far level (more (object kept id) rest) stands = branches_there dims m far level rest stands.1
 branches_there dims m far level (more (child bounds page below) rest) stands =
     All-cons (IsThere dims m) _ _ (record { node = stands.1; below = stands.2 }) (branches_there dims m far level rest stands.3)
 
 pub branches_far : (far : Bounds → ℕ) (level d : ℕ) (row : Row) → Nested far d row → All (IsAtLeast far d) (branches far level row)
 branches_far far level d end nested = All-nil (IsAtLeast far d)
-branches_far far level d (more (object bounds id) rest) nested = branches_far far level d rest nested.1
+branches_far far level d (more (object kept id) rest) nested = branches_far far level d rest nested.1
 branches_far far level d (more (child bounds page below) rest) nested = All-cons (IsAtLeast far d) _ _ (nested.0, nested.1) (branches_far far level d rest nested.2)
 
 -- above the leaves
 pub branches_listed : (dims : ℕ) (m : PageMap) (far : Bounds → ℕ) (level : ℕ) (z : ℕ × ℕ) (row : Row) → 0 < level → RowStands dims m level row → sum_by (listed_under far z) (branches far level row) ≡ listed z (near_in far row)
 branches_listed dims m far level z end above stands = refl
-branches_listed dims m far level z (more (object bounds id) rest) above stands = absurd (omega (arith, above, stands.0))
+branches_listed dims m far level z (more (object kept id) rest) above stands = absurd (omega (arith, above, stands.0))
 branches_listed dims m far level z (more (child bounds page below) rest) above stands =
     omega (arith, sum_by-cons (listed_under far z) (record { distance = far bounds; page = page; level = level - 1; row = below }) (branches far level rest), branches_listed dims m far level z rest above stands.3, listed-append z (near_in far below) (near_in far rest))
 
 pub branches_admitted : (far : Bounds → ℕ) (within : ℕ → Bool) (level : ℕ) (row : Row) → sum_by (admitted_of far within) (branches far level row) ≡ reached (λ b. within (far b)) row
 branches_admitted far within level end = refl
-branches_admitted far within level (more (object bounds id) rest) = branches_admitted far within level rest
+branches_admitted far within level (more (object kept id) rest) = branches_admitted far within level rest
 branches_admitted far within level (more (child bounds page below) rest) =
     sum_by-cons (admitted_of far within) (record { distance = far bounds; page = page; level = level - 1; row = below }) (branches far level rest)
     ∙ ap (λ n. cond (within (far bounds)) (1 + reached (λ b. within (far b)) below) 0 + n) (branches_admitted far within level rest)
@@ -113,18 +114,18 @@ branches_admitted far within level (more (child bounds page below) rest) =
 -- a leaf has no node below
 pub leaf_reached : (dims : ℕ) (m : PageMap) (p : Bounds → Bool) (row : Row) → RowStands dims m 0 row → reached p row ≡ 0
 leaf_reached dims m p end stands = refl
-leaf_reached dims m p (more (object bounds id) rest) stands = leaf_reached dims m p rest stands.1
+leaf_reached dims m p (more (object kept id) rest) stands = leaf_reached dims m p rest stands.1
 leaf_reached dims m p (more (child bounds page below) rest) stands = absurd (omega (arith, stands.0))
 
 pub none_nearer : (far : Bounds → ℕ) (d : ℕ) (dims : ℕ) (m : PageMap) (row : Row) → RowStands dims m 0 row → Nested far d row → NoneNearer d (near_in far row)
 none_nearer far d dims m end stands nested = tt
-none_nearer far d dims m (more (object bounds id) rest) stands nested = (nested.0, none_nearer far d dims m rest stands.1 nested.1)
+none_nearer far d dims m (more (object kept id) rest) stands nested = (nested.0, none_nearer far d dims m rest stands.1 nested.1)
 none_nearer far d dims m (more (child bounds page below) rest) stands nested = absurd (omega (arith, stands.0))
 
 -- what lies below a node that is past is past
 pub nested_past : (far : Bounds → ℕ) (k d : ℕ) (best : List (ℕ × ℕ)) (row : Row) → Past d k best → Nested far d row → AllPast k best (near_in far row)
 nested_past far k d best end past nested = tt
-nested_past far k d best (more (object bounds id) rest) past nested = (past_le d (far bounds) k best nested.0 past, nested_past far k d best rest past nested.1)
+nested_past far k d best (more (object kept id) rest) past nested = (past_le d (far (bounds_of kept)) k best nested.0 past, nested_past far k d best rest past nested.1)
 nested_past far k d best (more (child bounds page below) rest) past nested =
     AllPast-append k best (near_in far below) (near_in far rest) (nested_past far k (far bounds) best below (past_le d (far bounds) k best nested.0 past) nested.1) (nested_past far k d best rest past nested.2)
 

@@ -5,6 +5,7 @@ use Rattle.std.proofs.lemmas.Int.{ints, clamps}
 use Rattle.std.proofs.lemmas.List.{map-append}
 use Rattle.std.proofs.lemmas.Nat.{mul-le}
 use Rattle.box_math.specs.Bounds.{Bounds, IsOrdered, Within, on_axis}
+use Rattle.box_math.specs.Objects.{bounds_of}
 use Rattle.box_math.specs.Measures.{point_dist2_of}
 use Rattle.box_math.proofs.Growth.{sum_over-le, point_dist2_of-falls}
 use Rattle.tree_node.specs.Shape.{RowHasShape, RowWithin}
@@ -29,8 +30,8 @@ falls dims a b p ordered w =
 pub nested_within : (dims most : ℕ) (point : List ℤ) (d : ℕ) (b : Bounds) (row : Row) → d ≤ point_dist2_of dims b point → RowWithin dims row b → RowHasShape dims most row → HasOrderedBoxes dims row
     → Nested (λ c. point_dist2_of dims c point) d row
 nested_within dims most point d b end near within shape ordered = tt
-nested_within dims most point d b (more (object bounds id) rest) near within shape ordered = (
-  omega (arith, near, falls dims bounds b point ordered.0 within.0),
+nested_within dims most point d b (more (object kept id) rest) near within shape ordered = (
+  omega (arith, near, falls dims (bounds_of kept) b point ordered.0 within.0),
   nested_within dims most point d b rest near within.1 shape ordered.1,
 )
 nested_within dims most point d b (more (child bounds page below) rest) near within shape ordered = (
@@ -42,7 +43,7 @@ nested_within dims most point d b (more (child bounds page below) rest) near wit
 -- from the root on
 pub nested_root : (dims most : ℕ) (point : List ℤ) (row : Row) → RowHasShape dims most row → HasOrderedBoxes dims row → Nested (λ c. point_dist2_of dims c point) 0 row
 nested_root dims most point end shape ordered = tt
-nested_root dims most point (more (object bounds id) rest) shape ordered = (omega arith, nested_root dims most point rest shape ordered.1)
+nested_root dims most point (more (object kept id) rest) shape ordered = (omega arith, nested_root dims most point rest shape ordered.1)
 nested_root dims most point (more (child bounds page below) rest) shape ordered = (
   omega arith,
   nested_within dims most point (point_dist2_of dims bounds point) bounds below (omega arith) shape.2.encloses shape.3 ordered.0,
@@ -52,9 +53,9 @@ nested_root dims most point (more (child bounds page below) rest) shape ordered 
 -- the objects of a tree with their distances
 pub near_in_is : (dims : ℕ) (point : List ℤ) (row : Row) → near_in (λ c. point_dist2_of dims c point) row ≡ map (with_distance dims point) (objects_in row)
 near_in_is dims point end = refl
-near_in_is dims point (more (object bounds id) rest) = ap (λ (xs : List (ℕ × ℕ)). (id, point_dist2_of dims bounds point) ∷ xs) (near_in_is dims point rest)
+near_in_is dims point (more (object kept id) rest) = ap (λ (xs : List (ℕ × ℕ)). (id, point_dist2_of dims (bounds_of kept) point) ∷ xs) (near_in_is dims point rest)
 near_in_is dims point (more (child bounds page below) rest) =
-    let both = map-append (λ (o : ℕ × Bounds). (o.0, point_dist2_of dims o.1 point)) (objects_in below) (objects_in rest) in
     let first = near_in_is dims point below in
     let later = near_in_is dims point rest in
+    let both = map-append (with_distance dims point) (objects_in below) (objects_in rest) in
     ap (λ (xs : List (ℕ × ℕ)). xs ++ near_in (λ c. point_dist2_of dims c point) rest) first ∙ ap (λ (xs : List (ℕ × ℕ)). map (with_distance dims point) (objects_in below) ++ xs) later ∙ sym both

@@ -35,7 +35,7 @@ waiters_beside_stand dims old new was now (w ∷ ws) moves wait apart =
 
 children_stand : (dims : ℕ) (pages : PageMap) (level : ℕ) (row : Row) → RowStands dims pages level row → ((n : ℕ) → occurs n row ≤ 1) → ChildrenStand dims pages level row
 children_stand dims pages level end h once = tt
-children_stand dims pages level (more (object bounds id) rest) h once = children_stand dims pages level rest h.1 once
+children_stand dims pages level (more (object kept id) rest) h once = children_stand dims pages level rest h.1 once
 children_stand dims pages level (more (child bounds page below) rest) h once = (
   record { root = h.1; below = h.2; distinct = λ n. omega (arith, once n) },
   children_stand dims pages level rest h.3 (λ n. omega (arith, once n)),

@@ -4,6 +4,7 @@ use Rattle.std.proofs.lemmas.List.{append_assoc, append-nil, take_all}
 use Rattle.std.proofs.lemmas.List.Elements.{All-head, All-tail}
 use Rattle.std.proofs.Math.Seq.{take-suc}
 use Rattle.box_math.specs.Bounds.{Bounds, IsBox}
+use Rattle.box_math.specs.Objects.{Object}
 use Rattle.page_cache.specs.Cache.{IsHonest, IsPageMap, given, looks_of, pages}
 use Rattle.page_cache.specs.Calls.{Asks, AsksUntil, ends_so}
 use Rattle.page_cache.specs.declared.cache.PageCache.{PageCache}
@@ -22,7 +23,7 @@ use Rattle.node_page.specs.Standing.{HasNode, PageMap, RowStands, StandsAt, node
 use Rattle.node_page.specs.Visits.{times_in}
 use Rattle.node_page.proofs.GivenLemmas.{given_tree_is_live}
 use Rattle.node_page.proofs.LeafLemmas.{dropped_stands, entries_there, items-leaf_row, leaf_row, same_node, stands-leaf_row}
-use Rattle.node_page.proofs.RowEnds.{dropped_shape, items_add, items_taken, length_items, objects_add, occurs_add, occurs_split, row_add, row_take, shape_add, stands_add, taken_stands}
+use Rattle.node_page.proofs.RowEnds.{dropped_shape, items_add_child, items_taken, length_items, objects_add, occurs_add, occurs_split, row_add, row_take, shape_add, stands_add, taken_stands}
 use Rattle.node_page.proofs.StandingLemmas.{one_row, row_on_level, row_stays}
 use Rattle.node_page.proofs.VisitLemmas.{times_more}
 
@@ -34,12 +35,12 @@ leaf_boxes dims (x ∷ xs) boxes = (All-head (λ (item : Item). IsBox dims item.
 
 within_leaf : (dims : ℕ) (b : Bounds) (row : Row) → RowWithin dims row b → RowWithin dims (leaf_row (row_items row)) b
 within_leaf dims b end h = tt
-within_leaf dims b (more (object bounds id) rest) h = (h.0, within_leaf dims b rest h.1)
+within_leaf dims b (more (object kept id) rest) h = (h.0, within_leaf dims b rest h.1)
 within_leaf dims b (more (child bounds page below) rest) h = (h.0, within_leaf dims b rest h.1)
 
 leaf_within : (dims : ℕ) (b : Bounds) (row : Row) → RowWithin dims (leaf_row (row_items row)) b → RowWithin dims row b
 leaf_within dims b end h = tt
-leaf_within dims b (more (object bounds id) rest) h = (h.0, leaf_within dims b rest h.1)
+leaf_within dims b (more (object kept id) rest) h = (h.0, leaf_within dims b rest h.1)
 leaf_within dims b (more (child bounds page below) rest) h = (h.0, leaf_within dims b rest h.1)
 
 pub least_of_items : (dims : ℕ) (row : Row) → 0 < row_length row → All (λ item. IsBox dims item.bounds) (row_items row) → IsLeastBox dims (least_box dims (row_items row)) row
@@ -58,25 +59,25 @@ leaf_shape dims most (x ∷ xs) = leaf_shape dims most xs
 
 leaf_objects : (items : List Item) → objects_in (leaf_row items) ≡ pairs_of items
 leaf_objects [] = refl
-leaf_objects (x ∷ xs) = ap (λ (ps : List (ℕ × Bounds)). (x.reference, x.bounds) ∷ ps) (leaf_objects xs)
+leaf_objects (x ∷ xs) = ap (λ (ps : List (ℕ × Object)). (x.reference, (x.bounds, x.tag)) ∷ ps) (leaf_objects xs)
 
 leaf_pages : (n : ℕ) (items : List Item) → occurs n (leaf_row items) ≡ 0
 leaf_pages n [] = refl
 leaf_pages n (x ∷ xs) = leaf_pages n xs
 
-pub leaf_adds : (dims most : ℕ) (m : PageMap) (c : NodeContent) (pairs pairs_now : List (ℕ × Bounds)) (list : List ℕ) → c.level ≡ 0 → pairs_now ≡ pairs ++ pairs_of c.entries → AddsTree dims most m c pairs pairs_now list list
+pub leaf_adds : (dims most : ℕ) (m : PageMap) (c : NodeContent) (pairs pairs_now : List (ℕ × Object)) (list : List ℕ) → c.level ≡ 0 → pairs_now ≡ pairs ++ pairs_of c.entries → AddsTree dims most m c pairs pairs_now list list
 leaf_adds dims most m c pairs pairs_now list low added = record {
   row = leaf_row c.entries;
   items_are = items-leaf_row c.entries;
   stands = subst (λ (l : ℕ). RowStands dims m l (leaf_row c.entries)) (sym low) (stands-leaf_row dims m c.entries);
   shape = leaf_shape dims most c.entries;
-  pairs_are = added ∙ ap (λ (ps : List (ℕ × Bounds)). pairs ++ ps) (sym (leaf_objects c.entries));
+  pairs_are = added ∙ ap (λ (ps : List (ℕ × Object)). pairs ++ ps) (sym (leaf_objects c.entries));
   pages_are = λ n. omega (arith, leaf_pages n c.entries);
 }
 
 -- ---- the trees below the first entries of a node
 
-pub record Checked (dims most : ℕ) (m : PageMap) (level : ℕ) (items : List Item) (i : ℕ) (pairs pairs_now : List (ℕ × Bounds)) (list list_now : List ℕ) : Type 0 where
+pub record Checked (dims most : ℕ) (m : PageMap) (level : ℕ) (items : List Item) (i : ℕ) (pairs pairs_now : List (ℕ × Object)) (list list_now : List ℕ) : Type 0 where
   pub row : Row
   pub items_are : row_items row ≡ take i items
   pub stands : RowStands dims m level row
@@ -93,14 +94,14 @@ pub record Fits (dims most : ℕ) (m : PageMap) (level : ℕ) (x : Item) (c : No
   pub few : length c.entries ≤ most
   pub box : x.bounds ≡ least_box dims c.entries
 
-module _ (dims most : ℕ) (m : PageMap) (level : ℕ) (items : List Item) (pairs : List (ℕ × Bounds)) (list : List ℕ) where
+module _ (dims most : ℕ) (m : PageMap) (level : ℕ) (items : List Item) (pairs : List (ℕ × Object)) (list : List ℕ) where
   pub checked_none : Checked dims most m level items 0 pairs pairs list list
   checked_none = record { row = end; items_are = refl; stands = tt; shape = tt; pairs_are = sym (append-nil pairs); pages_are = λ n. omega arith }
 
-  pub checked_more : (i : ℕ) (x : Item) (c : NodeContent) (pairs_now pairs_next : List (ℕ × Bounds)) (list_now list_mid list_next : List ℕ) → 0 < level → i < length items → x ≡ get_or items i x
+  pub checked_more : (i : ℕ) (x : Item) (c : NodeContent) (pairs_now pairs_next : List (ℕ × Object)) (list_now list_mid list_next : List ℕ) → 0 < level → x.tag ≡ 0 → i < length items → x ≡ get_or items i x
       → Checked dims most m level items i pairs pairs_now list list_now → list_mid ≡ list_now ++ x.reference ∷ [] → Fits dims most m (level - 1) x c
       → AddsTree dims most m c pairs_now pairs_next list_mid list_next → Checked dims most m level items (i + 1) pairs pairs_next list list_next
-  checked_more i x c pairs_now pairs_next list_now list_mid list_next above within is so_far visited fits added =
+  checked_more i x c pairs_now pairs_next list_now list_mid list_next above untagged within is so_far visited fits added =
       let below = added.row in
       let many : length c.entries ≡ row_length below = ap length (sym added.items_are) ∙ length_items below in
       let boxes : All (λ item. IsBox dims item.bounds) (row_items below) = subst (λ (xs : List Item). All (λ item. IsBox dims item.bounds) xs) (sym added.items_are) fits.boxes in
@@ -108,20 +109,20 @@ module _ (dims most : ℕ) (m : PageMap) (level : ℕ) (items : List Item) (pair
       let least : IsLeastBox dims x.bounds below = subst (λ (b : Bounds). IsLeastBox dims b below) (ap (least_box dims) added.items_are ∙ sym fits.box) (least_of_items dims below some boxes) in
       record {
         row = row_add so_far.row (child x.bounds x.reference below);
-        items_are = items_add so_far.row (child x.bounds x.reference below) ∙ ap (λ (xs : List Item). xs ++ x ∷ []) so_far.items_are ∙ ap (λ (y : Item). take i items ++ y ∷ []) is
+        items_are = items_add_child x below so_far.row untagged ∙ ap (λ (xs : List Item). xs ++ x ∷ []) so_far.items_are ∙ ap (λ (y : Item). take i items ++ y ∷ []) is
             ∙ sym (take-suc items i x within) ∙ ap (λ (n : ℕ). take n items) (let e : suc i ≡ i + 1 = omega arith in e);
         stands = stands_add x.bounds x.reference below dims m level so_far.row above
             (fits.there ∙ ap (λ (y : NodeContent). Some y) (same_node c (level - 1) (row_items below) fits.at_level (sym added.items_are)))
             (subst (λ (l : ℕ). RowStands dims m l below) fits.at_level added.stands) so_far.stands;
         shape = shape_add x.bounds x.reference below dims most so_far.row (omega (arith, many, fits.least)) (omega (arith, many, fits.few)) least added.shape so_far.shape;
-        pairs_are = added.pairs_are ∙ ap (λ (ps : List (ℕ × Bounds)). ps ++ objects_in below) so_far.pairs_are ∙ append_assoc pairs (objects_in so_far.row) (objects_in below)
-            ∙ ap (λ (ps : List (ℕ × Bounds)). pairs ++ ps) (sym (objects_add x.bounds x.reference below so_far.row));
+        pairs_are = added.pairs_are ∙ ap (λ (ps : List (ℕ × Object)). ps ++ objects_in below) so_far.pairs_are ∙ append_assoc pairs (objects_in so_far.row) (objects_in below)
+            ∙ ap (λ (ps : List (ℕ × Object)). pairs ++ ps) (sym (objects_add x.bounds x.reference below so_far.row));
         pages_are = λ n.
             let mid = ap (times_in n) visited ∙ times_more n x.reference list_now in
             omega (arith, added.pages_are n, mid, so_far.pages_are n, occurs_add x.bounds x.reference below n so_far.row);
       }
 
-  pub checked_all : (i : ℕ) (c : NodeContent) (pairs_now : List (ℕ × Bounds)) (list_now : List ℕ) → length items ≤ i → c.level ≡ level → c.entries ≡ items
+  pub checked_all : (i : ℕ) (c : NodeContent) (pairs_now : List (ℕ × Object)) (list_now : List ℕ) → length items ≤ i → c.level ≡ level → c.entries ≡ items
       → Checked dims most m level items i pairs pairs_now list list_now → AddsTree dims most m c pairs pairs_now list list_now
   checked_all i c pairs_now list_now past at_level same so_far = record {
     row = so_far.row;
@@ -147,9 +148,9 @@ pub record Next (dims most : ℕ) (m : PageMap) (level : ℕ) (x : Item) (list_n
 next_first : (dims most : ℕ) (m : PageMap) (level : ℕ) (row : Row) (x : Item) (xs : List Item) (list_now : List ℕ) → row_items row ≡ x ∷ xs → 0 < level → RowStands dims m level row → RowHasShape dims most row
     → ((n : ℕ) → times_in n list_now + occurs n row ≤ 1) → Next dims most m (level - 1) x list_now
 next_first dims most m level end x xs list_now same above stands shape once = absurd (cc)
-next_first dims most m level (more (object bounds id) rest) x xs list_now same above stands shape once = absurd (omega (arith, above, stands.0))
+next_first dims most m level (more (object kept id) rest) x xs list_now same above stands shape once = absurd (omega (arith, above, stands.0))
 next_first dims most m level (more (child bounds page below) rest) x xs list_now same above stands shape once =
-    let item : ◌≡◌ {A = Item} (record { bounds = bounds; reference = page }) x = cc in
+    let item : ◌≡◌ {A = Item} (record { bounds = bounds; reference = page; tag = 0 }) x = cc in
     subst (λ (y : Item). Next dims most m (level - 1) y list_now) item (record {
       below = below;
       node = stands.1;
@@ -161,7 +162,7 @@ next_first dims most m level (more (child bounds page below) rest) x xs list_now
       pages = λ n. omega (arith, once n);
     })
 
-pub next_here : (dims most : ℕ) (m : PageMap) (level : ℕ) (items : List Item) (pairs pairs_now : List (ℕ × Bounds)) (list list_now : List ℕ) (i : ℕ) (x : Item) (row : Row) → 0 < level → i < length items → x ≡ get_or items i x
+pub next_here : (dims most : ℕ) (m : PageMap) (level : ℕ) (items : List Item) (pairs pairs_now : List (ℕ × Object)) (list list_now : List ℕ) (i : ℕ) (x : Item) (row : Row) → 0 < level → i < length items → x ≡ get_or items i x
     → Checked dims most m level items i pairs pairs_now list list_now → row_items row ≡ items → RowStands dims m level row → RowHasShape dims most row → ((n : ℕ) → times_in n list + occurs n row ≤ 1)
     → Next dims most m (level - 1) x list_now
 next_here dims most m level items pairs pairs_now list list_now i x row above within is so_far same stands shape once =
@@ -199,7 +200,7 @@ pub one_longer : (list list_mid : List ℕ) (page : ℕ) → list_mid ≡ list +
 one_longer list list_mid page visited = ap length visited ∙ length-append list (page ∷ [])
 
 -- the same in pages that are equal
-pub adds_on : (dims most : ℕ) (old new : PageMap) (c : NodeContent) (pairs pairs_now : List (ℕ × Bounds)) (list list_now : List ℕ) → ((n : ℕ) → new n ≡ old n) → AddsTree dims most old c pairs pairs_now list list_now → AddsTree dims most new c pairs pairs_now list list_now
+pub adds_on : (dims most : ℕ) (old new : PageMap) (c : NodeContent) (pairs pairs_now : List (ℕ × Object)) (list list_now : List ℕ) → ((n : ℕ) → new n ≡ old n) → AddsTree dims most old c pairs pairs_now list list_now → AddsTree dims most new c pairs pairs_now list list_now
 adds_on dims most old new c pairs pairs_now list list_now same a = record {
   row = a.row;
   items_are = a.items_are;
@@ -214,7 +215,7 @@ adds_on dims most old new c pairs pairs_now list list_now same a = record {
 only_root : (n page : ℕ) (list : List ℕ) → list ≡ page ∷ [] → times_in n list ≡ cond (eqb page n) 1 0
 only_root n page list is = ap (times_in n) is ∙ (let e : cond (eqb page n) 1 0 + 0 ≡ cond (eqb page n) 1 0 = omega arith in e)
 
-pub tree_checked : (dims most : ℕ) (m : PageMap) (page level : ℕ) (c : NodeContent) (pairs pairs_now : List (ℕ × Bounds)) (list list_now : List ℕ) → node_in dims (m page) ≡ Some c → c.level ≡ level
+pub tree_checked : (dims most : ℕ) (m : PageMap) (page level : ℕ) (c : NodeContent) (pairs pairs_now : List (ℕ × Object)) (list list_now : List ℕ) → node_in dims (m page) ≡ Some c → c.level ≡ level
     → (length c.entries ≤ most) × (0 < level → 2 ≤ length c.entries) → pairs ≡ [] → list ≡ page ∷ [] → ((n : ℕ) → times_in n list_now ≤ 1) → AddsTree dims most m c pairs pairs_now list list_now
     → IsCheckedTree dims most m page level pairs_now list_now
 tree_checked dims most m page level c pairs pairs_now list list_now there at_level count none root once a =
@@ -236,7 +237,7 @@ tree_checked dims most m page level c pairs pairs_now list list_now there at_lev
         some = λ above. omega (arith, many, count.1 above);
         below = a.shape;
       };
-      pairs_are = a.pairs_are ∙ ap (λ (ps : List (ℕ × Bounds)). ps ++ objects_in a.row) none;
+      pairs_are = a.pairs_are ∙ ap (λ (ps : List (ℕ × Object)). ps ++ objects_in a.row) none;
       pages_are = pages;
     }
 
@@ -256,14 +257,14 @@ root_visited t page list at_page root once n =
 -- ---- what a loop over the entries of a node has checked
 
 module _ {B A : Type 0} {m : _} where
-  pub record Walk (dims most : ℕ) (old now : PageCache B A m) (level : ℕ) (entries : List (Entry dims)) (i : ℕ) (pairs pairs_now : List (ℕ × Bounds)) (list list_now : List ℕ) (marks marks_now : ℕ) : Type 0 where
+  pub record Walk (dims most : ℕ) (old now : PageCache B A m) (level : ℕ) (entries : List (Entry dims)) (i : ℕ) (pairs pairs_now : List (ℕ × Object)) (list list_now : List ℕ) (marks marks_now : ℕ) : Type 0 where
     pub asks : AsksUntil old now None
     pub checked : IsHonest old → Checked dims most (given old) level (map item_of entries) i pairs pairs_now list list_now
     pub numbers : marks_now ≡ marks
     pub looks : looks_of now + length list ≤ looks_of old + length list_now
 
   -- in a sound map what was checked in the pages given out stands in the live pages
-  pub checked_live : (dims most : ℕ) (cache : PageCache B A m) (page level : ℕ) (pairs : List (ℕ × Bounds)) (list : List ℕ) → IsPageMap cache → IsCheckedTree dims most (given cache) page level pairs list → IsCheckedTree dims most (pages cache) page level pairs list
+  pub checked_live : (dims most : ℕ) (cache : PageCache B A m) (page level : ℕ) (pairs : List (ℕ × Object)) (list : List ℕ) → IsPageMap cache → IsCheckedTree dims most (given cache) page level pairs list → IsCheckedTree dims most (pages cache) page level pairs list
   checked_live dims most cache page level pairs list sound is =
       let t = is.tree in
       let live = given_tree_is_live dims cache t.page t.level t.row sound (record { node = is.stands.root; below = is.stands.below }) in

@@ -51,7 +51,7 @@ sum_of_all (suc limit) part has = ⊎_elim
 -- below a node there are, with its entries, no more pages than objects, since each node below has at least two entries
 pages_below : (dims most limit : ℕ) (row : Row) → RowHasShape dims most row → sum_over limit (λ n. occurs n row) + row_length row ≤ length (objects_in row)
 pages_below dims most limit end shape = omega (arith, sum_none limit)
-pages_below dims most limit (more (object bounds id) rest) shape = omega (arith, pages_below dims most limit rest shape)
+pages_below dims most limit (more (object kept id) rest) shape = omega (arith, pages_below dims most limit rest shape)
 pages_below dims most limit (more (child bounds page below) rest) shape =
     omega (
       arith,

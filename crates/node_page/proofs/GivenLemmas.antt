@@ -15,7 +15,7 @@ use Rattle.node_page.proofs.Reading.{spells}
 module _ (dims : ℕ) (old new : PageMap) (same : (n : ℕ) (c : NodeContent) → node_in dims (old n) ≡ Some c → node_in dims (new n) ≡ Some c) where
   pub row_carried : (level : ℕ) (row : Row) → RowStands dims old level row → RowStands dims new level row
   row_carried level end h = tt
-  row_carried level (more (object bounds id) rest) h = (h.0, row_carried level rest h.1)
+  row_carried level (more (object kept id) rest) h = (h.0, row_carried level rest h.1)
   row_carried level (more (child bounds page below) rest) h = (h.0, same page _ h.1, row_carried (level - 1) below h.2, row_carried level rest h.3)
 
   pub tree_carried : (page level : ℕ) (row : Row) → StandsAt dims old page level row → StandsAt dims new page level row

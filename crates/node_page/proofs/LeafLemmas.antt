@@ -9,34 +9,34 @@ use Rattle.page_cache.specs.Calls.{AsksUntil, asks_in_turn}
 use Rattle.page_cache.specs.declared.cache.PageCache.{PageCache}
 use Rattle.tree_node.specs.declared.node.Entry.{Entry}
 use Rattle.tree_node.specs.Nodes.{NodeContent, Item, item_of, references_of}
-use Rattle.node_page.specs.Layout.{IsReference}
+use Rattle.node_page.specs.Layout.{IsOfLevel}
 use Rattle.tree_node.specs.Searches.{counted, passing}
 use Rattle.tree_node.specs.Trees.{Row, end, more, object, child, ids_in, leaf_ids, row_items}
 use Rattle.node_page.specs.Standing.{PageMap, RowStands, StandsAt, node_in}
 use Rattle.tree_node.proofs.RowLemmas.{entry_item, items_from, no_leaves, row_drop}
 use Rattle.tree_node.proofs.SearchLemmas.{counts_go_on}
-use Rattle.node_page.proofs.RowEnds.{items_add, leaves_add, nodes_add, row_add, stands_add}
+use Rattle.node_page.proofs.RowEnds.{items_add_child, leaves_add, nodes_add, row_add, stands_add}
 use Rattle.node_page.specs.Lists.{AddsLeavesAt}
 use Rattle.node_page.proofs.StandingLemmas.{node_stays, row_stays, same_content}
 
 pub dropped_stands : (dims : ℕ) (m : PageMap) (level n : ℕ) (row : Row) → RowStands dims m level row → RowStands dims m level (row_drop n row)
 dropped_stands dims m level zero row h = h
 dropped_stands dims m level (suc n) end h = h
-dropped_stands dims m level (suc n) (more (object bounds id) rest) h = dropped_stands dims m level n rest h.1
+dropped_stands dims m level (suc n) (more (object kept id) rest) h = dropped_stands dims m level n rest h.1
 dropped_stands dims m level (suc n) (more (child bounds page below) rest) h = dropped_stands dims m level n rest h.3
 
 -- the tree below the first entry
 pub below_first : (dims : ℕ) (m : PageMap) (level : ℕ) (row : Row) (x : Item) (xs : List Item) → row_items row ≡ x ∷ xs → 0 < level → RowStands dims m level row → (below : Row) × StandsAt dims m x.reference (level - 1) below
 below_first dims m level end x xs same above stands = absurd (cc)
-below_first dims m level (more (object bounds id) rest) x xs same above stands = absurd (omega (arith, above, stands.0))
+below_first dims m level (more (object kept id) rest) x xs same above stands = absurd (omega (arith, above, stands.0))
 below_first dims m level (more (child bounds page below) rest) x xs same above stands =
-    let item : ◌≡◌ {A = Item} (record { bounds = bounds; reference = page }) x = cc in
+    let item : ◌≡◌ {A = Item} (record { bounds = bounds; reference = page; tag = 0 }) x = cc in
     (below, subst (λ n. StandsAt dims m n (level - 1) below) (ap (λ (y : Item). y.reference) item) (record { node = stands.1; below = stands.2 }))
 
 -- a leaf has its identifiers
 ids_are : (dims : ℕ) (m : PageMap) (row : Row) → RowStands dims m 0 row → ids_in row ≡ map (λ (item : Item). item.reference) (row_items row)
 ids_are dims m end stands = refl
-ids_are dims m (more (object bounds id) rest) stands = ap (λ ids. id ∷ ids) (ids_are dims m rest stands.1)
+ids_are dims m (more (object kept id) rest) stands = ap (λ ids. id ∷ ids) (ids_are dims m rest stands.1)
 ids_are dims m (more (child bounds page below) rest) stands = absurd (omega (arith, stands.0))
 
 -- the node that was read is that of the tree
@@ -61,7 +61,7 @@ references_read entries all n ids is past same = is ∙ ap (map (λ entry. entry
 
 abbrev pub leaf_row : List Item → Row
 leaf_row [] = end
-leaf_row (item ∷ items) = more (object item.bounds item.reference) (leaf_row items)
+leaf_row (item ∷ items) = more (object (item.bounds, item.tag) item.reference) (leaf_row items)
 
 pub items-leaf_row : (items : List Item) → row_items (leaf_row items) ≡ items
 items-leaf_row [] = refl
@@ -104,12 +104,20 @@ stands_on dims old new page level row same at = record {
   below = row_stays dims old new level row (λ n there. same n) at.below;
 }
 
--- a child above the leaves has a page
-pub child_page : {dims : ℕ} (level : ℕ) (all entries : List (Entry dims)) (i : ℕ) (e : Entry dims) → All (λ item. IsReference level item.reference) (map item_of all) → entries ≡ all → i < length entries → e ≡ get_or entries i e → 0 < level → e.reference < 2 ^ 31
-child_page level all entries i e refers same within is above =
-    let here : All (λ item. IsReference level item.reference) (map item_of entries) = subst (λ es. All (λ item. IsReference level item.reference) (map item_of es)) (sym same) refers in
-    let at = All-get_or (λ (item : Item). IsReference level item.reference) (map item_of entries) i (item_of e) (omega (arith, within, length-map entries item_of)) here in
-    (subst (λ (item : Item). IsReference level item.reference) (sym (entry_item entries i e within is)) at above).1
+-- a child above the leaves has a page and no tag
+child_of_level : {dims : ℕ} (level : ℕ) (all entries : List (Entry dims)) (i : ℕ) (e : Entry dims) → All (λ item. IsOfLevel level item.reference item.tag) (map item_of all) → entries ≡ all → i < length entries → e ≡ get_or entries i e
+    → IsOfLevel level e.reference e.tag
+child_of_level level all entries i e refers same within is =
+    let P : Item → Type 0 = λ item. IsOfLevel level item.reference item.tag in
+    let here : All P (map item_of entries) = subst (λ es. All P (map item_of es)) (sym same) refers in
+    let at = All-get_or P (map item_of entries) i (item_of e) (omega (arith, within, length-map entries item_of)) here in
+    subst P (sym (entry_item entries i e within is)) at
+
+pub child_page : {dims : ℕ} (level : ℕ) (all entries : List (Entry dims)) (i : ℕ) (e : Entry dims) → All (λ item. IsOfLevel level item.reference item.tag) (map item_of all) → entries ≡ all → i < length entries → e ≡ get_or entries i e → 0 < level → e.reference < 2 ^ 31
+child_page level all entries i e refers same within is above = (child_of_level level all entries i e refers same within is above).1
+
+pub child_tag : {dims : ℕ} (level : ℕ) (all entries : List (Entry dims)) (i : ℕ) (e : Entry dims) → All (λ item. IsOfLevel level item.reference item.tag) (map item_of all) → entries ≡ all → i < length entries → e ≡ get_or entries i e → 0 < level → e.tag ≡ 0
+child_tag level all entries i e refers same within is above = (child_of_level level all entries i e refers same within is above).2
 
 -- the leaves below the entries before place i, which stand in the pages
 pub record Found (dims : ℕ) (m : PageMap) (level : ℕ) (items : List Item) (i : ℕ) (lists lists_now : List (List ℕ)) (looks looks_now : ℕ) : Type 0 where
@@ -129,16 +137,16 @@ module _ (dims : ℕ) (m : PageMap) (level : ℕ) (items : List Item) (lists : L
     looks_are = omega (arith, looked);
   }
 
-  pub found_more : (i : ℕ) (x : Item) (lists_now lists_next : List (List ℕ)) (looks_now looks_next : ℕ) → 0 < level → i < length items → x ≡ get_or items i x
+  pub found_more : (i : ℕ) (x : Item) (lists_now lists_next : List (List ℕ)) (looks_now looks_next : ℕ) → 0 < level → x.tag ≡ 0 → i < length items → x ≡ get_or items i x
       → Found dims m level items i lists lists_now looks looks_now → AddsLeavesAt dims m x.reference (level - 1) lists_now lists_next looks_now looks_next → Found dims m level items (i + 1) lists lists_next looks looks_next
-  found_more i x lists_now lists_next looks_now looks_next above within is so_far added =
+  found_more i x lists_now lists_next looks_now looks_next above untagged within is so_far added =
       let below = added.row in
       let up : suc (level - 1) ≡ level = omega arith in
       let p = passing (λ b. true) so_far.row in
       let q = passing (λ b. true) below in
       record {
         row = row_add so_far.row (child x.bounds x.reference below);
-        items_are = items_add so_far.row (child x.bounds x.reference below) ∙ ap (λ (xs : List Item). xs ++ x ∷ []) so_far.items_are ∙ ap (λ (y : Item). take i items ++ y ∷ []) is
+        items_are = items_add_child x below so_far.row untagged ∙ ap (λ (xs : List Item). xs ++ x ∷ []) so_far.items_are ∙ ap (λ (y : Item). take i items ++ y ∷ []) is
             ∙ sym (take-suc items i x within) ∙ ap (λ (n : ℕ). take n items) (let e : suc i ≡ i + 1 = omega arith in e);
         stands = stands_add x.bounds x.reference below dims m level so_far.row above added.stands.node added.stands.below so_far.stands;
         lists_are = added.lists_are ∙ ap (λ (xs : List (List ℕ)). xs ++ leaf_ids (level - 1) below) so_far.lists_are ∙ append_assoc lists (leaf_ids level so_far.row) (leaf_ids (level - 1) below)
@@ -175,15 +183,15 @@ module _ {B A : Type 0} {m : _} where
         let b = below_first dims (given old) level (row_drop i row) (item_of e) (drop (i + 1) (map item_of entries)) here above (dropped_stands dims (given old) level i row stands) in
         (b.0, stands_on dims (given old) (given now) e.reference (level - 1) b.0 (so_far.asks.map.given_stay h) b.1)
 
-    pub one_more_read : (e : Entry dims) → i < length entries → e ≡ get_or entries i e → 0 < level → (next : PageCache B A m) (lists_next : List (List ℕ)) → AsksUntil now next None
+    pub one_more_read : (e : Entry dims) → i < length entries → e ≡ get_or entries i e → 0 < level → e.tag ≡ 0 → (next : PageCache B A m) (lists_next : List (List ℕ)) → AsksUntil now next None
         → (IsHonest now → AddsLeavesAt dims (given now) e.reference (level - 1) lists_now lists_next (looks_of now) (looks_of next))
         → Progress dims old next level entries (i + 1) lists lists_next
-    one_more_read e within is above next lists_next asks reads = record {
+    one_more_read e within is above untagged next lists_next asks reads = record {
       asks = asks_in_turn old now next None so_far.asks asks;
       found = λ h.
           let added = reads (so_far.asks.gate.honest.0 h) in
           let back : StandsAt dims (given old) e.reference (level - 1) added.row = stands_on dims (given now) (given old) e.reference (level - 1) added.row (λ n. sym (so_far.asks.map.given_stay h n)) added.stands in
-          found_more dims (given old) level (map item_of entries) lists (looks_of old) i (item_of e) lists_now lists_next (looks_of now) (looks_of next) above
+          found_more dims (given old) level (map item_of entries) lists (looks_of old) i (item_of e) lists_now lists_next (looks_of now) (looks_of next) above untagged
           (omega (arith, within, length-map entries item_of)) (entry_item entries i e within is) (so_far.found h)
           (record { row = added.row; stands = back; lists_are = added.lists_are; looks_are = added.looks_are });
     }

@@ -8,12 +8,12 @@ use Rattle.page_file.specs.Fault.{IsOfDevice}
 use Rattle.page_file.specs.declared.fault.Fault.{Fault}
 use Rattle.page_file.specs.declared.fault.Fault.TheVariants as fault
 use Rattle.tree_node.specs.Nodes.{NodeContent, Item, content_of, item_of}
-use Rattle.node_page.specs.Layout.{IsReference, IsSpellable, node_at}
+use Rattle.node_page.specs.Layout.{IsOfLevel, IsSpellable, node_at}
 use Rattle.node_page.specs.Standing.{node_in}
 use Rattle.tree_node.specs.declared.node.Node.{Node}
 
 -- the answer of a call that was refused
-pub at_error : {T : Type 0} (r : Result T Fault) (f : Fault) (P : Fault → Type 0) → IsErrAnd r (λ e. e ≡ f) → P f → IfErr r P
+pub at_error : {T E : Type 0} (r : Result T E) (f : E) (P : E → Type 0) → IsErrAnd r (λ e. e ≡ f) → P f → IfErr r P
 at_error (Ok x) f P is p = tt
 at_error (Err e) f P is p = subst P (sym is) p
 
@@ -56,5 +56,5 @@ pub leaf_spellable : {dims : ℕ} (leaf : Node dims) → leaf.level ≡ 0 → le
 leaf_spellable leaf low few = record {
   few = omega (arith, few, length-map leaf.entries.items item_of);
   some = λ above. absurd (omega (arith, low, above));
-  refers = All-from_get_or (λ (item : Item). IsReference leaf.level item.reference) (map item_of leaf.entries.items) (record { bounds = origin_box 2; reference = 0 }) (λ i lt above. absurd (omega (arith, low, above)));
+  refers = All-from_get_or (λ (item : Item). IsOfLevel leaf.level item.reference item.tag) (map item_of leaf.entries.items) (record { bounds = origin_box 2; reference = 0; tag = 0 }) (λ i lt above. absurd (omega (arith, low, above)));
 }

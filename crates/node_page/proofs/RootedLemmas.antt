@@ -3,6 +3,7 @@ use Rattle.std.proofs.Common.{◌≡◌, ℕ, ◌-◌, Option, None, Some, List,
 use Rattle.std.specs.Prelude.{⊤}
 use Rattle.std.proofs.lemmas.List.Elements.{All-head, All-tail}
 use Rattle.box_math.specs.Bounds.{IsOrdered}
+use Rattle.box_math.specs.Objects.{bounds_of, tag_of}
 use Rattle.tree_node.specs.Nodes.{Item, NodeContent}
 use Rattle.tree_node.specs.Shape.{HasLooseShape, HasShape}
 use Rattle.tree_node.specs.Trees.{Row, end, more, object, child, Tree, row_items}
@@ -28,7 +29,7 @@ IsOrderedItem dims item = IsOrdered dims item.bounds.low item.bounds.high
 
 abbrev pub HasOrderedBoxes : ℕ → Row → Type 0
 HasOrderedBoxes dims end = ⊤
-HasOrderedBoxes dims (more (object bounds id) rest) = IsOrdered dims bounds.low bounds.high × HasOrderedBoxes dims rest
+HasOrderedBoxes dims (more (object kept id) rest) = IsOrdered dims (bounds_of kept).low (bounds_of kept).high × HasOrderedBoxes dims rest
 HasOrderedBoxes dims (more (child bounds page below) rest) = HasOrderedBoxes dims below × HasOrderedBoxes dims rest
 
 items_ordered : (dims : ℕ) (page : Option (List ℕ)) (c : NodeContent) → node_in dims page ≡ Some c → All (IsOrderedItem dims) c.entries
@@ -40,13 +41,13 @@ items_ordered dims (Some page) c there =
 
 row_ordered : (dims : ℕ) (m : PageMap) (level : ℕ) (row : Row) → All (IsOrderedItem dims) (row_items row) → RowStands dims m level row → HasOrderedBoxes dims row
 row_ordered dims m level end items stands = tt
-row_ordered dims m level (more (object bounds id) rest) items stands = (
-  All-head (IsOrderedItem dims) (record { bounds = bounds; reference = id }) (row_items rest) items,
-  row_ordered dims m level rest (All-tail (IsOrderedItem dims) (record { bounds = bounds; reference = id }) (row_items rest) items) stands.1,
+row_ordered dims m level (more (object kept id) rest) items stands = (
+  All-head (IsOrderedItem dims) (record { bounds = bounds_of kept; reference = id; tag = tag_of kept }) (row_items rest) items,
+  row_ordered dims m level rest (All-tail (IsOrderedItem dims) (record { bounds = bounds_of kept; reference = id; tag = tag_of kept }) (row_items rest) items) stands.1,
 )
 row_ordered dims m level (more (child bounds page below) rest) items stands = (
   row_ordered dims m (level - 1) below (items_ordered dims (m page) (record { level = level - 1; entries = row_items below }) stands.1) stands.2,
-  row_ordered dims m level rest (All-tail (IsOrderedItem dims) (record { bounds = bounds; reference = page }) (row_items rest) items) stands.3,
+  row_ordered dims m level rest (All-tail (IsOrderedItem dims) (record { bounds = bounds; reference = page; tag = 0 }) (row_items rest) items) stands.3,
 )
 
 pub boxes_ordered : (dims : ℕ) (m : PageMap) (page level : ℕ) (row : Row) → StandsAt dims m page level row → HasOrderedBoxes dims row

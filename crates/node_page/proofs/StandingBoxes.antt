@@ -5,10 +5,11 @@ use Rattle.std.proofs.lemmas.Bool.Decides.{nat_tests}
 use Rattle.std.proofs.lemmas.List.Elements.{All-head, All-tail}
 use Rattle.block_bytes.specs.Numbers.{AreBytes}
 use Rattle.box_math.specs.Bounds.{IsBox}
+use Rattle.box_math.specs.Objects.{bounds_of, tag_of}
 use Rattle.tree_node.specs.Boxes.{RowHasBoxes}
 use Rattle.tree_node.specs.Nodes.{Item}
 use Rattle.tree_node.specs.Trees.{Row, end, more, object, child, occurs, row_items}
-use Rattle.node_page.specs.Layout.{IsReference, IsSpellable}
+use Rattle.node_page.specs.Layout.{IsOfLevel, IsSpellable}
 use Rattle.node_page.specs.Standing.{PageMap, HasNode, RowStands, node_in}
 use Rattle.node_page.specs.StandingLaws.{BoxesAreBoxes, ChildPagesAreReferences}
 use Rattle.node_page.proofs.Named.{spells_nodes}
@@ -24,11 +25,11 @@ node_boxes dims pages page level row bytes node = case (pages page) refl node
 
 boxes_of : (dims : ℕ) (pages : PageMap) (level : ℕ) (row : Row) → ((n : ℕ) (bytes : List ℕ) → pages n ≡ Some bytes → AreBytes bytes) → All (λ item. IsBox dims item.bounds) (row_items row) → RowStands dims pages level row → RowHasBoxes dims row
 boxes_of dims pages level end bytes boxes stands = tt
-boxes_of dims pages level (more (object bounds id) rest) bytes boxes stands =
-    let item : Item = record { bounds = bounds; reference = id } in
+boxes_of dims pages level (more (object kept id) rest) bytes boxes stands =
+    let item : Item = record { bounds = bounds_of kept; reference = id; tag = tag_of kept } in
     (All-head (λ (x : Item). IsBox dims x.bounds) item (row_items rest) boxes, boxes_of dims pages level rest bytes (All-tail (λ (x : Item). IsBox dims x.bounds) item (row_items rest) boxes) stands.1)
 boxes_of dims pages level (more (child bounds page below) rest) bytes boxes stands =
-    let item : Item = record { bounds = bounds; reference = page } in (
+    let item : Item = record { bounds = bounds; reference = page; tag = 0 } in (
       All-head (λ (x : Item). IsBox dims x.bounds) item (row_items rest) boxes,
       boxes_of dims pages (level - 1) below bytes (node_boxes dims pages page (level - 1) below bytes stands.1) stands.2,
       boxes_of dims pages level rest bytes (All-tail (λ (x : Item). IsBox dims x.bounds) item (row_items rest) boxes) stands.3,
@@ -40,7 +41,7 @@ boxes_are_boxes dims pages t bytes stands = boxes_of dims pages t.level t.row by
 -- ---- references
 
 abbrev AreReferences : ℕ → Row → Type 0
-AreReferences level row = All (λ item. IsReference level item.reference) (row_items row)
+AreReferences level row = All (λ item. IsOfLevel level item.reference item.tag) (row_items row)
 
 -- the node at a page can be spelled
 pub node_spellable : (dims : ℕ) (pages : PageMap) (page level : ℕ) (row : Row) → HasNode dims pages page level row → IsSpellable (record { level = level; entries = row_items row })
@@ -52,19 +53,19 @@ node_spellable dims pages page level row node = case (pages page) node
 
 below_refers : (dims : ℕ) (pages : PageMap) (level n : ℕ) (row : Row) → AreReferences level row → RowStands dims pages level row → 0 < occurs n row → (3 ≤ n) × (n < 2 ^ 31)
 below_refers dims pages level n end refers stands some = absurd (omega (arith, some))
-below_refers dims pages level n (more (object bounds id) rest) refers stands some =
-    below_refers dims pages level n rest (All-tail (λ (x : Item). IsReference level x.reference) (record { bounds = bounds; reference = id }) (row_items rest) refers) stands.1 some
+below_refers dims pages level n (more (object kept id) rest) refers stands some =
+    below_refers dims pages level n rest (All-tail (λ (x : Item). IsOfLevel level x.reference x.tag) (record { bounds = bounds_of kept; reference = id; tag = tag_of kept }) (row_items rest) refers) stands.1 some
 below_refers dims pages level n (more (child bounds page below) rest) refers stands some =
-    let item : Item = record { bounds = bounds; reference = page } in
-    let here = All-head (λ (x : Item). IsReference level x.reference) item (row_items rest) refers stands.0 in
+    let item : Item = record { bounds = bounds; reference = page; tag = 0 } in
+    let here = All-head (λ (x : Item). IsOfLevel level x.reference x.tag) item (row_items rest) refers stands.0 in
     ⊎_elim
-    (λ (is : page ≡ n). subst (λ k. (3 ≤ k) × (k < 2 ^ 31)) is here)
+    (λ (is : page ≡ n). subst (λ k. (3 ≤ k) × (k < 2 ^ 31)) is (here.0, here.1))
     (λ differs.
     let test : eqb page n ≡ false = grind (arith, nat_tests) in
     let seen : 0 < 0 + occurs n below + occurs n rest = rw test at some in
     ⊎_elim
     (λ (none : occurs n below ≡ 0).
-    below_refers dims pages level n rest (All-tail (λ (x : Item). IsReference level x.reference) item (row_items rest) refers) stands.3 (omega (arith, none, seen)))
+    below_refers dims pages level n rest (All-tail (λ (x : Item). IsOfLevel level x.reference x.tag) item (row_items rest) refers) stands.3 (omega (arith, none, seen)))
     (λ (there : 0 < occurs n below). below_refers dims pages (level - 1) n below (node_spellable dims pages page (level - 1) below stands.1).refers stands.2 there)
     (none_or_some (occurs n below)))
     (cases_eq page n)

@@ -2,6 +2,7 @@
 use Rattle.std.proofs.Common.{◌≡◌, ℕ, ◌+◌, ◌-◌, ◌<◌, ◌≤◌, true, false, Option, Some, None, IsSome, eqb, List, refl, sym, ap, subst, ◌∙◌, ⊎_elim, arith}
 use Rattle.std.proofs.lemmas.Bool.{cases_eq}
 use Rattle.std.proofs.lemmas.Bool.Decides.{nat_tests}
+use Rattle.box_math.specs.Objects.{bounds_of, tag_of}
 use Rattle.tree_node.specs.Nodes.{NodeContent, Item}
 use Rattle.tree_node.specs.Trees.{Tree, Row, end, more, object, child, RowOnLevel, row_items, occurs, occurs_in, with_node, tree_with_node}
 use Rattle.node_page.specs.Standing.{PageMap, HasNode, RowStands, Stands, StandsAt, node_in}
@@ -22,7 +23,7 @@ node_stays dims old new page level row same h = ap (node_in dims) same ∙ h
 -- and so do the trees below one
 pub row_stays : (dims : ℕ) (old new : PageMap) (level : ℕ) (row : Row) → ((n : ℕ) → 0 < occurs n row → new n ≡ old n) → RowStands dims old level row → RowStands dims new level row
 row_stays dims old new level end same h = h
-row_stays dims old new level (more (object bounds id) rest) same h = (h.0, row_stays dims old new level rest same h.1)
+row_stays dims old new level (more (object kept id) rest) same h = (h.0, row_stays dims old new level rest same h.1)
 row_stays dims old new level (more (child bounds page below) rest) same h = (
   h.0,
   node_stays dims old new page (level - 1) below (same page (omega (arith, occurs_here page))) h.1,
@@ -34,21 +35,21 @@ row_stays dims old new level (more (child bounds page below) rest) same h = (
 
 pub one_row : (dims : ℕ) (pages : PageMap) (level : ℕ) (a b : Row) → ◌≡◌ {A = List Item} (row_items a) (row_items b) → RowStands dims pages level a → RowStands dims pages level b → a ≡ b
 one_row dims pages level end end same h k = refl
-one_row dims pages level end (more (object bounds' id') rest') same h k = absurd (cc)
+one_row dims pages level end (more (object kept' id') rest') same h k = absurd (cc)
 one_row dims pages level end (more (child bounds' page' below') rest') same h k = absurd (cc)
-one_row dims pages level (more (object bounds id) rest) end same h k = absurd (cc)
-one_row dims pages level (more (object bounds id) rest) (more (object bounds' id') rest') same h k =
-    let parts = same_first bounds bounds' id id' (row_items rest) (row_items rest') same in
-    same_object bounds bounds' id id' rest rest' parts.0 parts.1 (one_row dims pages level rest rest' parts.2 h.1 k.1)
-one_row dims pages level (more (object bounds id) rest) (more (child bounds' page' below') rest') same h k = absurd (omega (arith, h.0, k.0))
+one_row dims pages level (more (object kept id) rest) end same h k = absurd (cc)
+one_row dims pages level (more (object kept id) rest) (more (object kept' id') rest') same h k =
+    let parts = same_first (bounds_of kept) (bounds_of kept') id id' (tag_of kept) (tag_of kept') (row_items rest) (row_items rest') same in
+    same_object kept kept' id id' rest rest' parts.0 parts.2 parts.1 (one_row dims pages level rest rest' parts.3 h.1 k.1)
+one_row dims pages level (more (object kept id) rest) (more (child bounds' page' below') rest') same h k = absurd (omega (arith, h.0, k.0))
 one_row dims pages level (more (child bounds page below) rest) end same h k = absurd (cc)
-one_row dims pages level (more (child bounds page below) rest) (more (object bounds' id') rest') same h k = absurd (omega (arith, h.0, k.0))
+one_row dims pages level (more (child bounds page below) rest) (more (object kept' id') rest') same h k = absurd (omega (arith, h.0, k.0))
 one_row dims pages level (more (child bounds page below) rest) (more (child bounds' page' below') rest') same h k =
-    let parts = same_first bounds bounds' page page' (row_items rest) (row_items rest') same in
+    let parts = same_first bounds bounds' page page' 0 0 (row_items rest) (row_items rest') same in
     let node : HasNode dims pages page' (level - 1) below = subst (λ n. HasNode dims pages n (level - 1) below) parts.1 h.1 in
     let content = same_content dims pages page' (record { level = level - 1; entries = row_items below }) (record { level = level - 1; entries = row_items below' }) node k.1 in
     let belows = one_row dims pages (level - 1) below below' (ap (λ (x : NodeContent). x.entries) content) h.2 k.2 in
-    same_child bounds bounds' page page' below below' rest rest' parts.0 parts.1 belows (one_row dims pages level rest rest' parts.2 h.3 k.3)
+    same_child bounds bounds' page page' below below' rest rest' parts.0 parts.1 belows (one_row dims pages level rest rest' parts.3 h.3 k.3)
 
 -- two trees that stand at a page and level are the same
 pub one_row_stands : (dims : ℕ) (pages : PageMap) (page level : ℕ) (a b : Row) → StandsAt dims pages page level a → StandsAt dims pages page level b → a ≡ b
@@ -74,7 +75,7 @@ page_of_node dims (Some bytes) c e = refl
 
 pub below_there : (dims : ℕ) (pages : PageMap) (level : ℕ) (row : Row) (n : ℕ) → RowStands dims pages level row → 0 < occurs n row → IsSome (pages n)
 below_there dims pages level end n h some = absurd (omega (arith, some))
-below_there dims pages level (more (object bounds id) rest) n h some = below_there dims pages level rest n h.1 some
+below_there dims pages level (more (object kept id) rest) n h some = below_there dims pages level rest n h.1 some
 below_there dims pages level (more (child bounds page below) rest) n h some = ⊎_elim
     (λ (is : page ≡ n). subst (λ k. IsSome (pages k)) is (page_of_node dims (pages page) _ h.1))
     (λ differs.
@@ -98,7 +99,7 @@ pages_are_there dims pages t n stands some = ⊎_elim
 
 pub row_on_level : (dims : ℕ) (pages : PageMap) (level : ℕ) (row : Row) → RowStands dims pages level row → RowOnLevel level row
 row_on_level dims pages level end h = tt
-row_on_level dims pages level (more (object bounds id) rest) h = (h.0, row_on_level dims pages level rest h.1)
+row_on_level dims pages level (more (object kept id) rest) h = (h.0, row_on_level dims pages level rest h.1)
 row_on_level dims pages level (more (child bounds page below) rest) h = (h.0, row_on_level dims pages (level - 1) below h.2, row_on_level dims pages level rest h.3)
 
 pub levels_are_kept : LevelsAreKept
@@ -120,7 +121,7 @@ module _ (dims : ℕ) (old new : PageMap) (page level : ℕ) (was now : Row) (be
     (there : HasNode dims new page level now) (stands : RowStands dims new level now) where
   row_with_node : (l : ℕ) (row : Row) → RowStands dims old l row → RowStands dims new l (with_node page now row)
   row_with_node l end h = h
-  row_with_node l (more (object bounds id) rest) h = (h.0, row_with_node l rest h.1)
+  row_with_node l (more (object kept id) rest) h = (h.0, row_with_node l rest h.1)
   row_with_node l (more (child bounds q below) rest) h =
       let later = row_with_node l rest h.3 in
       let inner = row_with_node (l - 1) below h.2 in

@@ -17,7 +17,7 @@ AllWait dims pages (w ∷ ws) = WaiterStands dims pages w × AllWait dims pages 
 -- each tree below a node of this level stands by itself
 abbrev pub ChildrenStand : ℕ → PageMap → ℕ → Row → Type 0
 ChildrenStand dims pages level end = ⊤
-ChildrenStand dims pages level (more (object bounds id) rest) = ChildrenStand dims pages level rest
+ChildrenStand dims pages level (more (object kept id) rest) = ChildrenStand dims pages level rest
 ChildrenStand dims pages level (more (child bounds page below) rest) = Stands dims pages (record { page = page; level = level - 1; row = below }) × ChildrenStand dims pages level rest
 
 -- ---- laws

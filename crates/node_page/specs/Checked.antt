@@ -1,6 +1,6 @@
 -- What a check of a tree finds (our rule, docs/FORMAT.md, "Trees of pages").
 use Rattle.std.specs.Prelude.{◌≡◌, ℕ, ◌+◌, ◌<◌, List, [], ◌∷◌, ◌++◌, map, Contains, Some}
-use Rattle.box_math.specs.Bounds.{Bounds}
+use Rattle.box_math.specs.Objects.{Object}
 use Rattle.node_page.specs.Visits.{times_in}
 use Rattle.tree_node.specs.Nodes.{Item, NodeContent, references_of}
 use Rattle.tree_node.specs.Shape.{HasShape, RowHasShape}
@@ -13,7 +13,7 @@ abbrev pub named_pages : List ℕ → Part
 named_pages list n = times_in n list
 
 -- a tree of the shape stands at the page, with these objects from left to right, and with these pages
-pub record IsCheckedTree (dims most : ℕ) (pages : PageMap) (page level : ℕ) (pairs : List (ℕ × Bounds))
+pub record IsCheckedTree (dims most : ℕ) (pages : PageMap) (page level : ℕ) (pairs : List (ℕ × Object))
     (list : List ℕ) : Type 0 where
   pub tree : Tree
   pub page_is : tree.page ≡ page
@@ -24,11 +24,11 @@ pub record IsCheckedTree (dims most : ℕ) (pages : PageMap) (page level : ℕ) 
   pub pages_are : (n : ℕ) → named_pages list n ≡ occurs_in n tree
 
 -- the objects of a leaf with these entries
-abbrev pub pairs_of : List Item → List (ℕ × Bounds)
-pairs_of items = map (λ item. (item.reference, item.bounds)) items
+abbrev pub pairs_of : List Item → List (ℕ × Object)
+pairs_of items = map (λ item. (item.reference, (item.bounds, item.tag))) items
 
 -- the trees below a node stand, and their nodes have the shape: their objects and pages were appended to those before
-pub record AddsTree (dims most : ℕ) (pages : PageMap) (c : NodeContent) (pairs_before pairs : List (ℕ × Bounds))
+pub record AddsTree (dims most : ℕ) (pages : PageMap) (c : NodeContent) (pairs_before pairs : List (ℕ × Object))
     (list_before list : List ℕ) : Type 0 where
   pub row : Row
   pub items_are : row_items row ≡ c.entries

@@ -3,7 +3,7 @@ use Rattle.std.specs.Prelude.{◌≡◌, ℕ, ◌↔◌, List, Some}
 use Rattle.block_bytes.specs.Forms.{HasOnePage, ReadsNamed}
 use Rattle.block_bytes.specs.Numbers.{AreBytes}
 use Rattle.tree_node.specs.Nodes.{NodeContent}
-use Rattle.node_page.specs.Layout.{IsNode, Spells, names, node_at}
+use Rattle.node_page.specs.Layout.{IsNode, Spells, names, node_at, node_of_kind}
 
 -- reading gives exactly what is spelled
 abbrev pub ReadsWhatIsSpelled : Type 0
@@ -17,6 +17,6 @@ ReadsNamedBytes = (dims : ℕ) → ReadsNamed (node_at dims) (names dims)
 abbrev pub SpellsNodes : Type 0
 SpellsNodes = (dims : ℕ) (page : List ℕ) (c : NodeContent) → AreBytes page → Spells dims page c → IsNode dims c
 
--- a node has one page
+-- a node has one page of each kind
 abbrev pub NodesHaveOnePage : Type 0
-NodesHaveOnePage = (dims : ℕ) → HasOnePage (node_at dims) (names dims)
+NodesHaveOnePage = (kind dims : ℕ) → HasOnePage (node_of_kind kind dims) (names dims)

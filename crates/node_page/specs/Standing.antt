@@ -20,7 +20,7 @@ HasNode dims pages page level row = node_in dims (pages page) ≡ Some (record {
 -- the trees below a node of this level stand in the pages: its entries are objects on level 0, and children above it
 abbrev pub RowStands : ℕ → PageMap → ℕ → Row → Type 0
 RowStands dims pages level end = ⊤
-RowStands dims pages level (more (object bounds id) rest) = (level ≡ 0) × RowStands dims pages level rest
+RowStands dims pages level (more (object kept id) rest) = (level ≡ 0) × RowStands dims pages level rest
 RowStands dims pages level (more (child bounds page below) rest) =
     (0 < level) × HasNode dims pages page (level - 1) below × RowStands dims pages (level - 1) below × RowStands dims pages level rest
 

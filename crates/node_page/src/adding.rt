@@ -11,7 +11,7 @@ ghost use Rattle.page_cache.specs.Calls.{Asks, AsksUntil};
 ghost use Rattle.tree_node.specs.Boxes.{least_box};
 ghost use Rattle.tree_node.specs.Nodes.{NodeContent, item_of};
 ghost use Rattle.node_page.specs.Broken.{Alters};
-ghost use Rattle.node_page.specs.Layout.{IsReference, node_at, pushed};
+ghost use Rattle.node_page.specs.Layout.{IsOfLevel, node_at, pushed};
 ghost use Rattle.node_page.specs.Standing.{node_in};
 
 use crate::broken::Broken;
@@ -40,7 +40,7 @@ pub fn add_entry<const D: usize, B: BlockDevice, A: Allocator + Copy>(
     requires dims { IsDims D }
     requires open { gate_of cache.old ≡ Open }
     requires most { most ≤ 100 }
-    requires refers { IsReference level entry.now.reference }
+    requires refers { IsOfLevel level entry.now.reference entry.now.tag }
     ensures alters { Alters cache.old cache.new result }
     ensures room { IsHonest cache.old → (c : NodeContent) → node_in D (pages cache.old page) ≡ Some c → c.level ≡ level
         → IfOk result (λ bounds. IsSome bounds ↔ ((0 < length c.entries) × (length c.entries < most))) }
@@ -64,7 +64,7 @@ pub fn add_entry<const D: usize, B: BlockDevice, A: Allocator + Copy>(
         |bytes: &mut [u8; 4096]|
             requires { IsDims D }
             ensures { (c : NodeContent) → node_at D bytes.old ≡ Some c → length c.entries < 100
-                → IsReference c.level entry.entry.now.reference
+                → IsOfLevel c.level entry.entry.now.reference entry.entry.now.tag
                 → node_at D bytes.new ≡ Some (pushed c (item_of entry.entry.now)) }
         { push_where_room(bytes, entry) },
     )?;

@@ -27,8 +27,8 @@ use tree_node::{Node, Root, least};
 /// What a tree holds.
 #[derive(Drop)]
 pub struct TreeFacts<const D: usize, H: Allocator> {
-    /// The identifier and the box of each object, the leaves from left to right.
-    pub pairs: Vec<(u64, BBox<D>), H>,
+    /// The identifier, the box and the tag of each object, the leaves from left to right.
+    pub pairs: Vec<(u64, (BBox<D>, u32)), H>,
     /// The pages of its nodes.
     pub pages: Vec<u32, H>,
 }
@@ -97,7 +97,7 @@ fn add_below<const D: usize, B: BlockDevice, A: Allocator + Copy, H: Allocator +
     node: &Node<D>,
     m_max: u8,
     visits: &mut Visits<H>,
-    pairs: &mut Vec<(u64, BBox<D>), H>,
+    pairs: &mut Vec<(u64, (BBox<D>, u32)), H>,
 ) -> Result<(), Fault>
     requires dims { IsDims D }
     requires spellable { IsSpellable (content_of node.now) }
@@ -134,14 +134,14 @@ fn add_below<const D: usize, B: BlockDevice, A: Allocator + Copy, H: Allocator +
 // Appends the objects of a leaf.
 fn add_pairs<const D: usize, H: Allocator + Copy>(
     leaf: &Node<D>,
-    pairs: &mut Vec<(u64, BBox<D>), H>,
+    pairs: &mut Vec<(u64, (BBox<D>, u32)), H>,
 ) -> Result<(), Fault>
     requires dims { IsDims D }
     ensures pairs { OnOk result (pairs.new.items ≡ pairs.old.items ++ pairs_of (content_of leaf.now).entries) }
     ensures memory { IfErr result (λ f. f ≡ fault.Memory) }
 {
     for entry in leaf.entries.as_slice() {
-        pairs.push((entry.reference, entry.bounds))?;
+        pairs.push((entry.reference, (entry.bounds, entry.tag)))?;
     }
     Ok(())
 }

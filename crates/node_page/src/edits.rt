@@ -4,22 +4,26 @@ ghost use Rattle.std.specs.Prelude.{◌≡◌, ◌<◌, Some, length};
 ghost use Rattle.block_bytes.specs.Numbers.{number_at};
 ghost use Rattle.box_math.specs.Bounds.{IsDims};
 ghost use Rattle.tree_node.specs.Nodes.{NodeContent, item_of};
-ghost use Rattle.node_page.specs.Layout.{IsReference, node_at, pushed};
+ghost use Rattle.node_page.specs.Layout.{IsOfLevel, node_at, pushed};
 
 use crate::entries::write_entry;
-use crate::head::count_at;
+use crate::head::{count_at, is_tagged};
+use crate::tags::add_tags;
 use block_bytes::write_u16;
 use tree_node::Entry;
 
 /// Adds an entry to a node page whose count is below 100: it is written in the place after the last one, and counted.
+/// A page of format 1 becomes one with tags.
 pub(crate) fn push_entry<const D: usize>(page: &mut [u8; 4096], entry: &Entry<D>)
     requires dims { IsDims D }
     requires room { number_at 2 2 page.old < 100 }
-    ensures { (c : NodeContent) → node_at D page.old ≡ Some c → IsReference c.level entry.now.reference
+    ensures { (c : NodeContent) → node_at D page.old ≡ Some c → IsOfLevel c.level entry.now.reference entry.now.tag
         → node_at D page.new ≡ Some (pushed c (item_of entry.now)) }
 {
+    add_tags::<D>(page);
+    let tagged = is_tagged(page);
     let count = count_at(page);
-    write_entry(page, count, entry);
+    write_entry(page, count, entry, tagged);
     write_u16(page, 2, count as u16 + 1);
 }
 
@@ -27,7 +31,8 @@ pub(crate) fn push_entry<const D: usize>(page: &mut [u8; 4096], entry: &Entry<D>
 pub(crate) fn push_where_room<const D: usize>(page: &mut [u8; 4096], entry: &Entry<D>)
     requires { IsDims D }
     ensures { (c : NodeContent) → node_at D page.old ≡ Some c → length c.entries < 100
-        → IsReference c.level entry.now.reference → node_at D page.new ≡ Some (pushed c (item_of entry.now)) }
+        → IsOfLevel c.level entry.now.reference entry.now.tag
+        → node_at D page.new ≡ Some (pushed c (item_of entry.now)) }
 {
     if count_at(page) < 100 {
         push_entry(page, entry);

@@ -45,8 +45,8 @@ pub fn what_is_spelled_is_a_node()
     ensures { SpellsNodes }
 {}
 
-/// A node has one page: two that spell it, with zeros in all bytes that it does not name, have the same bytes.
-/// So `encode` leaves nothing open.
+/// A node has one page of each kind: two that spell it, with zeros in all bytes that they do not name, have the same
+/// bytes. So `encode` leaves nothing open.
 pub fn a_node_has_one_page()
     ensures { NodesHaveOnePage }
 {}

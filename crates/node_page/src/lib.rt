@@ -15,6 +15,7 @@ mod lending;
 mod masks;
 mod nodes;
 mod page;
+mod tags;
 mod view;
 mod visits;
 

@@ -7,11 +7,11 @@ ghost use Rattle.box_math.specs.Masks.{has_bit};
 ghost use Rattle.node_page.specs.Columns.{AreColumns};
 ghost use Rattle.tree_node.specs.Boxes.{least_box};
 ghost use Rattle.tree_node.specs.Nodes.{Item, NodeContent, content_of, item_of};
-ghost use Rattle.node_page.specs.Layout.{node_at, IsLaidOut, IsSpellable};
+ghost use Rattle.node_page.specs.Layout.{has_tags, node_at, IsLaidOut, IsSpellable};
 
 use crate::columns::{has_entries, least_in, none_is_flat, read_columns};
 use crate::entries::entry_at;
-use crate::head::{count_at, has_node_head};
+use crate::head::{count_at, has_node_head, is_tagged};
 use crate::masks::mask_in;
 use box_math::BBox;
 use tree_node::{Entry, Node};
@@ -22,7 +22,9 @@ pub struct NodeView<'a, const D: usize> {
     page: &'a [u8; 4096],
     level: u8,
     count: usize,
+    tagged: bool,
     ghost laid_out: { IsLaidOut D level count page.now },
+    ghost tags: { tagged ≡ has_tags page.now },
 }
 
 impl<'a, const D: usize> NodeView<'a, D> {
@@ -44,7 +46,13 @@ impl<'a, const D: usize> NodeView<'a, D> {
         if !has_entries::<D>(page, level, count) {
             return None;
         }
-        Some(NodeView { page, level, count })
+        let tagged = is_tagged(page);
+        Some(NodeView {
+            page,
+            level,
+            count,
+            tagged,
+        })
     }
 
     /// The level of the node, 0 for a leaf.
@@ -67,7 +75,7 @@ impl<'a, const D: usize> NodeView<'a, D> {
         requires { place < length (content_in self.now).entries }
         ensures { item_of result ≡ slice_index_or (content_in self.now).entries place (item_of result) }
     {
-        entry_at(self.page, place)
+        entry_at(self.page, place, self.tagged)
     }
 
     /// Which of the entries meet the window, also where they only touch: bit k of the mask is set exactly where the box

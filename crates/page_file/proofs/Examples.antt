@@ -23,12 +23,12 @@ a_gate_that_is_open : gate_block 0 ≡ codes "RSTARGAT" ++ replicate 4088 0
 unfolding gate_block put_number zeros
 a_gate_that_is_open = refl
 
--- version 1, next 5, first 4 and count 1, and another one of large numbers
-a_header : header_block (numbers 5 4 1) ≡ codes "RSTARHDR" ++ 0 ∷ 1 ∷ 0 ∷ 0 ∷ 0 ∷ 0 ∷ 0 ∷ 5 ∷ 0 ∷ 0 ∷ 0 ∷ 4 ∷ 0 ∷ 0 ∷ 0 ∷ 1 ∷ replicate 4072 0
+-- version 2, next 5, first 4 and count 1, and another one of large numbers
+a_header : header_block (numbers 5 4 1) ≡ codes "RSTARHDR" ++ 0 ∷ 2 ∷ 0 ∷ 0 ∷ 0 ∷ 0 ∷ 0 ∷ 5 ∷ 0 ∷ 0 ∷ 0 ∷ 4 ∷ 0 ∷ 0 ∷ 0 ∷ 1 ∷ replicate 4072 0
 unfolding header_block put_number zeros
 a_header = refl
 
-a_header_is_big_endian : header_block (numbers 0x80000000 0x7fffffff 0x01020304) ≡ codes "RSTARHDR" ++ 0 ∷ 1 ∷ 0 ∷ 0 ∷ 128 ∷ 0 ∷ 0 ∷ 0 ∷ 127 ∷ 255 ∷ 255 ∷ 255 ∷ 1 ∷ 2 ∷ 3 ∷ 4 ∷ replicate 4072 0
+a_header_is_big_endian : header_block (numbers 0x80000000 0x7fffffff 0x01020304) ≡ codes "RSTARHDR" ++ 0 ∷ 2 ∷ 0 ∷ 0 ∷ 128 ∷ 0 ∷ 0 ∷ 0 ∷ 127 ∷ 255 ∷ 255 ∷ 255 ∷ 1 ∷ 2 ∷ 3 ∷ 4 ∷ replicate 4072 0
 unfolding header_block put_number zeros
 a_header_is_big_endian = refl
 
@@ -71,9 +71,13 @@ another_text_is_no_gate : IsShutGate (codes "RSTARHDR" ++ 1 ∷ []) → ⊥
 unfolding number_at
 another_text_is_no_gate h = let no = h.text in absurd (omega (arith, no))
 
-a_header_is_read : IsHeader (numbers 5 4 1) (header 1 5 4 1)
+a_header_is_read : IsHeader (numbers 5 4 1) (header 2 5 4 1)
 unfolding number_at
-a_header_is_read = record { text = refl; version_is = refl; next_is = refl; first_is = refl; count_is = refl }
+a_header_is_read = record { text = refl; known = refl; next_is = refl; first_is = refl; count_is = refl }
+
+so_is_one_of_version_1 : IsHeader (numbers 5 4 1) (header 1 5 4 1)
+unfolding number_at
+so_is_one_of_version_1 = record { text = refl; known = refl; next_is = refl; first_is = refl; count_is = refl }
 
 no_other_numbers_are_read : (h : Header) → IsHeader h (header 1 5 4 1) → h ≡ numbers 5 4 1
 unfolding number_at
@@ -85,7 +89,7 @@ a_gate_is_no_header h is = let no = is.text in absurd (omega (arith, no))
 
 version_0_is_not_known : (h : Header) → IsHeader h (header 0 5 4 1) → ⊥
 unfolding number_at
-version_0_is_not_known h is = let no = is.version_is in absurd (omega (arith, no))
+version_0_is_not_known h is = let no : false ≡ true = is.known in absurd (cc)
 
 kinds_and_links_are_read : map (λ page. kind_of page ∷ link_of page ∷ []) ((5 ∷ 1 ∷ 1 ∷ 1 ∷ 0 ∷ 0 ∷ 1 ∷ 0 ∷ []) ∷ (4 ∷ []) ∷ []) ≡ (5 ∷ 256 ∷ []) ∷ (4 ∷ 0 ∷ []) ∷ []
 unfolding number_at
@@ -116,7 +120,7 @@ the_first_check_that_fails_is_answered = refl
 where_none_fails_none_is_answered : map first_fault ([] ∷ ((false, NotAStore) ∷ []) ∷ []) ≡ None ∷ None ∷ []
 where_none_fails_none_is_answered = refl
 
-opened : map failed_check ((gate ∷ header 1 3 0 0 ∷ [] ∷ []) ∷ (gate ∷ header 1 4 3 1 ∷ [] ∷ [] ∷ []) ∷ (gate ∷ header 1 3 0 0 ∷ [] ∷ [] ∷ []) ∷ []) ≡ None ∷ None ∷ None ∷ []
+opened : map failed_check ((gate ∷ header 2 3 0 0 ∷ [] ∷ []) ∷ (gate ∷ header 1 4 3 1 ∷ [] ∷ [] ∷ []) ∷ (gate ∷ header 1 3 0 0 ∷ [] ∷ [] ∷ []) ∷ []) ≡ None ∷ None ∷ None ∷ []
 unfolding failed_check gate_checks header_checks number_at
 opened = refl
 
@@ -136,7 +140,7 @@ a_wrong_header_before_an_unknown_version : failed_check (gate ∷ (codes "RSTARH
 unfolding failed_check gate_checks header_checks number_at
 a_wrong_header_before_an_unknown_version = refl
 
-an_unknown_version_before_bad_numbers : map (λ version. failed_check (gate ∷ header version 9 9 9 ∷ [] ∷ [])) (0 ∷ 2 ∷ 255 ∷ []) ≡ replicate 3 (Some WrongVersion)
+an_unknown_version_before_bad_numbers : map (λ version. failed_check (gate ∷ header version 9 9 9 ∷ [] ∷ [])) (0 ∷ 3 ∷ 255 ∷ []) ≡ replicate 3 (Some WrongVersion)
 unfolding failed_check gate_checks header_checks number_at
 an_unknown_version_before_bad_numbers = refl
 

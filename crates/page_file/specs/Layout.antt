@@ -1,6 +1,7 @@
 -- The blocks of a file: gate, header, catalog and free page, as they are written and as they are read
 -- (our format, docs/FORMAT.md).
-use Rattle.std.specs.Prelude.{◌≡◌, ℕ, List}
+use Rattle.std.specs.Prelude.{◌≡◌, ℕ, List, Bool, true, ◌&&◌, nat_le}
+use Rattle.block_device.specs.Device.{Blocks, block_at}
 use Rattle.block_bytes.specs.Numbers.{zeros, number_at, put_number}
 use Rattle.block_bytes.specs.Kinds.{free_kind}
 use Rattle.page_file.specs.declared.header.Header.{Header}
@@ -13,9 +14,19 @@ gate_text = 0x5253544152474154
 abbrev pub header_text : ℕ
 header_text = 0x5253544152484452
 
--- the version that is written, and the only one that is known
+-- the version that is written; that one and version 1 are read
 abbrev pub version : ℕ
-version = 1
+version = 2
+
+abbrev pub is_known : ℕ → Bool
+is_known v = nat_le 1 v && nat_le v version
+
+-- the version that a header's block holds, and that of a file
+abbrev pub version_of : List ℕ → ℕ
+version_of block = number_at 2 8 block
+
+abbrev pub version_in : Blocks → ℕ
+version_in blocks = version_of (block_at 1 blocks)
 
 -- block 0, the gate: open (0) or shut (1)
 unfoldable pub gate_block : ℕ → List ℕ
@@ -46,7 +57,7 @@ pub record IsShutGate (block : List ℕ) : Type 0 where
 -- a block that reads as a header of these numbers
 pub record IsHeader (h : Header) (block : List ℕ) : Type 0 where
   pub text : number_at 8 0 block ≡ header_text
-  pub version_is : number_at 2 8 block ≡ version
+  pub known : is_known (version_of block) ≡ true
   pub next_is : number_at 4 12 block ≡ h.next
   pub first_is : number_at 4 16 block ≡ h.first
   pub count_is : number_at 4 20 block ≡ h.count

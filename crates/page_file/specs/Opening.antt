@@ -2,7 +2,7 @@
 use Rattle.std.specs.Prelude.{ℕ, ◌-◌, Bool, ◌&&◌, ◌||◌, ◌==◌, not, nat_le, nat_lt, List, [], ◌∷◌, ◌++◌, length, Option, Some, None, IsSome, if◌then◌else◌}
 use Rattle.block_device.specs.Device.{Blocks, block_at}
 use Rattle.block_bytes.specs.Numbers.{number_at}
-use Rattle.page_file.specs.Layout.{gate_text, header_text, version}
+use Rattle.page_file.specs.Layout.{gate_text, header_text, is_known, version_of}
 use Rattle.page_file.specs.declared.header.Header.{Header}
 use Rattle.page_file.specs.declared.fault.Fault.{Fault}
 use Rattle.page_file.specs.declared.fault.Fault.TheVariants.{Damaged, NotClosed, NotAStore, WrongVersion}
@@ -33,7 +33,7 @@ gate_checks block =
 unfoldable pub header_checks : ℕ → List ℕ → List Check
 header_checks blocks block =
     (not (number_at 8 0 block == header_text), NotAStore)
-    ∷ (not (number_at 2 8 block == version), WrongVersion)
+    ∷ (not (is_known (version_of block)), WrongVersion)
     ∷ (not (nat_le (number_at 4 12 block) blocks && is_sound (header_of_block block)), Damaged 1)
     ∷ []
 

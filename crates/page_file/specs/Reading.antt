@@ -1,10 +1,10 @@
 -- What is read from a gate, a header and a free page as they are written.
-use Rattle.std.proofs.Common.{◌≡◌, ◌∙◌, ℕ, ◌+◌, ◌^◌, ◌<◌, ◌≤◌, List, length, arith, inl, lit<}
+use Rattle.std.proofs.Common.{◌≡◌, ◌∙◌, ℕ, ◌+◌, ◌^◌, ◌<◌, ◌≤◌, List, true, length, refl, sym, subst, arith, inl, lit<}
 use Rattle.block_bytes.specs.Numbers.{zeros, number_at, put_number, IsApart}
 use Rattle.block_bytes.specs.Laws.{length-zeros, length-put, number_at-put, number_at-put_other}
 use Rattle.block_bytes.specs.Kinds.{free_kind}
 use Rattle.page_file.specs.declared.header.Header.{Header}
-use Rattle.page_file.specs.Layout.{gate_text, header_text, version, gate_block, header_block, free_block, IsShutGate, IsHeader, kind_of, link_of}
+use Rattle.page_file.specs.Layout.{gate_text, header_text, version, is_known, gate_block, header_block, free_block, version_of, IsShutGate, IsHeader, kind_of, link_of}
 
 -- a number put into a block of 4096 bytes leaves one of 4096, keeps what is read elsewhere, and is read
 size : (n at x : ℕ) (block : List ℕ) → at + n ≤ 4096 → length block ≡ 4096 → length (put_number n at x block) ≡ 4096
@@ -34,6 +34,21 @@ length-gate shut = size 1 8 shut _ (omega arith) (text_size gate_text)
 pub shut_gate : IsShutGate (gate_block 1)
 shut_gate = record { text = text-gate 1; shut = shut-gate 1 (lit< tt) }
 
+-- a header is written with the version of today
+pub version_written : (h : Header) → version_of (header_block h) ≡ version
+unfolding header_block
+version_written h =
+    let p1 = put_number 8 0 header_text zeros in
+    let p2 = put_number 2 8 version p1 in
+    let p3 = put_number 4 12 h.next p2 in
+    let p4 = put_number 4 16 h.first p3 in
+    let l1 : length p1 ≡ 4096 = text_size header_text in
+    let l2 : length p2 ≡ 4096 = size 2 8 version p1 (omega arith) l1 in
+    let l3 : length p3 ≡ 4096 = size 4 12 h.next p2 (omega arith) l2 in
+    let l4 : length p4 ≡ 4096 = size 4 16 h.first p3 (omega arith) l3 in
+    past 2 8 4 20 h.count _ p4 (omega arith) l4 (inl (omega arith)) (past 2 8 4 16 h.first _ p3 (omega arith) l3 (inl (omega arith))
+    (past 2 8 4 12 h.next _ p2 (omega arith) l2 (inl (omega arith)) (there 2 8 version p1 (omega arith) l1 (lit< tt))))
+
 pub header_reads : (h : Header) → h.next < 2 ^ 32 → h.first < 2 ^ 32 → h.count < 2 ^ 32 → IsHeader h (header_block h)
 unfolding header_block
 header_reads h n f c =
@@ -49,8 +64,7 @@ header_reads h n f c =
       text = past 8 0 4 20 h.count _ p4 (omega arith) l4 (inl (omega arith)) (past 8 0 4 16 h.first _ p3 (omega arith) l3 (inl (omega arith))
           (past 8 0 4 12 h.next _ p2 (omega arith) l2 (inl (omega arith)) (past 8 0 2 8 version _ p1 (omega arith) l1 (inl (omega arith))
           (there 8 0 header_text zeros (omega arith) length-zeros (lit< tt)))));
-      version_is = past 2 8 4 20 h.count _ p4 (omega arith) l4 (inl (omega arith)) (past 2 8 4 16 h.first _ p3 (omega arith) l3 (inl (omega arith))
-          (past 2 8 4 12 h.next _ p2 (omega arith) l2 (inl (omega arith)) (there 2 8 version p1 (omega arith) l1 (lit< tt))));
+      known = subst (λ (v : ℕ). is_known v ≡ true) (sym (version_written h)) refl;
       next_is = past 4 12 4 20 h.count _ p4 (omega arith) l4 (inl (omega arith)) (past 4 12 4 16 h.first _ p3 (omega arith) l3 (inl (omega arith))
           (there 4 12 h.next p2 (omega arith) l2 n));
       first_is = past 4 16 4 20 h.count _ p4 (omega arith) l4 (inl (omega arith)) (there 4 16 h.first p3 (omega arith) l3 f);

@@ -5,7 +5,7 @@ use Rattle.block_device.specs.Device.{Blocks, block_at}
 use Rattle.block_bytes.specs.Numbers.{number_at}
 use Rattle.page_file.specs.declared.fault.Fault.TheVariants.{NotAStore, NotClosed, WrongVersion, Damaged}
 use Rattle.page_file.specs.declared.header.Header.{Header}
-use Rattle.page_file.specs.Layout.{gate_text, header_text, version, IsShutGate, IsHeader}
+use Rattle.page_file.specs.Layout.{gate_text, header_text, is_known, version_of, IsShutGate, IsHeader}
 use Rattle.page_file.specs.Opening.{Check, failed_check, first_fault, gate_checks, header_checks, header_of_block, is_sound}
 use Rattle.page_file.specs.Pages.{header_in, may_link}
 
@@ -44,7 +44,7 @@ passes_from blocks e =
     let page = block_at 1 blocks in
     let fit : Bool = nat_le (number_at 4 12 page) (length blocks) && is_sound (header_of_block page) in
     let last : Check = (not fit, Damaged 1) in
-    let known : Check = (not (number_at 2 8 page == version), WrongVersion) in
+    let known : Check = (not (is_known (version_of page)), WrongVersion) in
     let text : Check = (not (number_at 8 0 page == header_text), NotAStore) in
     let shut : Check = (not (number_at 1 8 (block_at 0 blocks) == 1), NotClosed) in
     let gate : Check = (not (number_at 8 0 (block_at 0 blocks) == gate_text), NotAStore) in
@@ -59,7 +59,7 @@ passes_from blocks e =
     record {
       three = let t = a.0 in grind (arith, nat_tests);
       gate = record { text = equal _ _ b.0; shut = equal _ _ c.0 };
-      header = record { text = equal _ _ d.0; version_is = equal _ _ f.0; next_is = refl; first_is = refl; count_is = refl };
+      header = record { text = equal _ _ d.0; known = not_false _ f.0; next_is = refl; first_is = refl; count_is = refl };
       within = let t = fits.0 in grind (arith, nat_tests);
       sound = fits.1;
     }
@@ -77,7 +77,7 @@ passes_to blocks p =
     let le : nat_le (number_at 4 12 page) (length blocks) ≡ true = let t = p.within in grind (arith, nat_tests) in
     let fits : fit ≡ true = ap (λ (t : Bool). t && is_sound (header_of_block page)) le ∙ p.sound in
     let last : Check = (not fit, Damaged 1) in
-    let known : Check = (not (number_at 2 8 page == version), WrongVersion) in
+    let known : Check = (not (is_known (version_of page)), WrongVersion) in
     let text : Check = (not (number_at 8 0 page == header_text), NotAStore) in
     let shut : Check = (not (number_at 1 8 (block_at 0 blocks) == 1), NotClosed) in
     let gate : Check = (not (number_at 8 0 (block_at 0 blocks) == gate_text), NotAStore) in
@@ -85,7 +85,7 @@ passes_to blocks p =
     (pass gate (shut ∷ (text ∷ (known ∷ (last ∷ [])))) (not_apart _ _ p.gate.text)
     (pass shut (text ∷ (known ∷ (last ∷ []))) (not_apart _ _ p.gate.shut)
     (pass text (known ∷ (last ∷ [])) (not_apart _ _ p.header.text)
-    (pass known (last ∷ []) (not_apart _ _ p.header.version_is)
+    (pass known (last ∷ []) (ap not p.header.known)
     (pass last [] (ap not fits) refl)))))
 
 abbrev made : ℕ → ℕ → ℕ → Header

@@ -3,7 +3,7 @@ ghost use Rattle.std.specs.Prelude.{◌≡◌, ◌≤◌, ◌<◌, ◌^◌, ◌�
 ghost use Rattle.block_device.specs.Device.{Blocks, Only, LeavesOnly, Torn, written, block_at};
 ghost use Rattle.page_file.specs.Fault.{HasCause, IsOfDevice, IsDamage};
 ghost use Rattle.page_file.specs.File.{IsNewFile};
-ghost use Rattle.page_file.specs.Layout.{IsHeader, catalog_block, gate_block, new_header};
+ghost use Rattle.page_file.specs.Layout.{IsHeader, catalog_block, gate_block, new_header, version_in};
 ghost use Rattle.page_file.specs.Opening.{IsRefused};
 ghost use Rattle.page_file.specs.Stops.{IsOpen, AllLeave, SameButGate};
 
@@ -57,6 +57,7 @@ fn lay_out<D: BlockDevice>(device: &mut D) -> Result<(), Fault>
     requires { length (D.shown device.old) ≡ 0 }
     ensures size { D.honest device.old → OnOk result (length (D.shown device.new) ≡ 3) }
     ensures header { D.honest device.old → OnOk result (IsHeader new_header (block_at 1 (D.shown device.new))) }
+    ensures version { D.honest device.old → OnOk result (version_in (D.shown device.new) ≡ 2) }
     ensures catalog { D.honest device.old → OnOk result (block_at 2 (D.shown device.new) ≡ catalog_block) }
     ensures durable { D.honest device.old → OnOk result (Only (D.shown device.new) (D.may_leave device.new)) }
     ensures stops { D.honest device.old → LeavesOnly D.moment D.left_since device.old device.new IsRefused }
@@ -80,6 +81,7 @@ pub fn create<D: BlockDevice>(device: &mut D) -> Result<(), Fault>
     ensures size { D.honest device.old → OnOk result (length (D.shown device.new) ≡ 3) }
     ensures gate { D.honest device.old → OnOk result (block_at 0 (D.shown device.new) ≡ gate_block 1) }
     ensures header { D.honest device.old → OnOk result (IsHeader new_header (block_at 1 (D.shown device.new))) }
+    ensures version { D.honest device.old → OnOk result (version_in (D.shown device.new) ≡ 2) }
     ensures catalog { D.honest device.old → OnOk result (block_at 2 (D.shown device.new) ≡ catalog_block) }
     ensures durable { D.honest device.old → OnOk result (Only (D.shown device.new) (D.may_leave device.new)) }
     ensures stops { D.honest device.old →

@@ -1,6 +1,7 @@
 //! The blocks of a file as bytes: gate, header, empty catalog and free page.
 ghost use Rattle.std.specs.Prelude.{◌≡◌, IfSome, true};
 ghost use Rattle.page_file.specs.Layout.{gate_block, header_block, catalog_block, free_block, IsHeader};
+ghost use Rattle.page_file.specs.Layout as layout;
 ghost use Rattle.page_file.specs.Opening.{header_of_block};
 ghost use Rattle.page_file.specs.Pages.{free_page_link, may_link};
 
@@ -15,8 +16,15 @@ pub const GATE_TEXT: u64 = 0x5253_5441_5247_4154;
 /// The ASCII text RSTARHDR.
 pub const HEADER_TEXT: u64 = 0x5253_5441_5248_4452;
 
-/// The version that is written, and the only one that is read.
-pub const VERSION: u16 = 1;
+/// The version that is written. Files of version 1 are read too (docs/FORMAT.md, "Versions").
+pub const VERSION: u16 = 2;
+
+/// Whether files of a version are read.
+pub fn is_known(version: u16) -> bool
+    ensures { result ≡ layout.is_known version }
+{
+    1 <= version && version <= VERSION
+}
 
 /// The gate's block, open (0) or shut (1).
 #[tactic(auto, unfolding(crate::specs::Layout::gate_block))]
@@ -34,6 +42,7 @@ pub fn gate_page(shut: u8) -> [u8; 4096]
 pub fn header_page(header: &Header) -> [u8; 4096]
     ensures is { result ≡ header_block header.now }
     ensures reads { IsHeader header.now result }
+    ensures version { layout.version_of result ≡ 2 }
 {
     let mut page = zero_block();
     write_u64(&mut page, 0, HEADER_TEXT);

@@ -12,7 +12,7 @@ ghost use Rattle.page_file.specs.declared.fault.Fault.TheVariants as fault;
 use crate::Fault;
 use crate::blocks::read_block;
 use crate::header::{Header, is_sound};
-use crate::layout::{GATE_TEXT, HEADER_TEXT, VERSION, read_header};
+use crate::layout::{GATE_TEXT, HEADER_TEXT, is_known, read_header};
 use block_bytes::{read_u8, read_u16, read_u64, zero_block};
 use block_device::BlockDevice;
 
@@ -44,7 +44,7 @@ fn check_header(page: &[u8; 4096], blocks: u32) -> Result<Header, Fault>
     if read_u64(page, 0) != HEADER_TEXT {
         return Err(Fault::NotAStore);
     }
-    if read_u16(page, 8) != VERSION {
+    if !is_known(read_u16(page, 8)) {
         return Err(Fault::WrongVersion);
     }
     let header = read_header(page);

@@ -158,7 +158,7 @@ fn blocks_are_those_of_the_format(rt: HostRuntime) -> Result<(), Fail> {
     assert!(rt;
         begins(
             &header,
-            b"RSTARHDR\x00\x01\x00\x00\x00\x00\x00\x05\x00\x00\x00\x04\x00\x00\x00\x01\x00\x00"
+            b"RSTARHDR\x00\x02\x00\x00\x00\x00\x00\x05\x00\x00\x00\x04\x00\x00\x00\x01\x00\x00"
         )
     );
     let free = block_of(&mut device, 4)?;
@@ -183,12 +183,14 @@ fn opening_answers_the_first_check_that_fails(rt: HostRuntime) -> Result<(), Fai
         Some(Fault::NotAStore)
     );
     assert_eq!(rt; refusal(scene(rt.alloc(), false)?), None);
-    let table: [(u32, usize, &[u8], Option<Fault>); 13] = [
+    let table: [(u32, usize, &[u8], Option<Fault>); 15] = [
         (0, 0, b"r", Some(Fault::NotAStore)),
         (0, 8, b"\x00", Some(Fault::NotClosed)),
         (0, 8, b"\x02", Some(Fault::NotClosed)),
         (1, 7, b"r", Some(Fault::NotAStore)),
         (1, 8, b"\x00\x00", Some(Fault::WrongVersion)),
+        (1, 8, b"\x00\x01", None),
+        (1, 8, b"\x00\x03", Some(Fault::WrongVersion)),
         (1, 15, b"\x02", Some(Fault::Damaged(1))),
         (1, 15, b"\x06", Some(Fault::Damaged(1))),
         (
@@ -235,6 +237,25 @@ fn opening_answers_the_first_check_that_fails(rt: HostRuntime) -> Result<(), Fai
     patch(&mut device, 0, 8, b"\x00")?;
     patch(&mut device, 1, 9, b"\x09")?;
     assert_eq!(rt; refusal(device), Some(Fault::NotClosed));
+    Ok(())
+}
+
+#[test]
+fn a_file_keeps_its_version_until_it_is_changed(rt: HostRuntime) -> Result<(), Fail> {
+    let mut device = scene(rt.alloc(), false)?;
+    patch(&mut device, 1, 8, b"\x00\x01")?;
+    let Ok(mut file) = open_pages(device) else {
+        return Err(Fail::from("open"));
+    };
+    assert!(rt; reads(&mut file, 3, 7)?);
+    let Ok(mut device) = file.close() else {
+        return Err(Fail::from("close"));
+    };
+    let header = block_of(&mut device, 1)?;
+    assert!(rt; begins(&header, b"RSTARHDR\x00\x01"));
+    let mut device = change(device);
+    let header = block_of(&mut device, 1)?;
+    assert!(rt; begins(&header, b"RSTARHDR\x00\x02"));
     Ok(())
 }
 

@@ -9,6 +9,7 @@ use Rattle.std.specs.FinMap.Entries.{find-where_key, is_sorted-where_key, where_
 use Rattle.std.specs.declared.cmp.Ordering.{Ordering}
 use Rattle.box_math.specs.Bounds.{Bounds, holds_test, meets_test, ordered_test, within_test}
 use Rattle.box_math.specs.Measures.{near_test}
+use Rattle.box_math.specs.Objects.{Object}
 use Rattle.plain_table.specs.Commands.Command.{Create, Insert, Load, Move, Delete, Drop, Get, Count, Range, Nearest, Join, Layers, Dump, Check, Reopen}
 use Rattle.plain_table.specs.Listings.DumpLine.{CreateLine, InsertLine}
 use Rattle.plain_table.specs.Loads.{given_object}
@@ -53,7 +54,7 @@ module _ {K X : Type 0} (R : K → K → Ordering) where
 abbrev pub table : List (List ℕ × Layer) → Table
 table layers = from_sorted {R = slice_cmp nat_cmp} layers
 
-abbrev pub layer : ℕ → ℕ → List (ℕ × Bounds) → Layer
+abbrev pub layer : ℕ → ℕ → List (ℕ × Object) → Layer
 layer dims fanout objects = record { dims = dims; fanout = fanout; objects = from_sorted {R = nat_cmp} objects }
 
 abbrev pub bounds : List ℤ → List ℤ → Bounds
@@ -77,8 +78,8 @@ abbrev pub a : List ℕ
 a = codes "a"
 
 -- two squares that touch in the point (1, 1)
-abbrev pub squares : List (ℕ × Bounds)
-squares = (1, bounds (at 0 0) (at 1 1)) ∷ (2, bounds (at 1 1) (at 2 2)) ∷ []
+abbrev pub squares : List (ℕ × Object)
+squares = (1, (bounds (at 0 0) (at 1 1), 0)) ∷ (2, (bounds (at 1 1) (at 2 2), 0)) ∷ []
 
 abbrev pub empty_layer : List (List ℕ × Layer)
 empty_layer = (a, layer 2 4 []) ∷ []
@@ -86,7 +87,7 @@ empty_layer = (a, layer 2 4 []) ∷ []
 abbrev pub touching : List (List ℕ × Layer)
 touching = (a, layer 2 4 squares) ∷ []
 
-no_objects : from_sorted {X = Bounds} {R = nat_cmp} [] ≡ empty
+no_objects : from_sorted {X = Object} {R = nat_cmp} [] ≡ empty
 no_objects = empty_of_len (from_sorted []) (len_of nat_cmp [] tt)
 
 empty_at : get (table empty_layer) a ≡ Some (layer 2 4 [])
@@ -188,82 +189,82 @@ a_layer_beside_59 t new room = rw (new, room) refl
 
 -- ---- insert
 
-insert_is_done : reply_of (table touching) (Insert a 18446744073709551615 (Two (at 0 0) (at 0 0))) ≡ Done
+insert_is_done : reply_of (table touching) (Insert a 18446744073709551615 (Two (at 0 0) (at 0 0)) 0) ≡ Done
 unfolding ordered_test
 insert_is_done = rw (touching_at, touching_count, get-from_sorted nat_cmp squares 18446744073709551615 tt) refl
 
 -- put in before the others, since its identifier is less
-insert_adds_an_object : after (table touching) (Insert a 0 (Two (at 0 0) (at 9 9))) ≡ table ((a, layer 2 4 ((0, bounds (at 0 0) (at 9 9)) ∷ squares)) ∷ [])
+insert_adds_an_object : after (table touching) (Insert a 0 (Two (at 0 0) (at 9 9)) 0) ≡ table ((a, layer 2 4 ((0, (bounds (at 0 0) (at 9 9), 0)) ∷ squares)) ∷ [])
 unfolding ordered_test
-insert_adds_an_object = rw (touching_at, touching_count, get-from_sorted nat_cmp squares 0 tt, put_into nat_cmp nat_cmp_total squares 0 (bounds (at 0 0) (at 9 9)) tt tt)
-    (put_into (slice_cmp nat_cmp) nat_list_cmp_total touching a (layer 2 4 ((0, bounds (at 0 0) (at 9 9)) ∷ squares)) tt tt)
+insert_adds_an_object = rw (touching_at, touching_count, get-from_sorted nat_cmp squares 0 tt, put_into nat_cmp nat_cmp_total squares 0 (bounds (at 0 0) (at 9 9), 0) tt tt)
+    (put_into (slice_cmp nat_cmp) nat_list_cmp_total touching a (layer 2 4 ((0, (bounds (at 0 0) (at 9 9), 0)) ∷ squares)) tt tt)
 
-insert_of_an_identifier_that_is_there : reply_of (table touching) (Insert a 1 (Two (at 5 5) (at 6 6))) ≡ Refused refusal.Duplicate
+insert_of_an_identifier_that_is_there : reply_of (table touching) (Insert a 1 (Two (at 5 5) (at 6 6)) 0) ≡ Refused refusal.Duplicate
 unfolding ordered_test
 insert_of_an_identifier_that_is_there = rw (touching_at, touching_count, get-from_sorted nat_cmp squares 1 tt) refl
 
-a_refused_insert_changes_nothing : after (table touching) (Insert a 1 (Two (at 5 5) (at 6 6))) ≡ table touching
+a_refused_insert_changes_nothing : after (table touching) (Insert a 1 (Two (at 5 5) (at 6 6)) 0) ≡ table touching
 unfolding ordered_test
 a_refused_insert_changes_nothing = rw (touching_at, touching_count, get-from_sorted nat_cmp squares 1 tt) refl
 
-insert_of_a_low_above_its_high : reply_of (table touching) (Insert a 3 (Two (at 1 0) (at 0 0))) ≡ Refused refusal.BadBox
+insert_of_a_low_above_its_high : reply_of (table touching) (Insert a 3 (Two (at 1 0) (at 0 0)) 0) ≡ Refused refusal.BadBox
 unfolding ordered_test
 insert_of_a_low_above_its_high = rw touching_at refl
 
-bad_box_on_the_last_axis_too : reply_of (table touching) (Insert a 3 (Two (at 0 1) (at 0 0))) ≡ Refused refusal.BadBox
+bad_box_on_the_last_axis_too : reply_of (table touching) (Insert a 3 (Two (at 0 1) (at 0 0)) 0) ≡ Refused refusal.BadBox
 unfolding ordered_test
 bad_box_on_the_last_axis_too = rw touching_at refl
 
-insert_into_no_layer : reply_of (table []) (Insert a 1 (Two (at 0 0) (at 1 1))) ≡ Refused refusal.NoLayer
+insert_into_no_layer : reply_of (table []) (Insert a 1 (Two (at 0 0) (at 1 1)) 0) ≡ Refused refusal.NoLayer
 insert_into_no_layer = rw (get-from_sorted {X = Layer} (slice_cmp nat_cmp) [] a tt) refl
 
 -- the name in capitals is no layer's either
-bad_name_before_no_layer : (t : Table) (id : ℕ) (box : RawBox) → reply_of t (Insert (codes "A") id box) ≡ Refused refusal.BadName
+bad_name_before_no_layer : (t : Table) (id : ℕ) (box : RawBox) → reply_of t (Insert (codes "A") id box 0) ≡ Refused refusal.BadName
 bad_name_before_no_layer t id box = refl
 
-no_layer_before_bad_box : reply_of (table []) (Insert a 1 (Two (at 1 1) (at 0 0))) ≡ Refused refusal.NoLayer
+no_layer_before_bad_box : reply_of (table []) (Insert a 1 (Two (at 1 1) (at 0 0)) 0) ≡ Refused refusal.NoLayer
 no_layer_before_bad_box = rw (get-from_sorted {X = Layer} (slice_cmp nat_cmp) [] a tt) refl
 
-wrong_dims_before_bad_box : reply_of (table touching) (Insert a 1 (Three (in_space 1 1 1) (in_space 0 0 0))) ≡ Refused refusal.WrongDims
+wrong_dims_before_bad_box : reply_of (table touching) (Insert a 1 (Three (in_space 1 1 1) (in_space 0 0 0)) 0) ≡ Refused refusal.WrongDims
 wrong_dims_before_bad_box = rw touching_at refl
 
-bad_box_before_duplicate : reply_of (table touching) (Insert a 1 (Two (at 1 1) (at 0 0))) ≡ Refused refusal.BadBox
+bad_box_before_duplicate : reply_of (table touching) (Insert a 1 (Two (at 1 1) (at 0 0)) 0) ≡ Refused refusal.BadBox
 unfolding ordered_test
 bad_box_before_duplicate = rw touching_at refl
 
-duplicate_before_too_many_objects : (t : Table) → get t a ≡ Some (layer 2 4 squares) → object_count t ≡ 1073741824 → reply_of t (Insert a 1 (Two (at 0 0) (at 1 1))) ≡ Refused refusal.Duplicate
+duplicate_before_too_many_objects : (t : Table) → get t a ≡ Some (layer 2 4 squares) → object_count t ≡ 1073741824 → reply_of t (Insert a 1 (Two (at 0 0) (at 1 1)) 0) ≡ Refused refusal.Duplicate
 unfolding ordered_test
 duplicate_before_too_many_objects t there full = rw (there, full, get-from_sorted nat_cmp squares 1 tt) refl
 
-an_object_beside_2_to_the_30 : (t : Table) → get t a ≡ Some (layer 2 4 squares) → object_count t ≡ 1073741824 → reply_of t (Insert a 3 (Two (at 0 0) (at 1 1))) ≡ Refused refusal.TooManyObjects
+an_object_beside_2_to_the_30 : (t : Table) → get t a ≡ Some (layer 2 4 squares) → object_count t ≡ 1073741824 → reply_of t (Insert a 3 (Two (at 0 0) (at 1 1)) 0) ≡ Refused refusal.TooManyObjects
 unfolding ordered_test
 an_object_beside_2_to_the_30 t there full = rw (there, full, get-from_sorted nat_cmp squares 3 tt) refl
 
-an_object_beside_one_less : (t : Table) → get t a ≡ Some (layer 2 4 squares) → object_count t ≡ 1073741823 → reply_of t (Insert a 3 (Two (at 0 0) (at 1 1))) ≡ Done
+an_object_beside_one_less : (t : Table) → get t a ≡ Some (layer 2 4 squares) → object_count t ≡ 1073741823 → reply_of t (Insert a 3 (Two (at 0 0) (at 1 1)) 0) ≡ Done
 unfolding ordered_test
 an_object_beside_one_less t there room = rw (there, room, get-from_sorted nat_cmp squares 3 tt) refl
 
 -- ---- load
 
-abbrev given : ℕ → ℕ → ℕ × RawBox
-given id x = (id, Two (at x 0) (at x 0))
+abbrev given : ℕ → ℕ → ℕ × RawBox × ℕ
+given id x = (id, Two (at x 0) (at x 0), 0)
 
-abbrev five_points : List (ℕ × RawBox)
+abbrev five_points : List (ℕ × RawBox × ℕ)
 five_points = given 1 0 ∷ given 2 1 ∷ given 3 2 ∷ given 4 3 ∷ given 5 10 ∷ []
 
-abbrev loaded_points : List (ℕ × Bounds)
-loaded_points = map (λ (object : ℕ × RawBox). given_object object) five_points
+abbrev loaded_points : List (ℕ × Object)
+loaded_points = map (λ (object : ℕ × RawBox × ℕ). given_object object) five_points
 
 empty_count : object_count (table empty_layer) ≡ 0
-empty_count = rw (entries-from_sorted (slice_cmp nat_cmp) empty_layer tt, len_of {X = Bounds} nat_cmp [] tt) refl
+empty_count = rw (entries-from_sorted (slice_cmp nat_cmp) empty_layer tt, len_of {X = Object} nat_cmp [] tt) refl
 
 load_is_done : reply_of (table empty_layer) (Load a five_points) ≡ Done
 unfolding ordered_test
-load_is_done = rw (empty_at, empty_count, len_of {X = Bounds} nat_cmp [] tt) refl
+load_is_done = rw (empty_at, empty_count, len_of {X = Object} nat_cmp [] tt) refl
 
 load_adds_all_objects : after (table empty_layer) (Load a five_points) ≡ table ((a, layer 2 4 loaded_points) ∷ [])
 unfolding ordered_test
-load_adds_all_objects = rw (empty_at, empty_count, len_of {X = Bounds} nat_cmp [] tt, of_entries nat_cmp nat_cmp_total nat_cmp-IsAntisymmetric loaded_points tt)
+load_adds_all_objects = rw (empty_at, empty_count, len_of {X = Object} nat_cmp [] tt, of_entries nat_cmp nat_cmp_total nat_cmp-IsAntisymmetric loaded_points tt)
     (put_into (slice_cmp nat_cmp) nat_list_cmp_total empty_layer a (layer 2 4 loaded_points) tt tt)
 
 load_into_a_layer_with_objects : reply_of (table touching) (Load a []) ≡ Refused refusal.NotEmpty
@@ -271,21 +272,21 @@ load_into_a_layer_with_objects = rw (touching_at, len_of nat_cmp squares tt) ref
 
 load_of_an_identifier_twice : reply_of (table empty_layer) (Load a (given 1 0 ∷ given 2 1 ∷ given 1 2 ∷ [])) ≡ Refused (refusal.DuplicateInLoad 1)
 unfolding ordered_test
-load_of_an_identifier_twice = rw (empty_at, len_of {X = Bounds} nat_cmp [] tt) refl
+load_of_an_identifier_twice = rw (empty_at, len_of {X = Object} nat_cmp [] tt) refl
 
 -- whichever was given first
 load_of_two_identifiers_twice : reply_of (table empty_layer) (Load a (given 7 0 ∷ given 7 1 ∷ given 3 2 ∷ given 9 0 ∷ given 3 2 ∷ [])) ≡ Refused (refusal.DuplicateInLoad 3)
 unfolding ordered_test
-load_of_two_identifiers_twice = rw (empty_at, len_of {X = Bounds} nat_cmp [] tt) refl
+load_of_two_identifiers_twice = rw (empty_at, len_of {X = Object} nat_cmp [] tt) refl
 
 load_into_no_layer : reply_of (table []) (Load a five_points) ≡ Refused refusal.NoLayer
 load_into_no_layer = rw (get-from_sorted {X = Layer} (slice_cmp nat_cmp) [] a tt) refl
 
 -- one box is in space, and another has a low above its high
-load_wrong_dims_before_bad_box : reply_of (table touching) (Load a ((1, Two (at 1 1) (at 0 0)) ∷ (2, Three (in_space 0 0 0) (in_space 0 0 0)) ∷ [])) ≡ Refused refusal.WrongDims
+load_wrong_dims_before_bad_box : reply_of (table touching) (Load a ((1, Two (at 1 1) (at 0 0), 0) ∷ (2, Three (in_space 0 0 0) (in_space 0 0 0), 0) ∷ [])) ≡ Refused refusal.WrongDims
 load_wrong_dims_before_bad_box = rw touching_at refl
 
-load_bad_box_before_not_empty : reply_of (table touching) (Load a (given 1 0 ∷ (2, Two (at 1 1) (at 0 0)) ∷ [])) ≡ Refused refusal.BadBox
+load_bad_box_before_not_empty : reply_of (table touching) (Load a (given 1 0 ∷ (2, Two (at 1 1) (at 0 0), 0) ∷ [])) ≡ Refused refusal.BadBox
 unfolding ordered_test
 load_bad_box_before_not_empty = rw touching_at refl
 
@@ -295,25 +296,25 @@ not_empty_before_an_identifier_twice = rw (touching_at, len_of nat_cmp squares t
 
 an_identifier_twice_before_too_many_objects : (t : Table) → get t a ≡ Some (layer 2 4 []) → object_count t ≡ 1073741824 → reply_of t (Load a (given 1 0 ∷ given 1 0 ∷ [])) ≡ Refused (refusal.DuplicateInLoad 1)
 unfolding ordered_test
-an_identifier_twice_before_too_many_objects t there full = rw (there, len_of {X = Bounds} nat_cmp [] tt) refl
+an_identifier_twice_before_too_many_objects t there full = rw (there, len_of {X = Object} nat_cmp [] tt) refl
 
 two_objects_beside_one_less : (t : Table) → get t a ≡ Some (layer 2 4 []) → object_count t ≡ 1073741823 → reply_of t (Load a (given 1 0 ∷ given 2 0 ∷ [])) ≡ Refused refusal.TooManyObjects
 unfolding ordered_test
-two_objects_beside_one_less t there full = rw (there, full, len_of {X = Bounds} nat_cmp [] tt) refl
+two_objects_beside_one_less t there full = rw (there, full, len_of {X = Object} nat_cmp [] tt) refl
 
 two_objects_beside_two_less : (t : Table) → get t a ≡ Some (layer 2 4 []) → object_count t ≡ 1073741822 → reply_of t (Load a (given 1 0 ∷ given 2 0 ∷ [])) ≡ Done
 unfolding ordered_test
-two_objects_beside_two_less t there full = rw (there, full, len_of {X = Bounds} nat_cmp [] tt) refl
+two_objects_beside_two_less t there full = rw (there, full, len_of {X = Object} nat_cmp [] tt) refl
 
 load_of_nothing_is_done : reply_of (table empty_layer) (Load a []) ≡ Done
-load_of_nothing_is_done = rw (empty_at, empty_count, len_of {X = Bounds} nat_cmp [] tt) refl
+load_of_nothing_is_done = rw (empty_at, empty_count, len_of {X = Object} nat_cmp [] tt) refl
 
 load_of_nothing_is_no_change : changes (table empty_layer) (Load a []) ≡ false
-load_of_nothing_is_no_change = rw (empty_at, empty_count, len_of {X = Bounds} nat_cmp [] tt) refl
+load_of_nothing_is_no_change = rw (empty_at, empty_count, len_of {X = Object} nat_cmp [] tt) refl
 
 load_is_a_change : changes (table empty_layer) (Load a five_points) ≡ true
 unfolding ordered_test
-load_is_a_change = rw (empty_at, empty_count, len_of {X = Bounds} nat_cmp [] tt) refl
+load_is_a_change = rw (empty_at, empty_count, len_of {X = Object} nat_cmp [] tt) refl
 
 -- ---- move
 
@@ -321,10 +322,10 @@ move_is_done : reply_of (table touching) (Move a 1 (Two (at 5 5) (at 6 6))) ≡ 
 unfolding ordered_test
 move_is_done = rw (touching_at, get-from_sorted nat_cmp squares 1 tt) refl
 
-move_gives_another_box : after (table touching) (Move a 1 (Two (at 5 5) (at 6 6))) ≡ table ((a, layer 2 4 ((1, bounds (at 5 5) (at 6 6)) ∷ (2, bounds (at 1 1) (at 2 2)) ∷ [])) ∷ [])
+move_gives_another_box : after (table touching) (Move a 1 (Two (at 5 5) (at 6 6))) ≡ table ((a, layer 2 4 ((1, (bounds (at 5 5) (at 6 6), 0)) ∷ (2, (bounds (at 1 1) (at 2 2), 0)) ∷ [])) ∷ [])
 unfolding ordered_test
-move_gives_another_box = rw (touching_at, get-from_sorted nat_cmp squares 1 tt, put_into nat_cmp nat_cmp_total squares 1 (bounds (at 5 5) (at 6 6)) tt tt)
-    (put_into (slice_cmp nat_cmp) nat_list_cmp_total touching a (layer 2 4 ((1, bounds (at 5 5) (at 6 6)) ∷ (2, bounds (at 1 1) (at 2 2)) ∷ [])) tt tt)
+move_gives_another_box = rw (touching_at, get-from_sorted nat_cmp squares 1 tt, put_into nat_cmp nat_cmp_total squares 1 (bounds (at 5 5) (at 6 6), 0) tt tt)
+    (put_into (slice_cmp nat_cmp) nat_list_cmp_total touching a (layer 2 4 ((1, (bounds (at 5 5) (at 6 6), 0)) ∷ (2, (bounds (at 1 1) (at 2 2), 0)) ∷ [])) tt tt)
 
 move_is_a_change : changes (table touching) (Move a 1 (Two (at 5 5) (at 6 6))) ≡ true
 unfolding ordered_test
@@ -357,9 +358,9 @@ move_in_no_layer = rw (get-from_sorted {X = Layer} (slice_cmp nat_cmp) [] a tt) 
 delete_is_done : reply_of (table touching) (Delete a 1) ≡ Done
 delete_is_done = rw (touching_at, get-from_sorted nat_cmp squares 1 tt) refl
 
-delete_takes_the_object_out : after (table touching) (Delete a 1) ≡ table ((a, layer 2 4 ((2, bounds (at 1 1) (at 2 2)) ∷ [])) ∷ [])
+delete_takes_the_object_out : after (table touching) (Delete a 1) ≡ table ((a, layer 2 4 ((2, (bounds (at 1 1) (at 2 2), 0)) ∷ [])) ∷ [])
 delete_takes_the_object_out = rw (touching_at, get-from_sorted nat_cmp squares 1 tt, taken_from nat_cmp nat_cmp_total nat_cmp-IsAntisymmetric squares 1 tt)
-    (put_into (slice_cmp nat_cmp) nat_list_cmp_total touching a (layer 2 4 ((2, bounds (at 1 1) (at 2 2)) ∷ [])) tt tt)
+    (put_into (slice_cmp nat_cmp) nat_list_cmp_total touching a (layer 2 4 ((2, (bounds (at 1 1) (at 2 2), 0)) ∷ [])) tt tt)
 
 delete_is_a_change : changes (table touching) (Delete a 1) ≡ true
 delete_is_a_change = rw (touching_at, get-from_sorted nat_cmp squares 1 tt) refl
@@ -390,7 +391,7 @@ drop_of_no_name t = refl
 
 -- ---- get
 
-pub get_shows_the_object : reply_of (table touching) (Get a 2) ≡ Boxes ((2, bounds (at 1 1) (at 2 2)) ∷ [])
+pub get_shows_the_object : reply_of (table touching) (Get a 2) ≡ Boxes ((2, (bounds (at 1 1) (at 2 2), 0)) ∷ [])
 get_shows_the_object = rw (touching_at, get-from_sorted nat_cmp squares 2 tt) refl
 
 get_of_an_identifier_that_is_not_there : reply_of (table touching) (Get a 3) ≡ Refused refusal.NoObject
@@ -404,7 +405,7 @@ get_of_no_name t id = refl
 
 -- the object of another layer is not shown
 get_looks_into_its_layer_alone : reply_of (table ((a, layer 2 4 []) ∷ (codes "b", layer 2 4 squares) ∷ [])) (Get a 2) ≡ Refused refusal.NoObject
-get_looks_into_its_layer_alone = rw (get-from_sorted (slice_cmp nat_cmp) ((a, layer 2 4 []) ∷ (codes "b", layer 2 4 squares) ∷ []) a tt, get-from_sorted {X = Bounds} nat_cmp [] 2 tt) refl
+get_looks_into_its_layer_alone = rw (get-from_sorted (slice_cmp nat_cmp) ((a, layer 2 4 []) ∷ (codes "b", layer 2 4 squares) ∷ []) a tt, get-from_sorted {X = Object} nat_cmp [] 2 tt) refl
 
 -- ---- count
 
@@ -412,7 +413,7 @@ pub count_of_two_objects : reply_of (table touching) (Count a) ≡ Counted 2
 count_of_two_objects = rw (touching_at, len_of nat_cmp squares tt) refl
 
 count_of_an_empty_layer : reply_of (table empty_layer) (Count a) ≡ Counted 0
-count_of_an_empty_layer = rw (empty_at, len_of {X = Bounds} nat_cmp [] tt) refl
+count_of_an_empty_layer = rw (empty_at, len_of {X = Object} nat_cmp [] tt) refl
 
 count_of_no_layer : reply_of (table touching) (Count (codes "q")) ≡ Refused refusal.NoLayer
 count_of_no_layer = rw (get-from_sorted (slice_cmp nat_cmp) touching (codes "q") tt) refl
@@ -422,87 +423,123 @@ count_of_no_name t = refl
 
 -- ---- window
 
-window_on_all_of_an_empty_layer : reply_of (table empty_layer) (Range a (Window (Two (lowest ∷ lowest ∷ []) (highest ∷ highest ∷ [])))) ≡ Boxes []
+window_on_all_of_an_empty_layer : reply_of (table empty_layer) (Range a (Window (Two (lowest ∷ lowest ∷ []) (highest ∷ highest ∷ []))) None) ≡ Boxes []
 unfolding meets_test ordered_test
-window_on_all_of_an_empty_layer = rw (empty_at, entries-from_sorted {X = Bounds} nat_cmp [] tt) refl
+window_on_all_of_an_empty_layer = rw (empty_at, entries-from_sorted {X = Object} nat_cmp [] tt) refl
 
-pub squares_that_touch_are_both_found : reply_of (table touching) (Range a (Window (Two (at 1 1) (at 1 1)))) ≡ Boxes squares
+pub squares_that_touch_are_both_found : reply_of (table touching) (Range a (Window (Two (at 1 1) (at 1 1))) None) ≡ Boxes squares
 unfolding meets_test ordered_test
 squares_that_touch_are_both_found = rw (touching_at, entries-from_sorted nat_cmp squares tt) refl
 
-the_second_square_alone_is_found : reply_of (table touching) (Range a (Window (Two (at 2 2) (at 9 9)))) ≡ Boxes ((2, bounds (at 1 1) (at 2 2)) ∷ [])
+the_second_square_alone_is_found : reply_of (table touching) (Range a (Window (Two (at 2 2) (at 9 9))) None) ≡ Boxes ((2, (bounds (at 1 1) (at 2 2), 0)) ∷ [])
 unfolding meets_test ordered_test
 the_second_square_alone_is_found = rw (touching_at, entries-from_sorted nat_cmp squares tt) refl
 
 -- it meets the second square on the first axis alone
-a_window_beside_both_finds_none : reply_of (table touching) (Range a (Window (Two (at 2 0) (at 2 0)))) ≡ Boxes []
+a_window_beside_both_finds_none : reply_of (table touching) (Range a (Window (Two (at 2 0) (at 2 0))) None) ≡ Boxes []
 unfolding meets_test ordered_test
 a_window_beside_both_finds_none = rw (touching_at, entries-from_sorted nat_cmp squares tt) refl
 
-abbrev extremes : List (ℕ × Bounds)
-extremes = (1, bounds (lowest ∷ lowest ∷ lowest ∷ []) (highest ∷ highest ∷ highest ∷ [])) ∷ (2, bounds (highest ∷ highest ∷ highest ∷ []) (highest ∷ highest ∷ highest ∷ [])) ∷ []
+abbrev extremes : List (ℕ × Object)
+extremes = (1, (bounds (lowest ∷ lowest ∷ lowest ∷ []) (highest ∷ highest ∷ highest ∷ []), 0)) ∷ (2, (bounds (highest ∷ highest ∷ highest ∷ []) (highest ∷ highest ∷ highest ∷ []), 0)) ∷ []
 
-the_first_corner_of_space : reply_of (table ((a, layer 3 4 extremes) ∷ [])) (Range a (Window (Three (lowest ∷ lowest ∷ lowest ∷ []) (lowest ∷ lowest ∷ lowest ∷ [])))) ≡ Boxes ((1, bounds (lowest ∷ lowest ∷ lowest ∷ []) (highest ∷ highest ∷ highest ∷ [])) ∷ [])
+the_first_corner_of_space : reply_of (table ((a, layer 3 4 extremes) ∷ [])) (Range a (Window (Three (lowest ∷ lowest ∷ lowest ∷ []) (lowest ∷ lowest ∷ lowest ∷ []))) None) ≡ Boxes ((1, (bounds (lowest ∷ lowest ∷ lowest ∷ []) (highest ∷ highest ∷ highest ∷ []), 0)) ∷ [])
 unfolding meets_test ordered_test
 the_first_corner_of_space = rw (get-from_sorted (slice_cmp nat_cmp) ((a, layer 3 4 extremes) ∷ []) a tt, entries-from_sorted nat_cmp extremes tt) refl
 
-the_last_corner_of_space : reply_of (table ((a, layer 3 4 extremes) ∷ [])) (Range a (Window (Three (highest ∷ highest ∷ highest ∷ []) (highest ∷ highest ∷ highest ∷ [])))) ≡ Boxes extremes
+the_last_corner_of_space : reply_of (table ((a, layer 3 4 extremes) ∷ [])) (Range a (Window (Three (highest ∷ highest ∷ highest ∷ []) (highest ∷ highest ∷ highest ∷ []))) None) ≡ Boxes extremes
 unfolding meets_test ordered_test
 the_last_corner_of_space = rw (get-from_sorted (slice_cmp nat_cmp) ((a, layer 3 4 extremes) ∷ []) a tt, entries-from_sorted nat_cmp extremes tt) refl
 
-window_on_no_layer : reply_of (table touching) (Range (codes "q") (Window (Two (at 0 0) (at 1 1)))) ≡ Refused refusal.NoLayer
+window_on_no_layer : reply_of (table touching) (Range (codes "q") (Window (Two (at 0 0) (at 1 1))) None) ≡ Refused refusal.NoLayer
 window_on_no_layer = rw (get-from_sorted (slice_cmp nat_cmp) touching (codes "q") tt) refl
 
-window_wrong_dims_before_bad_box : reply_of (table touching) (Range a (Window (Three (in_space 1 1 1) (in_space 0 0 0)))) ≡ Refused refusal.WrongDims
+window_wrong_dims_before_bad_box : reply_of (table touching) (Range a (Window (Three (in_space 1 1 1) (in_space 0 0 0))) None) ≡ Refused refusal.WrongDims
 window_wrong_dims_before_bad_box = rw touching_at refl
 
-window_of_a_low_above_its_high : reply_of (table touching) (Range a (Window (Two (at 1 0) (at 0 0)))) ≡ Refused refusal.BadBox
+window_of_a_low_above_its_high : reply_of (table touching) (Range a (Window (Two (at 1 0) (at 0 0))) None) ≡ Refused refusal.BadBox
 unfolding ordered_test
 window_of_a_low_above_its_high = rw touching_at refl
 
-pub window_changes_nothing : after (table touching) (Range a (Window (Two (at 1 1) (at 1 1)))) ≡ table touching
+-- of two squares that touch the first has the tag 7
+abbrev tagged : List (ℕ × Object)
+tagged = (1, (bounds (at 0 0) (at 1 1), 7)) ∷ (2, (bounds (at 1 1) (at 2 2), 0)) ∷ []
+
+abbrev with_tags : List (List ℕ × Layer)
+with_tags = (a, layer 2 4 tagged) ∷ []
+
+tagged_at : get (table with_tags) a ≡ Some (layer 2 4 tagged)
+tagged_at = get-from_sorted (slice_cmp nat_cmp) with_tags a tt
+
+a_query_takes_all_tags : reply_of (table with_tags) (Range a (Window (Two (at 0 0) (at 2 2))) None) ≡ Boxes tagged
+unfolding meets_test ordered_test
+a_query_takes_all_tags = rw (tagged_at, entries-from_sorted nat_cmp tagged tt) refl
+
+a_query_takes_one_tag : reply_of (table with_tags) (Range a (Window (Two (at 0 0) (at 2 2))) (Some 7)) ≡ Boxes ((1, (bounds (at 0 0) (at 1 1), 7)) ∷ [])
+unfolding meets_test ordered_test
+a_query_takes_one_tag = rw (tagged_at, entries-from_sorted nat_cmp tagged tt) refl
+
+no_object_has_the_tag : reply_of (table with_tags) (Range a (Window (Two (at 0 0) (at 2 2))) (Some 9)) ≡ Boxes []
+unfolding meets_test ordered_test
+no_object_has_the_tag = rw (tagged_at, entries-from_sorted nat_cmp tagged tt) refl
+
+the_tag_0_is_one_too : reply_of (table with_tags) (Range a (Point (point.Two (at 1 1))) (Some 0)) ≡ Boxes ((2, (bounds (at 1 1) (at 2 2), 0)) ∷ [])
+unfolding holds_test
+the_tag_0_is_one_too = rw (tagged_at, entries-from_sorted nat_cmp tagged tt) refl
+
+insert_sets_the_tag : after (table touching) (Insert a 0 (Two (at 0 0) (at 9 9)) 5) ≡ table ((a, layer 2 4 ((0, (bounds (at 0 0) (at 9 9), 5)) ∷ squares)) ∷ [])
+unfolding ordered_test
+insert_sets_the_tag = rw (touching_at, touching_count, get-from_sorted nat_cmp squares 0 tt, put_into nat_cmp nat_cmp_total squares 0 (bounds (at 0 0) (at 9 9), 5) tt tt)
+    (put_into (slice_cmp nat_cmp) nat_list_cmp_total touching a (layer 2 4 ((0, (bounds (at 0 0) (at 9 9), 5)) ∷ squares)) tt tt)
+
+move_keeps_the_tag : after (table with_tags) (Move a 1 (Two (at 5 5) (at 6 6))) ≡ table ((a, layer 2 4 ((1, (bounds (at 5 5) (at 6 6), 7)) ∷ (2, (bounds (at 1 1) (at 2 2), 0)) ∷ [])) ∷ [])
+unfolding ordered_test
+move_keeps_the_tag = rw (tagged_at, get-from_sorted nat_cmp tagged 1 tt, put_into nat_cmp nat_cmp_total tagged 1 (bounds (at 5 5) (at 6 6), 7) tt tt)
+    (put_into (slice_cmp nat_cmp) nat_list_cmp_total with_tags a (layer 2 4 ((1, (bounds (at 5 5) (at 6 6), 7)) ∷ (2, (bounds (at 1 1) (at 2 2), 0)) ∷ [])) tt tt)
+
+pub window_changes_nothing : after (table touching) (Range a (Window (Two (at 1 1) (at 1 1))) None) ≡ table touching
 unfolding ordered_test
 window_changes_nothing = rw touching_at refl
 
 -- ---- inside, around and point
 
-the_first_square_alone_is_inside : reply_of (table touching) (Range a (Inside (Two (at 0 0) (at 1 1)))) ≡ Boxes ((1, bounds (at 0 0) (at 1 1)) ∷ [])
+the_first_square_alone_is_inside : reply_of (table touching) (Range a (Inside (Two (at 0 0) (at 1 1))) None) ≡ Boxes ((1, (bounds (at 0 0) (at 1 1), 0)) ∷ [])
 unfolding within_test ordered_test
 the_first_square_alone_is_inside = rw (touching_at, entries-from_sorted nat_cmp squares tt) refl
 
 -- a window finds both
-no_square_is_inside_a_lesser_one : reply_of (table touching) (Range a (Inside (Two (at 1 1) (at 1 1)))) ≡ Boxes []
+no_square_is_inside_a_lesser_one : reply_of (table touching) (Range a (Inside (Two (at 1 1) (at 1 1))) None) ≡ Boxes []
 unfolding within_test ordered_test
 no_square_is_inside_a_lesser_one = rw (touching_at, entries-from_sorted nat_cmp squares tt) refl
 
-the_second_square_alone_is_around : reply_of (table touching) (Range a (Around (Two (at 1 1) (at 2 2)))) ≡ Boxes ((2, bounds (at 1 1) (at 2 2)) ∷ [])
+the_second_square_alone_is_around : reply_of (table touching) (Range a (Around (Two (at 1 1) (at 2 2))) None) ≡ Boxes ((2, (bounds (at 1 1) (at 2 2), 0)) ∷ [])
 unfolding within_test ordered_test
 the_second_square_alone_is_around = rw (touching_at, entries-from_sorted nat_cmp squares tt) refl
 
 -- all is inside of it
-no_square_is_around_a_greater_one : reply_of (table touching) (Range a (Around (Two (at 0 0) (at 2 2)))) ≡ Boxes []
+no_square_is_around_a_greater_one : reply_of (table touching) (Range a (Around (Two (at 0 0) (at 2 2))) None) ≡ Boxes []
 unfolding within_test ordered_test
 no_square_is_around_a_greater_one = rw (touching_at, entries-from_sorted nat_cmp squares tt) refl
 
-both_squares_hold_the_point_where_they_touch : reply_of (table touching) (Range a (Point (point.Two (at 1 1)))) ≡ Boxes squares
+both_squares_hold_the_point_where_they_touch : reply_of (table touching) (Range a (Point (point.Two (at 1 1))) None) ≡ Boxes squares
 unfolding holds_test
 both_squares_hold_the_point_where_they_touch = rw (touching_at, entries-from_sorted nat_cmp squares tt) refl
 
-the_second_square_alone_holds_its_corner : reply_of (table touching) (Range a (Point (point.Two (at 1 2)))) ≡ Boxes ((2, bounds (at 1 1) (at 2 2)) ∷ [])
+the_second_square_alone_holds_its_corner : reply_of (table touching) (Range a (Point (point.Two (at 1 2))) None) ≡ Boxes ((2, (bounds (at 1 1) (at 2 2), 0)) ∷ [])
 unfolding holds_test
 the_second_square_alone_holds_its_corner = rw (touching_at, entries-from_sorted nat_cmp squares tt) refl
 
-a_point_in_space_is_of_wrong_dims : reply_of (table touching) (Range a (Point (point.Three (in_space 1 1 1)))) ≡ Refused refusal.WrongDims
+a_point_in_space_is_of_wrong_dims : reply_of (table touching) (Range a (Point (point.Three (in_space 1 1 1))) None) ≡ Refused refusal.WrongDims
 a_point_in_space_is_of_wrong_dims = rw touching_at refl
 
-inside_a_low_above_its_high : reply_of (table touching) (Range a (Inside (Two (at 1 0) (at 0 0)))) ≡ Refused refusal.BadBox
+inside_a_low_above_its_high : reply_of (table touching) (Range a (Inside (Two (at 1 0) (at 0 0))) None) ≡ Refused refusal.BadBox
 unfolding ordered_test
 inside_a_low_above_its_high = rw touching_at refl
 
-around_in_no_layer : reply_of (table touching) (Range (codes "q") (Around (Two (at 1 0) (at 0 0)))) ≡ Refused refusal.NoLayer
+around_in_no_layer : reply_of (table touching) (Range (codes "q") (Around (Two (at 1 0) (at 0 0))) None) ≡ Refused refusal.NoLayer
 around_in_no_layer = rw (get-from_sorted (slice_cmp nat_cmp) touching (codes "q") tt) refl
 
-a_query_changes_nothing : (query : RawQuery) → after (table empty_layer) (Range (codes "A") query) ≡ table empty_layer
+a_query_changes_nothing : (query : RawQuery) → after (table empty_layer) (Range (codes "A") query None) ≡ table empty_layer
 a_query_changes_nothing query = refl
 
 -- ---- nearest
@@ -573,13 +610,13 @@ listing_of_no_layer : reply_of (table []) Layers ≡ Listed []
 listing_of_no_layer = rw (entries-from_sorted {X = Layer} (slice_cmp nat_cmp) [] tt) refl
 
 dump_of_one_layer : reply_of (table touching) Dump
-    ≡ Dumped (CreateLine a 2 4 ∷ InsertLine a 1 (bounds (at 0 0) (at 1 1)) ∷ InsertLine a 2 (bounds (at 1 1) (at 2 2)) ∷ [])
+    ≡ Dumped (CreateLine a 2 4 ∷ InsertLine a 1 (bounds (at 0 0) (at 1 1), 0) ∷ InsertLine a 2 (bounds (at 1 1) (at 2 2), 0) ∷ [])
 dump_of_one_layer = rw (entries-from_sorted (slice_cmp nat_cmp) touching tt, entries-from_sorted nat_cmp squares tt) refl
 
 -- by name, and an empty layer has one line
 dump_of_two_layers : reply_of (table ((a, layer 3 100 []) ∷ (codes "b", layer 2 4 squares) ∷ [])) Dump
-    ≡ Dumped (CreateLine a 3 100 ∷ CreateLine (codes "b") 2 4 ∷ InsertLine (codes "b") 1 (bounds (at 0 0) (at 1 1)) ∷ InsertLine (codes "b") 2 (bounds (at 1 1) (at 2 2)) ∷ [])
-dump_of_two_layers = rw (entries-from_sorted (slice_cmp nat_cmp) ((a, layer 3 100 []) ∷ (codes "b", layer 2 4 squares) ∷ []) tt, entries-from_sorted {X = Bounds} nat_cmp [] tt, entries-from_sorted nat_cmp squares tt) refl
+    ≡ Dumped (CreateLine a 3 100 ∷ CreateLine (codes "b") 2 4 ∷ InsertLine (codes "b") 1 (bounds (at 0 0) (at 1 1), 0) ∷ InsertLine (codes "b") 2 (bounds (at 1 1) (at 2 2), 0) ∷ [])
+dump_of_two_layers = rw (entries-from_sorted (slice_cmp nat_cmp) ((a, layer 3 100 []) ∷ (codes "b", layer 2 4 squares) ∷ []) tt, entries-from_sorted {X = Object} nat_cmp [] tt, entries-from_sorted nat_cmp squares tt) refl
 
 -- ---- check and reopen
 

@@ -4,7 +4,7 @@ use Rattle.std.specs.Prelude.{Option, is_some, nat_le, unwrap_or}
 use Rattle.std.proofs.lemmas.Bool.Decides.{nat_tests}
 use Rattle.std.specs.Cmp.{nat_cmp_total}
 use Rattle.std.specs.FinMap.{contains_key, get, len, len-insert}
-use Rattle.box_math.specs.Bounds.{Bounds}
+use Rattle.box_math.specs.Objects.{Object}
 use Rattle.plain_table.specs.Commands.Command.{Create, Insert, Get, Count, Range, Nearest}
 use Rattle.plain_table.specs.Laws.{none_holds}
 use Rattle.plain_table.specs.Step.{first_refusal, missing_refusals, nearest_refusals, object_refusals, query_refusals, refusal_of}
@@ -25,11 +25,11 @@ module _ (t : Table) (name : List ℕ) (named : is_layer_name name ≡ true) whe
     pub create_passes : contains_key t name ≡ false → len t < most_layers → refusal_of t (Create name dims fanout) ≡ None
     create_passes h l = let few : nat_le 60 (len t) ≡ false = grind (arith, nat_tests) in rw (named, d, f, h, few) refl
 
-  pub insert_missing : (id : ℕ) (box : RawBox) → contains_key t name ≡ false → refusal_of t (Insert name id box) ≡ Some refusal.NoLayer
-  insert_missing id box h = rw (named, h) refl
+  pub insert_missing : (id : ℕ) (box : RawBox) (tag : ℕ) → contains_key t name ≡ false → refusal_of t (Insert name id box tag) ≡ Some refusal.NoLayer
+  insert_missing id box tag h = rw (named, h) refl
 
-  pub insert_refusal : (id : ℕ) (box : RawBox) (l : Layer) (full : Bool) → get t name ≡ Some l → full ≡ nat_le most_objects (object_count t) → refusal_of t (Insert name id box) ≡ first_refusal (object_refusals l id box full)
-  insert_refusal id box l full g e = rw (named, g, ← e) refl
+  pub insert_refusal : (id : ℕ) (box : RawBox) (tag : ℕ) (l : Layer) (full : Bool) → get t name ≡ Some l → full ≡ nat_le most_objects (object_count t) → refusal_of t (Insert name id box tag) ≡ first_refusal (object_refusals l id box full)
+  insert_refusal id box tag l full g e = rw (named, g, ← e) refl
 
   pub get_missing : (id : ℕ) → contains_key t name ≡ false → refusal_of t (Get name id) ≡ Some refusal.NoLayer
   get_missing id h = rw (named, h) refl
@@ -43,13 +43,13 @@ module _ (t : Table) (name : List ℕ) (named : is_layer_name name ≡ true) whe
   pub count_passes : (l : Layer) → get t name ≡ Some l → refusal_of t (Count name) ≡ None
   count_passes l g = rw (named, g) refl
 
-  pub range_missing : (query : RawQuery) → contains_key t name ≡ false → refusal_of t (Range name query) ≡ Some refusal.NoLayer
-  range_missing query h = rw (named, h) refl
+  pub range_missing : (query : RawQuery) (tag : Option ℕ) → contains_key t name ≡ false → refusal_of t (Range name query tag) ≡ Some refusal.NoLayer
+  range_missing query tag h = rw (named, h) refl
 
-  pub range_refusal : (query : RawQuery) (l : Layer) → get t name ≡ Some l → refusal_of t (Range name query) ≡ first_refusal (query_refusals l.dims query)
-  range_refusal query l g =
+  pub range_refusal : (query : RawQuery) (tag : Option ℕ) (l : Layer) → get t name ≡ Some l → refusal_of t (Range name query tag) ≡ first_refusal (query_refusals l.dims query)
+  range_refusal query tag l g =
       let there : contains_key t name ≡ true = ap is_some g in
-      let first : refusal_of t (Range name query) ≡ first_refusal (query_refusals (layer_at t name).dims query) = rw (named, there) refl in
+      let first : refusal_of t (Range name query tag) ≡ first_refusal (query_refusals (layer_at t name).dims query) = rw (named, there) refl in
       first ∙ ap (λ (o : Option Layer). first_refusal (query_refusals (unwrap_or o no_layer).dims query)) g
 
   pub nearest_missing : (k : ℕ) (point : RawPoint) → contains_key t name ≡ false → refusal_of t (Nearest name k point) ≡ Some refusal.NoLayer
@@ -66,5 +66,5 @@ pub has_room : (full : Bool) (count : ℕ) → full ≡ nat_le most_objects coun
 has_room full count e h = let less : nat_le most_objects count ≡ false = sym e ∙ h in grind (arith, nat_tests)
 
 -- a new object makes one more
-pub len-with_object : (l : Layer) (id : ℕ) (b : Bounds) → contains_key l.objects id ≡ false → len (with_object l id b).objects ≡ len l.objects + 1
-len-with_object l id b h = len-insert nat_cmp_total l.objects id b ∙ ap (λ x. cond x (len l.objects) (len l.objects + 1)) h
+pub len-with_object : (l : Layer) (id : ℕ) (object : Object) → contains_key l.objects id ≡ false → len (with_object l id object).objects ≡ len l.objects + 1
+len-with_object l id object h = len-insert nat_cmp_total l.objects id object ∙ ap (λ x. cond x (len l.objects) (len l.objects + 1)) h

@@ -1,8 +1,8 @@
 -- The answers that the results of a store's calls are.
 use Rattle.std.specs.Prelude.{ℕ, [], ◌∷◌, Result, Ok, Err, Vec, map}
 use Rattle.arrayvec.specs.ArrayVec.{ArrayVec}
-use Rattle.box_math.specs.Bounds.{Bounds}
-use Rattle.plain_table.specs.Boxes.{bounds_of}
+use Rattle.box_math.specs.Objects.{Object}
+use Rattle.plain_table.specs.Boxes.{shown_bounds}
 use Rattle.plain_table.specs.Listings.{DumpLine, LayerLine}
 use Rattle.plain_table.specs.Listings.DumpLine.{CreateLine, InsertLine}
 use Rattle.plain_table.specs.Step.{Answer}
@@ -18,14 +18,14 @@ abbrev pub done_answer : Result (Unit {0}) Refusal → Answer
 done_answer (Ok u) = Done
 done_answer (Err r) = Refused r
 
--- an identifier with its box
-abbrev pub row_of : ℕ × AnyBox → ℕ × Bounds
-row_of row = (row.0, bounds_of row.1)
+-- an identifier with its box and its tag
+abbrev pub row_of : ℕ × AnyBox × ℕ → ℕ × Object
+row_of row = (row.0, (shown_bounds row.1, row.2))
 
--- the answer that the box of an object is, got by its identifier
-abbrev pub box_answer : ℕ → Result AnyBox Refusal → Answer
-box_answer id (Ok box) = Boxes (row_of (id, box) ∷ [])
-box_answer id (Err r) = Refused r
+-- the answer that an object is, got by its identifier
+abbrev pub object_answer : ℕ → Result (AnyBox × ℕ) Refusal → Answer
+object_answer id (Ok object) = Boxes ((id, (shown_bounds object.0, object.1)) ∷ [])
+object_answer id (Err r) = Refused r
 
 -- the answer that a count of objects is
 abbrev pub count_answer : Result ℕ Refusal → Answer
@@ -33,7 +33,7 @@ count_answer (Ok count) = Counted count
 count_answer (Err r) = Refused r
 
 -- the answer that the result of a range query is
-abbrev pub boxes_answer : {A : Type 0} → Result (Vec (ℕ × AnyBox) A) Refusal → Answer
+abbrev pub boxes_answer : {A : Type 0} → Result (Vec (ℕ × AnyBox × ℕ) A) Refusal → Answer
 boxes_answer (Ok rows) = Boxes (map row_of rows.items)
 boxes_answer (Err r) = Refused r
 
@@ -59,7 +59,7 @@ layers_answer (Err r) = Refused r
 -- a line of a dump
 abbrev pub line_of_row : DumpRow → DumpLine
 line_of_row (row.Create name dims fanout) = CreateLine name.items dims fanout
-line_of_row (row.Insert name id box) = InsertLine name.items id (bounds_of box)
+line_of_row (row.Insert name id box tag) = InsertLine name.items id (shown_bounds box, tag)
 
 -- the answer that a dump is
 abbrev pub dump_answer : {A : Type 0} → Result (Vec DumpRow A) Refusal → Answer

@@ -39,6 +39,6 @@ given_point (point.Two p) = p
 given_point (point.Three p) = p
 
 -- a box is its lows and highs, whatever its dimension
-abbrev pub bounds_of : AnyBox → Bounds
-bounds_of (any.Two b) = b
-bounds_of (any.Three b) = b
+abbrev pub shown_bounds : AnyBox → Bounds
+shown_bounds (any.Two b) = b
+shown_bounds (any.Three b) = b

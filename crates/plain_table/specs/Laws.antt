@@ -12,26 +12,27 @@ use Rattle.std.specs.declared.cmp.Ordering.{Ordering}
 use Rattle.std.specs.declared.cmp.Ordering.TheVariants.{Less, Equal, Greater}
 use lib.Pointwise.{pointwise}
 use Rattle.box_math.specs.Bounds.{Bounds}
+use Rattle.box_math.specs.Objects.{Object, bounds_of, tag_of}
 use Rattle.plain_table.specs.Boxes.{given_bounds, same_bounds}
 use Rattle.plain_table.specs.Commands.{Command}
 use Rattle.plain_table.specs.Commands.Command.{Create, Insert, Load, Move, Delete, Drop, Get, Count, Range, Nearest, Join, Layers, Dump, Check, Reopen}
 use Rattle.plain_table.specs.Loads.{given_object}
 use Rattle.plain_table.specs.Step.{after, answer_of, changed, changes, first_refusal, is_admitted, kept_or, refused_or, refusal_of, refusals_of, reply_of}
 use Rattle.plain_table.specs.Step.Answer.{Refused}
-use Rattle.plain_table.specs.Table.{Layer, Objects, Table, layer_at, no_box, no_layer, object_box}
+use Rattle.plain_table.specs.Table.{Layer, Objects, Table, layer_at, no_layer, no_object, object_at, object_box}
 use Rattle.plain_table.specs.declared.refusal.Refusal.{Refusal}
 
 unchanged : (o : Option Refusal) (t : Table) (c : Command) (r : Refusal) → Refused r ≡ refused_or o (answer_of t c) → kept_or o t (changed t c) ≡ t
 unchanged (Some x) t c r e = refl
 unchanged None t (Create name dims fanout) r e = absurd (cc)
-unchanged None t (Insert name id box) r e = absurd (cc)
+unchanged None t (Insert name id box tag) r e = absurd (cc)
 unchanged None t (Load name objects) r e = absurd (cc)
 unchanged None t (Move name id box) r e = absurd (cc)
 unchanged None t (Delete name id) r e = absurd (cc)
 unchanged None t (Drop name) r e = absurd (cc)
 unchanged None t (Get name id) r e = refl
 unchanged None t (Count name) r e = refl
-unchanged None t (Range name query) r e = refl
+unchanged None t (Range name query tag) r e = refl
 unchanged None t (Nearest name k point) r e = refl
 unchanged None t (Join first second within) r e = refl
 unchanged None t Layers r e = refl
@@ -46,14 +47,14 @@ a_refused_command_changes_nothing t c r e = unchanged (refusal_of t c) t c r (sy
 the_refusal : (o : Option Refusal) (t : Table) (c : Command) (r : Refusal) → Refused r ≡ refused_or o (answer_of t c) → o ≡ Some r
 the_refusal (Some x) t c r e = cc
 the_refusal None t (Create name dims fanout) r e = absurd (cc)
-the_refusal None t (Insert name id box) r e = absurd (cc)
+the_refusal None t (Insert name id box tag) r e = absurd (cc)
 the_refusal None t (Load name objects) r e = absurd (cc)
 the_refusal None t (Move name id box) r e = absurd (cc)
 the_refusal None t (Delete name id) r e = absurd (cc)
 the_refusal None t (Drop name) r e = absurd (cc)
 the_refusal None t (Get name id) r e = absurd (cc)
 the_refusal None t (Count name) r e = absurd (cc)
-the_refusal None t (Range name query) r e = absurd (cc)
+the_refusal None t (Range name query tag) r e = absurd (cc)
 the_refusal None t (Nearest name k point) r e = absurd (cc)
 the_refusal None t (Join first second within) r e = absurd (cc)
 the_refusal None t Layers r e = absurd (cc)
@@ -145,11 +146,11 @@ module _ (t : Table) where
       let absent = (none_holds (refusals_of t c) is.0).1.1.1.0 in
       let there = stays_in nat_list_cmp_total t name _ is.1 in
       let no = sym absent ∙ ap is_some there in absurd (cc)
-  a_change_makes_another_table (Insert name id box) h e =
-      let c = Insert name id box in
+  a_change_makes_another_table (Insert name id box tag) h e =
+      let c = Insert name id box tag in
       let is = leaves_itself c h e in
       let absent = (none_holds (refusals_of t c) is.0).1.1.1.1.0 in
-      let there = stays_in nat_cmp_total (layer_at t name).objects id (given_bounds box) (sym (objects_stay name _ is.1)) in
+      let there = stays_in nat_cmp_total (layer_at t name).objects id (given_bounds box, tag) (sym (objects_stay name _ is.1)) in
       let no = sym absent ∙ ap is_some there in absurd (cc)
   a_change_makes_another_table (Load name []) h e = absurd (let no = (both_true (is_admitted t (Load name [])) false h).1 in cc)
   a_change_makes_another_table (Load name (object ∷ objects)) h e =
@@ -157,21 +158,21 @@ module _ (t : Table) where
       let is = leaves_itself c (both_true (is_admitted t c) (nat_lt 0 (length (object ∷ objects))) h).0 e in
       let none : nat_lt 0 (len (layer_at t name).objects) ≡ false = (none_holds (refusals_of t c) is.0).1.1.1.1.0 in
       let no_objects = empty_of_len (layer_at t name).objects (grind (arith, nat_tests, none)) in
-      let there = ap (λ (m : Objects). get m object.0) (objects_stay name _ is.1) ∙ got_back nat_cmp_total (from_entries (map given_object objects)) object.0 (given_bounds object.1) in
+      let there = ap (λ (m : Objects). get m object.0) (objects_stay name _ is.1) ∙ got_back nat_cmp_total (from_entries (map given_object objects)) object.0 (given_bounds object.1, object.2) in
       let no = sym there ∙ ap (λ (m : Objects). get m object.0) no_objects ∙ get-empty nat_cmp object.0 in absurd (cc)
   a_change_makes_another_table (Move name id box) h e =
       let c = Move name id box in
       let parts = both_true (is_admitted t c) _ h in
       let is = leaves_itself c parts.0 e in
-      let there = stays_in nat_cmp_total (layer_at t name).objects id (given_bounds box) (sym (objects_stay name _ is.1)) in
-      let same = ap (λ (o : Option Bounds). same_bounds (unwrap_or o no_box) (given_bounds box)) there ∙ same_bounds_refl (given_bounds box) in
+      let there = stays_in nat_cmp_total (layer_at t name).objects id (given_bounds box, tag_of (object_at (layer_at t name) id)) (sym (objects_stay name _ is.1)) in
+      let same = ap (λ (o : Option Object). same_bounds (bounds_of (unwrap_or o no_object)) (given_bounds box)) there ∙ same_bounds_refl (given_bounds box) in
       let no = sym parts.1 ∙ ap not same in absurd (cc)
   a_change_makes_another_table (Delete name id) h e =
       let c = Delete name id in
       let is = leaves_itself c h e in
       let there = (none_holds (refusals_of t c) is.0).1.1.0 in
       let absent = stays_out nat_cmp_total (layer_at t name).objects id (sym (objects_stay name _ is.1)) in
-      let no = sym there ∙ ap (λ (o : Option Bounds). not (is_some o)) absent in absurd (cc)
+      let no = sym there ∙ ap (λ (o : Option Object). not (is_some o)) absent in absurd (cc)
   a_change_makes_another_table (Drop name) h e =
       let is = leaves_itself (Drop name) h e in
       let there = (none_holds (refusals_of t (Drop name)) is.0).1.0 in
@@ -179,7 +180,7 @@ module _ (t : Table) where
       let no = sym there ∙ ap (λ (o : Option Layer). not (is_some o)) absent in absurd (cc)
   a_change_makes_another_table (Get name id) h e = absurd (cc)
   a_change_makes_another_table (Count name) h e = absurd (cc)
-  a_change_makes_another_table (Range name query) h e = absurd (cc)
+  a_change_makes_another_table (Range name query tag) h e = absurd (cc)
   a_change_makes_another_table (Nearest name k point) h e = absurd (cc)
   a_change_makes_another_table (Join first second within) h e = absurd (cc)
   a_change_makes_another_table Layers h e = absurd (cc)
@@ -204,7 +205,7 @@ module _ (t : Table) where
   -- and every other command leaves it as it is
   pub no_change_leaves_the_table : (c : Command) → changes t c ≡ false → after t c ≡ t
   no_change_leaves_the_table (Create name dims fanout) h = kept_from (refusal_of t (Create name dims fanout)) t _ h
-  no_change_leaves_the_table (Insert name id box) h = kept_from (refusal_of t (Insert name id box)) t _ h
+  no_change_leaves_the_table (Insert name id box tag) h = kept_from (refusal_of t (Insert name id box tag)) t _ h
   no_change_leaves_the_table (Load name (object ∷ objects)) h = elim (either_false (is_admitted t (Load name (object ∷ objects))) (nat_lt 0 (length (object ∷ objects))) h) [
     | inl refused ↦ kept_from (refusal_of t (Load name (object ∷ objects))) t _ refused
     | inr parts ↦ absurd (let none = parts.1 in grind (arith, nat_tests, none))
@@ -229,21 +230,22 @@ module _ (t : Table) where
       turned true h = refl
       turned false h = absurd (cc)
 
-      at_id : (o : Option Bounds) → get (layer_at t name).objects id ≡ o → not (is_some o) ≡ false → get (layer_at t name).objects id ≡ Some (object_box (layer_at t name) id)
+      at_id : (o : Option Object) → get (layer_at t name).objects id ≡ o → not (is_some o) ≡ false → get (layer_at t name).objects id ≡ Some (object_at (layer_at t name) id)
       at_id None e missing = absurd (cc)
-      at_id (Some b) e missing = e ∙ ap Some (sym (ap (λ (x : Option Bounds). unwrap_or x no_box) e))
+      at_id (Some b) e missing = e ∙ ap Some (sym (ap (λ (x : Option Object). unwrap_or x no_object) e))
 
       nothing : refusal_of t (Move name id box) ≡ None → object_box (layer_at t name) id ≡ given_bounds box → after t (Move name id box) ≡ t
       nothing none same =
           let hold = none_holds (refusals_of t (Move name id box)) none in
-          let there = at_id (get (layer_at t name).objects id) refl hold.1.1.1.1.0 ∙ ap Some same in
+          let kept = tag_of (object_at (layer_at t name) id) in
+          let there = at_id (get (layer_at t name).objects id) refl hold.1.1.1.1.0 ∙ ap (λ (b : Bounds). Some (b, kept)) same in
           ap (λ (o : Option Refusal). kept_or o t (changed t (Move name id box))) none
-          ∙ put_layer_again name _ hold.1.0 (put_again nat_cmp_total (layer_at t name).objects id nat_cmp-IsAntisymmetric (given_bounds box) there)
+          ∙ put_layer_again name _ hold.1.0 (put_again nat_cmp_total (layer_at t name).objects id nat_cmp-IsAntisymmetric (given_bounds box, kept) there)
   no_change_leaves_the_table (Delete name id) h = kept_from (refusal_of t (Delete name id)) t _ h
   no_change_leaves_the_table (Drop name) h = kept_from (refusal_of t (Drop name)) t _ h
   no_change_leaves_the_table (Get name id) h = same_table (refusal_of t (Get name id))
   no_change_leaves_the_table (Count name) h = same_table (refusal_of t (Count name))
-  no_change_leaves_the_table (Range name query) h = same_table (refusal_of t (Range name query))
+  no_change_leaves_the_table (Range name query tag) h = same_table (refusal_of t (Range name query tag))
   no_change_leaves_the_table (Nearest name k point) h = same_table (refusal_of t (Nearest name k point))
   no_change_leaves_the_table (Join first second within) h = same_table (refusal_of t (Join first second within))
   no_change_leaves_the_table Layers h = refl

@@ -1,7 +1,7 @@
 -- What a listing of the layers shows, and a dump of all objects. Our rule, docs/COMMANDS.md.
 use Rattle.std.specs.Prelude.{ℕ, List, ◌∷◌, map, flat_map}
 use Rattle.std.specs.FinMap.{entries, len}
-use Rattle.box_math.specs.Bounds.{Bounds}
+use Rattle.box_math.specs.Objects.{Object}
 use Rattle.plain_table.specs.Table.{Layer, Table}
 
 -- what a listing shows of a layer
@@ -14,7 +14,7 @@ pub record LayerLine : Type 0 where
 -- a line of a dump: the command that makes a layer, or one that adds an object to it
 pub data DumpLine : Type 0 where
   CreateLine : List ℕ → ℕ → ℕ → DumpLine
-  InsertLine : List ℕ → ℕ → Bounds → DumpLine
+  InsertLine : List ℕ → ℕ → Object → DumpLine
 
 -- the line of a layer in a listing
 abbrev pub layer_line : List ℕ × Layer → LayerLine

@@ -2,14 +2,14 @@
 use Rattle.std.specs.Prelude.{ℕ, Bool, ◌==◌, nat_lt, List, map, min, Option, count_by, filter}
 use Rattle.std.specs.List.{list_all, reduce}
 use Rattle.std.specs.FinMap.{from_entries}
-use Rattle.box_math.specs.Bounds.{Bounds}
+use Rattle.box_math.specs.Objects.{Object}
 use Rattle.plain_table.specs.Boxes.{dims_of, given_bounds, is_ordered}
 use Rattle.plain_table.specs.Table.{Layer}
 use Rattle.plain_table.specs.declared.boxes.RawBox.{RawBox}
 
--- the objects of a load: identifiers, and boxes as they were given
+-- the objects of a load: identifiers, boxes as they were given, and tags
 abbrev pub GivenObjects : Type 0
-GivenObjects = List (ℕ × RawBox)
+GivenObjects = List (ℕ × RawBox × ℕ)
 
 -- whether all their boxes have so many axes
 abbrev pub have_dims : ℕ → GivenObjects → Bool
@@ -30,9 +30,9 @@ is_repeated ids id = nat_lt 1 (count_by (λ other. other == id) ids)
 abbrev pub least_repeated : List ℕ → Option ℕ
 least_repeated ids = reduce min (filter (is_repeated ids) ids)
 
--- an object with the lows and highs that it was given
-abbrev pub given_object : ℕ × RawBox → ℕ × Bounds
-given_object object = (object.0, given_bounds object.1)
+-- an object with the lows and highs and the tag that it was given
+abbrev pub given_object : ℕ × RawBox × ℕ → ℕ × Object
+given_object object = (object.0, (given_bounds object.1, object.2))
 
 -- the layer with just these objects
 abbrev pub with_objects : Layer → GivenObjects → Layer

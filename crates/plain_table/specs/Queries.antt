@@ -1,7 +1,8 @@
 -- Which boxes range queries seek: as commands give them, and in a layer of so many axes. `Window`, `Point` and `Around` are the
 -- intersection, point and enclosure queries of Beckmann, Kriegel, Schneider and Seeger 1990; `Inside` is our rule,
 -- docs/COMMANDS.md.
-use Rattle.std.specs.Prelude.{ℕ, Bool}
+use Rattle.std.specs.Prelude.{ℕ, Bool, true, ◌&&◌, ◌==◌, Option, Some, None}
+use Rattle.box_math.specs.Objects.{Object, bounds_of, tag_of}
 use Rattle.box_math.specs.Bounds.{Bounds, holds_test, meets_test, within_test}
 use Rattle.plain_table.specs.Boxes.{given_bounds, given_point}
 use Rattle.plain_table.specs.declared.queries.Query.{Query}
@@ -26,3 +27,12 @@ seeks {D} (query.Point point) b = holds_test D b point
 -- the same of a query as it was given, in a layer of so many axes
 abbrev pub is_sought : ℕ → RawQuery → Bounds → Bool
 is_sought dims query b = seeks {D = dims} (given_query query) b
+
+-- whether an object has the tag that is asked for: each has it where none is
+abbrev pub has_tag : Option ℕ → Object → Bool
+has_tag None object = true
+has_tag (Some tag) object = tag_of object == tag
+
+-- whether a query, with the tag that it asks for, seeks the object
+abbrev pub is_wanted : ℕ → RawQuery → Option ℕ → Object → Bool
+is_wanted dims query tag object = is_sought dims query (bounds_of object) && has_tag tag object

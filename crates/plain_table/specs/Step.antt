@@ -1,17 +1,17 @@
 -- What a command answers and what it changes, on the plain table. Our rule, docs/COMMANDS.md.
 use Rattle.std.specs.Prelude.{ℕ, ◌+◌, Bool, false, not, ◌&&◌, ◌==◌, nat_le, nat_lt, List, [], ◌∷◌, length, if◌then◌else◌, Option, Some, None, is_some, filter, flat_map, map as each, take, unwrap_or}
 use Rattle.std.specs.FinMap as map
-use Rattle.box_math.specs.Bounds.{Bounds}
 use Rattle.box_math.specs.Measures.{near_test}
 use Rattle.box_math.specs.Nearest.{by_distance}
+use Rattle.box_math.specs.Objects.{Object, bounds_of, tag_of}
 use Rattle.plain_table.specs.Boxes.{dims_of, given_bounds, given_point, is_ordered, point_dims, same_bounds}
 use Rattle.plain_table.specs.Commands.{Command}
 use Rattle.plain_table.specs.Commands.Command.{Create, Insert, Load, Move, Delete, Drop, Get, Count, Range, Nearest, Join, Layers, Dump, Check, Reopen}
 use Rattle.plain_table.specs.Listings.{DumpLine, LayerLine, all_layers, all_lines}
 use Rattle.plain_table.specs.Loads.{GivenObjects, are_ordered, have_dims, ids_of, least_repeated, with_objects}
 use Rattle.plain_table.specs.Nearest.{is_count}
-use Rattle.plain_table.specs.Queries.{is_sought}
-use Rattle.plain_table.specs.Table.{Table, Layer, is_layer_name, is_dims, is_fanout, most_layers, most_objects, object_count, layer_at, object_box, with_object, without_object}
+use Rattle.plain_table.specs.Queries.{is_wanted}
+use Rattle.plain_table.specs.Table.{Table, Layer, is_layer_name, is_dims, is_fanout, most_layers, most_objects, object_count, layer_at, object_at, object_box, with_object, without_object}
 use Rattle.plain_table.specs.declared.boxes.RawBox.{RawBox}
 use Rattle.plain_table.specs.declared.boxes.RawPoint.{RawPoint}
 use Rattle.plain_table.specs.declared.queries.RawQuery.{RawQuery}
@@ -23,7 +23,7 @@ use Rattle.plain_table.specs.declared.refusal.Refusal.TheVariants as refusal
 pub data Answer : Type 0 where
   Done : Answer
   Refused : Refusal → Answer
-  Boxes : List (ℕ × Bounds) → Answer
+  Boxes : List (ℕ × Object) → Answer
   Counted : ℕ → Answer
   Distances : List (ℕ × ℕ) → Answer
   Pairs : List (ℕ × ℕ) → Answer
@@ -88,14 +88,14 @@ abbrev pub refusals_of : Table → Command → List (Bool × Refusal)
 refusals_of t (Create name dims fanout) =
     (not (is_layer_name name), refusal.BadName) ∷ (not (is_dims dims), refusal.BadDims) ∷ (not (is_fanout fanout), refusal.BadFanout)
     ∷ (map.contains_key t name, refusal.LayerExists) ∷ (nat_le most_layers (map.len t), refusal.TooManyLayers) ∷ []
-refusals_of t (Insert name id box) = layer_refusals t name (object_refusals (layer_at t name) id box (nat_le most_objects (object_count t)))
+refusals_of t (Insert name id box tag) = layer_refusals t name (object_refusals (layer_at t name) id box (nat_le most_objects (object_count t)))
 refusals_of t (Load name objects) = layer_refusals t name (load_refusals (layer_at t name) objects (object_count t))
 refusals_of t (Move name id box) = layer_refusals t name (box_refusals (layer_at t name).dims box (missing_refusals (layer_at t name) id))
 refusals_of t (Delete name id) = layer_refusals t name (missing_refusals (layer_at t name) id)
 refusals_of t (Drop name) = layer_refusals t name []
 refusals_of t (Get name id) = layer_refusals t name (missing_refusals (layer_at t name) id)
 refusals_of t (Count name) = layer_refusals t name []
-refusals_of t (Range name query) = layer_refusals t name (query_refusals (layer_at t name).dims query)
+refusals_of t (Range name query tag) = layer_refusals t name (query_refusals (layer_at t name).dims query)
 refusals_of t (Nearest name k point) = layer_refusals t name (nearest_refusals (layer_at t name).dims k point)
 refusals_of t (Join first second within) = join_refusals t first second
 refusals_of t Layers = []
@@ -114,20 +114,20 @@ is_admitted t c = not (is_some (refusal_of t c))
 -- the table after a command that was not refused
 abbrev pub changed : Table → Command → Table
 changed t (Create name dims fanout) = map.insert t name (record { dims = dims; fanout = fanout; objects = map.empty })
-changed t (Insert name id box) = map.insert t name (with_object (layer_at t name) id (given_bounds box))
+changed t (Insert name id box tag) = map.insert t name (with_object (layer_at t name) id (given_bounds box, tag))
 changed t (Load name objects) = map.insert t name (with_objects (layer_at t name) objects)
-changed t (Move name id box) = map.insert t name (with_object (layer_at t name) id (given_bounds box))
+changed t (Move name id box) = map.insert t name (with_object (layer_at t name) id (given_bounds box, tag_of (object_at (layer_at t name) id)))
 changed t (Delete name id) = map.insert t name (without_object (layer_at t name) id)
 changed t (Drop name) = map.remove t name
 changed t c = t
 
--- the object of that identifier, with its box
-abbrev pub object_row : Layer → ℕ → ℕ × Bounds
-object_row layer id = (id, object_box layer id)
+-- the object of that identifier, with its identifier
+abbrev pub object_row : Layer → ℕ → ℕ × Object
+object_row layer id = (id, object_at layer id)
 
--- the objects of a layer that a query seeks, ascending by identifier
-abbrev pub range_rows : Layer → RawQuery → List (ℕ × Bounds)
-range_rows layer query = filter (λ row. is_sought layer.dims query row.1) (map.entries layer.objects)
+-- the objects of a layer that a query seeks, of those with the tag that it asks for, ascending by identifier
+abbrev pub range_rows : Layer → RawQuery → Option ℕ → List (ℕ × Object)
+range_rows layer query tag = filter (λ row. is_wanted layer.dims query tag row.1) (map.entries layer.objects)
 
 -- the k objects of a layer that are nearest to a point, or all of fewer: identifiers with squared distances, by distance, and of
 -- equal distances by identifier
@@ -138,20 +138,20 @@ nearest_rows layer k point = take k (by_distance layer.dims (given_point point) 
 -- identifiers, ascending by the first and then by the second
 abbrev pub join_rows : Layer → Layer → ℕ → List (ℕ × ℕ)
 join_rows first second within =
-    flat_map (λ object. each (λ other. (object.0, other.0)) (filter (λ other. near_test first.dims within object.1 other.1) (map.entries second.objects)))
+    flat_map (λ object. each (λ other. (object.0, other.0)) (filter (λ other. near_test first.dims within (bounds_of object.1) (bounds_of other.1)) (map.entries second.objects)))
     (map.entries first.objects)
 
 -- the answer to a command that was not refused
 abbrev pub answer_of : Table → Command → Answer
 answer_of t (Create name dims fanout) = Done
-answer_of t (Insert name id box) = Done
+answer_of t (Insert name id box tag) = Done
 answer_of t (Load name objects) = Done
 answer_of t (Move name id box) = Done
 answer_of t (Delete name id) = Done
 answer_of t (Drop name) = Done
 answer_of t (Get name id) = Boxes (object_row (layer_at t name) id ∷ [])
 answer_of t (Count name) = Counted (map.len (layer_at t name).objects)
-answer_of t (Range name query) = Boxes (range_rows (layer_at t name) query)
+answer_of t (Range name query tag) = Boxes (range_rows (layer_at t name) query tag)
 answer_of t (Nearest name k point) = Distances (nearest_rows (layer_at t name) k point)
 answer_of t (Join first second within) = Pairs (join_rows (layer_at t first) (layer_at t second) within)
 answer_of t Layers = Listed (all_layers t)
@@ -172,7 +172,7 @@ kept_or None old new = new
 -- the command changes the table: it is not refused, and is no load of nothing and no move to the box that the object has
 abbrev pub changes : Table → Command → Bool
 changes t (Create name dims fanout) = is_admitted t (Create name dims fanout)
-changes t (Insert name id box) = is_admitted t (Insert name id box)
+changes t (Insert name id box tag) = is_admitted t (Insert name id box tag)
 changes t (Load name objects) = is_admitted t (Load name objects) && nat_lt 0 (length objects)
 changes t (Move name id box) = is_admitted t (Move name id box) && not (same_bounds (object_box (layer_at t name) id) (given_bounds box))
 changes t (Delete name id) = is_admitted t (Delete name id)

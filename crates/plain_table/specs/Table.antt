@@ -6,10 +6,11 @@ use Rattle.std.specs.Cmp.Lexicographic.{slice_cmp}
 use Rattle.std.specs.FinMap.{FinMap}
 use Rattle.std.specs.FinMap as map
 use Rattle.box_math.specs.Bounds.{Bounds}
+use Rattle.box_math.specs.Objects.{Object, bounds_of}
 
--- the objects of a layer: a box for each identifier
+-- the objects of a layer: what is kept of each, by identifier
 abbrev pub Objects : Type 0
-Objects = FinMap nat_cmp Bounds
+Objects = FinMap nat_cmp Object
 
 -- a layer: how many axes its boxes have, how many entries its nodes may have, and its objects
 pub record Layer : Type 0 where
@@ -61,17 +62,21 @@ no_layer = record { dims = 0; fanout = 0; objects = map.empty }
 abbrev pub layer_at : Table → List ℕ → Layer
 layer_at t name = unwrap_or (map.get t name) no_layer
 
--- what is taken for the box of an object where there is none of that identifier
-abbrev pub no_box : Bounds
-no_box = record { low = []; high = [] }
+-- what is taken for an object where there is none of that identifier
+abbrev pub no_object : Object
+no_object = (record { low = []; high = [] }, 0)
 
--- the box of the object of that identifier
+-- the object of that identifier
+abbrev pub object_at : Layer → ℕ → Object
+object_at layer id = unwrap_or (map.get layer.objects id) no_object
+
+-- its box
 abbrev pub object_box : Layer → ℕ → Bounds
-object_box layer id = unwrap_or (map.get layer.objects id) no_box
+object_box layer id = bounds_of (object_at layer id)
 
--- the layer with an object more, or with another box for it
-abbrev pub with_object : Layer → ℕ → Bounds → Layer
-with_object layer id bounds = record layer { objects = map.insert layer.objects id bounds }
+-- the layer with an object more, or with another one in its place
+abbrev pub with_object : Layer → ℕ → Object → Layer
+with_object layer id object = record layer { objects = map.insert layer.objects id object }
 
 -- the layer without an object
 abbrev pub without_object : Layer → ℕ → Layer

@@ -24,6 +24,6 @@ pub struct LayerInfo {
 pub enum DumpRow {
     /// `create`: a layer by its name, with so many axes, and so many entries in a node.
     Create(LayerName, u8, u8),
-    /// `insert`: an object of the layer of that name, its identifier and its box.
-    Insert(LayerName, u64, AnyBox),
+    /// `insert`: an object of the layer of that name, its identifier, its box and its tag.
+    Insert(LayerName, u64, AnyBox, u32),
 }

@@ -6,34 +6,36 @@ ghost use Rattle.box_math.specs.Bounds.{IsDims};
 ghost use Rattle.page_file.specs.Fault.{IsDamage, IsOfDevice};
 ghost use Rattle.page_cache.specs.Cache.{IsHonest, looks_of, pages};
 ghost use Rattle.page_cache.specs.Calls.{Asks};
-ghost use Rattle.tree_node.specs.Nodes.{NodeContent};
+ghost use Rattle.tree_node.specs.Nodes.{NodeContent, item_of};
 ghost use Rattle.tree_node.specs.Searches.{counted, objects_reached, reached};
 ghost use Rattle.tree_node.specs.Trees.{Row};
 ghost use Rattle.node_page.specs.Standing.{StandsAt, node_in};
-ghost use Rattle.range_query.specs.Entries.{object_of, passing_entries, reference_of};
-ghost use Rattle.range_query.specs.Queries.{is_admitted, is_sought};
+ghost use Rattle.range_query.specs.Entries.{object_of, passing_entries, reference_of, wanted, wanted_entries};
+ghost use Rattle.range_query.specs.Queries.{has_tag, having, is_admitted, is_sought};
 
 use crate::query::Query;
 use arrayvec::ArrayVec;
 use block_device::BlockDevice;
 use box_math::BBox;
-use node_page::{Root, next_set, view_node};
+use node_page::{Entry, Root, next_set, view_node};
 use page_cache::PageCache;
 use page_file::Fault;
 use std::alloc::Allocator;
 
-/// Appends the objects below a node that are sought and reached through admitted boxes, from left to right.
+/// Appends the objects below a node that are sought and have the tag, if one is asked for, and that are reached through
+/// admitted boxes, from left to right.
 pub(crate) fn descend<const D: usize, B: BlockDevice, A: Allocator + Copy, H: Allocator>(
     cache: &mut PageCache<B, A>,
     root: Root,
     query: &Query<D>,
-    rows: &mut Vec<(u64, BBox<D>), H>,
+    tag: Option<u32>,
+    rows: &mut Vec<(u64, (BBox<D>, u32)), H>,
 ) -> Result<(), Fault>
     requires { IsDims D }
     ensures asks { Asks cache.old cache.new result }
     ensures rows { IsHonest cache.old → (row : Row) → StandsAt D (pages cache.old) root.page root.level row
         → OnOk result (rows.new.items
-        ≡ rows.old.items ++ objects_reached (is_admitted query.now) (is_sought query.now) row) }
+        ≡ rows.old.items ++ having tag (objects_reached (is_admitted query.now) (is_sought query.now) row)) }
     ensures looks { IsHonest cache.old → (row : Row) → StandsAt D (pages cache.old) root.page root.level row
         → OnOk result (looks_of cache.new ≡ counted (looks_of cache.old) (1 + reached (is_admitted query.now) row)) }
     ensures stands { IsHonest cache.old → (row : Row) → StandsAt D (pages cache.old) root.page root.level row
@@ -41,7 +43,7 @@ pub(crate) fn descend<const D: usize, B: BlockDevice, A: Allocator + Copy, H: Al
     ensures other_faults { IfErr result (λ f. IsOfDevice f ⊎ IsDamage f) }
 {
     if root.level == 0 {
-        return add_sought::<D, B, A, H>(cache, root.page, query, rows);
+        return add_sought::<D, B, A, H>(cache, root.page, query, tag, rows);
     }
     let children = admitted_children::<D, B, A>(cache, root, query)?;
     for page in children.as_slice() {
@@ -49,23 +51,24 @@ pub(crate) fn descend<const D: usize, B: BlockDevice, A: Allocator + Copy, H: Al
             page: *page,
             level: root.level - 1,
         };
-        descend::<D, B, A, H>(cache, below, query, rows)?;
+        descend::<D, B, A, H>(cache, below, query, tag, rows)?;
     }
     Ok(())
 }
 
-// Appends the objects of a leaf that are sought, by position.
+// Appends the objects of a leaf that are sought and have the tag, if one is asked for, by position.
 fn add_sought<const D: usize, B: BlockDevice, A: Allocator + Copy, H: Allocator>(
     cache: &mut PageCache<B, A>,
     page: u32,
     query: &Query<D>,
-    rows: &mut Vec<(u64, BBox<D>), H>,
+    tag: Option<u32>,
+    rows: &mut Vec<(u64, (BBox<D>, u32)), H>,
 ) -> Result<(), Fault>
     requires { IsDims D }
     ensures asks { Asks cache.old cache.new result }
     ensures rows { IsHonest cache.old → (c : NodeContent) → node_in D (pages cache.old page) ≡ Some c → c.level ≡ 0
         → OnOk result (rows.new.items
-        ≡ rows.old.items ++ map object_of (passing_entries (is_sought query.now) c.entries)) }
+        ≡ rows.old.items ++ map object_of (wanted_entries (is_sought query.now) tag c.entries)) }
     ensures looks { OnOk result (looks_of cache.new ≡ one_more (looks_of cache.old)) }
     ensures there { IsHonest cache.old → (c : NodeContent) → node_in D (pages cache.old page) ≡ Some c → c.level ≡ 0
         → IfErr result IsOfDevice }
@@ -78,12 +81,31 @@ fn add_sought<const D: usize, B: BlockDevice, A: Allocator + Copy, H: Allocator>
     'entries: while place < count {
         let entry = leaf.entry(place);
         place = next_set(mask, place + 1);
-        if !query.seeks(&entry.bounds) {
+        if !is_wanted(query, tag, &entry) {
             continue;
         }
-        rows.push((entry.reference, entry.bounds))?;
+        rows.push((entry.reference, (entry.bounds, entry.tag)))?;
     }
     Ok(())
+}
+
+// Whether an object is sought and has the tag, if one is asked for.
+#[inline]
+fn is_wanted<const D: usize>(query: &Query<D>, tag: Option<u32>, entry: &Entry<D>) -> bool
+    ensures { result ≡ wanted (is_sought query.now) tag (item_of entry.now) }
+{
+    query.seeks(&entry.bounds) && is_tagged(tag, entry.tag)
+}
+
+// Whether a tag is the one that is asked for, if one is.
+#[inline]
+fn is_tagged(asked: Option<u32>, tag: u32) -> bool
+    ensures { result ≡ has_tag asked tag }
+{
+    match asked {
+        Some(asked) => tag == asked,
+        None => true,
+    }
 }
 
 // The pages of the children of a node that are admitted, by position.

@@ -1,6 +1,7 @@
 -- The child at a position of a node that stands, and the node with another one there.
 use Rattle.std.proofs.Common.{◌≡◌, ℕ, zero, suc, ◌+◌, ◌-◌, ◌<◌, ◌≤◌, Some, List, ◌∷◌, length, get_or, refl, sym, ap, subst, arith}
 use Rattle.box_math.specs.Bounds.{Bounds}
+use Rattle.box_math.specs.Objects.{bounds_of, tag_of}
 use Rattle.tree_node.specs.Nodes.{Item}
 use Rattle.tree_node.specs.Trees.{Row, end, more, object, child, row_items, occurs}
 use Rattle.tree_node.proofs.RowLemmas.{occurs_here}
@@ -19,7 +20,7 @@ pub record HasChild (dims : ℕ) (m : PageMap) (level : ℕ) (row : Row) (at : �
 
 pub has_child : (dims : ℕ) (m : PageMap) (level : ℕ) (row : Row) (at : ℕ) → 0 < level → at < length (row_items row) → RowStands dims m level row → HasChild dims m level row at
 has_child dims m level end at high within h = absurd (omega (arith, within))
-has_child dims m level (more (object bounds id) rest) at high within h = absurd (omega (arith, h.0, high))
+has_child dims m level (more (object kept id) rest) at high within h = absurd (omega (arith, h.0, high))
 has_child dims m level (more (child bounds page below) rest) zero high within h = record {
   from = record { page = page; row = below };
   there = refl;
@@ -41,15 +42,15 @@ has_child dims m level (more (child bounds page below) rest) (suc at) high withi
 
 pub items-with_child : (row : Row) (at : ℕ) (c : Child) (b : Bounds) (new : Row) → child_at row at ≡ Some c → row_items (with_child row at b new) ≡ set_box (row_items row) at b
 items-with_child end at c b new is = absurd (cc)
-items-with_child (more (object bounds id) rest) zero c b new is = absurd (cc)
-items-with_child (more (object bounds id) rest) (suc at) c b new is = ap (λ (es : List Item). record { bounds = bounds; reference = id } ∷ es) (items-with_child rest at c b new is)
+items-with_child (more (object kept id) rest) zero c b new is = absurd (cc)
+items-with_child (more (object kept id) rest) (suc at) c b new is = ap (λ (es : List Item). record { bounds = bounds_of kept; reference = id; tag = tag_of kept } ∷ es) (items-with_child rest at c b new is)
 items-with_child (more (child bounds page below) rest) zero c b new is = refl
-items-with_child (more (child bounds page below) rest) (suc at) c b new is = ap (λ (es : List Item). record { bounds = bounds; reference = page } ∷ es) (items-with_child rest at c b new is)
+items-with_child (more (child bounds page below) rest) (suc at) c b new is = ap (λ (es : List Item). record { bounds = bounds; reference = page; tag = 0 } ∷ es) (items-with_child rest at c b new is)
 
 pub occurs-with_child : (n : ℕ) (row : Row) (at : ℕ) (c : Child) (b : Bounds) (new : Row) → child_at row at ≡ Some c → occurs n (with_child row at b new) + occurs n c.row ≡ occurs n row + occurs n new
 occurs-with_child n end at c b new is = absurd (cc)
-occurs-with_child n (more (object bounds id) rest) zero c b new is = absurd (cc)
-occurs-with_child n (more (object bounds id) rest) (suc at) c b new is = occurs-with_child n rest at c b new is
+occurs-with_child n (more (object kept id) rest) zero c b new is = absurd (cc)
+occurs-with_child n (more (object kept id) rest) (suc at) c b new is = occurs-with_child n rest at c b new is
 occurs-with_child n (more (child bounds page below) rest) zero c b new is =
     let same : record { page = page; row = below } ≡ c = cc in
     omega (arith, ap (λ (x : Child). occurs n x.row) same)
@@ -58,8 +59,8 @@ occurs-with_child n (more (child bounds page below) rest) (suc at) c b new is = 
 -- what occurs in a child occurs in the node
 fewer_at : (row : Row) (at : ℕ) (c : Child) → child_at row at ≡ Some c → (n : ℕ) → occurs_at c.page n c.row ≤ occurs n row
 fewer_at end at c is n = absurd (cc)
-fewer_at (more (object bounds id) rest) zero c is n = absurd (cc)
-fewer_at (more (object bounds id) rest) (suc at) c is n = fewer_at rest at c is n
+fewer_at (more (object kept id) rest) zero c is n = absurd (cc)
+fewer_at (more (object kept id) rest) (suc at) c is n = fewer_at rest at c is n
 fewer_at (more (child bounds page below) rest) zero c is n =
     let this : record { page = page; row = below } ≡ c = cc in
     omega (arith, ap (λ (x : Child). occurs_at x.page n x.row) this)
@@ -70,8 +71,8 @@ pub RowStands-with_child : (dims : ℕ) (m m' : PageMap) (level : ℕ) (row : Ro
     → ((n : ℕ) → occurs n row ≤ 1) → ((n : ℕ) → 0 < occurs n row → occurs_at c.page n c.row ≡ 0 → m' n ≡ m n)
     → HasNode dims m' c.page (level - 1) new → RowStands dims m' (level - 1) new → RowStands dims m' level (with_child row at b new)
 RowStands-with_child dims m m' level end at c b new is h distinct same node stands = absurd (cc)
-RowStands-with_child dims m m' level (more (object bounds id) rest) zero c b new is h distinct same node stands = absurd (cc)
-RowStands-with_child dims m m' level (more (object bounds id) rest) (suc at) c b new is h distinct same node stands = (h.0, RowStands-with_child dims m m' level rest at c b new is h.1 distinct same node stands)
+RowStands-with_child dims m m' level (more (object kept id) rest) zero c b new is h distinct same node stands = absurd (cc)
+RowStands-with_child dims m m' level (more (object kept id) rest) (suc at) c b new is h distinct same node stands = (h.0, RowStands-with_child dims m m' level rest at c b new is h.1 distinct same node stands)
 RowStands-with_child dims m m' level (more (child bounds page below) rest) zero c b new is h distinct same node stands =
     let this : record { page = page; row = below } ≡ c = cc in (
       h.0,

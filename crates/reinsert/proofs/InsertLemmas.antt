@@ -225,7 +225,7 @@ module _ {D : ℕ} (most : ℕ) (elsewhere : ℕ → ℕ) (m m1 : PageMap) (t : 
         (λ p. subst IsSome (sym (same n p)) (others_live n p))
 
     module _ (m2 : PageMap) (root' : Root) (b : Item) (c : Child) (is_beside : done.outcome.beside ≡ Some c) (b_is : b ≡ item_in (boxed D c)) (is_level : t.level + 1 ≡ root'.level)
-        (grown : ComesIn D m1 m2 root'.page (record { level = t.level + 1; entries = record { bounds = settled.bounds; reference = t.page } ∷ b ∷ [] })) where
+        (grown : ComesIn D m1 m2 root'.page (record { level = t.level + 1; entries = record { bounds = settled.bounds; reference = t.page; tag = 0 } ∷ b ∷ [] })) where
       abbrev over : Row
       over = row_of (boxed D (record { page = t.page; row = done.outcome.row }) ∷ boxed D c ∷ [])
 
@@ -278,8 +278,8 @@ module _ {D : ℕ} (most : ℕ) (elsewhere : ℕ → ℕ) (m m1 : PageMap) (t : 
 
       over_there : HasNode D m2 root'.page (t.level + 1) over
       over_there = grown.there
-          ∙ ap (λ (x : Bounds). Some (record { level = t.level + 1; entries = record { bounds = x; reference = t.page } ∷ b ∷ [] })) done.shows.bounds
-          ∙ ap (λ (x : Item). Some (record { level = t.level + 1; entries = record { bounds = least_box D (row_items done.outcome.row); reference = t.page } ∷ x ∷ [] })) b_is
+          ∙ ap (λ (x : Bounds). Some (record { level = t.level + 1; entries = record { bounds = x; reference = t.page; tag = 0 } ∷ b ∷ [] })) done.shows.bounds
+          ∙ ap (λ (x : Item). Some (record { level = t.level + 1; entries = record { bounds = least_box D (row_items done.outcome.row); reference = t.page; tag = 0 } ∷ x ∷ [] })) b_is
 
       step_some : StepsTo D most m m2 elsewhere before root' waits1 called'
       step_some = record {
@@ -355,13 +355,13 @@ module _ {D : ℕ} (X : Type 0) (most : ℕ) (elsewhere : ℕ → ℕ) (m m1 : P
   )
 
   pub first_beside : (Y : Type 0) (m2 : PageMap) (root' : Root) (beside : Entry D) → settled.beside ≡ Some beside → root'.level ≡ root.level + 1
-      → (X → Y × ComesIn D m1 m2 root'.page (record { level = root.level + 1; entries = record { bounds = settled.bounds; reference = root.page } ∷ item_of beside ∷ [] }))
+      → (X → Y × ComesIn D m1 m2 root'.page (record { level = root.level + 1; entries = record { bounds = settled.bounds; reference = root.page; tag = 0 } ∷ item_of beside ∷ [] }))
       → Y × StepsTo D most m m2 elsewhere s root' waits1 called'
   first_beside Y m2 root' beside is level grow =
       let c = some_beside D (item_of beside) got.1.outcome.beside (sym (ap (option_map item_of) is) ∙ got.1.shows.beside) in
       let grown = grow got.0 in
-      let here = subst (λ p. ComesIn D m1 m2 root'.page (record { level = s.tree.level + 1; entries = record { bounds = settled.bounds; reference = p } ∷ item_of beside ∷ [] })) (sym at.at.page)
-      (subst (λ l. ComesIn D m1 m2 root'.page (record { level = l + 1; entries = record { bounds = settled.bounds; reference = root.page } ∷ item_of beside ∷ [] })) (sym at.at.level) grown.1) in (
+      let here = subst (λ p. ComesIn D m1 m2 root'.page (record { level = s.tree.level + 1; entries = record { bounds = settled.bounds; reference = p; tag = 0 } ∷ item_of beside ∷ [] })) (sym at.at.page)
+      (subst (λ l. ComesIn D m1 m2 root'.page (record { level = l + 1; entries = record { bounds = settled.bounds; reference = root.page; tag = 0 } ∷ item_of beside ∷ [] })) (sym at.at.level) grown.1) in (
         grown.0,
         subst (λ ws. Steps m2 root' ws) (sym r.all_is)
             (step_some most elsewhere m m1 s.tree r.w r.ws s.called settled waits waits1 called' at.there at.below stand.0 stand.1 apart_here at.live fits_here r.held got.1

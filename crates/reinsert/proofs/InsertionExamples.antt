@@ -19,7 +19,7 @@ abbrev box : ℕ → ℕ → ℕ → ℕ → Bounds
 box x y x' y' = record { low = pos x ∷ pos y ∷ []; high = pos x' ∷ pos y' ∷ [] }
 
 abbrev at : ℕ → ℕ → ℕ → Item
-at id x y = record { bounds = point x y; reference = id }
+at id x y = record { bounds = point x y; reference = id; tag = id }
 
 -- ---- the fifth of five points on a line, which are split so, splits the root
 
@@ -27,18 +27,18 @@ abbrev line : List Item
 line = at 1 0 0 ∷ at 2 1 0 ∷ at 3 2 0 ∷ at 4 3 0 ∷ at 5 10 0 ∷ []
 
 abbrev four : Tree
-four = record { page = 3; level = 0; row = row_of (object (point 0 0) 1 ∷ object (point 1 0) 2 ∷ object (point 2 0) 3 ∷ object (point 3 0) 4 ∷ []) }
+four = record { page = 3; level = 0; row = row_of (object (point 0 0, 1) 1 ∷ object (point 1 0, 2) 2 ∷ object (point 2 0, 3) 3 ∷ object (point 3 0, 4) 4 ∷ []) }
 
 abbrev first_leaf : Row
-first_leaf = row_of (object (point 0 0) 1 ∷ object (point 1 0) 2 ∷ [])
+first_leaf = row_of (object (point 0 0, 1) 1 ∷ object (point 1 0, 2) 2 ∷ [])
 
 abbrev second_leaf : Row
-second_leaf = row_of (object (point 2 0) 3 ∷ object (point 3 0) 4 ∷ object (point 10 0) 5 ∷ [])
+second_leaf = row_of (object (point 2 0, 3) 3 ∷ object (point 3 0, 4) 4 ∷ object (point 10 0, 5) 5 ∷ [])
 
 abbrev five : Tree
 five = record { page = 6; level = 1; row = row_of (child (box 0 0 1 0) 3 first_leaf ∷ child (box 2 0 10 0) 5 second_leaf ∷ []) }
 
-pub fifth : Splits 2 4 line (0 ∷ 1 ∷ []) (2 ∷ 3 ∷ 4 ∷ []) → IsInsertion 2 4 (λ n. 0) (object (point 10 0) 5) 0 four five
+pub fifth : Splits 2 4 line (0 ∷ 1 ∷ []) (2 ∷ 3 ∷ 4 ∷ []) → IsInsertion 2 4 (λ n. 0) (object (point 10 0, 5) 5) 0 four five
 unfolding Rattle.tree_node.specs.Boxes.least_box
 fifth line_splits = record {
   count = 1;
@@ -46,7 +46,7 @@ fifth line_splits = record {
   placed = (
     _,
     record {
-      first = record { branch = object (point 10 0) 5; level = 0 };
+      first = record { branch = object (point 10 0, 5) 5; level = 0 };
       rest = [];
       waits = refl;
       fits = omega arith;
@@ -64,22 +64,22 @@ fifth line_splits = record {
 -- ---- the first overflow below a root: entry 6 is taken out of the second leaf and goes into the first
 
 abbrev low : Row
-low = row_of (object (point 0 0) 1 ∷ object (point 2 2) 2 ∷ object (point 42 42) 7 ∷ [])
+low = row_of (object (point 0 0, 1) 1 ∷ object (point 2 2, 2) 2 ∷ object (point 42 42, 7) 7 ∷ [])
 
 abbrev high : Row
-high = row_of (object (point 100 100) 3 ∷ object (point 102 102) 4 ∷ object (point 104 100) 5 ∷ object (point 60 60) 6 ∷ [])
+high = row_of (object (point 100 100, 3) 3 ∷ object (point 102 102, 4) 4 ∷ object (point 104 100, 5) 5 ∷ object (point 60 60, 6) 6 ∷ [])
 
 abbrev seven : Row
 seven = row_of (child (box 0 0 42 42) 3 low ∷ child (box 60 60 104 102) 5 high ∷ [])
 
 abbrev high_after : Row
-high_after = row_of (object (point 100 100) 3 ∷ object (point 102 102) 4 ∷ object (point 104 100) 5 ∷ object (point 103 101) 8 ∷ [])
+high_after = row_of (object (point 100 100, 3) 3 ∷ object (point 102 102, 4) 4 ∷ object (point 104 100, 5) 5 ∷ object (point 103 101, 8) 8 ∷ [])
 
 abbrev between : Row
 between = row_of (child (box 0 0 42 42) 3 low ∷ child (box 100 100 104 102) 5 high_after ∷ [])
 
 abbrev low_after : Row
-low_after = row_of (object (point 0 0) 1 ∷ object (point 2 2) 2 ∷ object (point 42 42) 7 ∷ object (point 60 60) 6 ∷ [])
+low_after = row_of (object (point 0 0, 1) 1 ∷ object (point 2 2, 2) 2 ∷ object (point 42 42, 7) 7 ∷ object (point 60 60, 6) 6 ∷ [])
 
 abbrev eight : Row
 eight = row_of (child (box 0 0 60 60) 3 low_after ∷ child (box 100 100 104 102) 5 high_after ∷ [])
@@ -109,10 +109,10 @@ first_least (suc (suc j)) lt = absurd (omega (arith, lt))
 to_first : IsChosenChild 2 1 (row_items between) (point 60 60) 0
 to_first = record { within = omega arith; least = first_least; first = λ j lt same. absurd (omega (arith, lt)) }
 
-pub first_overflow : IsInsertion 2 4 (λ n. 0) (object (point 103 101) 8) 0 (record { page = 6; level = 1; row = seven }) (record { page = 6; level = 1; row = eight })
+pub first_overflow : IsInsertion 2 4 (λ n. 0) (object (point 103 101, 8) 8) 0 (record { page = 6; level = 1; row = seven }) (record { page = 6; level = 1; row = eight })
 unfolding Rattle.tree_node.specs.Boxes.least_box Rattle.reinsert.specs.Far.far_places Rattle.reinsert.specs.Far.near_places Rattle.reinsert.specs.Far.far_order Rattle.reinsert.specs.Far.farther
 first_overflow =
-    let six : Waiter = record { branch = object (point 60 60) 6; level = 0 } in
+    let six : Waiter = record { branch = object (point 60 60, 6) 6; level = 0 } in
     let called : List Bool = true ∷ replicate 40 false in
     record {
       count = 2;
@@ -120,7 +120,7 @@ first_overflow =
       placed = (
         record { tree = record { page = 6; level = 1; row = between }; waiting = six ∷ []; called = called },
         record {
-          first = record { branch = object (point 103 101) 8; level = 0 };
+          first = record { branch = object (point 103 101, 8) 8; level = 0 };
           rest = [];
           waits = refl;
           fits = omega arith;

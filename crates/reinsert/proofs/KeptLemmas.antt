@@ -3,6 +3,7 @@ use Rattle.std.proofs.Common.{◌≡◌, ℕ, zero, suc, ◌+◌, ◌-◌, Bool,
 use Rattle.std.specs.Prelude.{MatchBool, nat_le, nat_lt, not, ◌&&◌}
 use Rattle.std.proofs.lemmas.List.{length-map}
 use Rattle.box_math.specs.Bounds.{Bounds}
+use Rattle.box_math.specs.Objects.{Object}
 use Rattle.tree_node.specs.Trees.{Row, end, more, Branch, object, child, Tree, objects_in, row_items}
 use Rattle.tree_node.specs.Rows.{branches_of, row_of, item_in, Waiter, objects_on}
 use Rattle.tree_node.specs.Positions.{total, pick, AreParts}
@@ -23,7 +24,7 @@ by_way true c h f g k = f refl h
 by_way false true h f g k = g refl refl h
 by_way false false h f g k = k refl h
 
-module _ (w : ℕ × Bounds → ℕ) where
+module _ (w : ℕ × Object → ℕ) where
   -- sums over all objects
   abbrev pub weight : Row → ℕ
   weight row = total w (objects_in row)
@@ -43,7 +44,7 @@ module _ (w : ℕ × Bounds → ℕ) where
 
   weight-row_of : (xs : List Branch) → weight (row_of xs) ≡ total weight_on xs
   weight-row_of [] = refl
-  weight-row_of (object bounds id ∷ xs) = omega (arith, weight-row_of xs)
+  weight-row_of (object kept id ∷ xs) = omega (arith, weight-row_of xs)
   weight-row_of (child bounds page below ∷ xs) = omega (arith, weight-row_of xs, total-append w (objects_in below) (objects_in (row_of xs)))
 
   weight-branches_of : (row : Row) → total weight_on (branches_of row) ≡ weight row
@@ -59,8 +60,8 @@ module _ (w : ℕ × Bounds → ℕ) where
 
   weight-with_child : (row : Row) (at : ℕ) (c : Child) (b : Bounds) (new : Row) → child_at row at ≡ Some c → weight (with_child row at b new) + weight c.row ≡ weight row + weight new
   weight-with_child end at c b new is = absurd (cc)
-  weight-with_child (more (object bounds id) rest) zero c b new is = absurd (cc)
-  weight-with_child (more (object bounds id) rest) (suc at) c b new is = omega (arith, weight-with_child rest at c b new is)
+  weight-with_child (more (object kept id) rest) zero c b new is = absurd (cc)
+  weight-with_child (more (object kept id) rest) (suc at) c b new is = omega (arith, weight-with_child rest at c b new is)
   weight-with_child (more (child bounds page below) rest) zero c b new is =
       let same : record { page = page; row = below } ≡ c = cc in
       omega (arith, ap (λ (x : Child). weight x.row) same, total-append w (objects_in new) (objects_in rest), total-append w (objects_in below) (objects_in rest))
@@ -127,7 +128,7 @@ module _ (w : ℕ × Bounds → ℕ) where
   weight-placings dims most elsewhere (suc count) old new h = weight-placings dims most elsewhere count h.0 new h.2 ∙ weight-placing dims most elsewhere old h.0 h.1
 
 -- an insertion keeps each sum over the objects
-pub weight-insertion : (w : ℕ × Bounds → ℕ) (dims most : ℕ) (elsewhere : ℕ → ℕ) (branch : Branch) (level : ℕ) (old new : Tree) → IsInsertion dims most elsewhere branch level old new
+pub weight-insertion : (w : ℕ × Object → ℕ) (dims most : ℕ) (elsewhere : ℕ → ℕ) (branch : Branch) (level : ℕ) (old new : Tree) → IsInsertion dims most elsewhere branch level old new
     → total w (objects_on branch ++ objects_in old.row) ≡ total w (objects_in new.row)
 weight-insertion w dims most elsewhere branch level old new h =
     omega (arith, total-append w (objects_on branch) (objects_in old.row), weight-placings w dims most elsewhere h.count _ _ h.placed)

@@ -11,7 +11,7 @@ use Rattle.reinsert.specs.Kept.{ShapeBoundsLevel}
 -- how many nodes are below
 nodes : Row → ℕ
 nodes end = 0
-nodes (more (object bounds id) rest) = nodes rest
+nodes (more (object kept id) rest) = nodes rest
 nodes (more (child bounds page below) rest) = 1 + nodes below + nodes rest
 
 times : (a b k : ℕ) → a ≤ b → a * k ≤ b * k
@@ -21,7 +21,7 @@ times a b k h = grind (arith, h)
 nodes_on : (dims most level : ℕ) (row : Row) → RowHasShape dims most row → RowOnLevel (suc level) row → row_length row * 2 ^ level ≤ nodes row
 unfolding nodes
 nodes_on dims most level end h on = omega arith
-nodes_on dims most level (more (object bounds id) rest) h on = absurd (omega (arith, on.0))
+nodes_on dims most level (more (object kept id) rest) h on = absurd (omega (arith, on.0))
 nodes_on dims most zero (more (child bounds page below) rest) h on =
     omega (arith, nodes_on dims most zero rest h.4 on.2)
 nodes_on dims most (suc level) (more (child bounds page below) rest) h on =
@@ -55,7 +55,7 @@ pages_of limit end within = zeros limit
     zeros : (n : ℕ) → sum_over n (λ k. 0) ≡ 0
     zeros zero = refl
     zeros (suc n) = omega (arith, zeros n)
-pages_of limit (more (object bounds id) rest) within = pages_of limit rest within
+pages_of limit (more (object kept id) rest) within = pages_of limit rest within
 pages_of limit (more (child bounds page below) rest) within =
     let here : ◌≡◌ {A = ℕ} (cond (eqb page page) 1 0) 1 = grind (arith, nat_tests) in
     omega (

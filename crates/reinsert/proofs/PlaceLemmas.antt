@@ -308,8 +308,8 @@ items_read dims m page level level' row entries there read = ap (λ (c : NodeCon
 
 few_below : (dims most : ℕ) (row : Row) (at : ℕ) (c : Child) → child_at row at ≡ Some c → RowHasShape dims most row → HasFewEntries dims most c.row
 few_below dims most end at c is h = absurd (cc)
-few_below dims most (more (object bounds id) rest) zero c is h = absurd (cc)
-few_below dims most (more (object bounds id) rest) (suc at) c is h = few_below dims most rest at c is h
+few_below dims most (more (object kept id) rest) zero c is h = absurd (cc)
+few_below dims most (more (object kept id) rest) (suc at) c is h = few_below dims most rest at c is h
 few_below dims most (more (child bounds page below) rest) zero c is h =
     let this : record { page = page; row = below } ≡ c = cc in
     subst (λ (x : Child). HasFewEntries dims most x.row) this (h.1, h.3)
@@ -320,7 +320,7 @@ few_items dims most row h = omega (arith, h.0, count row)
   where
     count : (row : Row) → length (row_items row) ≡ row_length row
     count end = refl
-    count (more (object bounds id) rest) = omega (arith, count rest)
+    count (more (object kept id) rest) = omega (arith, count rest)
     count (more (child bounds page below) rest) = omega (arith, count rest)
 
 -- the chosen child can take the entry, and has few entries too

@@ -17,7 +17,7 @@ use Rattle.tree_node.proofs.PositionLemmas.{map-pick, parts_have_all, All-pick}
 use Rattle.rstar_split.specs.Cuts.{Splits}
 use Rattle.rstar_split.specs.Divided.{IsDividedBySplit}
 use Rattle.rstar_split.proofs.SplitParts.{split_parts}
-use Rattle.node_page.specs.Layout.{IsReference, IsSpellable}
+use Rattle.node_page.specs.Layout.{IsOfLevel, IsSpellable}
 use Rattle.node_page.specs.Standing.{PageMap, HasNode, RowStands, node_in}
 use Rattle.node_page.proofs.StandingLemmas.{row_stays, below_there, page_of_node}
 use Rattle.node_page.specs.Parts.{Moves}
@@ -45,7 +45,7 @@ AllWait_frame dims m m' (w ∷ ws) same h = (
 
 pub AllWait-map : (dims : ℕ) (m : PageMap) (level : ℕ) (xs : List Branch) → RowStands dims m level (row_of xs) → AllWait dims m (waiting_on level xs)
 AllWait-map dims m level [] h = tt
-AllWait-map dims m level (object bounds id ∷ xs) h = ((h.0, tt), AllWait-map dims m level xs h.1)
+AllWait-map dims m level (object kept id ∷ xs) h = ((h.0, tt), AllWait-map dims m level xs h.1)
 AllWait-map dims m level (child bounds page below ∷ xs) h = ((h.0, h.1, h.2, tt), AllWait-map dims m level xs h.3)
 
 occurs_waiting-map : (n level : ℕ) (xs : List Branch) → occurs_waiting n (waiting_on level xs) ≡ total (occurs_on n) xs
@@ -249,7 +249,7 @@ module _ {D : ℕ} (most top level : ℕ) (called : List Bool) (branches : List 
       }
 
   pub split_settled : (number : ℕ) (beside : Entry D) (first second : List (Entry D)) → IsDividedBySplit D most entries first second → length entries ≡ most + 1 → (level < top → is_called called level ≡ true)
-      → settled.bounds ≡ least_box D (map item_of first) → settled.beside ≡ Some beside → item_of beside ≡ record { bounds = least_box D (map item_of second); reference = number }
+      → settled.bounds ≡ least_box D (map item_of first) → settled.beside ≡ Some beside → item_of beside ≡ record { bounds = least_box D (map item_of second); reference = number; tag = 0 }
       → waits' ≡ waits → called' ≡ set called level true
       → SplitsOff D m m' page number (record { level = level; entries = map item_of first }) (record { level = level; entries = map item_of second })
       → SettlesTo D most top level called branches m m' page settled waits waits' called'
@@ -277,7 +277,7 @@ module _ {D : ℕ} (most top level : ℕ) (called : List Bool) (branches : List 
         moves = split_moves D m m' page level number branches one two can (set called level true) first_stands second_stands counts off';
         shows = record {
           bounds = bounds ∙ ap (least_box D) first_shown;
-          beside = ap (option_map item_of) beside_is ∙ ap Some (beside_item ∙ ap (λ (es : List Item). record { bounds = least_box D es; reference = number }) second_shown);
+          beside = ap (option_map item_of) beside_is ∙ ap Some (beside_item ∙ ap (λ (es : List Item). record { bounds = least_box D es; reference = number; tag = 0 }) second_shown);
           far = ap (map held_of) far ∙ sym (append-nil (map held_of waits));
           calls = calls;
         };
@@ -285,17 +285,17 @@ module _ {D : ℕ} (most top level : ℕ) (called : List Bool) (branches : List 
 
 -- ---- what may be written
 
-pub spellable_of : {D : ℕ} (level : ℕ) (entries : List (Entry D)) → length entries ≤ 100 → 0 < length entries → All (λ (e : Entry D). IsReference level e.reference) entries
+pub spellable_of : {D : ℕ} (level : ℕ) (entries : List (Entry D)) → length entries ≤ 100 → 0 < length entries → All (λ (e : Entry D). IsOfLevel level e.reference e.tag) entries
     → IsSpellable (record { level = level; entries = map item_of entries })
 spellable_of level entries few some refers = record {
   few = omega (arith, length-map entries item_of, few);
   some = λ above. omega (arith, length-map entries item_of, some);
-  refers = All-map (λ (item : Item). IsReference level item.reference) item_of entries refers;
+  refers = All-map (λ (item : Item). IsOfLevel level item.reference item.tag) item_of entries refers;
 }
 
-pub All-part : {D : ℕ} (level : ℕ) (entries part : List (Entry D)) (places : List ℕ) → part ≡ pick entries places → All (λ (e : Entry D). IsReference level e.reference) entries → All (λ (e : Entry D). IsReference level e.reference) part
+pub All-part : {D : ℕ} (level : ℕ) (entries part : List (Entry D)) (places : List ℕ) → part ≡ pick entries places → All (λ (e : Entry D). IsOfLevel level e.reference e.tag) entries → All (λ (e : Entry D). IsOfLevel level e.reference e.tag) part
 All-part {D} level entries part places is h =
-    let P : Entry D → Type 0 = λ e. IsReference level e.reference in
+    let P : Entry D → Type 0 = λ e. IsOfLevel level e.reference e.tag in
     subst (λ xs. All P xs) (sym is) (All-pick P entries places h)
 
 -- where nothing was split off, nothing is said of it

@@ -37,8 +37,8 @@ length-branches_of row = sym (length-row_of (branches_of row)) ∙ ap row_length
 
 length-with_child : (row : Row) (at : ℕ) (b : Bounds) (new : Row) → row_length (with_child row at b new) ≡ row_length row
 length-with_child end at b new = refl
-length-with_child (more (object bounds id) rest) zero b new = refl
-length-with_child (more (object bounds id) rest) (suc at) b new = omega (arith, length-with_child rest at b new)
+length-with_child (more (object kept id) rest) zero b new = refl
+length-with_child (more (object kept id) rest) (suc at) b new = omega (arith, length-with_child rest at b new)
 length-with_child (more (child bounds page below) rest) zero b new = refl
 length-with_child (more (child bounds page below) rest) (suc at) b new = omega (arith, length-with_child rest at b new)
 
@@ -50,11 +50,11 @@ module _ (dims most : ℕ) where
   Sound level row = RowHasShape dims most row × RowHasBoxes dims row × RowOnLevel level row
 
   sound_first : (level : ℕ) (x : Branch) (rest : Row) → Sound level (more x rest) → Sound level (more x end) × Sound level rest
-  sound_first level (object bounds id) rest h = ((tt, (h.1.0, tt), (h.2.0, tt)), (h.0, h.1.1, h.2.1))
+  sound_first level (object kept id) rest h = ((tt, (h.1.0, tt), (h.2.0, tt)), (h.0, h.1.1, h.2.1))
   sound_first level (child bounds page below) rest h = (((h.0.0, h.0.1, h.0.2, h.0.3, tt), (h.1.0, h.1.1, tt), (h.2.0, h.2.1, tt)), (h.0.4, h.1.2, h.2.2))
 
   sound_more : (level : ℕ) (x : Branch) (rest : Row) → Sound level (more x end) → Sound level rest → Sound level (more x rest)
-  sound_more level (object bounds id) rest h k = (k.0, (h.1.0, k.1), (h.2.0, k.2))
+  sound_more level (object kept id) rest h k = (k.0, (h.1.0, k.1), (h.2.0, k.2))
   sound_more level (child bounds page below) rest h k = ((h.0.0, h.0.1, h.0.2, h.0.3, k.0), (h.1.0, h.1.1, k.1), (h.2.0, h.2.1, k.2))
 
   Sound-append : (level : ℕ) (xs ys : List Branch) → Sound level (row_of xs) → Sound level (row_of ys) → Sound level (row_of (xs ++ ys))
@@ -90,8 +90,8 @@ module _ (dims most : ℕ) where
 
   child_full : (level : ℕ) (row : Row) (at : ℕ) (c : Child) → child_at row at ≡ Some c → Sound level row → (0 < level) × IsFull (level - 1) c.row
   child_full level end at c is h = absurd (cc)
-  child_full level (more (object bounds id) rest) zero c is h = absurd (cc)
-  child_full level (more (object bounds id) rest) (suc at) c is h = child_full level rest at c is (h.0, h.1.1, h.2.1)
+  child_full level (more (object kept id) rest) zero c is h = absurd (cc)
+  child_full level (more (object kept id) rest) (suc at) c is h = child_full level rest at c is (h.0, h.1.1, h.2.1)
   child_full level (more (child bounds page below) rest) zero c is h =
       let this : record { page = page; row = below } ≡ c = cc in
       (h.2.0, subst (λ (x : Child). IsFull (level - 1) x.row) this (h.0.0, h.0.1, (h.0.3, h.1.1, h.2.1)))
@@ -99,8 +99,8 @@ module _ (dims most : ℕ) where
 
   Sound-with_child : (level : ℕ) (row : Row) (at : ℕ) (new : Row) → Sound level row → IsFull (level - 1) new → Sound level (with_child row at (least_box dims (row_items new)) new)
   Sound-with_child level end at new h full = h
-  Sound-with_child level (more (object bounds id) rest) zero new h full = h
-  Sound-with_child level (more (object bounds id) rest) (suc at) new h full =
+  Sound-with_child level (more (object kept id) rest) zero new h full = h
+  Sound-with_child level (more (object kept id) rest) (suc at) new h full =
       let later = Sound-with_child level rest at new (h.0, h.1.1, h.2.1) full in (later.0, (h.1.0, later.1), (h.2.0, later.2))
   Sound-with_child level (more (child bounds page below) rest) zero new h full =
       let least = full_least (level - 1) new full in ((full.0, full.1, least, full.2.0, h.0.4), (least.box, full.2.1, h.1.2), (h.2.0, full.2.2, h.2.2))

@@ -11,11 +11,11 @@ use Rattle.node_page.proofs.PartLemmas.{moves_beside, the_rest_stays}
 -- ---- trees that stand
 
 stands_first : (dims : ℕ) (m : PageMap) (level : ℕ) (x : Branch) (rest : Row) → RowStands dims m level (more x rest) → RowStands dims m level (more x end) × RowStands dims m level rest
-stands_first dims m level (object bounds id) rest h = ((h.0, tt), h.1)
+stands_first dims m level (object kept id) rest h = ((h.0, tt), h.1)
 stands_first dims m level (child bounds page below) rest h = ((h.0, h.1, h.2, tt), h.3)
 
 stands_more : (dims : ℕ) (m : PageMap) (level : ℕ) (x : Branch) (rest : Row) → RowStands dims m level (more x end) → RowStands dims m level rest → RowStands dims m level (more x rest)
-stands_more dims m level (object bounds id) rest h k = (h.0, k)
+stands_more dims m level (object kept id) rest h k = (h.0, k)
 stands_more dims m level (child bounds page below) rest h k = (h.0, h.1, h.2, k)
 
 pub RowStands-append : (dims : ℕ) (m : PageMap) (level : ℕ) (xs ys : List Branch) → RowStands dims m level (row_of xs) → RowStands dims m level (row_of ys) → RowStands dims m level (row_of (xs ++ ys))

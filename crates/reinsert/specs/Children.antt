@@ -12,16 +12,16 @@ pub record Child : Type 0 where
 -- the child at a position, if there is one
 abbrev pub child_at : Row → ℕ → Option Child
 child_at end at = None
-child_at (more (object bounds id) rest) zero = None
-child_at (more (object bounds id) rest) (suc at) = child_at rest at
+child_at (more (object kept id) rest) zero = None
+child_at (more (object kept id) rest) (suc at) = child_at rest at
 child_at (more (child bounds page below) rest) zero = Some (record { page = page; row = below })
 child_at (more (child bounds page below) rest) (suc at) = child_at rest at
 
 -- the row with other entries in the child there, and another box round it
 abbrev pub with_child : Row → ℕ → Bounds → Row → Row
 with_child end at b new = end
-with_child (more (object bounds id) rest) zero b new = more (object bounds id) rest
-with_child (more (object bounds id) rest) (suc at) b new = more (object bounds id) (with_child rest at b new)
+with_child (more (object kept id) rest) zero b new = more (object kept id) rest
+with_child (more (object kept id) rest) (suc at) b new = more (object kept id) (with_child rest at b new)
 with_child (more (child bounds page below) rest) zero b new = more (child b page new) rest
 with_child (more (child bounds page below) rest) (suc at) b new = more (child bounds page below)
     (with_child rest at b new)

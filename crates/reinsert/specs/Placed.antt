@@ -136,7 +136,7 @@ pub record SplitsOff (dims : ℕ) (m m' : PageMap) (page number : ℕ) (first se
 -- the entries with another box at a place
 abbrev pub set_box : List Item → ℕ → Bounds → List Item
 set_box [] at b = []
-set_box (item ∷ items) zero b = record { bounds = b; reference = item.reference } ∷ items
+set_box (item ∷ items) zero b = record { bounds = b; reference = item.reference; tag = item.tag } ∷ items
 set_box (item ∷ items) (suc at) b = item ∷ set_box items at b
 
 -- what was split off, if anything was

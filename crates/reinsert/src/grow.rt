@@ -6,7 +6,7 @@ ghost use Rattle.page_file.specs.declared.gate.Gate.TheVariants.{Open};
 ghost use Rattle.page_cache.specs.Cache.{Grows, IsPageMap, gate_of, pages};
 ghost use Rattle.page_cache.specs.Calls.{Changes};
 ghost use Rattle.tree_node.specs.Nodes.{item_of};
-ghost use Rattle.node_page.specs.Layout.{IsReference};
+ghost use Rattle.node_page.specs.Layout.{IsOfLevel};
 ghost use Rattle.node_page.specs.Faults.{IsChangeFault, IsNoDamage};
 ghost use Rattle.reinsert.specs.Placed.{ComesIn};
 
@@ -30,7 +30,7 @@ pub(crate) fn grow<const D: usize, B: BlockDevice, A: Allocator + Copy>(
     requires dims { IsDims D }
     requires open { gate_of cache.old ≡ Open }
     requires page { (3 ≤ root.page) × (root.page < 2 ^ 31) }
-    requires refers { IsReference 1 beside.reference }
+    requires refers { IsOfLevel 1 beside.reference beside.tag }
     ensures changes { Changes cache.old cache.new result }
     ensures grows { Grows 1 cache.old cache.new }
     ensures level { IfOk result (λ new. (new.level ≡ root.level + 1) × (new.level ≤ 40)) }
@@ -39,7 +39,7 @@ pub(crate) fn grow<const D: usize, B: BlockDevice, A: Allocator + Copy>(
         × ComesIn D (pages cache.old) (pages cache.new) new.page
         (record {
           level = root.level + 1;
-          entries = record { bounds = bounds.entry; reference = root.page } ∷
+          entries = record { bounds = bounds.entry; reference = root.page; tag = 0 } ∷
               item_of beside.entry ∷ [];
         })) }
     ensures faults { IsPageMap cache.old → root.level < 40 → IfErr result (IsNoDamage cache.new) }
@@ -52,6 +52,7 @@ pub(crate) fn grow<const D: usize, B: BlockDevice, A: Allocator + Copy>(
     entries.push(Entry {
         bounds,
         reference: u64::from(root.page),
+        tag: 0,
     });
     entries.push(beside);
     let node = Node {

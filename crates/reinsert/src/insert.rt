@@ -10,7 +10,7 @@ ghost use Rattle.tree_node.specs.Nodes.{item_of};
 ghost use Rattle.tree_node.specs.Shape.{HasLooseShape};
 ghost use Rattle.tree_node.specs.Trees.{Branch, Tree};
 ghost use Rattle.node_page.specs.Broken.{Alters, before};
-ghost use Rattle.node_page.specs.Layout.{IsReference};
+ghost use Rattle.node_page.specs.Layout.{IsOfLevel};
 ghost use Rattle.node_page.specs.Faults.{IsChangeFault, IsNoDamage};
 ghost use Rattle.reinsert.specs.Inserted.{CanInsert, InsertsTo, IsAt, IsRootFrom, StepsTo};
 ghost use Rattle.reinsert.specs.Inserted.{most_new_pages, most_placing_pages};
@@ -53,7 +53,7 @@ pub fn insert_at<const D: usize, B: BlockDevice, A: Allocator + Copy, H: Allocat
     requires most { (4 ≤ m_max) × (m_max ≤ 100) }
     requires levels { (level ≤ root.level) × (root.level ≤ 40) }
     requires root { (3 ≤ root.page) × (root.page < 2 ^ 31) }
-    requires refers { IsReference level entry.now.reference }
+    requires refers { IsOfLevel level entry.now.reference entry.now.tag }
     ensures alters { Alters cache.old cache.new result }
     ensures grows { Grows most_new_pages cache.old cache.new }
     ensures root { IfOk result (IsRootFrom root) }
@@ -86,7 +86,7 @@ pub fn insert_with<const D: usize, B: BlockDevice, A: Allocator + Copy>(
     requires most { (4 ≤ m_max) × (m_max ≤ 100) }
     requires levels { (level ≤ root.level) × (root.level ≤ 40) }
     requires root { (3 ≤ root.page) × (root.page < 2 ^ 31) }
-    requires refers { IsReference level entry.now.reference }
+    requires refers { IsOfLevel level entry.now.reference entry.now.tag }
     ensures alters { Alters cache.old cache.new result }
     ensures grows { Grows most_new_pages cache.old cache.new }
     ensures root { IfOk result (IsRootFrom root) }
@@ -139,7 +139,7 @@ fn place_one<const D: usize, B: BlockDevice, A: Allocator + Copy>(
     requires most { (4 ≤ m_max) × (m_max ≤ 100) }
     requires level { root.level ≤ 40 }
     requires root { (3 ≤ root.page) × (root.page < 2 ^ 31) }
-    requires refers { IsReference first.now.level first.now.entry.reference }
+    requires refers { IsOfLevel first.now.level first.now.entry.reference first.now.entry.tag }
     ensures alters { Alters cache.old cache.new result }
     ensures grows { Grows most_placing_pages cache.old cache.new }
     ensures measure { measure_of waiting.new ≤ measure_of waiting.old }

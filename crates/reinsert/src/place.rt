@@ -13,7 +13,7 @@ ghost use Rattle.tree_node.specs.Nodes.{Item, NodeContent, content_of, item_of};
 ghost use Rattle.tree_node.specs.Rows.{item_in};
 ghost use Rattle.tree_node.specs.Trees.{Row, Branch};
 ghost use Rattle.node_page.specs.Broken.{Alters};
-ghost use Rattle.node_page.specs.Layout.{IsReference};
+ghost use Rattle.node_page.specs.Layout.{IsOfLevel};
 ghost use Rattle.node_page.specs.Standing.{node_in};
 ghost use Rattle.node_page.specs.Faults.{IsChangeFault, IsNoDamage};
 ghost use Rattle.reinsert.specs.Placed.{CanPlace, CanSettle, HasFewEntries, PlacesTo, SettlesTo};
@@ -45,11 +45,11 @@ pub(crate) fn place<const D: usize, B: BlockDevice, A: Allocator + Copy>(
     requires open { gate_of cache.old ≡ Open }
     requires most { (4 ≤ m_max) × (m_max ≤ 100) }
     requires levels { (target ≤ at.level) × (at.level ≤ top) × (top ≤ 40) }
-    requires refers { IsReference target entry.now.reference }
+    requires refers { IsOfLevel target entry.now.reference entry.now.tag }
     ensures alters { Alters cache.old cache.new result }
     ensures grows { Grows (at.level + 1) cache.old cache.new }
     ensures measure { measure_of waiting.new ≤ measure_of waiting.old }
-    ensures beside { IfOk result (λ s. IfSome s.beside (λ e. IsReference (at.level + 1) e.reference)) }
+    ensures beside { IfOk result (λ s. IfSome s.beside (λ e. IsOfLevel (at.level + 1) e.reference e.tag)) }
     ensures placed { IsPageMap cache.old → (row : Row) (branch : Branch) → item_in branch ≡ item_of entry.now
         → CanPlace D (pages cache.old) at.page at.level target row branch →
         IfOk result (λ s. IsPageMap cache.new
@@ -91,11 +91,11 @@ fn put_here<const D: usize, B: BlockDevice, A: Allocator + Copy>(
     requires open { gate_of cache.old ≡ Open }
     requires most { (4 ≤ m_max) × (m_max ≤ 100) }
     requires top { (at.level ≤ top) × (top ≤ 40) }
-    requires refers { IsReference at.level entry.now.reference }
+    requires refers { IsOfLevel at.level entry.now.reference entry.now.tag }
     ensures alters { Alters cache.old cache.new result }
     ensures grows { Grows 1 cache.old cache.new }
     ensures measure { measure_of waiting.new ≤ measure_of waiting.old }
-    ensures beside { IfOk result (λ s. IfSome s.beside (λ e. IsReference (at.level + 1) e.reference)) }
+    ensures beside { IfOk result (λ s. IfSome s.beside (λ e. IsOfLevel (at.level + 1) e.reference e.tag)) }
     ensures settled { IsPageMap cache.old → (items : List Item) (branches : List Branch)
         → node_in D (pages cache.old at.page) ≡ Some (record { level = at.level; entries = items })
         → map item_in branches ≡ items ++ item_of entry.now ∷ []
@@ -143,7 +143,7 @@ fn read_fitting<const D: usize, B: BlockDevice, A: Allocator + Copy>(
     ensures level { OnOk result (node.new.level ≡ at.level) }
     ensures few { OnOk result (array_vec_len node.new.entries ≤ m_max) }
     ensures some { OnOk result (0 < at.level → 0 < array_vec_len node.new.entries) }
-    ensures refers { OnOk result (All (λ e. IsReference at.level e.reference) node.new.entries.items) }
+    ensures refers { OnOk result (All (λ e. IsOfLevel at.level e.reference e.tag) node.new.entries.items) }
     ensures other_faults { IfErr result (λ f. IsOfDevice f ⊎ IsDamage f) }
 {
     read_into(cache, at.page, at.level, node)?;
@@ -174,11 +174,11 @@ fn put_above<const D: usize, B: BlockDevice, A: Allocator + Copy>(
     requires open { gate_of cache.old ≡ Open }
     requires most { (4 ≤ m_max) × (m_max ≤ 100) }
     requires top { (at.level ≤ top) × (top ≤ 40) }
-    requires beside { IfSome lower.beside (λ e. IsReference at.level e.reference) }
+    requires beside { IfSome lower.beside (λ e. IsOfLevel at.level e.reference e.tag) }
     ensures alters { Alters cache.old cache.new result }
     ensures grows { Grows 1 cache.old cache.new }
     ensures measure { measure_of waiting.new ≤ measure_of waiting.old }
-    ensures beside { IfOk result (λ s. IfSome s.beside (λ e. IsReference (at.level + 1) e.reference)) }
+    ensures beside { IfOk result (λ s. IfSome s.beside (λ e. IsOfLevel (at.level + 1) e.reference e.tag)) }
     ensures settled { IsPageMap cache.old → (items : List Item) (branches : List Branch)
         → node_in D (pages cache.old at.page) ≡ Some (record { level = at.level; entries = items })
         → map item_in branches ≡ items_after items place lower.entry
@@ -212,11 +212,11 @@ fn read_and_settle<const D: usize, B: BlockDevice, A: Allocator + Copy>(
     requires open { gate_of cache.old ≡ Open }
     requires most { (4 ≤ m_max) × (m_max ≤ 100) }
     requires top { (at.level ≤ top) × (top ≤ 40) }
-    requires beside { IfSome lower.beside (λ e. IsReference at.level e.reference) }
+    requires beside { IfSome lower.beside (λ e. IsOfLevel at.level e.reference e.tag) }
     ensures changes { Changes cache.old cache.new result }
     ensures grows { Grows 1 cache.old cache.new }
     ensures measure { measure_of waiting.new ≤ measure_of waiting.old }
-    ensures beside { IfOk result (λ s. IfSome s.beside (λ e. IsReference (at.level + 1) e.reference)) }
+    ensures beside { IfOk result (λ s. IfSome s.beside (λ e. IsOfLevel (at.level + 1) e.reference e.tag)) }
     ensures settled { IsPageMap cache.old → (items : List Item) (branches : List Branch)
         → node_in D (pages cache.old at.page) ≡ Some (record { level = at.level; entries = items })
         → map item_in branches ≡ items_after items place lower.entry
@@ -257,12 +257,12 @@ fn settle_above<const D: usize, B: BlockDevice, A: Allocator + Copy>(
     requires top { (node.old.level ≤ top) × (top ≤ 40) }
     requires within { at < array_vec_len node.old.entries }
     requires few { array_vec_len node.old.entries ≤ m_max }
-    requires refers { All (λ e. IsReference node.old.level e.reference) node.old.entries.items }
-    requires beside { IfSome lower.beside (λ e. IsReference node.old.level e.reference) }
+    requires refers { All (λ e. IsOfLevel node.old.level e.reference e.tag) node.old.entries.items }
+    requires beside { IfSome lower.beside (λ e. IsOfLevel node.old.level e.reference e.tag) }
     ensures changes { Changes cache.old cache.new result }
     ensures grows { Grows 1 cache.old cache.new }
     ensures measure { measure_of waiting.new ≤ measure_of waiting.old }
-    ensures beside { IfOk result (λ s. IfSome s.beside (λ e. IsReference (node.old.level + 1) e.reference)) }
+    ensures beside { IfOk result (λ s. IfSome s.beside (λ e. IsOfLevel (node.old.level + 1) e.reference e.tag)) }
     ensures settled { IsPageMap cache.old → (branches : List Branch)
         → map item_in branches ≡ items_after (map item_of node.old.entries.items) at lower.entry
         → CanSettle D (pages cache.old) page node.old.level branches →

@@ -10,7 +10,7 @@ ghost use Rattle.page_cache.specs.Calls.{Changes};
 ghost use Rattle.tree_node.specs.Nodes.{content_of, item_of};
 ghost use Rattle.tree_node.specs.Rows.{item_in};
 ghost use Rattle.tree_node.specs.Trees.{Branch};
-ghost use Rattle.node_page.specs.Layout.{IsReference, IsSpellable};
+ghost use Rattle.node_page.specs.Layout.{IsOfLevel, IsSpellable};
 ghost use Rattle.node_page.specs.Standing.{PageMap, node_in};
 ghost use Rattle.reinsert.specs.Called.{is_called};
 ghost use Rattle.reinsert.specs.Far;
@@ -53,11 +53,11 @@ pub(crate) fn settle<const D: usize, B: BlockDevice, A: Allocator + Copy>(
     requires top { (node.now.level ≤ top) × (top ≤ 40) }
     requires some { 0 < array_vec_len node.now.entries }
     requires few { array_vec_len node.now.entries ≤ m_max + 1 }
-    requires refers { All (λ e. IsReference node.now.level e.reference) node.now.entries.items }
+    requires refers { All (λ e. IsOfLevel node.now.level e.reference e.tag) node.now.entries.items }
     ensures changes { Changes cache.old cache.new result }
     ensures grows { Grows 1 cache.old cache.new }
     ensures measure { measure_of waiting.new ≤ measure_of waiting.old }
-    ensures beside { IfOk result (λ s. IfSome s.beside (λ e. IsReference (node.now.level + 1) e.reference)) }
+    ensures beside { IfOk result (λ s. IfSome s.beside (λ e. IsOfLevel (node.now.level + 1) e.reference e.tag)) }
     ensures settled { IsPageMap cache.old → (branches : List Branch)
         → map item_in branches ≡ map item_of node.now.entries.items
         → CanSettle D (pages cache.old) page node.now.level branches →
@@ -86,7 +86,7 @@ fn write_fitting<const D: usize, B: BlockDevice, A: Allocator + Copy>(
     requires open { gate_of cache.old ≡ Open }
     requires some { 0 < array_vec_len node.now.entries }
     requires few { array_vec_len node.now.entries ≤ 100 }
-    requires refers { All (λ e. IsReference node.now.level e.reference) node.now.entries.items }
+    requires refers { All (λ e. IsOfLevel node.now.level e.reference e.tag) node.now.entries.items }
     ensures changes { Changes cache.old cache.new result }
     ensures grows { Grows 0 cache.old cache.new }
     ensures alone { IfOk result (λ s. s.beside ≡ None) }
@@ -122,7 +122,7 @@ fn take_out_far<const D: usize, B: BlockDevice, A: Allocator + Copy>(
     requires most { (4 ≤ m_max) × (m_max ≤ 100) }
     requires level { node.now.level < 41 }
     requires many { array_vec_len node.now.entries ≡ m_max + 1 }
-    requires refers { All (λ e. IsReference node.now.level e.reference) node.now.entries.items }
+    requires refers { All (λ e. IsOfLevel node.now.level e.reference e.tag) node.now.entries.items }
     requires first { is_called waiting.old.called node.now.level ≡ false }
     ensures changes { Changes cache.old cache.new result }
     ensures grows { Grows 0 cache.old cache.new }
@@ -165,11 +165,11 @@ fn split_off<const D: usize, B: BlockDevice, A: Allocator + Copy>(
     requires most { (4 ≤ m_max) × (m_max ≤ 100) }
     requires level { node.now.level < 41 }
     requires many { array_vec_len node.now.entries ≡ m_max + 1 }
-    requires refers { All (λ e. IsReference node.now.level e.reference) node.now.entries.items }
+    requires refers { All (λ e. IsOfLevel node.now.level e.reference e.tag) node.now.entries.items }
     ensures changes { Changes cache.old cache.new result }
     ensures grows { Grows 1 cache.old cache.new }
     ensures measure { measure_of waiting.new ≤ measure_of waiting.old }
-    ensures beside { IfOk result (λ s. IfSome s.beside (λ e. IsReference (node.now.level + 1) e.reference)) }
+    ensures beside { IfOk result (λ s. IfSome s.beside (λ e. IsOfLevel (node.now.level + 1) e.reference e.tag)) }
     ensures settled { IsPageMap cache.old → (top : ℕ) (branches : List Branch)
         → (node.now.level < top → is_called waiting.old.called node.now.level ≡ true)
         → map item_in branches ≡ map item_of node.now.entries.items
@@ -197,6 +197,7 @@ fn split_off<const D: usize, B: BlockDevice, A: Allocator + Copy>(
     let beside = Entry {
         bounds: other,
         reference: u64::from(number),
+        tag: 0,
     };
     Ok(Settled {
         bounds,

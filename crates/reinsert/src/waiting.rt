@@ -2,7 +2,7 @@
 
 ghost use Rattle.std.specs.Prelude.{◌+◌, ◌*◌, ◌≤◌, All};
 ghost use Rattle.arrayvec.specs.ArrayVec.{array_vec_len};
-ghost use Rattle.node_page.specs.Layout.{IsReference};
+ghost use Rattle.node_page.specs.Layout.{IsOfLevel};
 ghost use Rattle.reinsert.specs.Called.{free_levels};
 
 mod queue;
@@ -26,5 +26,5 @@ pub struct Waiting<const D: usize> {
     // for each level whether a node on it has overflowed
     called: [bool; 41],
     ghost room: { array_vec_len waits + 30 * free_levels called ≤ 1230 },
-    ghost refers: { All (λ w. IsReference w.level w.entry.reference) waits.items },
+    ghost refers: { All (λ w. IsOfLevel w.level w.entry.reference w.entry.tag) waits.items },
 }

@@ -1,5 +1,5 @@
 -- Worked splits (docs/RULES.md). No other proof rests on them.
-use Rattle.std.proofs.Common.{◌≡◌, ℕ, zero, suc, ◌+◌, ◌<◌, ◌≤◌, List, [], ◌∷◌, refl, arith, pos}
+use Rattle.std.proofs.Common.{◌≡◌, ℕ, zero, suc, ◌+◌, ◌*◌, ◌<◌, ◌≤◌, List, [], ◌∷◌, refl, arith, pos}
 use Rattle.tree_node.specs.Nodes.{Item}
 use Rattle.tree_node.specs.Keys.{AtMost}
 use Rattle.tree_node.proofs.KeyLemmas.{AtMost-itself}
@@ -8,7 +8,7 @@ use Rattle.rstar_split.specs.declared.sorting.Bound.TheVariants.{Lower, Upper}
 use Rattle.rstar_split.specs.Cuts.{before, order_of, front_box, back_box, margins_of, axis_margin, order_key, cut_key, Splits}
 
 abbrev at : ℕ → ℕ → ℕ → Item
-at id x y = record { bounds = record { low = pos x ∷ pos y ∷ []; high = pos x ∷ pos y ∷ [] }; reference = id }
+at id x y = record { bounds = record { low = pos x ∷ pos y ∷ []; high = pos x ∷ pos y ∷ [] }; reference = id; tag = 7 * id }
 
 -- ---- five points on a line: both axes have the same margin sum, and all volumes and overlaps are 0
 

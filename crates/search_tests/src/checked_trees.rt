@@ -4,7 +4,9 @@ ghost use Rattle.std.specs.Prelude.{◌≡◌, IfOk};
 ghost use Rattle.page_cache.specs.Cache.{gate_of};
 ghost use Rattle.page_file.specs.declared.gate.Gate.TheVariants.{Open};
 
-use block_bytes::{NODE_KIND, write_head, write_i32, write_u8, write_u64};
+use block_bytes::{
+    NODE_KIND, UNTAGGED_NODE_KIND, write_head, write_i32, write_u8, write_u32, write_u64,
+};
 use block_device::MemoryDevice;
 use box_math::BBox;
 use node_page::{Root, check_tree, view_node};
@@ -13,7 +15,8 @@ use std::alloc::Global;
 use std::test::Fail;
 use test_caches::{Cache, cache_of};
 
-// The page of a node on the level, of entries with boxes from (x, y) to (u, v).
+// The page of a node on the level, of entries with boxes from (x, y) to (u, v). The tags are 5 and so on; no node above
+// the leaves has them.
 fn page_of(level: u8, entries: &[([i32; 4], u64)]) -> [u8; 4096] {
     let mut page = [0; 4096];
     write_head(
@@ -30,6 +33,7 @@ fn page_of(level: u8, entries: &[([i32; 4], u64)]) -> [u8; 4096] {
         write_i32(&mut page, 816 + 4 * place, y);
         write_i32(&mut page, 1216 + 4 * place, v);
         write_u64(&mut page, 1616 + 8 * place, reference);
+        write_u32(&mut page, 2416 + 4 * place, 5 + place as u32);
     }
     page
 }
@@ -67,14 +71,37 @@ fn a_tree_that_stands_has_its_objects_and_pages(rt: HostRuntime) -> Result<(), F
     let facts = check_tree::<2, _, _, _>(rt.alloc(), &mut cache, root, 4)?;
     assert_eq!(rt; facts.pages.as_slice(), [5, 3, 4].as_slice());
     assert_eq!(rt; facts.pairs.len(), 4);
-    for (at, id) in [(0, 7), (1, 5), (2, 1), (3, 2)] {
+    for (at, id, tag) in [(0, 7, 5), (1, 5, 6), (2, 1, 5), (3, 2, 6)] {
         assert!(rt;
-            facts.pairs.get(at).is_some_and(|pair| pair.0 == id),
+            facts
+                .pairs
+                .get(at)
+                .is_some_and(|pair| pair.0 == id && (pair.1).1 == tag),
             "{at}"
         );
     }
-    assert!(rt; facts.pairs.get(3).map(|pair| pair.1) == BBox::try_new([12, 5], [13, 5]));
+    assert!(rt; facts.pairs.get(3).map(|pair| (pair.1).0) == BBox::try_new([12, 5], [13, 5]));
     assert_eq!(rt; cache.looks(), 3);
+    Ok(())
+}
+
+#[test]
+fn objects_of_an_old_leaf_have_the_tag_0(rt: HostRuntime) -> Result<(), Fail> {
+    let mut cache = scene(rt.alloc())?;
+    let mut old = page_of(0, &FIRST);
+    write_u8(&mut old, 0, UNTAGGED_NODE_KIND);
+    cache.put(3, &old)?;
+    let root = Root { page: 5, level: 1 };
+    let facts = check_tree::<2, _, _, _>(rt.alloc(), &mut cache, root, 4)?;
+    for (at, id, tag) in [(0, 7, 0), (1, 5, 0), (2, 1, 5), (3, 2, 6)] {
+        assert!(rt;
+            facts
+                .pairs
+                .get(at)
+                .is_some_and(|pair| pair.0 == id && (pair.1).1 == tag),
+            "{at}"
+        );
+    }
     Ok(())
 }
 

@@ -21,22 +21,22 @@ const EMPTY: Root = Root { page: 7, level: 0 };
 /// A root that refers to itself.
 const HOSTILE: Root = Root { page: 8, level: 1 };
 
-// A device on which the trees stand in pages 3 to 8.
+// A device on which the trees stand in pages 3 to 8. The tags of their objects make no difference.
 fn scene(alloc: Global) -> Result<MemoryDevice, Fault> {
     let pages = [
-        page_of(0, &[(2, [1, 1], [2, 2]), (1, [0, 0], [1, 1])]),
-        page_of(0, &[(1, [0, 0], [0, 0]), (2, [1, 0], [1, 0])]),
+        page_of(0, &[(2, [1, 1], [2, 2], 8), (1, [0, 0], [1, 1], 9)]),
+        page_of(0, &[(1, [0, 0], [0, 0], 8), (2, [1, 0], [1, 0], 9)]),
         page_of(
             0,
             &[
-                (3, [2, 0], [2, 0]),
-                (4, [3, 0], [3, 0]),
-                (5, [10, 0], [10, 0]),
+                (3, [2, 0], [2, 0], 8),
+                (4, [3, 0], [3, 0], 9),
+                (5, [10, 0], [10, 0], 8),
             ],
         ),
-        page_of(1, &[(4, [0, 0], [1, 0]), (5, [2, 0], [10, 0])]),
+        page_of(1, &[(4, [0, 0], [1, 0], 0), (5, [2, 0], [10, 0], 0)]),
         page_of(0, &[]),
-        page_of(1, &[(8, [0, 0], [1, 1])]),
+        page_of(1, &[(8, [0, 0], [1, 1], 0)]),
     ];
     let cache = cache_of(alloc, MemoryDevice::new(alloc), pages.as_slice())?;
     cache.close().map_err(|(fault, _)| fault)

@@ -7,9 +7,9 @@ use node_page::Root;
 use page_file::Fault;
 use std::test::Fail;
 
-// The row of an object at a point.
+// The row of an object at a point. Its tag makes no difference.
 fn at(id: u64, x: i32, y: i32) -> Row {
-    (id, [x, y], [x, y])
+    (id, [x, y], [x, y], 9)
 }
 
 #[test]
@@ -20,8 +20,8 @@ fn fewer_objects_are_all_answered(rt: HostRuntime) -> Result<(), Fail> {
         &[at(3, i32::MIN, i32::MIN)],
         &[at(1, i32::MAX, i32::MAX)],
         &[
-            (3, [i32::MIN, i32::MIN], [i32::MIN, i32::MIN]),
-            (4, [i32::MAX, i32::MAX], [i32::MAX, i32::MAX]),
+            (3, [i32::MIN, i32::MIN], [i32::MIN, i32::MIN], 0),
+            (4, [i32::MAX, i32::MAX], [i32::MAX, i32::MAX], 0),
         ],
     )?;
     let far = 36893488130239234050;
@@ -41,7 +41,7 @@ fn pages_of_no_tree_are_damaged(rt: HostRuntime) -> Result<(), Fail> {
         MemoryDevice::new(rt.alloc()),
         &[],
         &[],
-        &[(3, [0, 0], [1, 1]), (4, [0, 0], [1, 1])],
+        &[(3, [0, 0], [1, 1], 0), (4, [0, 0], [1, 1], 0)],
     )?;
     let high = Root { page: 5, level: 2 };
     let answer = nearest::<2, _, _, _>(rt.alloc(), &mut cache, high, &[0, 0], 1);
@@ -51,7 +51,7 @@ fn pages_of_no_tree_are_damaged(rt: HostRuntime) -> Result<(), Fail> {
         MemoryDevice::new(rt.alloc()),
         &[],
         &[],
-        &[(5, [0, 0], [1, 1])],
+        &[(5, [0, 0], [1, 1], 0)],
     )?;
     let answer = nearest::<2, _, _, _>(rt.alloc(), &mut cache, ROOT, &[0, 0], 1);
     assert!(rt; answer.err() == Some(Fault::Damaged(5)));

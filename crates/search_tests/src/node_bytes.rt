@@ -8,15 +8,16 @@ use box_math::BBox;
 use node_page::laws::a_node_comes_back;
 use node_page::{Entry, Node, NodeView, decode, encode};
 
-// The page of the leaf of one entry, identifier 1 and box (-1,2) to (3,4).
+// The page of the leaf of one entry, identifier 1, box (-1,2) to (3,4) and tag 7.
 fn page_of_one() -> [u8; 4096] {
     let mut page = [0; 4096];
-    page[..5].copy_from_slice(&[2, 2, 0, 1, 0]);
+    page[..5].copy_from_slice(&[6, 2, 0, 1, 0]);
     page[16..20].copy_from_slice(&[255, 255, 255, 255]);
     page[419] = 3;
     page[819] = 2;
     page[1219] = 4;
     page[1623] = 1;
+    page[2419] = 7;
     page
 }
 
@@ -31,7 +32,7 @@ fn put(page: &mut [u8; 4096], at: usize, bytes: [u8; 8])
 // by hand. The boxes are (-2,256,-2^31) to (5,16909060,2^31-1) and the point (1,-1,3).
 fn page_of_two_in_space() -> [u8; 4096] {
     let mut page = [0; 4096];
-    page[..5].copy_from_slice(&[2, 3, 0, 2, 3]);
+    page[..5].copy_from_slice(&[6, 3, 0, 2, 3]);
     put(&mut page, 16, [255, 255, 255, 254, 0, 0, 0, 1]);
     put(&mut page, 416, [0, 0, 0, 5, 0, 0, 0, 1]);
     put(&mut page, 816, [0, 0, 1, 0, 255, 255, 255, 255]);
@@ -43,7 +44,7 @@ fn page_of_two_in_space() -> [u8; 4096] {
     page
 }
 
-// A leaf of so many entries, with references at the upper end of their range and coordinates at both.
+// A leaf of so many entries, with references and tags at the upper end of their ranges and coordinates at both.
 fn leaf_of<const D: usize>(count: u8) -> Node<D> {
     let mut entries = ArrayVec::new();
     for k in 0..count {
@@ -52,6 +53,7 @@ fn leaf_of<const D: usize>(count: u8) -> Node<D> {
             Some(bounds) if !entries.is_full() => entries.push(Entry {
                 bounds,
                 reference: u64::MAX - u64::from(k),
+                tag: u32::MAX - u32::from(k),
             }),
             _ => break,
         }
@@ -88,6 +90,7 @@ fn a_leaf_of_one_entry_is_its_bytes(rt: HostRuntime) {
     entries.push(Entry {
         bounds,
         reference: 1,
+        tag: 7,
     });
     let leaf = Node::<2> { level: 0, entries };
     assert!(rt; page_of(&leaf) == page_of_one());
@@ -104,10 +107,12 @@ fn two_entries_in_three_dimensions_are_their_bytes(rt: HostRuntime) {
     entries.push(Entry {
         bounds,
         reference: 3,
+        tag: 0,
     });
     entries.push(Entry {
         bounds: point,
         reference: 0x7fff_ffff,
+        tag: 0,
     });
     assert!(rt; decode::<3>(&spelled, 3) == Some(Node { level: 3, entries }));
     assert!(rt; written_again::<3>(&spelled, 3) == spelled);
@@ -116,17 +121,17 @@ fn two_entries_in_three_dimensions_are_their_bytes(rt: HostRuntime) {
 #[test]
 fn a_leaf_may_be_empty(rt: HostRuntime) {
     let mut page = [0; 4096];
-    page[..2].copy_from_slice(&[2, 2]);
+    page[..2].copy_from_slice(&[6, 2]);
     let leaf = decode::<2>(&page, 0).expect(&rt, "a leaf");
     assert!(rt; leaf == leaf_of(0));
     assert!(rt; page_of(&leaf) == page);
 }
 
 #[test]
-fn the_last_of_100_entries_ends_at_2416_in_the_plane(rt: HostRuntime) {
+fn the_last_of_100_entries_ends_at_2816_in_the_plane(rt: HostRuntime) {
     let leaf = leaf_of::<2>(100);
     let page = page_of(&leaf);
-    assert_eq!(rt; &page[..8], [2, 2, 0, 100, 0, 0, 0, 0].as_slice());
+    assert_eq!(rt; &page[..8], [6, 2, 0, 100, 0, 0, 0, 0].as_slice());
     assert_eq!(rt; &page[412..416], [0x80, 0, 0, 99].as_slice());
     assert_eq!(rt;
         &page[812..820],
@@ -134,14 +139,15 @@ fn the_last_of_100_entries_ends_at_2416_in_the_plane(rt: HostRuntime) {
     );
     assert_eq!(rt; &page[1612..1616], [0x7f, 255, 255, 254].as_slice());
     assert_eq!(rt;
-        &page[2408..2417],
-        [255, 255, 255, 255, 255, 255, 255, 0x9c, 0].as_slice()
+        &page[2408..2420],
+        [255, 255, 255, 255, 255, 255, 255, 0x9c, 255, 255, 255, 255].as_slice()
     );
+    assert_eq!(rt; &page[2812..2817], [255, 255, 255, 0x9c, 0].as_slice());
     assert!(rt; decode::<2>(&page, 0) == Some(leaf));
 }
 
 #[test]
-fn the_last_of_100_entries_ends_at_3216_in_space(rt: HostRuntime) {
+fn the_last_of_100_entries_ends_at_3616_in_space(rt: HostRuntime) {
     let leaf = leaf_of::<3>(100);
     let page = page_of(&leaf);
     assert_eq!(rt;
@@ -153,9 +159,10 @@ fn the_last_of_100_entries_ends_at_3216_in_space(rt: HostRuntime) {
         [0x7f, 255, 255, 254, 255, 255, 255, 255].as_slice()
     );
     assert_eq!(rt;
-        &page[3208..3217],
-        [255, 255, 255, 255, 255, 255, 255, 0x9c, 0].as_slice()
+        &page[3208..3220],
+        [255, 255, 255, 255, 255, 255, 255, 0x9c, 255, 255, 255, 255].as_slice()
     );
+    assert_eq!(rt; &page[3612..3617], [255, 255, 255, 0x9c, 0].as_slice());
     assert!(rt; decode::<3>(&page, 0) == Some(leaf));
 }
 
@@ -164,6 +171,7 @@ fn each_reason_by_itself_makes_no_node(rt: HostRuntime) {
     let of = page_of_two_in_space();
     for (reason, at, byte) in [
         ("another kind", 0, 4),
+        ("the kind of a bucket", 0, 7),
         ("another dimension", 1, 2),
         ("another level", 4, 2),
         ("an entry of zeros more", 3, 3),
@@ -226,8 +234,39 @@ fn other_bytes_are_not_looked_at(rt: HostRuntime) {
         page[at..at + 4].copy_from_slice(&spelled[at..at + 4]);
     }
     page[1616..1624].copy_from_slice(&spelled[1616..1624]);
+    page[2416..2420].copy_from_slice(&spelled[2416..2420]);
     assert!(rt; one.is_some());
     assert!(rt; decode::<2>(&page, 0) == one);
+}
+
+#[test]
+fn a_leaf_of_format_1_has_no_tags(rt: HostRuntime) {
+    let mut old = page_of_one();
+    old[0] = 2;
+    let leaf = decode::<2>(&old, 0).expect(&rt, "a leaf");
+    assert!(rt;
+        leaf.entries
+            .get(0)
+            .is_some_and(|entry| entry.reference == 1 && entry.tag == 0)
+    );
+    let view = NodeView::<2>::of(&old, 0).expect(&rt, "a view");
+    assert_eq!(rt; view.len(), 1);
+    let mut with_tags = page_of_one();
+    with_tags[2419] = 0;
+    assert!(rt; page_of(&leaf) == with_tags);
+    assert!(rt; decode::<2>(&with_tags, 0) == Some(leaf));
+}
+
+#[test]
+fn a_node_above_the_leaves_has_no_tags(rt: HostRuntime) {
+    let node = decode::<3>(&page_of_two_in_space(), 3);
+    let mut page = page_of_two_in_space();
+    page[3216..3224].copy_from_slice(&[7; 8]);
+    assert!(rt; node.is_some());
+    assert!(rt; decode::<3>(&page, 3) == node);
+    page[0] = 2;
+    assert!(rt; decode::<3>(&page, 3) == node);
+    assert!(rt; written_again::<3>(&page, 3) == page_of_two_in_space());
 }
 
 #[test]
@@ -280,6 +319,9 @@ fn a_full_view_has_full_columns(rt: HostRuntime) {
     let page = page_of(&leaf);
     let view = NodeView::<3>::of(&page, 0).expect(&rt, "a view");
     assert_eq!(rt; view.len(), 100);
+    for place in 0..view.len() {
+        assert!(rt; leaf.entries.get(place) == Some(&view.entry(place)));
+    }
     let (lows, highs) = view.columns();
     for axis in 0..3 {
         assert_eq!(rt; (lows[axis][0], lows[axis][99]), (i32::MIN, i32::MIN + 99));

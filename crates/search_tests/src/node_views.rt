@@ -24,16 +24,19 @@ impl Dice {
     }
 }
 
-// A page of up to three entries in two dimensions, each head, low, high or reference of which may be damaged.
+// A page of either kind of up to three entries in two dimensions, each head, low, high or reference of which may be
+// damaged.
 fn some_page(dice: &mut Dice) -> [u8; 4096] {
     let mut page = [0; 4096];
-    page[..5].copy_from_slice(&[2, 2, 0, dice.below(4), dice.below(2)]);
+    let kind = if dice.below(2) == 0 { 2 } else { 6 };
+    page[..5].copy_from_slice(&[kind, 2, 0, dice.below(4), dice.below(2)]);
     for place in 0..4 {
         for axis in 0..2 {
             page[16 + 800 * axis + 4 * place] = dice.below(64).wrapping_add(192);
             page[416 + 800 * axis + 4 * place] = dice.below(192);
         }
         page[1623 + 8 * place] = dice.below(32).wrapping_add(3);
+        page[2416 + 4 * place] = dice.roll();
     }
     if dice.below(4) == 0 {
         page[usize::from(dice.below(5))] = dice.below(3);

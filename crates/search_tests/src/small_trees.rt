@@ -7,8 +7,8 @@ use page_file::Fault;
 use std::alloc::Global;
 use test_caches::cache_of;
 
-/// A reference, a low and a high corner.
-pub type Row = (u64, [i32; 2], [i32; 2]);
+/// A reference, a low and a high corner, and a tag, which is 0 above the leaves.
+pub type Row = (u64, [i32; 2], [i32; 2], u32);
 
 /// The root of a tree of two leaves.
 pub const ROOT: Root = Root { page: 5, level: 1 };
@@ -16,11 +16,11 @@ pub const ROOT: Root = Root { page: 5, level: 1 };
 /// The page of a node, at most 100 of the rows in it.
 pub fn page_of(level: u8, rows: &[Row]) -> [u8; 4096] {
     let mut page = [0; 4096];
-    page[0] = 2;
+    page[0] = 6;
     page[1] = 2;
     page[4] = level;
     let mut count: u8 = 0;
-    for (reference, low, high) in rows {
+    for (reference, low, high, tag) in rows {
         if count < 100 {
             let place = usize::from(count);
             for axis in 0..2 {
@@ -30,6 +30,8 @@ pub fn page_of(level: u8, rows: &[Row]) -> [u8; 4096] {
             }
             let at = 1616 + 8 * place;
             page[at..at + 8].copy_from_slice(&reference.to_be_bytes());
+            let at = 2416 + 4 * place;
+            page[at..at + 4].copy_from_slice(&tag.to_be_bytes());
             count += 1;
         }
     }

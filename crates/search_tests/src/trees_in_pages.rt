@@ -14,7 +14,7 @@ use std::alloc::Global;
 use std::test::Fail;
 use test_caches::{Cache, cache_of};
 
-// A leaf of objects with these identifiers, all at the same point.
+// A leaf of objects with these identifiers, all at the same point and with the tag 6.
 fn leaf_of(ids: &[u64]) -> Node<2> {
     let mut entries = ArrayVec::new();
     for &id in ids {
@@ -22,6 +22,7 @@ fn leaf_of(ids: &[u64]) -> Node<2> {
             Some(bounds) if !entries.is_full() => entries.push(Entry {
                 bounds,
                 reference: id,
+                tag: 6,
             }),
             _ => break,
         }
@@ -45,7 +46,7 @@ fn write_leaf(cache: &mut Cache, page: u32, ids: &[u64]) -> Result<(), Fault>
 // The page of a node on this level that refers to pages 3 and 4, with boxes (0,0) to (0,1) and (2,2) to (3,2).
 fn page_of_two(level: u8) -> [u8; 4096] {
     let mut page = [0; 4096];
-    page[..5].copy_from_slice(&[2, 2, 0, 2, level]);
+    page[..5].copy_from_slice(&[6, 2, 0, 2, level]);
     page[23] = 2;
     page[423] = 3;
     page[823] = 2;
@@ -81,7 +82,7 @@ fn a_node_is_written_and_read(rt: HostRuntime) -> Result<(), Fail> {
     Ok(())
 }
 
-// Adds object 9 with the box (4,4) to (5,6) to a leaf of fewer than three, and answers the least box round all.
+// Adds object 9 with the box (4,4) to (5,6) and the tag 8 to a leaf of fewer than three, and answers the least box round all.
 fn add_to_leaf(cache: &mut Cache, page: u32) -> Result<Option<BBox<2>>, Broken>
     requires { gate_of cache.old ≡ Open }
     ensures { gate_of cache.new ≡ Open }
@@ -92,6 +93,7 @@ fn add_to_leaf(cache: &mut Cache, page: u32) -> Result<Option<BBox<2>>, Broken>
     let entry = Entry {
         bounds,
         reference: 9,
+        tag: 8,
     };
     add_entry(cache, page, 0, &entry, 3)
 }
@@ -103,10 +105,47 @@ fn an_entry_is_added_where_there_is_room_and_an_entry(rt: HostRuntime) -> Result
     assert!(rt; around == BBox::try_new([-1, 2], [5, 6]));
     let leaf = read_node::<2, _, _>(&mut cache, 3, 0)?;
     assert!(rt; leaf.entries.len() == 3 && leaf.entries[2].reference == 9);
+    assert!(rt; leaf.entries[1].tag == 6 && leaf.entries[2].tag == 8);
     let (full, empty) = (add_to_leaf(&mut cache, 4)?, add_to_leaf(&mut cache, 6)?);
     assert!(rt; full.is_none() && empty.is_none());
     let no_leaf = Broken::from(Fault::Damaged(5));
     assert!(rt; add_to_leaf(&mut cache, 5) == Err(no_leaf));
+    Ok(())
+}
+
+// The page of format 1 of a leaf of objects 7 and 5, at the same point, with other bytes where a page has tags.
+fn old_leaf() -> [u8; 4096] {
+    let mut page = [0; 4096];
+    page[..5].copy_from_slice(&[2, 2, 0, 2, 0]);
+    page[16..24].copy_from_slice(&[255; 8]);
+    page[416..424].copy_from_slice(&[255; 8]);
+    for at in [819, 823, 1219, 1223] {
+        page[at] = 2;
+    }
+    page[1623] = 7;
+    page[1631] = 5;
+    page[2416..2428].copy_from_slice(&[3; 12]);
+    page
+}
+
+#[test]
+fn an_old_leaf_that_gets_an_entry_becomes_one_with_tags(rt: HostRuntime) -> Result<(), Fail> {
+    let mut cache = scene(rt.alloc())?;
+    cache.put(3, &old_leaf())?;
+    let leaf = read_node::<2, _, _>(&mut cache, 3, 0)?;
+    assert!(rt; leaf.entries.len() == 2 && leaf.entries[0].tag == 0 && leaf.entries[1].tag == 0);
+    let around = add_to_leaf(&mut cache, 3)?;
+    assert!(rt; around == BBox::try_new([-1, 2], [5, 6]));
+    let leaf = read_node::<2, _, _>(&mut cache, 3, 0)?;
+    for (at, id, tag) in [(0, 7, 0), (1, 5, 0), (2, 9, 8)] {
+        assert!(rt;
+            leaf.entries
+                .get(at)
+                .is_some_and(|entry| entry.reference == id && entry.tag == tag),
+            "{at}"
+        );
+    }
+    assert_eq!(rt; cache.page(3)?[0], 6);
     Ok(())
 }
 

@@ -10,7 +10,7 @@ const CREATE: Line<'static> = Line::Create {
     fanout: 4,
 };
 
-const GOOD: [(&[u8], Line<'static>); 26] = [
+const GOOD: [(&[u8], Line<'static>); 33] = [
     (b"create a 2 4", CREATE),
     (b" \t\rcreate\ta  0002 4\t \r", CREATE),
     (
@@ -27,6 +27,16 @@ const GOOD: [(&[u8], Line<'static>); 26] = [
             layer: b"a",
             id: u64::MAX,
             bounds: RawBox::Two([i32::MIN, 0], [i32::MAX, 0]),
+            tag: 0,
+        },
+    ),
+    (
+        b"insert tag 7 1 2 3 4 5 6\ttag 4294967295 \r",
+        Line::Insert {
+            layer: b"tag",
+            id: 7,
+            bounds: RawBox::Three([1, 2, 3], [4, 5, 6]),
+            tag: u32::MAX,
         },
     ),
     (
@@ -34,6 +44,7 @@ const GOOD: [(&[u8], Line<'static>); 26] = [
         Line::Range {
             layer: b"window",
             query: RawQuery::Window(RawBox::Three([1, 2, 3], [-4, -5, -6])),
+            tag: None,
         },
     ),
     (
@@ -41,6 +52,7 @@ const GOOD: [(&[u8], Line<'static>); 26] = [
         Line::Range {
             layer: b"a",
             query: RawQuery::Inside(RawBox::Two([1, 2], [3, 4])),
+            tag: None,
         },
     ),
     (
@@ -48,6 +60,7 @@ const GOOD: [(&[u8], Line<'static>); 26] = [
         Line::Range {
             layer: b"a",
             query: RawQuery::Around(RawBox::Two([1, 2], [3, 4])),
+            tag: None,
         },
     ),
     (
@@ -55,6 +68,7 @@ const GOOD: [(&[u8], Line<'static>); 26] = [
         Line::Range {
             layer: b"a",
             query: RawQuery::Point(RawPoint::Two([1, -2])),
+            tag: None,
         },
     ),
     (
@@ -62,6 +76,54 @@ const GOOD: [(&[u8], Line<'static>); 26] = [
         Line::Range {
             layer: b"a",
             query: RawQuery::Point(RawPoint::Three([1, 2, 3])),
+            tag: None,
+        },
+    ),
+    (
+        b"window tag 0 0 1 1",
+        Line::Range {
+            layer: b"tag",
+            query: RawQuery::Window(RawBox::Two([0, 0], [1, 1])),
+            tag: None,
+        },
+    ),
+    (
+        b"window a 1 2 3 -4 -5 -6 tag 0",
+        Line::Range {
+            layer: b"a",
+            query: RawQuery::Window(RawBox::Three([1, 2, 3], [-4, -5, -6])),
+            tag: Some(0),
+        },
+    ),
+    (
+        b"inside a 1 2 3 4 tag 0007",
+        Line::Range {
+            layer: b"a",
+            query: RawQuery::Inside(RawBox::Two([1, 2], [3, 4])),
+            tag: Some(7),
+        },
+    ),
+    (
+        b"around a 1 2 3 4 tag 4294967295",
+        Line::Range {
+            layer: b"a",
+            query: RawQuery::Around(RawBox::Two([1, 2], [3, 4])),
+            tag: Some(u32::MAX),
+        },
+    ),
+    (
+        b"point tag 1 2 tag 5",
+        Line::Range {
+            layer: b"tag",
+            query: RawQuery::Point(RawPoint::Two([1, 2])),
+            tag: Some(5),
+        },
+    ),
+    (
+        b"get tag 5",
+        Line::Get {
+            layer: b"tag",
+            id: 5,
         },
     ),
     (b"get a 007", Line::Get { layer: b"a", id: 7 }),
@@ -125,7 +187,7 @@ fn reads_good_lines(rt: HostRuntime) -> Result<(), Fail> {
     Ok(())
 }
 
-const BAD: [&[u8]; 56] = [
+const BAD: [&[u8]; 73] = [
     b"create",
     b"create a 2",
     b"create a 2 4 4",
@@ -182,6 +244,23 @@ const BAD: [&[u8]; 56] = [
     b"REOPEN",
     b"\xff\xfe",
     b"\0",
+    b"window a 0 0 1 1 tag",
+    b"window a 0 0 1 1 tag 5 6",
+    b"window a 0 0 1 1 tag 5 tag 5",
+    b"window a 0 0 1 1 tag 4294967296",
+    b"window a 0 0 1 1 tag -0",
+    b"window a 0 0 1 1 TAG 5",
+    b"window a 0 0 1 1 5",
+    b"window a 0 0 tag 5 1 1",
+    b"window a tag 5",
+    b"inside a 0 0 0 0 1 1 1 tag 5",
+    b"point a 0 0 tag x",
+    b"insert a 1 0 0 0 0 tag",
+    b"insert a 1 0 0 0 0 tag 99999999999999999999999",
+    b"move a 1 0 0 1 1 tag 7",
+    b"get a 5 tag 5",
+    b"nearest a 3 0 0 tag 5",
+    b"join a b tag 5",
 ];
 
 #[test]
@@ -214,16 +293,20 @@ fn takes_lines_of_4096_bytes(rt: HostRuntime) -> Result<(), Fail> {
 
 #[test]
 fn reads_entry_lines(rt: HostRuntime) -> Result<(), Fail> {
-    let plane = Some((7, RawBox::Two([1, -2], [3, 4])));
+    let plane = Some((7, RawBox::Two([1, -2], [3, 4]), 0));
     assert_eq!(rt; parse_entry(b" 007 1 -2 3 4\r"), plane);
-    let space = Some((0, RawBox::Three([1, 2, 3], [4, 5, 6])));
-    assert_eq!(rt; parse_entry(b"0 1 2 3 4 5 6"), space);
+    let space = Some((0, RawBox::Three([1, 2, 3], [4, 5, 6]), u32::MAX));
+    assert_eq!(rt; parse_entry(b"0 1 2 3 4 5 6 tag 4294967295"), space);
     let bad = [
         b"".as_slice(),
         b"# 7 1 2 3 4".as_slice(),
         b"7 1 2 3".as_slice(),
         b"-7 1 2 3 4".as_slice(),
         b"insert a 7 1 2 3 4".as_slice(),
+        b"7 1 2 3 4 tag".as_slice(),
+        b"7 1 2 3 4 tag 4294967296".as_slice(),
+        b"7 1 2 3 4 tag 5 5".as_slice(),
+        b"7 tag 5 1 2 3 4".as_slice(),
     ];
     for line in bad {
         assert_eq!(rt; parse_entry(line), None);

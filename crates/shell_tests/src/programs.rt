@@ -18,7 +18,7 @@ fn is_closed(alloc: Global, device: MemoryDevice, objects: usize) -> Result<bool
     let Ok(mut store) = open_store(alloc, device, 64) else {
         return Ok(false);
     };
-    let rows = store.window(b"a", layer_store::RawBox::Two([0, 0], [9, 9]))?;
+    let rows = store.window(b"a", layer_store::RawBox::Two([0, 0], [9, 9]), None)?;
     Ok(rows.len() == objects)
 }
 

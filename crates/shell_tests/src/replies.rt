@@ -60,15 +60,19 @@ fn writes_each_refusal(rt: HostRuntime) -> Result<(), Fail> {
 fn writes_rows(rt: HostRuntime) -> Result<(), Fail> {
     let mut rows = Vec::new(rt.alloc());
     if let Some(bounds) = BBox::try_new([-1, 2], [3, 4]) {
-        rows.push((0, AnyBox::Two(bounds)))?;
-        let reply: Reply = Reply::Object(7, AnyBox::Two(bounds));
+        rows.push((0, AnyBox::Two(bounds), 0))?;
+        rows.push((1, AnyBox::Two(bounds), 10))?;
+        let reply: Reply = Reply::Object(7, AnyBox::Two(bounds), 0);
         assert!(rt; is_written(rt.alloc(), &reply, b"ok 1\n7 -1 2 3 4\n"));
+        let reply: Reply = Reply::Object(7, AnyBox::Two(bounds), 5);
+        assert!(rt; is_written(rt.alloc(), &reply, b"ok 1\n7 -1 2 3 4 tag 5\n"));
     }
     if let Some(bounds) = BBox::try_new([i32::MIN; 3], [i32::MAX, 0, i32::MIN]) {
-        rows.push((u64::MAX, AnyBox::Three(bounds)))?;
+        rows.push((u64::MAX, AnyBox::Three(bounds), u32::MAX))?;
     }
-    let text = b"ok 2\n0 -1 2 3 4\n\
-          18446744073709551615 -2147483648 -2147483648 -2147483648 2147483647 0 -2147483648\n";
+    let text = b"ok 3\n0 -1 2 3 4\n1 -1 2 3 4 tag 10\n\
+          18446744073709551615 -2147483648 -2147483648 -2147483648 2147483647 0 -2147483648 \
+          tag 4294967295\n";
     assert!(rt; is_written(rt.alloc(), &Reply::Boxes(rows), text));
     let none: Reply = Reply::Boxes(Vec::new(rt.alloc()));
     assert!(rt; is_written(rt.alloc(), &none, b"ok 0\n"));
@@ -125,11 +129,13 @@ fn writes_layers_and_dumps(rt: HostRuntime) -> Result<(), Fail> {
     let mut rows = Vec::new(rt.alloc());
     rows.push(DumpRow::Create(named(name), 2, 4))?;
     if let Some(bounds) = BBox::try_new([i32::MIN; 3], [i32::MIN; 3]) {
-        rows.push(DumpRow::Insert(named(name), u64::MAX, AnyBox::Three(bounds)))?;
+        rows.push(DumpRow::Insert(named(b"a"), 1, AnyBox::Three(bounds), 0))?;
+        rows.push(DumpRow::Insert(named(name), u64::MAX, AnyBox::Three(bounds), u32::MAX))?;
     }
-    let text = b"ok 2\ncreate abcdefghijklmnopqrstuvwx 2 4\n\
+    let text = b"ok 3\ncreate abcdefghijklmnopqrstuvwx 2 4\n\
+          insert a 1 -2147483648 -2147483648 -2147483648 -2147483648 -2147483648 -2147483648\n\
           insert abcdefghijklmnopqrstuvwx 18446744073709551615 \
-          -2147483648 -2147483648 -2147483648 -2147483648 -2147483648 -2147483648\n";
+          -2147483648 -2147483648 -2147483648 -2147483648 -2147483648 -2147483648 tag 4294967295\n";
     assert!(rt; is_written(rt.alloc(), &Reply::Dump(rows), text));
     Ok(())
 }

@@ -245,6 +245,75 @@ fn load_rows() -> [Row; 20] {
     ]
 }
 
+// Lines with their replies: tags, and queries for them.
+fn tag_rows() -> [Row; 20] {
+    [
+        (b"# tags", b""),
+        (b"create tag 2 4", b"ok\n"),
+        (b"insert tag 1 0 0 1 1", b"ok\n"),
+        (b"insert tag 2 0 0 1 1 tag 5", b"ok\n"),
+        (b"insert tag 3 4 4 5 5 tag 5", b"ok\n"),
+        (b"insert tag 4 0 0 1 1 tag 4294967295", b"ok\n"),
+        (b"insert tag 2 0 0 1 1 tag 7", b"fail 9 Duplicate\n"),
+        (b"get tag 2", b"ok 1\n2 0 0 1 1 tag 5\n"),
+        (
+            b"window tag 0 0 9 9",
+            b"ok 4\n1 0 0 1 1\n2 0 0 1 1 tag 5\n3 4 4 5 5 tag 5\n4 0 0 1 1 tag 4294967295\n",
+        ),
+        (
+            b"window tag 0 0 9 9 tag 5",
+            b"ok 2\n2 0 0 1 1 tag 5\n3 4 4 5 5 tag 5\n",
+        ),
+        (b"window tag 0 0 1 1 tag 5", b"ok 1\n2 0 0 1 1 tag 5\n"),
+        (b"window tag 0 0 9 9 tag 0", b"ok 1\n1 0 0 1 1\n"),
+        (b"window tag 0 0 9 9 tag 6", b"ok 0\n"),
+        (
+            b"inside tag 0 0 2 2 tag 4294967295",
+            b"ok 1\n4 0 0 1 1 tag 4294967295\n",
+        ),
+        (b"around tag 0 0 0 0 tag 5", b"ok 1\n2 0 0 1 1 tag 5\n"),
+        (b"point tag 5 5 tag 5", b"ok 1\n3 4 4 5 5 tag 5\n"),
+        (b"point tag 5 5 tag 0", b"ok 0\n"),
+        (b"window q 0 0 1 1 tag 5", b"fail 3 NoLayer\n"),
+        (b"window tag 1 0 0 0 tag 5", b"fail 7 BadBox\n"),
+        (b"window tag 0 0 9 9 tag 4294967296", b"fail 24 BadLine\n"),
+    ]
+}
+
+// Lines with their replies: tags that are kept, loaded and dumped.
+fn kept_tag_rows() -> [Row; 17] {
+    [
+        (b"# what a move and a reopening keep of tags", b""),
+        (b"move tag 2 8 8 9 9 tag 7", b"fail 24 BadLine\n"),
+        (b"move tag 2 8 8 9 9", b"ok\n"),
+        (b"get tag 2", b"ok 1\n2 8 8 9 9 tag 5\n"),
+        (b"reopen", b"ok\n"),
+        (
+            b"window tag 0 0 9 9 tag 5",
+            b"ok 2\n2 8 8 9 9 tag 5\n3 4 4 5 5 tag 5\n",
+        ),
+        (b"nearest tag 1 8 8", b"ok 1\n2 0\n"),
+        (b"delete tag 1", b"ok\n"),
+        (b"delete tag 3", b"ok\n"),
+        (b"create v 3 4", b"ok\n"),
+        (
+            b"load v 2\n9 0 0 0 1 1 1 tag 6\n8 0 0 0 1 1 1 tag",
+            b"fail 24 BadLine\n",
+        ),
+        (b"load v 2\n9 0 0 0 1 1 1 tag 6\n8 0 0 0 1 1 1", b"ok\n"),
+        (b"point v 0 0 0 tag 6", b"ok 1\n9 0 0 0 1 1 1 tag 6\n"),
+        (b"drop b", b"ok\n"),
+        (b"drop t", b"ok\n"),
+        (
+            b"dump",
+            b"ok 8\ncreate tag 2 4\ninsert tag 2 8 8 9 9 tag 5\ninsert tag 4 0 0 1 1 tag 4294967295\n\
+              create u 2 4\ninsert u 7 0 0 1 1\n\
+              create v 3 4\ninsert v 8 0 0 0 1 1 1\ninsert v 9 0 0 0 1 1 1 tag 6\n",
+        ),
+        (b"check", b"ok\n"),
+    ]
+}
+
 // All of these rows. Each row is asked what the rows before it left.
 fn all_rows(alloc: Global) -> Result<Vec<Row>, Fail> {
     let mut rows = Vec::new(alloc);
@@ -258,6 +327,8 @@ fn all_rows(alloc: Global) -> Result<Vec<Row>, Fail> {
         listing_rows().as_slice(),
         change_rows().as_slice(),
         load_rows().as_slice(),
+        tag_rows().as_slice(),
+        kept_tag_rows().as_slice(),
     ] {
         rows.extend_from_slice(part)?;
     }

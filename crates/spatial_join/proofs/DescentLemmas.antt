@@ -3,7 +3,7 @@ use Rattle.std.proofs.Common.{◌≡◌, ◌∙◌, ℕ, zero, suc, ◌+◌, ◌
 use Rattle.std.specs.Prelude.{◌↔◌}
 use Rattle.std.proofs.lemmas.List.{get_or_default, length-map}
 use Rattle.std.proofs.lemmas.List.Elements.{All-get_or}
-use Rattle.box_math.specs.Bounds.{Bounds}
+use Rattle.box_math.specs.Objects.{Object, bounds_of, tag_of}
 use Rattle.box_math.specs.Measures.{near_test}
 use Rattle.box_math.specs.Masks.{has_bit}
 use Rattle.page_file.specs.Fault.{faults_after}
@@ -37,12 +37,12 @@ next_place j t = ap (λ (n : ℕ). row_drop n t) (add-one j) ∙ row_drop_more j
 pub Encloses-row_drop : (dims n : ℕ) (row : Row) → Encloses dims row → Encloses dims (row_drop n row)
 Encloses-row_drop dims zero row h = h
 Encloses-row_drop dims (suc n) end h = h
-Encloses-row_drop dims (suc n) (more (object bounds id) rest) h = Encloses-row_drop dims n rest h
+Encloses-row_drop dims (suc n) (more (object kept id) rest) h = Encloses-row_drop dims n rest h
 Encloses-row_drop dims (suc n) (more (child bounds page below) rest) h = Encloses-row_drop dims n rest h.2
 
 Encloses-row_head : (dims : ℕ) (row : Row) → Encloses dims row → Encloses dims (row_head row)
 Encloses-row_head dims end h = h
-Encloses-row_head dims (more (object bounds id) rest) h = tt
+Encloses-row_head dims (more (object kept id) rest) h = tt
 Encloses-row_head dims (more (child bounds page below) rest) h = (h.0, h.1, tt)
 
 -- the entry that a loop is at
@@ -98,8 +98,8 @@ nodes_next dims limit j s t =
 
 head_items : (s : Row) (x : Item) (xs : List Item) → row_items s ≡ x ∷ xs → row_items (row_head s) ≡ x ∷ []
 head_items end x xs same = absurd (cc)
-head_items (more (object b id) rest) x xs same = let first : ◌≡◌ {A = Item} (record { bounds = b; reference = id }) x = cc in ap (λ (z : Item). z ∷ []) first
-head_items (more (child b page below) rest) x xs same = let first : ◌≡◌ {A = Item} (record { bounds = b; reference = page }) x = cc in ap (λ (z : Item). z ∷ []) first
+head_items (more (object b id) rest) x xs same = let first : ◌≡◌ {A = Item} (record { bounds = bounds_of b; reference = id; tag = tag_of b }) x = cc in ap (λ (z : Item). z ∷ []) first
+head_items (more (child b page below) rest) x xs same = let first : ◌≡◌ {A = Item} (record { bounds = b; reference = page; tag = 0 }) x = cc in ap (λ (z : Item). z ∷ []) first
 
 head_stands : (dims : ℕ) (m : PageMap) (level : ℕ) (s : Row) → RowStands dims m level s → RowStands dims m level (row_head s)
 head_stands dims m level end stands = tt
@@ -124,9 +124,9 @@ pub record Below (dims : ℕ) (m : PageMap) (level : ℕ) (row : Row) (x : Item)
 
 below_first : (dims : ℕ) (m : PageMap) (level : ℕ) (row : Row) (x : Item) (xs : List Item) → row_items row ≡ x ∷ xs → 0 < level → RowStands dims m level row → Below dims m level row x
 below_first dims m level end x xs same above stands = absurd (cc)
-below_first dims m level (more (object bounds id) rest) x xs same above stands = absurd (omega (arith, stands.0, above))
+below_first dims m level (more (object kept id) rest) x xs same above stands = absurd (omega (arith, stands.0, above))
 below_first dims m level (more (child bounds page below) rest) x xs same above stands =
-    let item : ◌≡◌ {A = Item} (record { bounds = bounds; reference = page }) x = cc in
+    let item : ◌≡◌ {A = Item} (record { bounds = bounds; reference = page; tag = 0 }) x = cc in
     record {
       below = below;
       stands = subst (λ (n : ℕ). StandsAt dims m n (level - 1) below) (ap (λ (y : Item). y.reference) item) (record { node = stands.1; below = stands.2 });
@@ -139,8 +139,8 @@ opened_sum : (dims limit : ℕ) (f : ℕ × ℕ → ℕ) (l o : ℕ) (s t : Row)
 opened_sum dims limit f l o s t x y below beside first second =
     ap (λ (r : Row). near_sum dims limit f r (row_head t)) first
     ∙ ap (λ (r : Row). near_sum dims limit f (only x.bounds x.reference below) r) second
-    ∙ ap (λ (xs : List (ℕ × Bounds)). total f (near_objects dims limit xs (objects_in (only y.bounds y.reference beside)))) (objects_opened l o x.bounds x.reference below)
-    ∙ ap (λ (ys : List (ℕ × Bounds)). total f (near_objects dims limit (objects_in (opened l o x.bounds x.reference below)) ys)) (objects_opened o l y.bounds y.reference beside)
+    ∙ ap (λ (xs : List (ℕ × Object)). total f (near_objects dims limit xs (objects_in (only y.bounds y.reference beside)))) (objects_opened l o x.bounds x.reference below)
+    ∙ ap (λ (ys : List (ℕ × Object)). total f (near_objects dims limit (objects_in (opened l o x.bounds x.reference below)) ys)) (objects_opened o l y.bounds y.reference beside)
 
 opened_pairs : (dims limit l o : ℕ) (s t : Row) (x y : Item) (below beside : Row) → row_head s ≡ only x.bounds x.reference below → row_head t ≡ only y.bounds y.reference beside → near_test dims limit x.bounds y.bounds ≡ true
     → 1 + pairs_below dims limit (opened l o x.bounds x.reference below) (opened o l y.bounds y.reference beside) ≤ pairs_below dims limit (row_head s) (row_head t)

@@ -3,7 +3,7 @@ use Rattle.std.proofs.Common.{◌≡◌, ◌∙◌, ℕ, zero, suc, ◌+◌, ◌
 use Rattle.std.specs.List.{filter}
 use Rattle.std.proofs.Math.Seq.{drop-cons}
 use Rattle.std.proofs.lemmas.List.{append_assoc, append-nil, drop_all}
-use Rattle.box_math.specs.Bounds.{Bounds}
+use Rattle.box_math.specs.Objects.{Object, bounds_of, tag_of}
 use Rattle.box_math.specs.Measures.{near_test}
 use Rattle.box_math.specs.Masks.{has_bit}
 use Rattle.tree_node.specs.Boxes.{box_at, no_item}
@@ -77,23 +77,23 @@ module _ (dims limit : ℕ) (items : List Item) (x : Item) where
 
 -- ---- these are the pairs below the entry and below the leaf
 
-abbrev of_object : Item → ℕ × Bounds → ℕ × ℕ
+abbrev of_object : Item → ℕ × Object → ℕ × ℕ
 of_object x other = (x.reference, other.0)
 
 abbrev of_item : Item → Item → ℕ × ℕ
 of_item x other = (x.reference, other.reference)
 
-leaf_pairs : (dims limit : ℕ) (m : PageMap) (t : Row) (x : Item) → RowStands dims m 0 t → pairs_with dims limit (objects_in t) (x.reference, x.bounds) ≡ pairs_of dims limit (row_items t) x
+leaf_pairs : (dims limit : ℕ) (m : PageMap) (t : Row) (x : Item) → RowStands dims m 0 t → pairs_with dims limit (objects_in t) (x.reference, (x.bounds, x.tag)) ≡ pairs_of dims limit (row_items t) x
 leaf_pairs dims limit m end x stands = refl
 leaf_pairs dims limit m (more (child b page below) rest) x stands = absurd (omega (arith, stands.0))
-leaf_pairs dims limit m (more (object b id) rest) x stands =
-    at (near_test dims limit x.bounds b) (filter (λ (other : ℕ × Bounds). near_test dims limit x.bounds other.1) (objects_in rest)) (filter (λ (other : Item). near_test dims limit x.bounds other.bounds) (row_items rest)) (leaf_pairs dims limit m rest x stands.1)
+leaf_pairs dims limit m (more (object kept id) rest) x stands =
+    at (near_test dims limit x.bounds (bounds_of kept)) (filter (λ (other : ℕ × Object). near_test dims limit x.bounds (bounds_of other.1)) (objects_in rest)) (filter (λ (other : Item). near_test dims limit x.bounds other.bounds) (row_items rest)) (leaf_pairs dims limit m rest x stands.1)
   where
-    it : ℕ × Bounds
-    it = (id, b)
+    it : ℕ × Object
+    it = (id, kept)
 
-    at : (t : Bool) (objects : List (ℕ × Bounds)) (items : List Item) → map (of_object x) objects ≡ map (of_item x) items
-        → map (of_object x) (cond t (it ∷ objects) objects) ≡ map (of_item x) (cond t (record { bounds = b; reference = id } ∷ items) items)
+    at : (t : Bool) (objects : List (ℕ × Object)) (items : List Item) → map (of_object x) objects ≡ map (of_item x) items
+        → map (of_object x) (cond t (it ∷ objects) objects) ≡ map (of_item x) (cond t (record { bounds = bounds_of kept; reference = id; tag = tag_of kept } ∷ items) items)
     at true objects items same = ap (λ (l : List (ℕ × ℕ)). (x.reference, id) ∷ l) same
     at false objects items same = same
 
@@ -101,9 +101,9 @@ pub leaf_sum : (dims limit : ℕ) (m : PageMap) (f : ℕ × ℕ → ℕ) (s t : 
     → near_sum dims limit f (row_head s) t ≡ total f (pairs_of dims limit items x)
 leaf_sum dims limit m f end t x xs items same same' stands stands' = absurd (cc)
 leaf_sum dims limit m f (more (child b page below) rest) t x xs items same same' stands stands' = absurd (omega (arith, stands.0))
-leaf_sum dims limit m f (more (object b id) rest) t x xs items same same' stands stands' =
-    let first : ◌≡◌ {A = Item} (record { bounds = b; reference = id }) x = cc in
-    ap (total f) (append-nil (pairs_with dims limit (objects_in t) (id, b)))
-    ∙ ap (λ (z : Item). total f (pairs_with dims limit (objects_in t) (z.reference, z.bounds))) first
+leaf_sum dims limit m f (more (object kept id) rest) t x xs items same same' stands stands' =
+    let first : ◌≡◌ {A = Item} (record { bounds = bounds_of kept; reference = id; tag = tag_of kept }) x = cc in
+    ap (total f) (append-nil (pairs_with dims limit (objects_in t) (id, kept)))
+    ∙ ap (λ (z : Item). total f (pairs_with dims limit (objects_in t) (z.reference, (z.bounds, z.tag)))) first
     ∙ ap (total f) (leaf_pairs dims limit m t x stands')
     ∙ ap (λ (l : List Item). total f (pairs_of dims limit l x)) same'

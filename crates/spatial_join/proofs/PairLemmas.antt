@@ -6,6 +6,7 @@ use Rattle.std.proofs.lemmas.Bool.Decides.{nat_tests}
 use Rattle.std.proofs.lemmas.List.{append-nil, map-append}
 use Rattle.std.proofs.lemmas.List.Elements.{filter-append}
 use Rattle.box_math.specs.Bounds.{Bounds, Within}
+use Rattle.box_math.specs.Objects.{Object, bounds_of, tag_of}
 use Rattle.box_math.specs.Measures.{near_test}
 use Rattle.box_math.proofs.BoxLaws.{Within-refl, Within-trans}
 use Rattle.box_math.proofs.Distances.{box_dist2_of-commutes, box_dist2_of-falls, near_test_true}
@@ -40,13 +41,13 @@ equal_sums_permute xs ys sums = permutation_of_sums same_pair same_pair-is same_
 
 -- ---- pairs of objects
 
-pairs_with-append : (dims limit : ℕ) (o : ℕ × Bounds) (xs ys : List (ℕ × Bounds)) → pairs_with dims limit (xs ++ ys) o ≡ pairs_with dims limit xs o ++ pairs_with dims limit ys o
+pairs_with-append : (dims limit : ℕ) (o : ℕ × Object) (xs ys : List (ℕ × Object)) → pairs_with dims limit (xs ++ ys) o ≡ pairs_with dims limit xs o ++ pairs_with dims limit ys o
 pairs_with-append dims limit o xs ys =
-    let test : ℕ × Bounds → Bool = λ other. near_test dims limit o.1 other.1 in
-    let pair : ℕ × Bounds → ℕ × ℕ = λ other. (o.0, other.0) in
+    let test : ℕ × Object → Bool = λ other. near_test dims limit (bounds_of o.1) (bounds_of other.1) in
+    let pair : ℕ × Object → ℕ × ℕ = λ other. (o.0, other.0) in
     ap (map pair) (filter-append test xs ys) ∙ map-append pair (filter test xs) (filter test ys)
 
-sum-left : (dims limit : ℕ) (f : ℕ × ℕ → ℕ) (xs ys zs : List (ℕ × Bounds)) → total f (near_objects dims limit (xs ++ ys) zs) ≡ total f (near_objects dims limit xs zs) + total f (near_objects dims limit ys zs)
+sum-left : (dims limit : ℕ) (f : ℕ × ℕ → ℕ) (xs ys zs : List (ℕ × Object)) → total f (near_objects dims limit (xs ++ ys) zs) ≡ total f (near_objects dims limit xs zs) + total f (near_objects dims limit ys zs)
 sum-left dims limit f [] ys zs = omega arith
 sum-left dims limit f (x ∷ xs) ys zs =
     omega (
@@ -56,7 +57,7 @@ sum-left dims limit f (x ∷ xs) ys zs =
       sum-left dims limit f xs ys zs,
     )
 
-sum-right : (dims limit : ℕ) (f : ℕ × ℕ → ℕ) (xs ys zs : List (ℕ × Bounds)) → total f (near_objects dims limit xs (ys ++ zs)) ≡ total f (near_objects dims limit xs ys) + total f (near_objects dims limit xs zs)
+sum-right : (dims limit : ℕ) (f : ℕ × ℕ → ℕ) (xs ys zs : List (ℕ × Object)) → total f (near_objects dims limit xs (ys ++ zs)) ≡ total f (near_objects dims limit xs ys) + total f (near_objects dims limit xs zs)
 sum-right dims limit f [] ys zs = omega arith
 sum-right dims limit f (x ∷ xs) ys zs =
     let here = ap (total f) (pairs_with-append dims limit x ys zs) ∙ total-append f (pairs_with dims limit ys x) (pairs_with dims limit zs x) in
@@ -77,23 +78,23 @@ row_head (more branch rest) = more branch end
 
 objects_split : (s : Row) → objects_in s ≡ objects_in (row_head s) ++ objects_in (row_tail s)
 objects_split end = refl
-objects_split (more (object bounds id) rest) = refl
-objects_split (more (child bounds page below) rest) = ap (λ (l : List (ℕ × Bounds)). l ++ objects_in rest) (sym (append-nil (objects_in below)))
+objects_split (more (object kept id) rest) = refl
+objects_split (more (child bounds page below) rest) = ap (λ (l : List (ℕ × Object)). l ++ objects_in rest) (sym (append-nil (objects_in below)))
 
 -- the sum of a number of each pair of objects below two nodes whose boxes meet
 abbrev pub near_sum : ℕ → ℕ → (ℕ × ℕ → ℕ) → Row → Row → ℕ
 near_sum dims limit f s t = total f (near_below dims limit s t)
 
 pub near_sum-left : (dims limit : ℕ) (f : ℕ × ℕ → ℕ) (s t : Row) → near_sum dims limit f s t ≡ near_sum dims limit f (row_head s) t + near_sum dims limit f (row_tail s) t
-near_sum-left dims limit f s t = ap (λ (l : List (ℕ × Bounds)). total f (near_objects dims limit l (objects_in t))) (objects_split s) ∙ sum-left dims limit f (objects_in (row_head s)) (objects_in (row_tail s)) (objects_in t)
+near_sum-left dims limit f s t = ap (λ (l : List (ℕ × Object)). total f (near_objects dims limit l (objects_in t))) (objects_split s) ∙ sum-left dims limit f (objects_in (row_head s)) (objects_in (row_tail s)) (objects_in t)
 
 pub near_sum-right : (dims limit : ℕ) (f : ℕ × ℕ → ℕ) (s t : Row) → near_sum dims limit f s t ≡ near_sum dims limit f s (row_head t) + near_sum dims limit f s (row_tail t)
-near_sum-right dims limit f s t = ap (λ (l : List (ℕ × Bounds)). total f (near_objects dims limit (objects_in s) l)) (objects_split t) ∙ sum-right dims limit f (objects_in s) (objects_in (row_head t)) (objects_in (row_tail t))
+near_sum-right dims limit f s t = ap (λ (l : List (ℕ × Object)). total f (near_objects dims limit (objects_in s) l)) (objects_split t) ∙ sum-right dims limit f (objects_in s) (objects_in (row_head t)) (objects_in (row_tail t))
 
 pub near_sum-none : (dims limit : ℕ) (f : ℕ × ℕ → ℕ) (s : Row) → near_sum dims limit f s end ≡ 0
 near_sum-none dims limit f s = at (objects_in s)
   where
-    at : (xs : List (ℕ × Bounds)) → total f (near_objects dims limit xs []) ≡ 0
+    at : (xs : List (ℕ × Object)) → total f (near_objects dims limit xs []) ≡ 0
     at [] = refl
     at (x ∷ xs) = at xs
 
@@ -101,7 +102,7 @@ near_sum-none dims limit f s = at (objects_in s)
 
 boxes_split : (s : Row) → boxes_below s ≡ boxes_below (row_head s) ++ boxes_below (row_tail s)
 boxes_split end = refl
-boxes_split (more (object bounds id) rest) = refl
+boxes_split (more (object kept id) rest) = refl
 boxes_split (more (child bounds page below) rest) = ap (λ (l : List Bounds). bounds ∷ (l ++ boxes_below rest)) (sym (append-nil (boxes_below below)))
 
 pub pairs-right : (dims limit : ℕ) (xs ys zs : List Bounds) → near_pairs dims limit xs (ys ++ zs) ≡ near_pairs dims limit xs ys + near_pairs dims limit xs zs
@@ -132,14 +133,14 @@ fails_below dims limit a b c d inner outer fails = at (near_test dims limit a c)
         let back = box_dist2_of-commutes dims d b in
         absurd (false≢true (sym fails ∙ (near_test_true dims limit b d).1 (omega (arith, near, grown, turned, both, back))))
 
-none_with : (dims limit : ℕ) (o : ℕ × Bounds) (b d : Bounds) (ys : List (ℕ × Bounds)) → Within dims o.1 b → AllWithin dims d ys → near_test dims limit b d ≡ false → pairs_with dims limit ys o ≡ []
+none_with : (dims limit : ℕ) (o : ℕ × Object) (b d : Bounds) (ys : List (ℕ × Object)) → Within dims (bounds_of o.1) b → AllWithin dims d ys → near_test dims limit b d ≡ false → pairs_with dims limit ys o ≡ []
 none_with dims limit o b d [] inner all fails = refl
 none_with dims limit o b d (y ∷ ys) inner all fails =
-    let out = fails_below dims limit o.1 b y.1 d inner all.0 fails in
-    let others : List (ℕ × Bounds) = filter (λ other. near_test dims limit o.1 other.1) ys in
-    ap (λ (t : Bool). map (λ (other : ℕ × Bounds). (o.0, other.0)) (cond t (y ∷ others) others)) out ∙ none_with dims limit o b d ys inner all.1 fails
+    let out = fails_below dims limit (bounds_of o.1) b (bounds_of y.1) d inner all.0 fails in
+    let others : List (ℕ × Object) = filter (λ other. near_test dims limit (bounds_of o.1) (bounds_of other.1)) ys in
+    ap (λ (t : Bool). map (λ (other : ℕ × Object). (o.0, other.0)) (cond t (y ∷ others) others)) out ∙ none_with dims limit o b d ys inner all.1 fails
 
-none_near : (dims limit : ℕ) (b d : Bounds) (xs ys : List (ℕ × Bounds)) → AllWithin dims b xs → AllWithin dims d ys → near_test dims limit b d ≡ false → near_objects dims limit xs ys ≡ []
+none_near : (dims limit : ℕ) (b d : Bounds) (xs ys : List (ℕ × Object)) → AllWithin dims b xs → AllWithin dims d ys → near_test dims limit b d ≡ false → near_objects dims limit xs ys ≡ []
 none_near dims limit b d [] ys inner outer fails = refl
 none_near dims limit b d (x ∷ xs) ys inner outer fails =
     ap (λ (l : List (ℕ × ℕ)). l ++ near_objects dims limit xs ys) (none_with dims limit x b d ys inner.0 outer fails) ∙ none_near dims limit b d xs ys inner.1 outer fails
@@ -147,12 +148,12 @@ none_near dims limit b d (x ∷ xs) ys inner outer fails =
 -- what lies below the first entry lies within its box
 head_within : (dims : ℕ) (s : Row) (x : Item) (xs : List Item) → row_items s ≡ x ∷ xs → Encloses dims s → AllWithin dims x.bounds (objects_in (row_head s))
 head_within dims end x xs same encloses = tt
-head_within dims (more (object bounds id) rest) x xs same encloses =
-    let item : ◌≡◌ {A = Item} (record { bounds = bounds; reference = id }) x = cc in
-    (subst (λ (b : Bounds). Within dims bounds b) (ap (λ (y : Item). y.bounds) item) (Within-refl dims bounds), tt)
+head_within dims (more (object kept id) rest) x xs same encloses =
+    let item : ◌≡◌ {A = Item} (record { bounds = bounds_of kept; reference = id; tag = tag_of kept }) x = cc in
+    (subst (λ (b : Bounds). Within dims (bounds_of kept) b) (ap (λ (y : Item). y.bounds) item) (Within-refl dims (bounds_of kept)), tt)
 head_within dims (more (child bounds page below) rest) x xs same encloses =
-    let item : ◌≡◌ {A = Item} (record { bounds = bounds; reference = page }) x = cc in
-    subst (λ (l : List (ℕ × Bounds)). AllWithin dims x.bounds l) (sym (append-nil (objects_in below))) (subst (λ (b : Bounds). AllWithin dims b (objects_in below)) (ap (λ (y : Item). y.bounds) item) encloses.0)
+    let item : ◌≡◌ {A = Item} (record { bounds = bounds; reference = page; tag = 0 }) x = cc in
+    subst (λ (l : List (ℕ × Object)). AllWithin dims x.bounds l) (sym (append-nil (objects_in below))) (subst (λ (b : Bounds). AllWithin dims b (objects_in below)) (ap (λ (y : Item). y.bounds) item) encloses.0)
 
 -- so below first entries whose boxes do not meet no pair does
 pub heads_apart : (dims limit : ℕ) (f : ℕ × ℕ → ℕ) (s t : Row) (x y : Item) (xs ys : List Item) → row_items s ≡ x ∷ xs → row_items t ≡ y ∷ ys → Encloses dims s → Encloses dims t → near_test dims limit x.bounds y.bounds ≡ false
@@ -162,17 +163,17 @@ heads_apart dims limit f s t x y xs ys same same' encloses encloses' fails =
 
 -- ---- in a tree with least boxes each box encloses what lies below it
 
-grown_within : (dims : ℕ) (b : Bounds) (xs ys : List (ℕ × Bounds)) → AllWithin dims b xs → AllWithin dims b ys → AllWithin dims b (xs ++ ys)
+grown_within : (dims : ℕ) (b : Bounds) (xs ys : List (ℕ × Object)) → AllWithin dims b xs → AllWithin dims b ys → AllWithin dims b (xs ++ ys)
 grown_within dims b [] ys inner outer = outer
 grown_within dims b (x ∷ xs) ys inner outer = (inner.0, grown_within dims b xs ys inner.1 outer)
 
-all_in_turn : (dims : ℕ) (b c : Bounds) (xs : List (ℕ × Bounds)) → Within dims b c → AllWithin dims b xs → AllWithin dims c xs
+all_in_turn : (dims : ℕ) (b c : Bounds) (xs : List (ℕ × Object)) → Within dims b c → AllWithin dims b xs → AllWithin dims c xs
 all_in_turn dims b c [] within all = tt
-all_in_turn dims b c (x ∷ xs) within all = (Within-trans dims x.1 b c all.0 within, all_in_turn dims b c xs within all.1)
+all_in_turn dims b c (x ∷ xs) within all = (Within-trans dims (bounds_of x.1) b c all.0 within, all_in_turn dims b c xs within all.1)
 
 pub objects_within : (dims most : ℕ) (b : Bounds) (row : Row) → RowWithin dims row b → RowHasShape dims most row → AllWithin dims b (objects_in row)
 objects_within dims most b end within shape = tt
-objects_within dims most b (more (object bounds id) rest) within shape = (within.0, objects_within dims most b rest within.1 shape)
+objects_within dims most b (more (object kept id) rest) within shape = (within.0, objects_within dims most b rest within.1 shape)
 objects_within dims most b (more (child bounds page below) rest) within shape =
     grown_within dims b (objects_in below) (objects_in rest)
     (all_in_turn dims bounds b (objects_in below) within.0 (objects_within dims most bounds below shape.2.encloses shape.3))
@@ -180,6 +181,6 @@ objects_within dims most b (more (child bounds page below) rest) within shape =
 
 pub shape_encloses : (dims most : ℕ) (row : Row) → RowHasShape dims most row → Encloses dims row
 shape_encloses dims most end shape = tt
-shape_encloses dims most (more (object bounds id) rest) shape = shape_encloses dims most rest shape
+shape_encloses dims most (more (object kept id) rest) shape = shape_encloses dims most rest shape
 shape_encloses dims most (more (child bounds page below) rest) shape =
     (objects_within dims most bounds below shape.2.encloses shape.3, shape_encloses dims most below shape.3, shape_encloses dims most rest shape.4)

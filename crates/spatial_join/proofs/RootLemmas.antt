@@ -5,6 +5,7 @@ use Rattle.std.proofs.lemmas.Bool.Decides.{nat_tests}
 use Rattle.std.proofs.lemmas.List.{append-nil}
 use Rattle.std.proofs.lemmas.List.Sorted.{IsPermutation-trans}
 use Rattle.box_math.specs.Bounds.{Bounds}
+use Rattle.box_math.specs.Objects.{Object, bounds_of}
 use Rattle.page_cache.specs.Cache.{IsHonest, pages}
 use Rattle.page_cache.specs.Calls.{AsksUntil, asks_in_turn}
 use Rattle.page_cache.specs.declared.cache.PageCache.{PageCache}
@@ -58,8 +59,8 @@ some_same a b e = cc
 box_encloses : (dims : ℕ) (row : Row) (b : Bounds) → node_box dims (row_items row) ≡ Some b → RowWithin dims row b
 unfolding least_box
 box_encloses dims end b is = tt
-box_encloses dims (more (object bounds id) rest) b is =
-    subst (λ (c : Bounds). RowWithin dims (more (object bounds id) rest) c) (some_same (box_round dims bounds (row_items rest)) b is) (begins_within dims bounds rest, all_within dims bounds rest)
+box_encloses dims (more (object kept id) rest) b is =
+    subst (λ (c : Bounds). RowWithin dims (more (object kept id) rest) c) (some_same (box_round dims (bounds_of kept) (row_items rest)) b is) (begins_within dims (bounds_of kept) rest, all_within dims (bounds_of kept) rest)
 box_encloses dims (more (child bounds page below) rest) b is =
     subst (λ (c : Bounds). RowWithin dims (more (child bounds page below) rest) c) (some_same (box_round dims bounds (row_items rest)) b is) (begins_within dims bounds rest, all_within dims bounds rest)
 
@@ -76,7 +77,7 @@ root_encloses dims most other page level row shape =
 
 no_objects : (dims : ℕ) (row : Row) → node_box dims (row_items row) ≡ None → objects_in row ≡ []
 no_objects dims end none = refl
-no_objects dims (more (object bounds id) rest) none = absurd (cc)
+no_objects dims (more (object kept id) rest) none = absurd (cc)
 no_objects dims (more (child bounds page below) rest) none = absurd (cc)
 
 root_objects : (dims other page level : ℕ) (row : Row) → objects_in (opened_root dims level other page row) ≡ objects_in row
@@ -97,8 +98,8 @@ answers dims limit s t l o p q old added sorted empty adds moved ordered =
     let same : (f : ℕ × ℕ → ℕ) → total f (near_below dims limit s.row t.row) ≡ total f added =
     λ f.
     let none : total f old ≡ 0 = ap (total f) empty in
-    let left = ap (λ (xs : List (ℕ × Bounds)). total f (near_objects dims limit xs (objects_in (opened_root dims o l q t.row)))) (root_objects dims o p l s.row) in
-    let right = ap (λ (ys : List (ℕ × Bounds)). total f (near_objects dims limit (objects_in s.row) ys)) (root_objects dims l q o t.row) in
+    let left = ap (λ (xs : List (ℕ × Object)). total f (near_objects dims limit xs (objects_in (opened_root dims o l q t.row)))) (root_objects dims o p l s.row) in
+    let right = ap (λ (ys : List (ℕ × Object)). total f (near_objects dims limit (objects_in s.row) ys)) (root_objects dims l q o t.row) in
     omega (arith, adds f, none, left, right) in
     record {
       all = IsPermutation-trans (near_below dims limit s.row t.row) added sorted (equal_sums_permute (near_below dims limit s.row t.row) added same) moved;
@@ -112,7 +113,7 @@ if_any (Some b) = b ∷ []
 
 root_box_is : (dims : ℕ) (row : Row) → root_box dims row ≡ if_any (node_box dims (row_items row))
 root_box_is dims end = refl
-root_box_is dims (more (object bounds id) rest) = refl
+root_box_is dims (more (object kept id) rest) = refl
 root_box_is dims (more (child bounds page below) rest) = refl
 
 -- below two roots no more pairs of nodes meet than are admitted beside the roots

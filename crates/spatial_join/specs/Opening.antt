@@ -3,6 +3,7 @@
 use Rattle.std.specs.Prelude.{◌≡◌, ℕ, ◌+◌, ◌^◌, ◌<◌, nat_le, List, [], ◌∷◌, All, ⊤, Option, Some, None}
 use Rattle.std.specs.Prelude.{if◌then◌else◌}
 use Rattle.box_math.specs.Bounds.{Bounds, Within}
+use Rattle.box_math.specs.Objects.{Object, bounds_of}
 use Rattle.tree_node.specs.Boxes.{least_box}
 use Rattle.tree_node.specs.Nodes.{Item, NodeContent}
 use Rattle.tree_node.specs.Trees.{Row, end, more, object, child, objects_in, row_items}
@@ -24,7 +25,7 @@ alone (Some bounds) page row = more (child bounds page row) end
 -- the entries of a node of which a page is the only one, if it has a box
 abbrev pub lone : Option Bounds → ℕ → List Item
 lone None page = []
-lone (Some bounds) page = record { bounds = bounds; reference = page } ∷ []
+lone (Some bounds) page = record { bounds = bounds; reference = page; tag = 0 } ∷ []
 
 -- the least box of a node with these entries, none of an empty one
 abbrev pub node_box : ℕ → List Item → Option Bounds
@@ -45,14 +46,14 @@ abbrev pub sole : ℕ → Item → NodeContent
 sole level item = record { level = level; entries = item ∷ [] }
 
 -- each object lies within the box
-abbrev pub AllWithin : ℕ → Bounds → List (ℕ × Bounds) → Type 0
+abbrev pub AllWithin : ℕ → Bounds → List (ℕ × Object) → Type 0
 AllWithin dims b [] = ⊤
-AllWithin dims b (x ∷ xs) = Within dims x.1 b × AllWithin dims b xs
+AllWithin dims b (x ∷ xs) = Within dims (bounds_of x.1) b × AllWithin dims b xs
 
 -- the box above each node encloses the objects below it
 abbrev pub Encloses : ℕ → Row → Type 0
 Encloses dims end = ⊤
-Encloses dims (more (object bounds id) rest) = Encloses dims rest
+Encloses dims (more (object kept id) rest) = Encloses dims rest
 Encloses dims (more (child bounds page below) rest) =
     AllWithin dims bounds (objects_in below) × Encloses dims below × Encloses dims rest
 

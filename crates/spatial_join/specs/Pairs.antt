@@ -6,19 +6,19 @@ use Rattle.std.specs.List.{filter, flat_map}
 use Rattle.std.specs.List.Sorted.{IsSorted}
 use Rattle.std.specs.Ordering.{nat_cmp, ordering_then}
 use Rattle.std.specs.declared.cmp.Ordering.{Ordering}
-use Rattle.box_math.specs.Bounds.{Bounds}
+use Rattle.box_math.specs.Objects.{Object, bounds_of}
 use Rattle.box_math.specs.Measures.{near_test}
 use Rattle.tree_node.specs.Nodes.{Item}
 use Rattle.tree_node.specs.Positions.{total}
 use Rattle.tree_node.specs.Trees.{Row, Tree, objects_in}
 
 -- the pairs of identifiers of an object and each of the others whose box is that near to its box
-abbrev pub pairs_with : ℕ → ℕ → List (ℕ × Bounds) → ℕ × Bounds → List (ℕ × ℕ)
+abbrev pub pairs_with : ℕ → ℕ → List (ℕ × Object) → ℕ × Object → List (ℕ × ℕ)
 pairs_with dims limit others object =
-    map (λ other. (object.0, other.0)) (filter (λ other. near_test dims limit object.1 other.1) others)
+    map (λ other. (object.0, other.0)) (filter (λ other. near_test dims limit (bounds_of object.1) (bounds_of other.1)) others)
 
 -- the pairs of identifiers of an object of each list whose boxes are that near
-abbrev pub near_objects : ℕ → ℕ → List (ℕ × Bounds) → List (ℕ × Bounds) → List (ℕ × ℕ)
+abbrev pub near_objects : ℕ → ℕ → List (ℕ × Object) → List (ℕ × Object) → List (ℕ × ℕ)
 near_objects dims limit objects others = flat_map (pairs_with dims limit others) objects
 
 -- those of the objects below two nodes

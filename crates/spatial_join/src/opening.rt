@@ -84,6 +84,7 @@ fn above<const D: usize>(node: Root, bounds: Option<BBox<D>>) -> Node<D>
         entries.push(Entry {
             bounds,
             reference: u64::from(node.page),
+            tag: 0,
         });
     }
     Node {

@@ -12,8 +12,8 @@ use crate::columns::next_place;
 use box_math::{BBox, meet_mask};
 use node_page::Node;
 
-/// The greatest squared distance of two boxes that are paired, and its root: each gap between such boxes is at most that,
-/// so that a box that is widened by it meets them all.
+/// The greatest squared distance of two boxes that are paired, and its root: each gap between such boxes is at most
+/// that, so that a box that is widened by it meets them all.
 #[derive(Clone, Copy)]
 pub(crate) struct Reach {
     pub(crate) limit: u64,
@@ -62,7 +62,8 @@ impl Reach {
         requires dims { IsDims D }
         requires few { length node.now.entries.items ≤ 100 }
         requires boxes { HaveBoxes D (items_of node.now.entries.items) }
-        requires named { Tells (λ b. meets_test D (widened_of D self.root bounds.now) b) named (items_of node.now.entries.items) }
+        requires named { Tells (λ b. meets_test D (widened_of D self.root bounds.now) b) named
+            (items_of node.now.entries.items) }
         ensures { Tells (near_test D self.limit bounds.now) result (items_of node.now.entries.items) }
     {
         let mut near = named;

@@ -1,8 +1,5 @@
 //! Commands as plain data, their answers as numbers, and a store beside the plain list.
 
-use crate::listing::{
-    all_pairs, check_load, dumped, infos, loaded, moved, without_layer, without_object,
-};
 use block_device::BlockDevice;
 use layer_store::{AnyBox, RawBox, RawPoint, RawQuery, Refusal, Store};
 use list_table::ListTable;
@@ -15,16 +12,18 @@ pub const PLANE: RawBox = RawBox::Two([i32::MIN; 2], [i32::MAX; 2]);
 /// The window that all boxes of three axes meet.
 pub const SPACE: RawBox = RawBox::Three([i32::MIN; 3], [i32::MAX; 3]);
 
-/// An object as it is given: its identifier, and its box, unchecked.
-pub type Object = (u64, RawBox);
+/// An object as it is given: its identifier, its box, unchecked, and its tag.
+pub type Object = (u64, RawBox, u32);
 
 /// A command. Those before the joins are on the layer of a name.
 #[derive(Clone, Copy, Debug)]
 pub enum Command<'a> {
     /// A new layer with so many axes and such a fanout.
     Create(&'a [u8], u64, u64),
-    /// A new object.
+    /// A new object with the tag 0.
     Insert(&'a [u8], u64, RawBox),
+    /// A new object with a tag.
+    InsertTagged(&'a [u8], u64, RawBox, u32),
     /// All objects of a layer that has none.
     Load(&'a [u8], &'a [Object]),
     /// Another box for an object.
@@ -33,7 +32,7 @@ pub enum Command<'a> {
     Delete(&'a [u8], u64),
     /// The layer taken out.
     Drop(&'a [u8]),
-    /// The box of an object.
+    /// An object.
     Get(&'a [u8], u64),
     /// How many objects there are.
     Count(&'a [u8]),
@@ -45,6 +44,8 @@ pub enum Command<'a> {
     Around(&'a [u8], RawBox),
     /// The objects that hold a point.
     Point(&'a [u8], RawPoint),
+    /// The objects with a tag that a query seeks.
+    Tagged(&'a [u8], RawQuery, u32),
     /// So many objects nearest to a point.
     Nearest(&'a [u8], u64, RawPoint),
     /// The pairs of objects of two layers that are so near.
@@ -66,6 +67,7 @@ impl Command<'_> {
             self,
             Command::Create(..)
                 | Command::Insert(..)
+                | Command::InsertTagged(..)
                 | Command::Load(..)
                 | Command::Move(..)
                 | Command::Delete(..)
@@ -117,7 +119,8 @@ fn change<D: BlockDevice, A: Allocator + Copy + Drop>(
 ) -> Result<(), Refusal> {
     match change {
         Command::Create(name, dims, fanout) => store.create(name, dims, fanout),
-        Command::Insert(name, id, bounds) => store.insert(name, id, bounds),
+        Command::Insert(name, id, bounds) => store.insert(name, id, bounds, 0),
+        Command::InsertTagged(name, id, bounds, tag) => store.insert(name, id, bounds, tag),
         Command::Load(name, objects) => store.load(name, objects),
         Command::Move(name, id, bounds) => store.move_object(name, id, bounds),
         Command::Delete(name, id) => store.delete(name, id),
@@ -128,6 +131,7 @@ fn change<D: BlockDevice, A: Allocator + Copy + Drop>(
         | Command::Inside(..)
         | Command::Around(..)
         | Command::Point(..)
+        | Command::Tagged(..)
         | Command::Nearest(..)
         | Command::Join(..)
         | Command::Layers
@@ -144,12 +148,18 @@ fn ask<D: BlockDevice, A: Allocator + Copy + Drop>(
     question: Command<'_>,
 ) -> Result<(), Refusal> {
     match question {
-        Command::Get(name, id) => push_row(numbers, id, store.get(name, id)?)?,
+        Command::Get(name, id) => {
+            let (bounds, tag) = store.get(name, id)?;
+            push_row(numbers, &(id, bounds, tag))?
+        }
         Command::Count(name) => numbers.push(i128::from(store.count(name)?))?,
-        Command::Window(name, bounds) => push_rows(numbers, &store.window(name, bounds)?)?,
-        Command::Inside(name, bounds) => push_rows(numbers, &store.inside(name, bounds)?)?,
-        Command::Around(name, bounds) => push_rows(numbers, &store.around(name, bounds)?)?,
-        Command::Point(name, point) => push_rows(numbers, &store.point(name, point)?)?,
+        Command::Window(name, bounds) => push_rows(numbers, &store.window(name, bounds, None)?)?,
+        Command::Inside(name, bounds) => push_rows(numbers, &store.inside(name, bounds, None)?)?,
+        Command::Around(name, bounds) => push_rows(numbers, &store.around(name, bounds, None)?)?,
+        Command::Point(name, point) => push_rows(numbers, &store.point(name, point, None)?)?,
+        Command::Tagged(name, query, tag) => {
+            push_rows(numbers, &store.range(name, query, Some(tag))?)?
+        }
         Command::Nearest(name, k, point) => {
             push_distances(numbers, &store.nearest(name, k, point)?)?
         }
@@ -162,6 +172,7 @@ fn ask<D: BlockDevice, A: Allocator + Copy + Drop>(
         Command::Reopen => store.reopen()?,
         Command::Create(..)
         | Command::Insert(..)
+        | Command::InsertTagged(..)
         | Command::Load(..)
         | Command::Move(..)
         | Command::Delete(..)
@@ -174,14 +185,12 @@ fn ask<D: BlockDevice, A: Allocator + Copy + Drop>(
 pub fn listed(alloc: Global, table: &mut ListTable<Global>, command: Command<'_>) -> Answer {
     match command {
         Command::Create(name, dims, fanout) => table.create(name, dims, fanout)?,
-        Command::Insert(name, id, bounds) => table.insert(name, id, bounds)?,
-        Command::Load(name, objects) => {
-            check_load(alloc, table, name, objects)?;
-            *table = loaded(alloc, table, name, objects)?;
-        }
-        Command::Move(name, id, bounds) => *table = moved(alloc, table, name, id, bounds)?,
-        Command::Delete(name, id) => *table = without_object(alloc, table, name, id)?,
-        Command::Drop(name) => *table = without_layer(alloc, table, name)?,
+        Command::Insert(name, id, bounds) => table.insert(name, id, bounds, 0)?,
+        Command::InsertTagged(name, id, bounds, tag) => table.insert(name, id, bounds, tag)?,
+        Command::Load(name, objects) => table.load(name, objects)?,
+        Command::Move(name, id, bounds) => table.move_object(name, id, bounds)?,
+        Command::Delete(name, id) => table.delete(name, id)?,
+        Command::Drop(name) => table.drop_layer(name)?,
         _ => return list_answer(alloc, table, command),
     }
     Ok(Vec::new(alloc))
@@ -191,34 +200,50 @@ pub fn listed(alloc: Global, table: &mut ListTable<Global>, command: Command<'_>
 fn list_answer(alloc: Global, table: &ListTable<Global>, question: Command<'_>) -> Answer {
     let mut numbers = Vec::new(alloc);
     match question {
-        Command::Get(name, id) => push_row(&mut numbers, id, table.get(name, id)?)?,
+        Command::Get(name, id) => {
+            let (bounds, tag) = table.get(name, id)?;
+            push_row(&mut numbers, &(id, bounds, tag))?
+        }
         Command::Count(name) => numbers.push(i128::from(table.count(name)?))?,
         Command::Window(name, bounds) => {
-            push_rows(&mut numbers, &table.range(name, RawQuery::Window(bounds))?)?
+            push_rows(
+                &mut numbers,
+                &table.range(name, RawQuery::Window(bounds), None)?,
+            )?
         }
         Command::Inside(name, bounds) => {
-            push_rows(&mut numbers, &table.range(name, RawQuery::Inside(bounds))?)?
+            push_rows(
+                &mut numbers,
+                &table.range(name, RawQuery::Inside(bounds), None)?,
+            )?
         }
         Command::Around(name, bounds) => {
-            push_rows(&mut numbers, &table.range(name, RawQuery::Around(bounds))?)?
+            push_rows(
+                &mut numbers,
+                &table.range(name, RawQuery::Around(bounds), None)?,
+            )?
         }
         Command::Point(name, point) => {
-            push_rows(&mut numbers, &table.range(name, RawQuery::Point(point))?)?
+            push_rows(
+                &mut numbers,
+                &table.range(name, RawQuery::Point(point), None)?,
+            )?
+        }
+        Command::Tagged(name, query, tag) => {
+            push_rows(&mut numbers, &table.range(name, query, Some(tag))?)?
         }
         Command::Nearest(name, k, point) => {
             push_distances(&mut numbers, &table.nearest(name, k, point)?)?
         }
         Command::Join(first, second, within) => {
-            push_pairs(
-                &mut numbers,
-                &all_pairs(alloc, table, first, second, within)?,
-            )?
+            push_pairs(&mut numbers, &table.join(first, second, within)?)?
         }
-        Command::Layers => push_infos(&mut numbers, &infos(alloc, table)?)?,
-        Command::Dump => push_dump(&mut numbers, &dumped(alloc, table)?)?,
+        Command::Layers => push_infos(&mut numbers, &table.layers()?)?,
+        Command::Dump => push_dump(&mut numbers, &table.dump()?)?,
         Command::Check | Command::Reopen => {}
         Command::Create(..)
         | Command::Insert(..)
+        | Command::InsertTagged(..)
         | Command::Load(..)
         | Command::Move(..)
         | Command::Delete(..)
@@ -234,23 +259,28 @@ fn push_coordinates(numbers: &mut Vec<i128>, coordinates: &[i32]) -> Result<(), 
     Ok(())
 }
 
-fn push_row(numbers: &mut Vec<i128>, id: u64, bounds: AnyBox) -> Result<(), AllocError> {
-    numbers.push(i128::from(id))?;
-    match bounds {
+// The tag is shown where it is not 0, as in the text of a row.
+fn push_row(numbers: &mut Vec<i128>, row: &(u64, AnyBox, u32)) -> Result<(), AllocError> {
+    numbers.push(i128::from(row.0))?;
+    match row.1 {
         AnyBox::Two(bounds) => {
             push_coordinates(numbers, &bounds.low())?;
-            push_coordinates(numbers, &bounds.high())
+            push_coordinates(numbers, &bounds.high())?;
         }
         AnyBox::Three(bounds) => {
             push_coordinates(numbers, &bounds.low())?;
-            push_coordinates(numbers, &bounds.high())
+            push_coordinates(numbers, &bounds.high())?;
         }
     }
+    if row.2 != 0 {
+        numbers.push(i128::from(row.2))?;
+    }
+    Ok(())
 }
 
-fn push_rows(numbers: &mut Vec<i128>, rows: &[(u64, AnyBox)]) -> Result<(), AllocError> {
+fn push_rows(numbers: &mut Vec<i128>, rows: &[(u64, AnyBox, u32)]) -> Result<(), AllocError> {
     for row in rows {
-        push_row(numbers, row.0, row.1)?;
+        push_row(numbers, row)?;
     }
     Ok(())
 }
@@ -299,11 +329,11 @@ fn push_dump(numbers: &mut Vec<i128>, rows: &[DumpRow]) -> Result<(), AllocError
             DumpRow::Create(name, dims, fanout) => {
                 push_layer(numbers, name.as_slice(), *dims, *fanout)?
             }
-            DumpRow::Insert(name, id, bounds) => {
+            DumpRow::Insert(name, id, bounds, tag) => {
                 for &byte in name.as_slice() {
                     numbers.push(i128::from(byte))?;
                 }
-                push_row(numbers, *id, *bounds)?;
+                push_row(numbers, &(*id, *bounds, *tag))?;
             }
         }
     }

@@ -3,12 +3,10 @@
 
 mod commands;
 mod dice;
-mod listing;
 mod scenes;
 mod stores;
 
 pub use commands::{Answer, Command, Object, PLANE, SPACE, answer, answer_all, listed, represents};
 pub use dice::Dice;
-pub use listing::given;
 pub use scenes::{DELETED, FIRST_OVERFLOW, FIVE, JOINED, LINE, LOADED, Row, Scene, TOUCHING, TWO};
 pub use stores::{closed, device_of, new_store, opened};

@@ -193,11 +193,11 @@ pub const LOADED: Scene = Scene {
         Command::Load(
             b"t",
             &[
-                (1, RawBox::Two([0, 0], [0, 0])),
-                (2, RawBox::Two([1, 0], [1, 0])),
-                (3, RawBox::Two([2, 0], [2, 0])),
-                (4, RawBox::Two([3, 0], [3, 0])),
-                (5, RawBox::Two([10, 0], [10, 0])),
+                (1, RawBox::Two([0, 0], [0, 0]), 0),
+                (2, RawBox::Two([1, 0], [1, 0]), 0),
+                (3, RawBox::Two([2, 0], [2, 0]), 0),
+                (4, RawBox::Two([3, 0], [3, 0]), 0),
+                (5, RawBox::Two([10, 0], [10, 0]), 0),
             ],
         ),
         Command::Create(b"u", 2, 4),
@@ -226,9 +226,9 @@ pub const LOADED: Scene = Scene {
             Command::Load(
                 b"u",
                 &[
-                    (1, RawBox::Two([0, 0], [0, 0])),
-                    (2, RawBox::Two([0, 0], [0, 0])),
-                    (1, RawBox::Two([0, 0], [0, 0])),
+                    (1, RawBox::Two([0, 0], [0, 0]), 0),
+                    (2, RawBox::Two([0, 0], [0, 0]), 0),
+                    (1, RawBox::Two([0, 0], [0, 0]), 0),
                 ],
             ),
             Err(Refusal::DuplicateInLoad(1)),
@@ -238,8 +238,8 @@ pub const LOADED: Scene = Scene {
             Command::Load(
                 b"u",
                 &[
-                    (1, RawBox::Two([1, 0], [0, 0])),
-                    (1, RawBox::Three([0; 3], [0; 3])),
+                    (1, RawBox::Two([1, 0], [0, 0]), 0),
+                    (1, RawBox::Three([0; 3], [0; 3]), 0),
                 ],
             ),
             Err(Refusal::WrongDims),
@@ -249,8 +249,8 @@ pub const LOADED: Scene = Scene {
             Command::Load(
                 b"t",
                 &[
-                    (1, RawBox::Two([0, 0], [0, 0])),
-                    (1, RawBox::Two([1, 0], [0, 0])),
+                    (1, RawBox::Two([0, 0], [0, 0]), 0),
+                    (1, RawBox::Two([1, 0], [0, 0]), 0),
                 ],
             ),
             Err(Refusal::BadBox),

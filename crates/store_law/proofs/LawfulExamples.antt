@@ -1,6 +1,6 @@
 -- Worked examples of lawful steps: what a live and a dead store may answer, and what they may not.
 -- No other proof rests on them. A definition that says another thing than docs/COMMANDS.md is refused here.
-use Rattle.std.proofs.Common.{List, ◌≡◌, ℕ, [], ◌∷◌, refl, sym, ap, ◌∙◌, inl, inr, arith}
+use Rattle.std.proofs.Common.{List, None, Option, ◌≡◌, ℕ, [], ◌∷◌, refl, sym, ap, ◌∙◌, inl, inr, arith}
 use Rattle.std.specs.Cmp.Lexicographic.{slice_cmp}
 use Rattle.std.specs.Ordering.{nat_cmp}
 use Rattle.std.specs.FinMap.{entries, entries-from_sorted}
@@ -218,7 +218,7 @@ a_refused_create_ends_no_store s' (inl h) = let no = h.0 ∙ create_of_a_layer_t
 a_refused_create_ends_no_store s' (inr (inl h)) = h.0
 a_refused_create_ends_no_store s' (inr (inr h)) = elim h.1 [ inl e ↦ absurd (cc) | inr changes ↦ changes a_refused_create_changes_nothing ]
 
-a_window_ends_no_store : (s' : SessionState) → LawfulAnswer (live (table touching) 0) (Asks (Range a (Window (Two (at 1 1) (at 1 1))))) (Refused (refusal.StoreFailed 16)) s' → ⊥
+a_window_ends_no_store : (s' : SessionState) → LawfulAnswer (live (table touching) 0) (Asks (Range a (Window (Two (at 1 1) (at 1 1))) None)) (Refused (refusal.StoreFailed 16)) s' → ⊥
 a_window_ends_no_store s' (inl h) = let no = h.0 ∙ squares_that_touch_are_both_found in absurd (cc)
 a_window_ends_no_store s' (inr (inl h)) = h.0
 a_window_ends_no_store s' (inr (inr h)) = elim h.1 [ inl e ↦ absurd (cc) | inr changes ↦ changes window_changes_nothing ]
@@ -248,8 +248,8 @@ the_next_closing_leaves_its_table_alone = refl
 a_bad_line_changes_nothing_that_is_left : (t : Table) (answer : Answer) → after_request (Alive t) closed_before BadCommand answer ≡ closed_before
 a_bad_line_changes_nothing_that_is_left t answer = refl
 
-a_question_changes_nothing_that_is_left : (t : Table) (name : List ℕ) (query : RawQuery) (answer : Answer) → after_request (Alive t) closed_before (Asks (Range name query)) answer ≡ closed_before
-a_question_changes_nothing_that_is_left t name query answer = refl
+a_question_changes_nothing_that_is_left : (t : Table) (name : List ℕ) (query : RawQuery) (tag : Option ℕ) (answer : Answer) → after_request (Alive t) closed_before (Asks (Range name query tag)) answer ≡ closed_before
+a_question_changes_nothing_that_is_left t name query tag answer = refl
 
 a_change_leaves_nothing_that_is_opened : after_request (Alive none) closed_before create Done ≡ record { now = Perhaps []; since = 7; so_far = none ∷ [] }
 a_change_leaves_nothing_that_is_opened = rw create_changes_the_table refl

@@ -80,7 +80,8 @@ fn a_thousand_objects_are_left(rt: HostRuntime) -> Result<(), Fail> {
     let mut store = new_store(rt.alloc(), 8)?;
     let mut objects = Vec::new(rt.alloc());
     for number in 1..=2000u16 {
-        objects.push(object(number))?;
+        let (id, bounds) = object(number);
+        objects.push((id, bounds, 0))?;
     }
     let load = Command::Load(b"b", &objects);
     answer_all(rt.alloc(), &mut store, &[CREATE, load, Command::Check])?;

@@ -2,7 +2,7 @@
 //! reopening, and after a closing and an opening.
 
 use block_device::{BlockDevice, MemoryDevice};
-use layer_store::{RawBox, RawPoint, Refusal, Store};
+use layer_store::{RawBox, RawPoint, RawQuery, Refusal, Store};
 use std::alloc::Global;
 use std::process::Abort;
 use std::test::Fail;
@@ -142,6 +142,79 @@ const FEW: Scene = Scene {
     ],
 };
 
+// Objects with tags: queries choose by them, rows show them, and a move keeps them.
+const TAGS: Scene = Scene {
+    made: &[
+        Command::Create(b"a", 2, 4),
+        Command::InsertTagged(b"a", 1, RawBox::Two([0, 0], [1, 1]), 7),
+        Command::Insert(b"a", 2, RawBox::Two([1, 1], [2, 2])),
+        Command::Create(b"b", 2, 4),
+        Command::InsertTagged(b"b", 1, RawBox::Two([0, 0], [1, 1]), 7),
+        Command::Insert(b"b", 2, RawBox::Two([1, 1], [2, 2])),
+        Command::Move(b"b", 1, RawBox::Two([5, 5], [6, 6])),
+        Command::Create(b"c", 3, 100),
+        Command::Load(
+            b"c",
+            &[
+                (9, RawBox::Three([0, 0, 0], [3, 3, 3]), u32::MAX),
+                (8, RawBox::Three([1, 1, 1], [2, 2, 2]), 1),
+            ],
+        ),
+    ],
+    asked: &[
+        (
+            Command::Window(b"a", RawBox::Two([0, 0], [2, 2])),
+            Ok(&[1, 0, 0, 1, 1, 7, 2, 1, 1, 2, 2]),
+            Some(1),
+        ),
+        (
+            Command::Tagged(b"a", RawQuery::Window(RawBox::Two([0, 0], [2, 2])), 7),
+            Ok(&[1, 0, 0, 1, 1, 7]),
+            Some(1),
+        ),
+        (
+            Command::Tagged(b"a", RawQuery::Window(RawBox::Two([0, 0], [2, 2])), 9),
+            Ok(&[]),
+            Some(1),
+        ),
+        (
+            Command::Tagged(b"a", RawQuery::Point(RawPoint::Two([1, 1])), 0),
+            Ok(&[2, 1, 1, 2, 2]),
+            Some(1),
+        ),
+        (Command::Get(b"b", 1), Ok(&[1, 5, 5, 6, 6, 7]), None),
+        (
+            Command::Tagged(b"c", RawQuery::Inside(SPACE), u32::MAX),
+            Ok(&[9, 0, 0, 0, 3, 3, 3, 4294967295]),
+            Some(1),
+        ),
+        (
+            Command::Tagged(
+                b"c",
+                RawQuery::Around(RawBox::Three([1, 1, 1], [1, 1, 1])),
+                1,
+            ),
+            Ok(&[8, 1, 1, 1, 2, 2, 2, 1]),
+            Some(1),
+        ),
+        (
+            Command::Nearest(b"a", 2, RawPoint::Two([0, 0])),
+            Ok(&[1, 0, 2, 2]),
+            Some(1),
+        ),
+        (Command::Join(b"a", b"b", 0), Ok(&[1, 2, 2, 2]), None),
+        (
+            Command::Dump,
+            Ok(&[
+                97, 2, 4, 97, 1, 0, 0, 1, 1, 7, 97, 2, 1, 1, 2, 2, 98, 2, 4, 98, 1, 5, 5, 6, 6, 7,
+                98, 2, 1, 1, 2, 2, 99, 3, 100, 99, 8, 1, 1, 1, 2, 2, 2, 1, 99, 9, 0, 0, 0, 3, 3, 3,
+                4294967295,
+            ]),
+            None,
+        ),
+    ],
+};
+
 fn is_answer(answer: &Answer, wanted: &Result<&'static [i128], Refusal>) -> bool {
     match (answer, wanted) {
         (Ok(numbers), Ok(wanted)) => numbers.as_slice() == *wanted,
@@ -197,6 +270,7 @@ fn scenes_are_answered_as_worked_out(rt: HostRuntime) -> Result<(), Fail> {
         SECOND_OVERFLOW,
         EQUAL_DISTANCES,
         FEW,
+        TAGS,
     ] {
         let mut store = new_store(rt.alloc(), 64)?;
         answer_all(rt.alloc(), &mut store, scene.made)?;

@@ -3,7 +3,7 @@
 ghost use Rattle.std.specs.Prelude.{◌<◌};
 
 use block_device::MemoryDevice;
-use layer_store::{RawBox, RawPoint, Store};
+use layer_store::{RawBox, RawPoint, RawQuery, Store};
 use list_table::ListTable;
 use std::alloc::{AllocError, Global};
 use std::process::Abort;
@@ -82,7 +82,7 @@ fn any_objects(dice: &mut Dice, alloc: Global, place: usize) -> Result<Vec<Objec
         id = step.saturating_add(id);
         let span = any_box(dice, dims);
         let bounds = if fits { ordered(span) } else { span };
-        objects.push((id, bounds))?;
+        objects.push((id, bounds, dice.below(3)))?;
     }
     Ok(objects)
 }
@@ -105,6 +105,7 @@ fn any_change(dice: &mut Dice, place: usize) -> Command<'static>
         4 => Command::Load(name, &[]),
         5..=20 => Command::Move(name, id, bounds),
         21..=32 => Command::Delete(name, id),
+        33..=48 => Command::InsertTagged(name, id, bounds, dice.below(3)),
         _ => Command::Insert(name, id, bounds),
     }
 }
@@ -128,6 +129,7 @@ fn any_question(dice: &mut Dice, place: usize) -> Command<'static>
         7 | 8 => Command::Point(name, point),
         9 | 10 => Command::Nearest(name, u64::from(dice.below(12)), point),
         11 => Command::Join(name, NAMES[any_place(dice)], any_distance(dice)),
+        13 => Command::Tagged(name, RawQuery::Window(bounds), dice.below(4)),
         12 if dice.below(4) == 0 => Command::Dump,
         12 if dice.below(2) == 0 => Command::Check,
         12 => Command::Layers,
@@ -244,7 +246,7 @@ fn a_missing_object_is_seen(rt: HostRuntime) -> Result<(), Fail> {
     let create = Command::Create(b"a", 2, 4);
     put(&rt, rt.alloc(), &mut store, &mut table, create);
     assert!(rt; represents(rt.alloc(), &mut store, &mut table, &NAMES, 2));
-    table.insert(b"a", 1, RawBox::Two([0, 0], [0, 0]))?;
+    table.insert(b"a", 1, RawBox::Two([0, 0], [0, 0]), 0)?;
     assert!(rt; !represents(rt.alloc(), &mut store, &mut table, &NAMES, 2));
     Ok(())
 }

@@ -13,7 +13,7 @@ use Rattle.tree_node.proofs.PositionLemmas.{total-append, total-at_most, total-o
 -- the nodes below of which a box passes
 pub passing_is : (test : Bounds → Bool) (row : Row) → passing test row ≡ count_passing test (boxes_below row)
 passing_is test end = refl
-passing_is test (more (object bounds id) rest) = passing_is test rest
+passing_is test (more (object kept id) rest) = passing_is test rest
 passing_is test (more (child bounds page below) rest) =
     omega (arith, passing_is test below, passing_is test rest, total-append (λ (b : Bounds). cond (test b) 1 0) (boxes_below below) (boxes_below rest))
 

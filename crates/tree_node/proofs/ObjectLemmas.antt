@@ -6,6 +6,7 @@ use Rattle.std.proofs.lemmas.Int.{ints}
 use Rattle.std.specs.List.Sorted.{IsPermutation}
 use Rattle.std.proofs.lemmas.List.Sorted.{IsPermutation-refl, IsPermutation-cons, IsPermutation-trans, IsPermutation-to_front, IsPermutation-append_left}
 use Rattle.box_math.specs.Bounds.{Bounds}
+use Rattle.box_math.specs.Objects.{Object, bounds_of, tag_of}
 use Rattle.box_math.proofs.BoxLaws.{bounds_same}
 use Rattle.tree_node.specs.Laws.{EqualSumsPermute}
 use Rattle.tree_node.specs.Positions.{total}
@@ -87,21 +88,40 @@ same_point-itself : (ps : List ℤ) → same_point ps ps ≡ true
 same_point-itself [] = refl
 same_point-itself (p ∷ ps) = rw (same_number-itself p) (same_point-itself ps)
 
-abbrev same_object : ℕ × Bounds → ℕ × Bounds → Bool
-same_object x y = eqb x.0 y.0 && (same_point x.1.low y.1.low && same_point x.1.high y.1.high)
+abbrev same_kept : Object → Object → Bool
+same_kept o p = eqb (tag_of o) (tag_of p) && (same_point (bounds_of o).low (bounds_of p).low && same_point (bounds_of o).high (bounds_of p).high)
 
-object_of : (i j : ℕ) (a b : Bounds) → i ≡ j → a.low ≡ b.low → a.high ≡ b.high → ◌≡◌ {A = ℕ × Bounds} (i, a) (j, b)
-object_of i j a b e low high = let corners = bounds_same a b low high in cc
+kept_of : (s t : ℕ) (a b : Bounds) → s ≡ t → a.low ≡ b.low → a.high ≡ b.high → ◌≡◌ {A = Object} (a, s) (b, t)
+kept_of s t a b e low high = let corners = bounds_same a b low high in cc
 
-same_object-tells : (x y : ℕ × Bounds) → same_object x y ≡ true → x ≡ y
+same_kept-tells : (o p : Object) → same_kept o p ≡ true → o ≡ p
+same_kept-tells o p e =
+    let a = bounds_of o in
+    let b = bounds_of p in
+    let u = both (eqb (tag_of o) (tag_of p)) (same_point a.low b.low && same_point a.high b.high) e in
+    let v = both (same_point a.low b.low) (same_point a.high b.high) u.1 in
+    let tag = u.0 in
+    kept_of (tag_of o) (tag_of p) a b (grind (arith, nat_tests)) (same_point-tells a.low b.low v.0) (same_point-tells a.high b.high v.1)
+
+same_kept-itself : (o : Object) → same_kept o o ≡ true
+same_kept-itself o =
+    let e : eqb (tag_of o) (tag_of o) ≡ true = grind (arith, nat_tests) in
+    rw (e, same_point-itself (bounds_of o).low) (same_point-itself (bounds_of o).high)
+
+abbrev same_object : ℕ × Object → ℕ × Object → Bool
+same_object x y = eqb x.0 y.0 && same_kept x.1 y.1
+
+object_of : (i j : ℕ) (o p : Object) → i ≡ j → o ≡ p → ◌≡◌ {A = ℕ × Object} (i, o) (j, p)
+object_of i j o p e f = cc
+
+same_object-tells : (x y : ℕ × Object) → same_object x y ≡ true → x ≡ y
 same_object-tells x y e =
-    let u = both (eqb x.0 y.0) (same_point x.1.low y.1.low && same_point x.1.high y.1.high) e in
-    let v = both (same_point x.1.low y.1.low) (same_point x.1.high y.1.high) u.1 in
+    let u = both (eqb x.0 y.0) (same_kept x.1 y.1) e in
     let id = u.0 in
-    object_of x.0 y.0 x.1 y.1 (grind (arith, nat_tests)) (same_point-tells x.1.low y.1.low v.0) (same_point-tells x.1.high y.1.high v.1)
+    object_of x.0 y.0 x.1 y.1 (grind (arith, nat_tests)) (same_kept-tells x.1 y.1 u.1)
 
-same_object-itself : (x : ℕ × Bounds) → same_object x x ≡ true
-same_object-itself x = let e : eqb x.0 x.0 ≡ true = grind (arith, nat_tests) in rw (e, same_point-itself x.1.low) (same_point-itself x.1.high)
+same_object-itself : (x : ℕ × Object) → same_object x x ≡ true
+same_object-itself x = let e : eqb x.0 x.0 ≡ true = grind (arith, nat_tests) in rw e (same_kept-itself x.1)
 
 pub equal_sums_permute : EqualSumsPermute
 equal_sums_permute xs ys sums = permutation_of_sums same_object same_object-tells same_object-itself xs ys sums

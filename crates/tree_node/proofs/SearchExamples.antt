@@ -17,7 +17,7 @@ unfolding meets_test
 looks = (refl, refl, refl, refl)
 
 -- and finds what meets it
-finds : (passing_objects (window (box 3 0 9 9)) tree.row ≡ (8, point 3 2) ∷ []) × (objects_reached (window (box 3 0 9 9)) (window (box 3 0 9 9)) tree.row ≡ (8, point 3 2) ∷ [])
+finds : (passing_objects (window (box 3 0 9 9)) tree.row ≡ (8, (point 3 2, 4294967295)) ∷ []) × (objects_reached (window (box 3 0 9 9)) (window (box 3 0 9 9)) tree.row ≡ (8, (point 3 2, 4294967295)) ∷ [])
 unfolding meets_test
 finds = (refl, refl)
 

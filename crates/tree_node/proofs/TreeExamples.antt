@@ -12,23 +12,27 @@ point x y = record { low = pos x ∷ pos y ∷ []; high = pos x ∷ pos y ∷ []
 abbrev pub box : ℕ → ℕ → ℕ → ℕ → Bounds
 box x y x' y' = record { low = pos x ∷ pos y ∷ []; high = pos x' ∷ pos y' ∷ [] }
 
--- two leaves of two points each, and the root above them
+-- two leaves of two points each, two of which have a tag, and the root above them
 abbrev pub left : Row
-left = more (object (point 0 0) 7) (more (object (point 0 1) 5) end)
+left = more (object (point 0 0, 3) 7) (more (object (point 0 1, 0) 5) end)
 
 abbrev pub right : Row
-right = more (object (point 2 2) 6) (more (object (point 3 2) 8) end)
+right = more (object (point 2 2, 0) 6) (more (object (point 3 2, 4294967295) 8) end)
 
 abbrev pub tree : Tree
 tree = record { page = 5; level = 1; row = more (child (box 0 0 0 1) 3 left) (more (child (box 2 2 3 2) 4 right) end) }
 
 -- the leaves are read from left to right, each by position
-its_objects : objects_in tree.row ≡ (7, point 0 0) ∷ (5, point 0 1) ∷ (6, point 2 2) ∷ (8, point 3 2) ∷ []
+its_objects : objects_in tree.row ≡ (7, (point 0 0, 3)) ∷ (5, (point 0 1, 0)) ∷ (6, (point 2 2, 0)) ∷ (8, (point 3 2, 4294967295)) ∷ []
 its_objects = refl
 
 -- the root's entries refer to the pages of its children
-its_root : row_items tree.row ≡ record { bounds = box 0 0 0 1; reference = 3 } ∷ record { bounds = box 2 2 3 2; reference = 4 } ∷ []
+its_root : row_items tree.row ≡ record { bounds = box 0 0 0 1; reference = 3; tag = 0 } ∷ record { bounds = box 2 2 3 2; reference = 4; tag = 0 } ∷ []
 its_root = refl
+
+-- and those of a leaf to its objects, with their tags
+its_left : row_items left ≡ record { bounds = point 0 0; reference = 7; tag = 3 } ∷ record { bounds = point 0 1; reference = 5; tag = 0 } ∷ []
+its_left = refl
 
 its_pages : (occurs_in 5 tree ≡ 1) × (occurs_in 3 tree ≡ 1) × (occurs_in 4 tree ≡ 1) × (occurs_in 6 tree ≡ 0)
 its_pages = (refl, refl, refl, refl)
@@ -86,8 +90,8 @@ a_larger_box_is_not_least : IsLeastBox 2 (box 0 0 0 2) left → ⊥
 a_larger_box_is_not_least h = absurd (omega (arith, (h.least (box 0 0 0 1) left_is_a_box around_left 1 (omega arith)).1))
 
 -- the box of one entry is the least around it
-one_box_is_least : (dims : ℕ) (b : Bounds) (id : ℕ) → IsBox dims b → Within dims b b → IsLeastBox dims b (more (object b id) end)
-one_box_is_least dims b id is self = record { box = is; encloses = (self, tt); least = λ c box h. h.0 }
+one_box_is_least : (dims : ℕ) (b : Bounds) (tag id : ℕ) → IsBox dims b → Within dims b b → IsLeastBox dims b (more (object (b, tag) id) end)
+one_box_is_least dims b tag id is self = record { box = is; encloses = (self, tt); least = λ c box h. h.0 }
 
 -- a root that is no leaf has two entries, or one in a loose shape
 a_root_of_one_child : (dims : ℕ) (b : Bounds) (row : Row) → HasShape dims 4 (record { page = 5; level = 1; row = more (child b 3 row) end }) → ⊥
@@ -101,12 +105,12 @@ an_empty_leaf_has_shape : (dims : ℕ) → HasShape dims 4 (record { page = 5; l
 an_empty_leaf_has_shape dims = record { levels = tt; few = omega arith; some = λ h. absurd (omega (arith, h)); below = tt }
 
 -- an object beside a child, and children of a leaf, have no shape
-leaves_on_two_levels : (dims : ℕ) (b c : Bounds) → HasShape dims 4 (record { page = 5; level = 1; row = more (child b 3 left) (more (object c 1) end) }) → ⊥
+leaves_on_two_levels : (dims : ℕ) (b c : Bounds) → HasShape dims 4 (record { page = 5; level = 1; row = more (child b 3 left) (more (object (c, 0) 1) end) }) → ⊥
 leaves_on_two_levels dims b c h = absurd (omega (arith, h.levels.2.0))
 
 children_of_a_leaf : (dims : ℕ) → HasShape dims 4 (record { page = 5; level = 0; row = tree.row }) → ⊥
 children_of_a_leaf dims h = absurd (omega (arith, h.levels.0))
 
 -- a leaf below the root has the least count of entries
-a_leaf_of_one_object : (dims : ℕ) (b c : Bounds) → HasShape dims 4 (record { page = 5; level = 1; row = more (child b 3 (more (object c 1) end)) (more (child b 4 left) end) }) → ⊥
+a_leaf_of_one_object : (dims : ℕ) (b c : Bounds) → HasShape dims 4 (record { page = 5; level = 1; row = more (child b 3 (more (object (c, 0) 1) end)) (more (child b 4 left) end) }) → ⊥
 a_leaf_of_one_object dims b c h = absurd (omega (arith, h.below.0))

@@ -10,7 +10,7 @@ use Rattle.tree_node.specs.Trees.{Row, end, more, object, child, Tree, row_items
 -- the boxes of the nodes below, each node before those below it
 abbrev pub boxes_below : Row → List Bounds
 boxes_below end = []
-boxes_below (more (object bounds id) rest) = boxes_below rest
+boxes_below (more (object kept id) rest) = boxes_below rest
 boxes_below (more (child bounds page below) rest) = bounds ∷ (boxes_below below ++ boxes_below rest)
 
 -- the box of a root, none of an empty one

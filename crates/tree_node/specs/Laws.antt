@@ -1,6 +1,7 @@
 -- The laws of trees as values.
 use Rattle.std.specs.Prelude.{◌≡◌, ℕ, ◌+◌, ◌*◌, ◌^◌, ◌<◌, ◌≤◌, Bool, List, length, IsPermutation}
 use Rattle.box_math.specs.Bounds.{Bounds}
+use Rattle.box_math.specs.Objects.{Object}
 use Rattle.tree_node.specs.Boxes.{RowHasBoxes, least_box}
 use Rattle.tree_node.specs.Joins.{admitted_pairs, boxes_below, count_passing}
 use Rattle.tree_node.specs.Positions.{AreParts, pick, total}
@@ -59,4 +60,4 @@ PartsHaveAll A = (f : A → ℕ) (xs : List A) (a b : List ℕ) → AreParts a b
 
 -- two lists of objects of which each sum over the elements is the same have the same elements
 abbrev pub EqualSumsPermute : Type 0
-EqualSumsPermute = (xs ys : List (ℕ × Bounds)) → ((f : ℕ × Bounds → ℕ) → total f xs ≡ total f ys) → IsPermutation xs ys
+EqualSumsPermute = (xs ys : List (ℕ × Object)) → ((f : ℕ × Object → ℕ) → total f xs ≡ total f ys) → IsPermutation xs ys

@@ -4,10 +4,11 @@ use Rattle.box_math.specs.Bounds.{Bounds}
 use Rattle.tree_node.specs.declared.node.Entry.{Entry}
 use Rattle.tree_node.specs.declared.node.Node.{Node}
 
--- an entry: a box, and the identifier of an object or the page of a child
+-- an entry: a box, the identifier of an object or the page of a child, and the tag of the object, 0 for a child
 pub record Item : Type 0 where
   pub bounds : Bounds
   pub reference : ℕ
+  pub tag : ℕ
 
 -- what a node holds: its level, 0 for a leaf, and its entries
 pub record NodeContent : Type 0 where
@@ -15,7 +16,7 @@ pub record NodeContent : Type 0 where
   pub entries : List Item
 
 abbrev pub item_of : {D : ℕ} → Entry D → Item
-item_of entry = record { bounds = entry.bounds; reference = entry.reference }
+item_of entry = record { bounds = entry.bounds; reference = entry.reference; tag = entry.tag }
 
 abbrev pub items_of : {D : ℕ} → List (Entry D) → List Item
 items_of entries = map item_of entries

@@ -1,6 +1,6 @@
 -- Rows of entries as lists, and entries that wait for a place in a tree.
 use Rattle.std.specs.Prelude.{ℕ, ◌+◌, List, [], ◌∷◌, if◌then◌else◌, ◌==◌}
-use Rattle.box_math.specs.Bounds.{Bounds}
+use Rattle.box_math.specs.Objects.{Object, bounds_of, tag_of}
 use Rattle.tree_node.specs.Nodes.{Item}
 use Rattle.tree_node.specs.Positions.{total}
 use Rattle.tree_node.specs.Trees.{Row, end, more, Branch, object, child, objects_in, occurs}
@@ -16,17 +16,17 @@ row_of (branch ∷ branches) = more branch (row_of branches)
 
 -- the entry as a page has it
 abbrev pub item_in : Branch → Item
-item_in (object bounds id) = record { bounds = bounds; reference = id }
-item_in (child bounds page below) = record { bounds = bounds; reference = page }
+item_in (object kept id) = record { bounds = bounds_of kept; reference = id; tag = tag_of kept }
+item_in (child bounds page below) = record { bounds = bounds; reference = page; tag = 0 }
 
 -- how often a page occurs in the tree of an entry
 abbrev pub occurs_on : ℕ → Branch → ℕ
-occurs_on n (object bounds id) = 0
+occurs_on n (object kept id) = 0
 occurs_on n (child bounds page below) = (if page == n then 1 else 0) + occurs n below
 
 -- the objects in the tree of an entry
-abbrev pub objects_on : Branch → List (ℕ × Bounds)
-objects_on (object bounds id) = (id, bounds) ∷ []
+abbrev pub objects_on : Branch → List (ℕ × Object)
+objects_on (object kept id) = (id, kept) ∷ []
 objects_on (child bounds page below) = objects_in below
 
 -- ---- entries that wait

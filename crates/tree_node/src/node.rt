@@ -3,13 +3,15 @@
 use arrayvec::ArrayVec;
 use box_math::BBox;
 
-/// A box and what it stands for: on level 0 the identifier of an object, above it the page of a child.
+/// A box and what it stands for: on level 0 an object, with its identifier and its tag, above it the page of a child.
 #[derive(Clone, Copy, PartialEq, Eq, Debug, Default)]
 pub struct Entry<const D: usize> {
     /// The box of the object, or one that encloses all boxes of the child.
     pub bounds: BBox<D>,
     /// The identifier, or the page of the child, from 3 to 2^31 - 1.
     pub reference: u64,
+    /// The tag of the object, or 0 above level 0.
+    pub tag: u32,
 }
 
 /// A node of a tree: its level, 0 for a leaf, and its entries.

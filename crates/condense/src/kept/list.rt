@@ -3,7 +3,7 @@
 ghost use Rattle.std.specs.Prelude.{◌≡◌, ◌+◌, ◌≤◌, ◌<◌, ◌++◌, ◌∷◌, [], All, map, reverse, IsNone, IfSome, IfErr};
 ghost use Rattle.arrayvec.specs.ArrayVec.{array_vec_len};
 ghost use Rattle.page_file.specs.declared.fault.Fault.TheVariants as fault;
-ghost use Rattle.node_page.specs.Layout.{IsReference};
+ghost use Rattle.node_page.specs.Layout.{IsOfLevel};
 ghost use Rattle.reinsert.specs.Placed.{held_with};
 ghost use Rattle.condense.specs.Taken.{held_now, orphan_held};
 
@@ -35,7 +35,7 @@ impl<const D: usize> Kept<D> {
     pub(crate) fn next(&mut self) -> Option<Orphan<D>>
         ensures none { IsNone result → self.old.orphans.items ≡ [] }
         ensures some { IfSome result (λ o. held_now self.old ≡ held_now self.new ++ orphan_held o ∷ []) }
-        ensures refers { IfSome result (λ o. IsReference o.level o.entry.reference) }
+        ensures refers { IfSome result (λ o. IsOfLevel o.level o.entry.reference o.entry.tag) }
         ensures fewer { IfSome result (λ o. array_vec_len self.new.orphans < array_vec_len self.old.orphans) }
     {
         self.orphans.pop()
@@ -44,7 +44,7 @@ impl<const D: usize> Kept<D> {
     // The entries of a node that leaves are to be inserted before all others.
     pub(crate) fn keep(&mut self, entries: &ArrayVec<Entry<D>, 101>, level: u8)
         requires room { array_vec_len self.old.orphans + array_vec_len entries.now ≤ 1560 }
-        requires refers { All (λ e. IsReference level e.reference) entries.now.items }
+        requires refers { All (λ e. IsOfLevel level e.reference e.tag) entries.now.items }
         ensures held { held_now self.new ≡ held_now self.old ++ reverse (map (held_with level) entries.now.items) }
         ensures len { array_vec_len self.new.orphans ≡ array_vec_len self.old.orphans + array_vec_len entries.now }
     {

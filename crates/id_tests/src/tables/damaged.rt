@@ -5,7 +5,8 @@ ghost use Rattle.page_file.specs.declared.gate.Gate.TheVariants.{Open};
 ghost use Rattle.page_cache.specs.Cache.{gate_of};
 
 use block_bytes::{
-    BUCKET_KIND, DIRECTORY_KIND, NODE_KIND, write_head, write_i32, write_u32, write_u64,
+    BUCKET_KIND, DIRECTORY_KIND, NODE_KIND, UNTAGGED_BUCKET_KIND, write_head, write_i32, write_u32,
+    write_u64,
 };
 use block_device::MemoryDevice;
 use id_table::check_table;
@@ -24,24 +25,35 @@ fn directory(first: [u32; 3]) -> [u8; 4096] {
     page
 }
 
-// A bucket of so many objects: their identifiers are a thousand apart, and their boxes the point 0, 0.
+// A bucket of so many objects: their identifiers are a thousand apart, their boxes the point 0, 0, and their
+// tags 5 and so on.
 fn bucket(next: u32, first: u64, count: u16) -> [u8; 4096] {
     let mut page = [0; 4096];
     write_head(&mut page, BUCKET_KIND, 2, count);
     write_u32(&mut page, 4, next);
     for place in 0..count.min(100) {
-        write_u64(
-            &mut page,
-            16 + 24 * usize::from(place),
-            first.wrapping_add(1000 * u64::from(place)),
-        );
+        let at = 16 + 28 * usize::from(place);
+        write_u64(&mut page, at, first.wrapping_add(1000 * u64::from(place)));
+        write_u32(&mut page, at + 24, 5 + u32::from(place));
+    }
+    page
+}
+
+// The same as a page of format 1, without tags.
+fn old_bucket(next: u32, first: u64, count: u16) -> [u8; 4096] {
+    let mut page = [0; 4096];
+    write_head(&mut page, UNTAGGED_BUCKET_KIND, 2, count);
+    write_u32(&mut page, 4, next);
+    for place in 0..count.min(100) {
+        let at = 16 + 24 * usize::from(place);
+        write_u64(&mut page, at, first.wrapping_add(1000 * u64::from(place)));
     }
     page
 }
 
 // A page with another identifier in a place, kind or dimension, or number of objects.
 fn with_id(mut page: [u8; 4096], place: u8, id: u64) -> [u8; 4096] {
-    write_u64(&mut page, 16 + 24 * usize::from(place.min(99)), id);
+    write_u64(&mut page, 16 + 28 * usize::from(place.min(99)), id);
     page
 }
 
@@ -50,14 +62,14 @@ fn with_head(mut page: [u8; 4096], kind: u8, dims: u8, count: u16) -> [u8; 4096]
     page
 }
 
-// Pages 3 to 8: the directory, the last and the first bucket of a chain, a bucket alone, the middle of that chain, and
-// a page of zeros.
+// Pages 3 to 8: the directory, the last bucket of a chain, a page of format 1, and its first, a bucket alone,
+// the middle of that chain, and a page of zeros.
 fn checked_scene(alloc: Global) -> Result<Cache, Fault>
     ensures { IfOk result (λ cache. gate_of cache ≡ Open) }
 {
     let pages = [
         directory([5, 6, 0]),
-        bucket(0, 7, 100),
+        old_bucket(0, 7, 100),
         bucket(7, 200_007, 2),
         bucket(0, 8, 1),
         bucket(4, 100_007, 100),
@@ -79,16 +91,20 @@ fn a_table_that_stands_has_its_objects_and_pages(rt: HostRuntime) -> Result<(), 
     let facts = check_table::<2, _, _, _>(rt.alloc(), &mut cache, 3)?;
     assert_eq!(rt; facts.pages.as_slice(), [3, 5, 7, 4, 6].as_slice());
     assert_eq!(rt; facts.pairs.len(), 203);
-    for (at, id) in [
-        (0, 200_007),
-        (1, 201_007),
-        (2, 100_007),
-        (102, 7),
-        (201, 99_007),
-        (202, 8),
+    for (at, id, tag) in [
+        (0, 200_007, 5),
+        (1, 201_007, 6),
+        (2, 100_007, 5),
+        (101, 199_007, 104),
+        (102, 7, 0),
+        (201, 99_007, 0),
+        (202, 8, 5),
     ] {
         assert!(rt;
-            facts.pairs.get(at).is_some_and(|pair| pair.0 == id),
+            facts
+                .pairs
+                .get(at)
+                .is_some_and(|pair| pair.0 == id && pair.1.1 == tag),
             "{at}"
         );
     }
@@ -148,6 +164,7 @@ fn damaged_buckets_are_found(rt: HostRuntime) -> Result<(), Fail> {
     for (what, page, bytes) in [
         ("room in a middle page", 7, bucket(4, 100_007, 99)),
         ("room in a last page", 4, bucket(0, 7, 99)),
+        ("room in an old last page", 4, old_bucket(0, 7, 99)),
         ("no objects", 6, with_head(alone, BUCKET_KIND, 2, 0)),
         (
             "a hundred and one objects",

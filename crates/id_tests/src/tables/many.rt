@@ -12,8 +12,13 @@ use std::collections::BTreeMap;
 use std::test::Fail;
 use test_caches::{Cache, bare};
 
-// The coordinate of the point that each object is, by its identifier.
+// The coordinate of the point that each object is, by its identifier. Its tag follows from it.
 type Plain = BTreeMap<u64, i32>;
+
+// The tag of the object at a coordinate.
+fn tag_at(at: i32) -> u32 {
+    at.cast_unsigned().wrapping_mul(2_654_435_761)
+}
 
 // Numbers that look random, one after the other.
 #[derive(Drop)]
@@ -56,7 +61,7 @@ fn add_all(
         if plain.contains_key(&id) {
             continue;
         }
-        put::<2>(cache, table, id, at)?;
+        put::<2>(cache, table, id, at, tag_at(at))?;
         let _ = plain.insert(id, at).map_err(|_| Fault::Memory)?;
         ids.push(id)?;
     }
@@ -80,7 +85,7 @@ fn count_alike(cache: &mut Cache, table: u32, plain: &Plain, ids: &[u64]) -> Res
     for id in ids {
         let found = get::<2, _, _>(cache, table, *id)?;
         let wanted = match plain.get(id) {
-            Some(at) => Some(point::<2>(*at)?),
+            Some(at) => Some((point::<2>(*at)?, tag_at(*at))),
             None => None,
         };
         if found == wanted {
@@ -115,7 +120,8 @@ fn count_checked(
     let facts = check_table::<2, _, _, _>(alloc, cache, table)?;
     let mut alike = 0usize;
     for pair in facts.pairs.as_slice() {
-        let wanted = point::<2>(plain.get(&pair.0).copied().unwrap_or(-1))?;
+        let at = plain.get(&pair.0).copied().unwrap_or(-1);
+        let wanted = (point::<2>(at)?, tag_at(at));
         if pair.1 == wanted {
             alike = alike.saturating_add(1);
         }

@@ -4,7 +4,7 @@ ghost use Rattle.std.specs.Prelude.{◌≡◌, ◌*◌, OnOk};
 ghost use Rattle.live_layers.specs.Keeping.{LooksAtTree};
 ghost use Rattle.live_layers.specs.Questions.{LooksAtTrees, is_admitted};
 ghost use Rattle.nearest.specs.Nearest.{is_searched};
-ghost use Rattle.plain_table.specs.Answers.{box_answer, boxes_answer, count_answer};
+ghost use Rattle.plain_table.specs.Answers.{boxes_answer, count_answer, object_answer};
 ghost use Rattle.plain_table.specs.Answers.{distances_answer, pairs_answer};
 ghost use Rattle.plain_table.specs.Boxes.{given_point, point_dims};
 ghost use Rattle.plain_table.specs.Commands.Command.{Count, Get, Join, Nearest, Range};
@@ -21,11 +21,11 @@ use plain_table::{AnyBox, RawBox, RawPoint, RawQuery, Refusal};
 use std::alloc::Allocator;
 
 impl<D: BlockDevice, A: Allocator + Copy> Store<D, A> {
-    /// The box of the object with that identifier, by the layer's identifier table.
+    /// The box and the tag of the object with that identifier, by the layer's identifier table.
     ///
     /// Refused, in this order, by BadName, NoLayer and NoObject.
-    pub fn get(&mut self, layer: &[u8], id: u64) -> Result<AnyBox, Refusal>
-        ensures answers { Answers self.old self.new (Get layer.now id) (box_answer id) result }
+    pub fn get(&mut self, layer: &[u8], id: u64) -> Result<(AnyBox, u32), Refusal>
+        ensures answers { Answers self.old self.new (Get layer.now id) (object_answer id) result }
     {
         if self.failed {
             return Err(FAILED);
@@ -46,12 +46,17 @@ impl<D: BlockDevice, A: Allocator + Copy> Store<D, A> {
         self.layers.count(layer)
     }
 
-    /// The objects of a layer that the query seeks, ascending by identifier. It looks at the root of the layer's tree,
-    /// and at each other node whose box the query admits.
+    /// The objects of a layer that the query seeks, with a tag only those that have it, ascending by identifier. It
+    /// looks at the root of the layer's tree, and at each other node whose box the query admits.
     ///
     /// Refused, in this order, by BadName, NoLayer, WrongDims and BadBox.
-    pub fn range(&mut self, layer: &[u8], query: RawQuery) -> Result<Vec<(u64, AnyBox), A>, Refusal>
-        ensures answers { Answers self.old self.new (Range layer.now query) boxes_answer result }
+    pub fn range(
+        &mut self,
+        layer: &[u8],
+        query: RawQuery,
+        tag: Option<u32>,
+    ) -> Result<Vec<(u64, AnyBox, u32), A>, Refusal>
+        ensures answers { Answers self.old self.new (Range layer.now query tag) boxes_answer result }
         ensures looks { (t : Table) → RepresentsTable self.old t →
             OnOk result (LooksAtTree (layers_in self.old) (layers_in self.new) layer.now
             (admitted (is_admitted (layer_at t layer.now).dims query))) }
@@ -59,7 +64,7 @@ impl<D: BlockDevice, A: Allocator + Copy> Store<D, A> {
         if self.failed {
             return Err(FAILED);
         }
-        self.layers.range(layer, query)
+        self.layers.range(layer, query, tag)
     }
 
     /// The k objects of a layer that are nearest to the point, or all of fewer: identifiers with squared distances, by
@@ -85,57 +90,81 @@ impl<D: BlockDevice, A: Allocator + Copy> Store<D, A> {
         self.layers.nearest(layer, k, point)
     }
 
-    /// The objects of a layer whose boxes meet the window (boxes that touch meet), ascending by identifier.
+    /// The objects of a layer whose boxes meet the window (boxes that touch meet), with a tag only those that have it,
+    /// ascending by identifier.
     ///
     /// Refused, in this order, by BadName, NoLayer, WrongDims and BadBox.
-    pub fn window(&mut self, layer: &[u8], bounds: RawBox) -> Result<Vec<(u64, AnyBox), A>, Refusal>
-        ensures answers { Answers self.old self.new (Range layer.now (RawQuery.Window bounds)) boxes_answer result }
+    pub fn window(
+        &mut self,
+        layer: &[u8],
+        bounds: RawBox,
+        tag: Option<u32>,
+    ) -> Result<Vec<(u64, AnyBox, u32), A>, Refusal>
+        ensures answers { Answers self.old self.new (Range layer.now (RawQuery.Window bounds) tag) boxes_answer result }
         ensures looks { (t : Table) → RepresentsTable self.old t →
             OnOk result (LooksAtTree (layers_in self.old) (layers_in self.new) layer.now
             (admitted (is_admitted (layer_at t layer.now).dims (RawQuery.Window bounds)))) }
     {
-        self.range(layer, RawQuery::Window(bounds))
+        self.range(layer, RawQuery::Window(bounds), tag)
     }
 
-    /// The objects of a layer whose boxes lie within the window, ascending by identifier.
+    /// The objects of a layer whose boxes lie within the window, with a tag only those that have it,
+    /// ascending by identifier.
     ///
     /// Refused, in this order, by BadName, NoLayer, WrongDims and BadBox.
-    pub fn inside(&mut self, layer: &[u8], bounds: RawBox) -> Result<Vec<(u64, AnyBox), A>, Refusal>
-        ensures answers { Answers self.old self.new (Range layer.now (RawQuery.Inside bounds)) boxes_answer result }
+    pub fn inside(
+        &mut self,
+        layer: &[u8],
+        bounds: RawBox,
+        tag: Option<u32>,
+    ) -> Result<Vec<(u64, AnyBox, u32), A>, Refusal>
+        ensures answers { Answers self.old self.new (Range layer.now (RawQuery.Inside bounds) tag) boxes_answer result }
         ensures looks { (t : Table) → RepresentsTable self.old t →
             OnOk result (LooksAtTree (layers_in self.old) (layers_in self.new) layer.now
             (admitted (is_admitted (layer_at t layer.now).dims (RawQuery.Inside bounds)))) }
     {
-        self.range(layer, RawQuery::Inside(bounds))
+        self.range(layer, RawQuery::Inside(bounds), tag)
     }
 
-    /// The objects of a layer whose boxes enclose the box, ascending by identifier.
+    /// The objects of a layer whose boxes enclose the box, with a tag only those that have it,
+    /// ascending by identifier.
     ///
     /// Refused, in this order, by BadName, NoLayer, WrongDims and BadBox.
-    pub fn around(&mut self, layer: &[u8], bounds: RawBox) -> Result<Vec<(u64, AnyBox), A>, Refusal>
-        ensures answers { Answers self.old self.new (Range layer.now (RawQuery.Around bounds)) boxes_answer result }
+    pub fn around(
+        &mut self,
+        layer: &[u8],
+        bounds: RawBox,
+        tag: Option<u32>,
+    ) -> Result<Vec<(u64, AnyBox, u32), A>, Refusal>
+        ensures answers { Answers self.old self.new (Range layer.now (RawQuery.Around bounds) tag) boxes_answer result }
         ensures looks { (t : Table) → RepresentsTable self.old t →
             OnOk result (LooksAtTree (layers_in self.old) (layers_in self.new) layer.now
             (admitted (is_admitted (layer_at t layer.now).dims (RawQuery.Around bounds)))) }
     {
-        self.range(layer, RawQuery::Around(bounds))
+        self.range(layer, RawQuery::Around(bounds), tag)
     }
 
-    /// The objects of a layer whose boxes hold the point, ascending by identifier.
+    /// The objects of a layer whose boxes hold the point, with a tag only those that have it,
+    /// ascending by identifier.
     ///
     /// Refused, in this order, by BadName, NoLayer and WrongDims.
-    pub fn point(&mut self, layer: &[u8], point: RawPoint) -> Result<Vec<(u64, AnyBox), A>, Refusal>
-        ensures answers { Answers self.old self.new (Range layer.now (RawQuery.Point point)) boxes_answer result }
+    pub fn point(
+        &mut self,
+        layer: &[u8],
+        point: RawPoint,
+        tag: Option<u32>,
+    ) -> Result<Vec<(u64, AnyBox, u32), A>, Refusal>
+        ensures answers { Answers self.old self.new (Range layer.now (RawQuery.Point point) tag) boxes_answer result }
         ensures looks { (t : Table) → RepresentsTable self.old t →
             OnOk result (LooksAtTree (layers_in self.old) (layers_in self.new) layer.now
             (admitted (is_admitted (layer_at t layer.now).dims (RawQuery.Point point)))) }
     {
-        self.range(layer, RawQuery::Point(point))
+        self.range(layer, RawQuery::Point(point), tag)
     }
 
     /// All pairs of an object of the first layer and an object of the second whose boxes have at most this squared
-    /// distance, and within 0 meet: their identifiers, ascending by the first and then by the second. It looks at no more than twice as many nodes as there are pairs
-    /// of nodes of the two trees that a join admits.
+    /// distance, and within 0 meet: their identifiers, ascending by the first and then by the second. It looks at no
+    /// more than twice as many nodes as there are pairs of nodes of the two trees that a join admits.
     ///
     /// Refused, in this order, by BadName, NoLayer and DimsDiffer. Both names are tried before it is asked whether
     /// there are such layers.

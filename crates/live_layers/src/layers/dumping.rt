@@ -104,7 +104,7 @@ fn objects_at<const D: usize, B: BlockDevice, A: Allocator + Copy>(
     alloc: A,
     cache: &mut PageCache<B, A>,
     root: Root,
-) -> Result<Vec<(u64, BBox<D>), A>, Fault>
+) -> Result<Vec<(u64, (BBox<D>, u32)), A>, Fault>
     requires { IsDims D }
     ensures asks { Asks cache.old cache.new result }
     ensures rows { IsHonest cache.old → (most directory : ℕ) (l : LayerPages) (objects : Objects) →
@@ -114,20 +114,20 @@ fn objects_at<const D: usize, B: BlockDevice, A: Allocator + Copy>(
         IsLayerAt D most (pages cache.old) root directory l objects → IfErr result IsOfDevice }
 {
     let all = BBox::new([i32::MIN; D], [i32::MAX; D]);
-    window(alloc, cache, root, &all)
+    window(alloc, cache, root, &all, None)
 }
 
 // Appends the rows of objects with two axes.
 fn add_in_plane<A: Allocator + Copy>(
     name: &LayerName,
-    objects: &[(u64, BBox<2>)],
+    objects: &[(u64, (BBox<2>, u32))],
     rows: &mut Vec<DumpRow, A>,
 ) -> Result<(), AllocError>
     ensures { OnOk result (lines_of rows.new.items ≡ lines_of rows.old.items ++
         each (λ object. InsertLine name.now.items object.0 object.1) objects.now) }
 {
-    for (id, bounds) in objects {
-        rows.push(DumpRow::Insert(name_of(name), *id, AnyBox::Two(*bounds)))?;
+    for (id, (bounds, tag)) in objects {
+        rows.push(DumpRow::Insert(name_of(name), *id, AnyBox::Two(*bounds), *tag))?;
     }
     Ok(())
 }
@@ -135,14 +135,14 @@ fn add_in_plane<A: Allocator + Copy>(
 // Appends the rows of objects with three axes.
 fn add_in_space<A: Allocator + Copy>(
     name: &LayerName,
-    objects: &[(u64, BBox<3>)],
+    objects: &[(u64, (BBox<3>, u32))],
     rows: &mut Vec<DumpRow, A>,
 ) -> Result<(), AllocError>
     ensures { OnOk result (lines_of rows.new.items ≡ lines_of rows.old.items ++
         each (λ object. InsertLine name.now.items object.0 object.1) objects.now) }
 {
-    for (id, bounds) in objects {
-        rows.push(DumpRow::Insert(name_of(name), *id, AnyBox::Three(*bounds)))?;
+    for (id, (bounds, tag)) in objects {
+        rows.push(DumpRow::Insert(name_of(name), *id, AnyBox::Three(*bounds), *tag))?;
     }
     Ok(())
 }

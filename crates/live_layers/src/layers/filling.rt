@@ -23,7 +23,7 @@ impl<B: BlockDevice, A: Allocator + Copy> Layers<B, A> {
     pub(crate) fn fill<const D: usize>(
         &mut self,
         place: usize,
-        objects: &mut [(u64, BBox<D>)],
+        objects: &mut [(u64, (BBox<D>, u32))],
     ) -> Result<(), Broken>
         requires dims { IsDims D }
         requires within { place < length (records_in self.old) }

@@ -20,8 +20,8 @@ use plain_table::RawBox;
 use std::alloc::Allocator;
 
 impl<B: BlockDevice, A: Allocator + Copy> Layers<B, A> {
-    /// Inserts an object with a new identifier into a layer: by a lawful insertion into its tree, and then into its
-    /// identifier table.
+    /// Inserts an object with a new identifier, a box and a tag into a layer: by a lawful insertion into its tree, and
+    /// then into its identifier table.
     ///
     /// Refused, in this order, by BadName, NoLayer, WrongDims, BadBox, Duplicate and TooManyObjects.
     pub fn insert(
@@ -29,11 +29,12 @@ impl<B: BlockDevice, A: Allocator + Copy> Layers<B, A> {
         name: &[u8],
         id: u64,
         bounds: RawBox,
+        tag: u32,
         rooms: &mut Rooms<A>,
     ) -> Result<(), Unmade>
-        ensures change { IsChangeBy self.old self.new (Insert name.now id bounds) result }
+        ensures change { IsChangeBy self.old self.new (Insert name.now id bounds tag) result }
         ensures tree { (t : Table) → IsSound self.old t → OnOk result (ChangesTree self.old self.new name.now
-            (HasGained (layer_at t name.now) id (given_bounds bounds))) }
+            (HasGained (layer_at t name.now) id (given_bounds bounds, tag))) }
     {
         let place = match self.named(name) {
             Ok(place) => place,
@@ -45,10 +46,11 @@ impl<B: BlockDevice, A: Allocator + Copy> Layers<B, A> {
                 id,
                 low,
                 high,
+                tag,
                 &mut rooms.waiting_two,
             ),
             RawBox::Three(low, high) => {
-                self.insert_box::<3>(place, id, low, high, &mut rooms.waiting_three)
+                self.insert_box::<3>(place, id, low, high, tag, &mut rooms.waiting_three)
             }
         }
     }

@@ -25,7 +25,7 @@ impl<B: BlockDevice, A: Allocator + Copy> Layers<B, A> {
     /// identifier table has them. A load of no objects changes nothing.
     ///
     /// Refused, in this order, by BadName, NoLayer, WrongDims, BadBox, NotEmpty, DuplicateInLoad and TooManyObjects.
-    pub fn load(&mut self, name: &[u8], objects: &[(u64, RawBox)]) -> Result<(), Unmade>
+    pub fn load(&mut self, name: &[u8], objects: &[(u64, RawBox, u32)]) -> Result<(), Unmade>
         ensures change { IsChangeBy self.old self.new (Load name.now objects.now) result }
         ensures tree { (t : Table) → IsSound self.old t → changes t (Load name.now objects.now) ≡ true →
             OnOk result (ChangesTree self.old self.new name.now
@@ -39,12 +39,12 @@ impl<B: BlockDevice, A: Allocator + Copy> Layers<B, A> {
         };
         if self.locate(place).dims == 2 {
             match objects_in_plane(self.alloc, objects) {
-                Ok(mut boxes) => self.load_boxes::<2>(place, boxes.as_mut_slice()),
+                Ok(mut boxed) => self.load_boxes::<2>(place, boxed.as_mut_slice()),
                 Err(refusal) => Err(Unmade::Refused(refusal)),
             }
         } else {
             match objects_in_space(self.alloc, objects) {
-                Ok(mut boxes) => self.load_boxes::<3>(place, boxes.as_mut_slice()),
+                Ok(mut boxed) => self.load_boxes::<3>(place, boxed.as_mut_slice()),
                 Err(refusal) => Err(Unmade::Refused(refusal)),
             }
         }

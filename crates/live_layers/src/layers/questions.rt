@@ -3,7 +3,7 @@
 ghost use Rattle.std.specs.Prelude.{◌≡◌, ◌*◌, false, IfErr, OnOk};
 ghost use Rattle.nearest.specs.Nearest.{is_searched};
 ghost use Rattle.page_cache.specs.Cache.{looks_of};
-ghost use Rattle.plain_table.specs.Answers.{box_answer, boxes_answer, count_answer};
+ghost use Rattle.plain_table.specs.Answers.{boxes_answer, count_answer, object_answer};
 ghost use Rattle.plain_table.specs.Answers.{distances_answer, pairs_answer};
 ghost use Rattle.plain_table.specs.Boxes.{given_point, point_dims};
 ghost use Rattle.plain_table.specs.Commands.Command.{Count, Get, Join, Nearest, Range};
@@ -27,13 +27,18 @@ use plain_table::{AnyBox, RawPoint, RawQuery, Refusal, is_layer_name};
 use std::alloc::Allocator;
 
 impl<B: BlockDevice, A: Allocator + Copy> Layers<B, A> {
-    /// The objects of a layer that the query seeks, ascending by identifier. The root of the layer's tree is looked at,
-    /// and each other node whose box the query admits.
+    /// The objects of a layer that the query seeks, with a tag only those that have it, ascending by identifier. The root
+    /// of the layer's tree is looked at, and each other node whose box the query admits.
     ///
     /// Refused, in this order, by BadName, NoLayer, WrongDims and BadBox.
-    pub fn range(&mut self, name: &[u8], query: RawQuery) -> Result<Vec<(u64, AnyBox), A>, Refusal>
+    pub fn range(
+        &mut self,
+        name: &[u8],
+        query: RawQuery,
+        tag: Option<u32>,
+    ) -> Result<Vec<(u64, AnyBox, u32), A>, Refusal>
         ensures answered { (t : Table) → IsSound self.old t →
-            IsAnswered self.old self.new t (Range name.now query) (boxes_answer result) }
+            IsAnswered self.old self.new t (Range name.now query tag) (boxes_answer result) }
         ensures looks { (t : Table) → IsSound self.old t → OnOk result (LooksAtTree self.old self.new name.now
             (admitted (is_admitted (layer_at t name.now).dims query))) }
         ensures keeps { KeepsInQuestion self.old self.new result }
@@ -41,26 +46,28 @@ impl<B: BlockDevice, A: Allocator + Copy> Layers<B, A> {
         let place = self.named(name)?;
         let located = self.locate(place);
         if located.dims == 2 {
-            self.range_in_plane(&located, query)
+            self.range_in_plane(&located, query, tag)
         } else {
-            self.range_in_space(&located, query)
+            self.range_in_space(&located, query, tag)
         }
     }
 
-    /// The box of the object with that identifier, by the layer's identifier table.
+    /// The box and the tag of the object with that identifier, by the layer's identifier table.
     ///
     /// Refused, in this order, by BadName, NoLayer and NoObject.
-    pub fn get(&mut self, name: &[u8], id: u64) -> Result<AnyBox, Refusal>
+    pub fn get(&mut self, name: &[u8], id: u64) -> Result<(AnyBox, u32), Refusal>
         ensures answered { (t : Table) → IsSound self.old t →
-            IsAnswered self.old self.new t (Get name.now id) (box_answer id result) }
+            IsAnswered self.old self.new t (Get name.now id) (object_answer id result) }
         ensures keeps { KeepsInQuestion self.old self.new result }
     {
         let place = self.named(name)?;
         let located = self.locate(place);
         if located.dims == 2 {
-            Ok(AnyBox::Two(self.box_of::<2>(&located, id)?))
+            let kept = self.object_of::<2>(&located, id)?;
+            Ok((AnyBox::Two(kept.0), kept.1))
         } else {
-            Ok(AnyBox::Three(self.box_of::<3>(&located, id)?))
+            let kept = self.object_of::<3>(&located, id)?;
+            Ok((AnyBox::Three(kept.0), kept.1))
         }
     }
 

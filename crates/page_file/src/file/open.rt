@@ -4,7 +4,7 @@ ghost use Rattle.block_device.specs.Device.{Only, LeavesOnly};
 ghost use Rattle.page_file.specs.Fault.{HasCause, IsOfDevice, IsDamage, faults_after};
 ghost use Rattle.page_file.specs.File.{device_of, blocks_of, gate_of, next_of, pages, IsHonest, IsNewFile, IsPageMap};
 ghost use Rattle.page_file.specs.File.{KeepsGate, KeepsMap, LiesIn};
-ghost use Rattle.page_file.specs.Layout.{catalog_block};
+ghost use Rattle.page_file.specs.Layout.{catalog_block, version_in};
 ghost use Rattle.page_file.specs.Opening.{IsRefused, failed_check};
 ghost use Rattle.page_file.specs.Stops.{SameButGate};
 ghost use Rattle.page_file.specs.declared.fault.Fault.TheVariants as fault;
@@ -89,6 +89,7 @@ pub fn create_pages<D: BlockDevice>(device: D) -> Result<PageFile<D>, (Fault, D)
     ensures catalog { IfOk result (λ file. D.honest device → pages file 2 ≡ Some catalog_block) }
     ensures others { IfOk result (λ file. D.honest device → (k : ℕ) → ¬ (k ≡ 2) → pages file k ≡ None) }
     ensures sound { IfOk result (λ file. D.honest device → IsPageMap file) }
+    ensures version { IfOk result (λ file. D.honest device → version_in (blocks_of file) ≡ 2) }
     ensures lies { IfOk result (λ file. D.honest device → LiesIn file (blocks_of file)) }
 
     // A stop leaves blocks that opening refuses, or a new file: what is read afterwards, the gate aside.

@@ -3,6 +3,7 @@ ghost use Rattle.std.specs.Prelude.{◌≡◌, ◌⊎◌, ◌↔◌, ◌≤◌, 
 ghost use Rattle.block_device.specs.Device.{LeavesOnly, Only};
 ghost use Rattle.page_file.specs.Fault.{HasCause, IsOfDevice, faults_after};
 ghost use Rattle.page_file.specs.File.{device_of, blocks_of, IsHonest, gate_of, KeepsMap, LiesIn};
+ghost use Rattle.page_file.specs.Layout.{version_in};
 ghost use Rattle.page_file.specs.Opening.{IsRefused};
 ghost use Rattle.page_file.specs.Stops.{SameButGate};
 ghost use Rattle.page_file.specs.declared.fault.Fault.TheVariants as fault;
@@ -17,7 +18,8 @@ use block_device::BlockDevice;
 impl<D: BlockDevice> PageFile<D> {
     /// Shuts the gate after all that was written. With the gate open the header is written and synced
     /// with all blocks before it, and then the gate is written shut and synced; with it unsure the gate
-    /// alone; with it shut nothing is written. The file stays usable.
+    /// alone; with it shut nothing is written. So the version of a file stays that in which it was opened
+    /// until a change of it is settled. The file stays usable.
     ///
     /// After a refusal the gate is unsure, or open as before. On an honest device that is `Memory` or
     /// `Device`. The map stays.
@@ -27,6 +29,8 @@ impl<D: BlockDevice> PageFile<D> {
         ensures refused { OnErr result ((gate_of self.new ≡ Unsure) ⊎
             ((gate_of self.new ≡ Open) × (gate_of self.old ≡ Open))) }
         ensures was_shut { gate_of self.old ≡ Shut → (self.new ≡ self.old) × IsOk result }
+        ensures version { IsHonest self.old → gate_of self.old ≡ Open →
+            OnOk result (version_in (blocks_of self.new) ≡ 2) }
         ensures was_unsure { IsHonest self.old → gate_of self.old ≡ Unsure →
             SameButGate (blocks_of self.new) (blocks_of self.old) }
         ensures map { KeepsMap self.old self.new }
@@ -90,6 +94,7 @@ impl<D: BlockDevice> PageFile<D> {
     fn settle_blocks(&mut self) -> Result<(), Fault>
         requires { gate_of self.old ≡ Open }
         ensures unsure { OnOk result (gate_of self.new ≡ Unsure) }
+        ensures version { IsHonest self.old → OnOk result (version_in (blocks_of self.new) ≡ 2) }
         ensures refused { OnErr result (gate_of self.new ≡ Open) }
         ensures map { KeepsMap self.old self.new }
         ensures stops { IsHonest self.old →

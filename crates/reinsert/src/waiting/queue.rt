@@ -4,7 +4,7 @@ ghost use Rattle.std.specs.Prelude.{◌≡◌, ◌+◌, ◌<◌, ◌≤◌, ◌+
 ghost use Rattle.std.specs.Prelude.{IsNone, IfSome, IfErr};
 ghost use Rattle.arrayvec.specs.ArrayVec.{array_vec_len};
 ghost use Rattle.page_file.specs.declared.fault.Fault.TheVariants as fault;
-ghost use Rattle.node_page.specs.Layout.{IsReference};
+ghost use Rattle.node_page.specs.Layout.{IsOfLevel};
 ghost use Rattle.reinsert.specs.Called;
 ghost use Rattle.reinsert.specs.Called.{none_called};
 ghost use Rattle.reinsert.specs.Placed.{held_of, held_with, measure_of};
@@ -42,7 +42,7 @@ impl<const D: usize> Waiting<D> {
     pub(crate) fn next(&mut self) -> Option<Wait<D>>
         ensures none { IsNone result → self.old.waits.items ≡ [] }
         ensures some { IfSome result (λ w. self.old.waits.items ≡ self.new.waits.items ++ w ∷ []) }
-        ensures refers { IfSome result (λ w. IsReference w.level w.entry.reference) }
+        ensures refers { IfSome result (λ w. IsOfLevel w.level w.entry.reference w.entry.tag) }
         ensures called { self.new.called ≡ self.old.called }
         ensures measure { IfSome result (λ w. measure_of self.new < measure_of self.old) }
     {
@@ -72,7 +72,7 @@ impl<const D: usize> Waiting<D> {
         requires level { level < 41 }
         requires first { Called.is_called self.old.called level ≡ false }
         requires few { array_vec_len far.now ≤ 30 }
-        requires refers { All (λ e. IsReference level e.reference) far.now.items }
+        requires refers { All (λ e. IsOfLevel level e.reference e.tag) far.now.items }
         ensures waits { map held_of self.new.waits.items ≡ map held_of self.old.waits.items ++ reverse
             (map (held_with level) far.now.items) }
         ensures called { self.new.called ≡ set self.old.called level true }

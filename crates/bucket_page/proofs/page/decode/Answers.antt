@@ -1,8 +1,7 @@
 -- Without its head, or with an object without a box, the page spells no bucket, and else that of its places.
 use Rattle.std.proofs.Common.{◌≡◌, ◌+◌, ◌++◌, ◌∷◌, ℕ, List, [], length, true, false, refl, sym, ◌∙◌, ap, arith, rules, below_more, Some, slice_index, ◌<◌}
 use Rattle.block_bytes.specs.PlaceLaws.{first_places-more, first_places-none, length-first_places}
-use Rattle.box_math.specs.Bounds.{Bounds}
-use Rattle.bucket_page.specs.Layout.{BucketContent, object_at, objects_at, HasOrderedBox}
+use Rattle.bucket_page.specs.Layout.{BucketContent, Entry, object_at, objects_at, HasOrderedBox}
 use Rattle.bucket_page.proofs.Named.{spells_buckets}
 use Rattle.bucket_page.proofs.Reading.{spells, no_head, no_place, all_places}
 use Rattle.bucket_page.proofs.page.decode.Goals as goal
@@ -27,7 +26,7 @@ loop-place-preserved g c =
     let page = c.args.page.now in
     let place = c.loop-place.place in
     let all : c.push.new.self.items ≡ objects_at D page (place + 1) =
-    c.push.ensures.items ∙ ap (λ (xs : List (ℕ × Bounds)). xs ++ c.in-Some.entry ∷ []) before.read ∙ ap (λ (x : ℕ × Bounds). objects_at D page place ++ x ∷ []) c.in-Some.ensures.value ∙ sym (first_places-more (object_at D page) place) in record {
+    c.push.ensures.items ∙ ap (λ (xs : List (Entry)). xs ++ c.in-Some.entry ∷ []) before.read ∙ ap (λ (x : Entry). objects_at D page place ++ x ∷ []) c.in-Some.ensures.value ∙ sym (first_places-more (object_at D page) place) in record {
       read = all;
       many = ap length all ∙ length-first_places (object_at D page) (place + 1);
       ordered = below_more (λ k. HasOrderedBox D (object_at D page k)) place before.ordered (c.in-Some.ensures.some.0 refl);
@@ -35,7 +34,7 @@ loop-place-preserved g c =
 
 pub returns-clause-spelled : goal.returns-clause-spelled
 returns-clause-spelled g c =
-    ap (λ (es : List (ℕ × Bounds)). Some (record { next = c.next_at.result; entries = es })) c.loop-place.invariant.read
+    ap (λ (es : List (Entry)). Some (record { next = c.next_at.result; entries = es })) c.loop-place.invariant.read
     ∙ sym (all_places g.row.D c.loop-place.place c.next_at.result c.args.page.now (c.has_bucket_head.ensures.0 c.if-not-has_bucket_head.false) (omega arith) c.next_at.ensures.value c.loop-place.invariant.ordered)
 
 pub returns-clause-is_bucket : goal.returns-clause-is_bucket

@@ -7,7 +7,7 @@ use Rattle.tree_node.specs.Nodes.{Item, item_of, items_of}
 use Rattle.tree_node.specs.Rows.{item_in}
 use Rattle.tree_node.specs.declared.node.Entry.{Entry}
 use Rattle.node_page.specs.Broken.{alters_and_breaks, alters_in_turn}
-use Rattle.node_page.specs.Layout.{IsReference}
+use Rattle.node_page.specs.Layout.{IsOfLevel}
 use Rattle.bulk_load.specs.Levels.{PackedAt, WaitFor}
 use Rattle.bulk_load.proofs.LevelLemmas.{level_packed, root_written}
 use Rattle.bulk_load.proofs.SizeLemmas.{next_fits}
@@ -46,7 +46,7 @@ pack-requires g t c κs within =
                       (
                         λ above. omega (arith, long, c.in_ok-parents.ensures.two),
                         (
-                          subst (λ (es : List (Entry g.row.D)). All (λ (item : Item). IsReference (c.args.level + 1) item.reference) (items_of es)) (sym c.as_mut_slice.ensures.value) c.in_ok-parents.ensures.refers,
+                          subst (λ (es : List (Entry g.row.D)). All (λ (item : Item). IsOfLevel (c.args.level + 1) item.reference item.tag) (items_of es)) (sym c.as_mut_slice.ensures.value) c.in_ok-parents.ensures.refers,
                           next_fits (length c.args.entries.now) (length c.as_mut_slice.result.now) c.args.level (omega (arith, long, half)) c.requires.fits,
                         ),
                       ),

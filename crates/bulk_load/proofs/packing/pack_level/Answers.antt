@@ -4,7 +4,7 @@ use Rattle.std.proofs.lemmas.List.Sorted.{All-permutation, IsPermutation-map, le
 use Rattle.page_cache.specs.Cache.{pages}
 use Rattle.tree_node.specs.Nodes.{Item, item_of, items_of}
 use Rattle.tree_node.specs.Positions.{total}
-use Rattle.node_page.specs.Layout.{IsReference}
+use Rattle.node_page.specs.Layout.{IsOfLevel}
 use Rattle.node_page.proofs.PartLemmas.{moves_same}
 use Rattle.bulk_load.specs.Levels.{AreSizes, pages_below}
 use Rattle.bulk_load.specs.Tiling.{joined}
@@ -14,7 +14,7 @@ use Rattle.bulk_load.proofs.packing.pack_level.Goals as goal
 
 pub write_level-requires : goal.write_level-requires
 write_level-requires g c =
-    let P : Item → Type 0 = λ item. IsReference c.args.level item.reference in
+    let P : Item → Type 0 = λ item. IsOfLevel c.args.level item.reference item.tag in
     let t : TiledSizes (length c.tile.new.entries) c.in_ok-sizes.sizes.items = tiled_sizes c.args.m_max c.args.entries.now c.tile.new.entries c.in_ok-sizes.sizes.items c.requires.dims c.requires.sized.0 c.requires.sized.1 c.requires.above c.in_ok-sizes.ensures.tiled in (
       search rules,
       (

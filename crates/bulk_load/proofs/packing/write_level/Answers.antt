@@ -1,5 +1,5 @@
 -- One node more.
-use Rattle.std.proofs.Common.{◌≡◌, ◌∙◌, ◌+◌, ◌-◌, ◌<◌, None, Some, List, [], ◌∷◌, ◌++◌, length, map, take, drop, get_or, All, refl, sym, ap, subst, arith, rules, length-append, length-drop}
+use Rattle.std.proofs.Common.{◌≡◌, ◌∙◌, ℕ, ◌+◌, ◌-◌, ◌<◌, None, Some, List, [], ◌∷◌, ◌++◌, length, map, take, drop, get_or, All, refl, sym, ap, subst, arith, rules, length-append, length-drop}
 use Rattle.std.proofs.lemmas.List.{drop-drop, length-map, length-take-le, map-append}
 use Rattle.std.proofs.lemmas.List.Elements.{All-append, All-cons, All-nil}
 use Rattle.page_file.specs.declared.fault.Fault.TheVariants as fault
@@ -9,7 +9,7 @@ use Rattle.tree_node.specs.Boxes.{least_box}
 use Rattle.tree_node.specs.Nodes.{Item, item_of, items_of}
 use Rattle.tree_node.specs.Trees.{Branch}
 use Rattle.tree_node.specs.declared.node.Entry.{Entry}
-use Rattle.node_page.specs.Layout.{IsReference}
+use Rattle.node_page.specs.Layout.{IsOfLevel}
 use Rattle.node_page.specs.Standing.{node_in}
 use Rattle.node_page.proofs.NodeLemmas.{at_error}
 use Rattle.node_page.specs.Faults.{IsNoDamage}
@@ -27,7 +27,7 @@ runs-init g c = record {
   grows = omega arith;
   here = refl;
   count = ap length c.requires.empty;
-  refers = subst (λ (is : List Item). All (λ item. IsReference (c.args.level + 1) item.reference) is) (sym (ap items_of c.requires.empty)) (All-nil (λ (item : Item). IsReference (c.args.level + 1) item.reference));
+  refers = subst (λ (is : List Item). All (λ item. IsOfLevel (c.args.level + 1) item.reference item.tag) is) (sym (ap items_of c.requires.empty)) (All-nil (λ (item : Item). IsOfLevel (c.args.level + 1) item.reference item.tag));
   written = λ map runs same waits. subst (λ (is : List Item). Written g.row.D c.args.level (pages c.args.cache.now) (pages c.args.cache.now) runs 0 (items_of c.args.entries.now) is)
       (sym (ap items_of c.requires.empty)) (first_run g.row.D c.args.level (pages c.args.cache.now) runs (items_of c.args.entries.now) waits);
 }
@@ -56,7 +56,7 @@ write_parent-requires g c =
           c.runs.invariant.changes.gate.gate ∙ c.requires.open,
           (
             (omega (arith, long, sized.0), omega (arith, long, sized.1)),
-            part_refers (λ (item : Item). IsReference c.args.level item.reference) (c.runs.from + size - c.runs.from) c.runs.from c.args.entries.now c.requires.refers,
+            part_refers (λ (item : Item). IsOfLevel c.args.level item.reference item.tag) (c.runs.from + size - c.runs.from) c.runs.from c.args.entries.now c.requires.refers,
           ),
         ),
       ),
@@ -104,13 +104,17 @@ next_written g c sound runs same waits =
     (c.in_ok-parent.ensures.fresh now_sound) (c.in_ok-parent.ensures.others now_sound)
     (subst (λ (is : List Item). node_in g.row.D (pages c.write_parent.new.cache parent.reference) ≡ Some (record { level = c.args.level; entries = is })) part (c.in_ok-parent.ensures.node now_sound))
     (c.in_ok-parent.ensures.least ∙ ap (least_box g.row.D) part) in
+    let whole : (t : ℕ) → 0 ≡ t → Written g.row.D c.args.level (pages c.args.cache.now) (pages c.write_parent.new.cache) runs (c.runs.place + 1) (drop size left)
+    (items_of c.runs.parents.items ++ record { bounds = parent.bounds; reference = parent.reference; tag = t } ∷ []) =
+    λ t none. subst (λ (tag : ℕ). Written g.row.D c.args.level (pages c.args.cache.now) (pages c.write_parent.new.cache) runs (c.runs.place + 1) (drop size left)
+    (items_of c.runs.parents.items ++ record { bounds = parent.bounds; reference = parent.reference; tag = tag } ∷ [])) none more_than in
     subst (λ (is : List Item). Written g.row.D c.args.level (pages c.args.cache.now) (pages c.write_parent.new.cache) runs (c.runs.place + 1) (drop (c.runs.from + size) all) is) (sym seen)
     (subst (λ (is : List Item). Written g.row.D c.args.level (pages c.args.cache.now) (pages c.write_parent.new.cache) runs (c.runs.place + 1) is (items_of c.runs.parents.items ++ item_of parent ∷ []))
-    (drop-drop size c.runs.from all) more_than)
+    (drop-drop size c.runs.from all) (whole parent.tag (sym c.in_ok-parent.ensures.number.2)))
 
 pub runs-preserved : goal.runs-preserved
 runs-preserved g c =
-    let P : Item → Type 0 = λ item. IsReference (c.args.level + 1) item.reference in
+    let P : Item → Type 0 = λ item. IsOfLevel (c.args.level + 1) item.reference item.tag in
     let seen : items_of c.push.new.self.items ≡ items_of c.runs.parents.items ++ item_of c.in_ok-parent.parent ∷ [] =
     ap items_of c.in_ok-push.ensures.items ∙ map-append item_of c.runs.parents.items (c.in_ok-parent.parent ∷ []) in
     record {

@@ -1,6 +1,6 @@
 -- The goals of `reply_to` that are proved by hand.
 use Rattle.std.proofs.Common.{◌≡◌, [], ◌∷◌, Result, Ok, Err, ap, refl, subst}
-use Rattle.plain_table.specs.Answers.{done_answer, box_answer, boxes_answer, count_answer, distances_answer, dump_answer, layers_answer, pairs_answer}
+use Rattle.plain_table.specs.Answers.{done_answer, object_answer, boxes_answer, count_answer, distances_answer, dump_answer, layers_answer, pairs_answer}
 use Rattle.plain_table.specs.Commands.Command.{Create, Insert, Move, Delete, Drop, Get, Count, Range, Nearest, Join, Layers, Dump, Check, Reopen}
 use Rattle.plain_table.specs.Step.{Answer}
 use Rattle.plain_table.specs.Step.Answer.{Done}
@@ -25,16 +25,16 @@ pub returns-in-Create-clause-replies : goal.returns-in-Create-clause-replies
 returns-in-Create-clause-replies g c = replied _ (Create c.in-Create.layer.now c.in-Create.dims c.in-Create.fanout) (done_answer c.create.result) _ (ap said c.in-Create.is) c.change_reply.ensures c.create.ensures.changes.step
 
 pub returns-in-Insert-clause-replies : goal.returns-in-Insert-clause-replies
-returns-in-Insert-clause-replies g c = replied _ (Insert c.in-Insert.layer.now c.in-Insert.id c.in-Insert.bounds) (done_answer c.insert.result) _ (ap said c.in-Insert.is) c.change_reply-in-Insert.ensures c.insert.ensures.changes.step
+returns-in-Insert-clause-replies g c = replied _ (Insert c.in-Insert.layer.now c.in-Insert.id c.in-Insert.bounds c.in-Insert.tag) (done_answer c.insert.result) _ (ap said c.in-Insert.is) c.change_reply-in-Insert.ensures c.insert.ensures.changes.step
 
 pub returns-in-Get-clause-replies : goal.returns-in-Get-clause-replies
-returns-in-Get-clause-replies g c = replied _ (Get c.in-Get.layer.now c.in-Get.id) (box_answer c.in-Get.id c.get.result) _ (ap said c.in-Get.is) c.object_reply.ensures c.get.ensures.answers.step
+returns-in-Get-clause-replies g c = replied _ (Get c.in-Get.layer.now c.in-Get.id) (object_answer c.in-Get.id c.get.result) _ (ap said c.in-Get.is) c.object_reply.ensures c.get.ensures.answers.step
 
 pub returns-in-Count-clause-replies : goal.returns-in-Count-clause-replies
 returns-in-Count-clause-replies g c = replied _ (Count c.in-Count.layer.now) (count_answer c.count.result) _ (ap said c.in-Count.is) c.count_reply.ensures c.count.ensures.answers.step
 
 pub returns-in-Range-clause-replies : goal.returns-in-Range-clause-replies
-returns-in-Range-clause-replies g c = replied _ (Range c.in-Range.layer.now c.in-Range.query) (boxes_answer c.range.result) _ (ap said c.in-Range.is) c.range_reply.ensures c.range.ensures.answers.step
+returns-in-Range-clause-replies g c = replied _ (Range c.in-Range.layer.now c.in-Range.query c.in-Range.tag) (boxes_answer c.range.result) _ (ap said c.in-Range.is) c.range_reply.ensures c.range.ensures.answers.step
 
 pub returns-in-Nearest-clause-replies : goal.returns-in-Nearest-clause-replies
 returns-in-Nearest-clause-replies g c = replied _ (Nearest c.in-Nearest.layer.now c.in-Nearest.k c.in-Nearest.point) (distances_answer c.nearest.result) _ (ap said c.in-Nearest.is) c.distances_reply.ensures c.nearest.ensures.answers.step

@@ -1,5 +1,5 @@
 -- The goals of `insert_kept` that are proved by hand.
-use Rattle.std.proofs.Common.{◌+◌, List, None, Some, map, refl, ap, subst, arith}
+use Rattle.std.proofs.Common.{rules, ◌∙◌, ◌+◌, List, None, Some, map, refl, ap, subst, arith}
 use Rattle.page_cache.specs.Cache.{pages}
 use Rattle.page_cache.specs.Calls.{changes_in_turn, no_call_changes}
 use Rattle.tree_node.specs.Nodes.{item_of}
@@ -33,6 +33,11 @@ returns-then-orphan-now-clause-faults g c = λ h t ws elsewhere can shaped.
     let k = comes D c.args.m_max m m1 t ws elsewhere c.inserting.now item level held f in
     let s = comes_shaped D c.args.m_max m m1 t ws elsewhere c.inserting.now item level held f k shaped in
     absurd (omega (arith, s.0, f.can.at.level, c.if-orphan-now.true))
+
+pub insert_with-requires : goal.insert_with-requires
+insert_with-requires g c =
+    let gate = c.inserting.invariant.0.gate.gate ∙ c.requires.open in
+    (search rules, (search rules, (c.requires.dims, (gate, (c.requires.most, ((omega (arith, c.if-orphan-now.false), c.inserting.invariant.1.low), (c.inserting.invariant.1.page, c.in-Some.ensures.refers)))))))
 
 pub returns-in-Err-clause-faults : goal.returns-in-Err-clause-faults
 returns-in-Err-clause-faults g c = λ h t ws elsewhere can shaped.

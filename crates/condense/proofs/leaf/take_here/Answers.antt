@@ -17,7 +17,7 @@ returns-in_default-clause-none g c = λ h content there lacks.
     let m : PageMap = pages c.args.cache.now in
     let live = page_of_node g.row.D (m c.args.page) content there in
     let same = same_content g.row.D m c.args.page (content_in c.in_ok-leaf.leaf) content (c.in_ok-leaf.ensures.node h live) there in
-    subst (λ (x : NodeContent). (at : ℕ) (d : Item) → at < length x.entries → ¬ (get_or x.entries at d ≡ record { bounds = c.args.bounds.now; reference = c.args.id })) same
+    subst (λ (x : NodeContent). (at : ℕ) (d : Item) → at < length x.entries → ¬ (get_or x.entries at d ≡ record { bounds = c.args.bounds.now; reference = c.args.id; tag = c.args.tag })) same
     (at_none c.position_of.result _ c.position_of.ensures.none c.in_default.not-Some)
 
 pub returns-clause-cut : goal.returns-clause-cut
@@ -35,7 +35,7 @@ returns-clause-taken g c = λ h content there yes.
     let live = page_of_node g.row.D (m c.args.page) content there in
     let now = c.decode_into.new.node in
     let viewed = same_content g.row.D m c.args.page (content_in c.in_ok-leaf.leaf) content (c.in_ok-leaf.ensures.node h live) there in
-    subst (λ (x : NodeContent). IsTakenFrom c.args.id c.args.bounds.now x.entries (map item_of c.remove.new.self.items)) viewed (record {
+    subst (λ (x : NodeContent). IsTakenFrom c.args.id (c.args.bounds.now, c.args.tag) x.entries (map item_of c.remove.new.self.items)) viewed (record {
       at = c.in-Some.place;
       within = c.in-Some.ensures.within;
       found = c.in-Some.ensures.found;

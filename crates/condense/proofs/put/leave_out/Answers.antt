@@ -2,7 +2,7 @@
 use Rattle.std.proofs.Common.{rules, ◌-◌, All, arith, subst, sym}
 use Rattle.page_file.specs.Fault.{IsOfDevice}
 use Rattle.tree_node.specs.declared.node.Entry.{Entry}
-use Rattle.node_page.specs.Layout.{IsReference}
+use Rattle.node_page.specs.Layout.{IsOfLevel}
 use Rattle.reinsert.proofs.AboveLemmas.{All-mapped}
 use Rattle.condense.proofs.CutLemmas.{cut_removed, items-removed}
 use Rattle.condense.proofs.LowerLemmas.{at_fault}
@@ -10,8 +10,8 @@ use Rattle.condense.proofs.put.leave_out.Goals as goal
 
 pub keep-requires : goal.keep-requires
 keep-requires g c =
-    let refers : All (λ (e : Entry g.row.D). IsReference c.args.lower.now.level e.reference) c.args.lower.now.entries.items =
-    subst (λ l. All (λ (e : Entry g.row.D). IsReference l e.reference) c.args.lower.now.entries.items) (sym c.requires.cut.level_is) (All-mapped (c.args.node.now.level - 1) c.args.lower.now.entries.items c.requires.cut.refers) in
+    let refers : All (λ (e : Entry g.row.D). IsOfLevel c.args.lower.now.level e.reference e.tag) c.args.lower.now.entries.items =
+    subst (λ l. All (λ (e : Entry g.row.D). IsOfLevel l e.reference e.tag) c.args.lower.now.entries.items) (sym c.requires.cut.level_is) (All-mapped (c.args.node.now.level - 1) c.args.lower.now.entries.items c.requires.cut.refers) in
     (search rules, (search rules, (search rules, (omega (arith, c.requires.room, c.requires.few), refers))))
 
 pub returns-clause-cut : goal.returns-clause-cut

@@ -6,7 +6,7 @@ use Rattle.page_file.specs.Fault.{IsDamage, IsOfDevice}
 use Rattle.page_cache.specs.Cache.{IsPageMap, pages}
 use Rattle.page_cache.specs.Calls.{changes_and_refuses, changes_in_turn, fault_in}
 use Rattle.tree_node.specs.Nodes.{Item, content_of, item_of}
-use Rattle.node_page.specs.Layout.{IsReference, IsSpellable}
+use Rattle.node_page.specs.Layout.{IsOfLevel, IsSpellable}
 use Rattle.node_page.specs.Standing.{PageMap}
 use Rattle.node_page.specs.Faults.{IsChangeFault, IsNoDamage}
 use Rattle.reinsert.proofs.FaultLemmas.{one_more}
@@ -25,62 +25,62 @@ settle-requires g c =
     let spells : IsSpellable (content_of c.args.node.now) = record {
       few = c.requires.cut.few;
       some = λ high. omega (arith, c.lacks_entries.ensures.no c.if-lacks_entries.false high, length-map c.args.node.now.entries.items (item_of {D = g.row.D}));
-      refers = subst (λ l. All (λ (item : Item). IsReference l item.reference) (map (item_of {D = g.row.D}) c.args.node.now.entries.items)) (sym c.requires.cut.level_is) c.requires.cut.refers;
+      refers = subst (λ l. All (λ (item : Item). IsOfLevel l item.reference item.tag) (map (item_of {D = g.row.D}) c.args.node.now.entries.items)) (sym c.requires.cut.level_is) c.requires.cut.refers;
     } in
     search (rules, spells)
 
 pub returns-then-lacks_entries-clause-faults : goal.returns-then-lacks_entries-clause-faults
-returns-then-lacks_entries-clause-faults g c = λ h m t elsewhere id bounds took is shape boxes.
-    let s = cut_shaped g.row.D c.args.m_max id bounds t took.taken.out shape boxes took.taken.takes_out in
+returns-then-lacks_entries-clause-faults g c = λ h m t elsewhere id removed took is shape boxes.
+    let s = cut_shaped g.row.D c.args.m_max id removed t took.taken.out shape boxes took.taken.takes_out in
     let lacks = c.lacks_entries.ensures.yes c.if-lacks_entries.true in
     let some = s.tree.some (omega (arith, lacks.0, c.requires.cut.level_is, took.can.at.level)) in
     absurd (omega (arith, some, lacks.1, ap length took.taken.entries, length-map c.args.node.now.entries.items (item_of {D = g.row.D}), length-items took.taken.out.row))
 
 pub returns-in_err-settle-clause-faults : goal.returns-in_err-settle-clause-faults
-returns-in_err-settle-clause-faults g c = λ h m t elsewhere id bounds took is shape boxes.
-    let live = root_stays_live g.row.D c.args.m_max m (pages c.args.cache.now) c.args.root t elsewhere id bounds (held_now c.args.kept.now) (map (item_of {D = g.row.D}) c.args.node.now.entries.items) took in
+returns-in_err-settle-clause-faults g c = λ h m t elsewhere id removed took is shape boxes.
+    let live = root_stays_live g.row.D c.args.m_max m (pages c.args.cache.now) c.args.root t elsewhere id removed (held_now c.args.kept.now) (map (item_of {D = g.row.D}) c.args.node.now.entries.items) took in
     at_fault c.from_residual.result c.in_err-settle.field-0.0 (IsNoDamage c.settle.new.cache) c.from_residual.ensures.1 (inl (c.in_err-settle.ensures.faults h.honest live))
 
 pub returns-in_err-filled-clause-faults : goal.returns-in_err-filled-clause-faults
-returns-in_err-filled-clause-faults g c = λ h m t elsewhere id bounds took is shape boxes.
+returns-in_err-filled-clause-faults g c = λ h m t elsewhere id removed took is shape boxes.
     let D = g.row.D in
     let m1 : PageMap = pages c.args.cache.now in
     let m2 : PageMap = pages c.settle.new.cache in
     let items = map (item_of {D = D}) c.args.node.now.entries.items in
     let held = held_now c.args.kept.now in
-    let live = root_stays_live D c.args.m_max m m1 c.args.root t elsewhere id bounds held items took in
-    let can = can_fill D c.args.m_max m m1 c.args.root t elsewhere id bounds held items took m2 c.args.node.now.level c.requires.cut.level_is (c.in_ok-settle.ensures.written h.honest live is) (c.in_ok-settle.ensures.others h.honest live) in
+    let live = root_stays_live D c.args.m_max m m1 c.args.root t elsewhere id removed held items took in
+    let can = can_fill D c.args.m_max m m1 c.args.root t elsewhere id removed held items took m2 c.args.node.now.level c.requires.cut.level_is (c.in_ok-settle.ensures.written h.honest live is) (c.in_ok-settle.ensures.others h.honest live) in
     let sound = c.in_ok-settle.ensures.sound h live in
-    let s = cut_shaped D c.args.m_max id bounds t took.taken.out shape boxes took.taken.takes_out in
+    let s = cut_shaped D c.args.m_max id removed t took.taken.out shape boxes took.taken.takes_out in
     at_fault c.from_residual-in_err-filled.result c.in_err-filled.field-0.0 (IsNoDamage c.insert_kept.new.cache) c.from_residual-in_err-filled.ensures.1
     (c.in_err-filled.ensures.faults sound (cut_root took) took.taken.out.kept elsewhere can s)
 
 pub returns-clause-removed : goal.returns-clause-removed
-returns-clause-removed g c = λ h m t elsewhere id bounds took is.
+returns-clause-removed g c = λ h m t elsewhere id removed took is.
     let D = g.row.D in
     let m1 : PageMap = pages c.args.cache.now in
     let m2 : PageMap = pages c.settle.new.cache in
     let items = map (item_of {D = D}) c.args.node.now.entries.items in
     let held = held_now c.args.kept.now in
-    let live = root_stays_live D c.args.m_max m m1 c.args.root t elsewhere id bounds held items took in
-    let can = can_fill D c.args.m_max m m1 c.args.root t elsewhere id bounds held items took m2 c.args.node.now.level c.requires.cut.level_is (c.in_ok-settle.ensures.written h.honest live is) (c.in_ok-settle.ensures.others h.honest live) in
+    let live = root_stays_live D c.args.m_max m m1 c.args.root t elsewhere id removed held items took in
+    let can = can_fill D c.args.m_max m m1 c.args.root t elsewhere id removed held items took m2 c.args.node.now.level c.requires.cut.level_is (c.in_ok-settle.ensures.written h.honest live is) (c.in_ok-settle.ensures.others h.honest live) in
     let sound = c.in_ok-settle.ensures.sound h live in
     let filled = c.in_ok-filled.ensures.filled sound (cut_root took) took.taken.out.kept elsewhere can in
     map_ok c.give_way.result (IsPageMap c.give_way.new.cache) (GivesWayTo D (pages c.insert_kept.new.cache) (pages c.give_way.new.cache) filled.1.new)
-    (RemovesTo D c.args.m_max m (pages c.give_way.new.cache) elsewhere id bounds t)
+    (RemovesTo D c.args.m_max m (pages c.give_way.new.cache) elsewhere id removed t)
     (c.give_way.ensures.lowered filled.0 filled.1.new filled.1.at filled.1.stands)
-    (λ after gives. removes_to D c.args.m_max m m1 c.args.root t elsewhere id bounds held items took m2 c.args.node.now.level c.requires.cut.level_is (c.in_ok-settle.ensures.written h.honest live is) (c.in_ok-settle.ensures.others h.honest live)
+    (λ after gives. removes_to D c.args.m_max m m1 c.args.root t elsewhere id removed held items took m2 c.args.node.now.level c.requires.cut.level_is (c.in_ok-settle.ensures.written h.honest live is) (c.in_ok-settle.ensures.others h.honest live)
     (pages c.insert_kept.new.cache) (pages c.give_way.new.cache) c.in_ok-filled.filled after filled.1 gives)
 
 pub returns-clause-faults : goal.returns-clause-faults
-returns-clause-faults g c = λ h m t elsewhere id bounds took is shape boxes.
+returns-clause-faults g c = λ h m t elsewhere id removed took is shape boxes.
     let D = g.row.D in
     let m1 : PageMap = pages c.args.cache.now in
     let m2 : PageMap = pages c.settle.new.cache in
     let items = map (item_of {D = D}) c.args.node.now.entries.items in
     let held = held_now c.args.kept.now in
-    let live = root_stays_live D c.args.m_max m m1 c.args.root t elsewhere id bounds held items took in
-    let can = can_fill D c.args.m_max m m1 c.args.root t elsewhere id bounds held items took m2 c.args.node.now.level c.requires.cut.level_is (c.in_ok-settle.ensures.written h.honest live is) (c.in_ok-settle.ensures.others h.honest live) in
+    let live = root_stays_live D c.args.m_max m m1 c.args.root t elsewhere id removed held items took in
+    let can = can_fill D c.args.m_max m m1 c.args.root t elsewhere id removed held items took m2 c.args.node.now.level c.requires.cut.level_is (c.in_ok-settle.ensures.written h.honest live is) (c.in_ok-settle.ensures.others h.honest live) in
     let sound = c.in_ok-settle.ensures.sound h live in
     let filled = c.in_ok-filled.ensures.filled sound (cut_root took) took.taken.out.kept elsewhere can in
     no_damage c.give_way.result (IsNoDamage c.give_way.new.cache) (c.give_way.ensures.faults filled.0 filled.1.new filled.1.at filled.1.stands) (λ f is. inl is)

@@ -14,7 +14,7 @@ use Rattle.tree_node.specs.declared.node.Node.{Node}
 use Rattle.tree_node.specs.Nodes.{content_of, item_of}
 use Rattle.tree_node.specs.Trees.{row_items}
 use Rattle.node_page.specs.Layout.{IsSpellable}
-use Rattle.node_page.specs.Broken.{alters_so, changes_and_breaks, made_alters}
+use Rattle.node_page.specs.Broken.{alters_so, before, changes_and_breaks, made_alters}
 use Rattle.node_page.specs.declared.broken.Broken.{Broken}
 use Rattle.node_page.specs.Standing.{PageMap, Stands, node_in}
 use Rattle.node_page.proofs.StandingLemmas.{page_of_node}
@@ -31,19 +31,24 @@ returns-then-at-eq0-clause-cut g t c = λ yes. subst (λ l. IsCut l (content_of 
 pub returns-then-at-eq0-clause-taken : goal.returns-then-at-eq0-clause-taken
 returns-then-at-eq0-clause-taken g t c = λ h row stands yes. (
   c.in_ok-take_here.ensures.asks.map.sound.0 h,
-  taken_here c.args.m_max (pages c.args.cache.now) (pages c.take_here.new.cache) c.args.at c.args.id c.args.bounds.now row (held_now c.args.kept.now)
+  taken_here c.args.m_max (pages c.args.cache.now) (pages c.take_here.new.cache) c.args.at c.args.id (c.args.bounds.now, c.args.tag) row (held_now c.args.kept.now)
       (map (item_of {D = g.row.D}) c.take_here.new.node.entries.items) c.if-at-eq0.true stands (c.in_ok-take_here.ensures.asks.map.pages_stay h.honest)
       (c.in_ok-take_here.ensures.taken h.honest (record { level = c.args.at.level; entries = row_items row }) stands.root yes),
 )
 
 pub returns-then-at-eq0-clause-found : goal.returns-then-at-eq0-clause-found
 returns-then-at-eq0-clause-found g t c = λ h row stands leads.
-    found_leaf c.args.m_max (pages c.args.cache.now) c.args.at c.args.id c.args.bounds.now row c.if-at-eq0.true stands c.in_ok-take_here.field-0
+    found_leaf c.args.m_max (pages c.args.cache.now) c.args.at c.args.id (c.args.bounds.now, c.args.tag) row c.if-at-eq0.true stands c.in_ok-take_here.field-0
     (c.in_ok-take_here.ensures.none h.honest (record { level = c.args.at.level; entries = row_items row }) stands.root) leads
+
+pub returns-in_err-first-clause-alters : goal.returns-in_err-first-clause-alters
+returns-in_err-first-clause-alters g t c =
+    alters_so c.args.cache.now c.read_enclosing.new.cache (before c.in_err-first.field-0.0) c.from_residual-in_err-first.result c.from_residual-in_err-first.ensures.1
+    (asks_changes c.args.cache.now c.read_enclosing.new.cache (Some c.in_err-first.field-0.0) c.in_err-first.ensures.asks) (λ untouched. c.in_err-first.ensures.asks.map)
 
 pub returns-in_default-clause-found : goal.returns-in_default-clause-found
 returns-in_default-clause-found g t c = λ h row stands leads.
-    absurd (none_leads c.args.m_max (pages c.args.cache.now) c.args.at row c.args.id c.args.bounds.now stands c.if-at-eq0.false
+    absurd (none_leads c.args.m_max (pages c.args.cache.now) c.args.at row c.args.id (c.args.bounds.now, c.args.tag) stands c.if-at-eq0.false
     (at_none c.in_ok-first.field-0 _ (c.in_ok-first.ensures.none h.honest (record { level = c.args.at.level; entries = row_items row }) stands.root) c.in_default.not-Some) leads)
 
 pub children-init : goal.children-init
@@ -54,7 +59,7 @@ children-init g t c =
       c.in_ok-first.ensures.asks,
       refl,
       λ h row stands leads.
-          passed_to c.args.m_max m c.args.at row c.in-Some.first c.args.id c.args.bounds.now stands c.if-at-eq0.false
+          passed_to c.args.m_max m c.args.at row c.in-Some.first c.args.id (c.args.bounds.now, c.args.tag) stands c.if-at-eq0.false
           (subst (λ o. IfSome o (λ first. (k : ℕ) → k < first → k < length (row_items row) → ¬ Within D c.args.bounds.now (box_at (row_items row) k))) c.in-Some.is
           (c.in_ok-first.ensures.before h.honest (record { level = c.args.at.level; entries = row_items row }) stands.root)) leads,
       subst (λ o. IfSome o (λ _. now.level ≡ c.args.at.level)) c.in-Some.is c.in_ok-first.ensures.level,
@@ -76,7 +81,7 @@ children-preserved-then-not-encloses g t c = (
   c.children.invariant.0,
   c.children.invariant.1,
   λ h row stands leads.
-      passed_by c.args.m_max (pages c.args.cache.now) c.args.at row c.children.node.level c.children.node.entries.items c.deref.result.now c.children.place c.index-deref-place.result c.args.id c.args.bounds.now stands
+      passed_by c.args.m_max (pages c.args.cache.now) c.args.at row c.children.node.level c.children.node.entries.items c.deref.result.now c.children.place c.index-deref-place.result c.args.id (c.args.bounds.now, c.args.tag) stands
       (c.children.invariant.5 h.honest) c.if-at-eq0.false (omega (arith, c.children-test.true, c.len-place-end.ensures.value, ap (λ (x : Node g.row.D). length x.entries.items) c.children.invariant.6)) c.deref.ensures.0 c.index-deref-place.is
       (λ inside. absurd (true≢false (sym (c.encloses.ensures.encloses.1 (subst (λ (x : Entry g.row.D). Within g.row.D c.args.bounds.now x.bounds) c.index-deref-place.is inside)) ∙ c.if-not-encloses.true)))
       (c.children.invariant.2 h row stands leads),
@@ -93,11 +98,11 @@ child_of-below-requires g t c =
     (search rules, (above, (within, c.children.invariant.4)))
 
 pub take_out-requires : goal.take_out-requires
-take_out-requires g t c =
+take_out-requires g t c κs within =
     let room : array_vec_len c.children.kept.orphans + 39 * c.child_of-below.result.level ≤ 1560 = omega (arith, ap length c.children.invariant.1, c.requires.room, c.child_of-below.ensures.level, c.children.invariant.3) in
     let less : c.child_of-below.result.level < c.args.at.level = omega (arith, c.child_of-below.ensures.level, c.children.invariant.3, c.if-at-eq0.false) in
     let gate = c.children.invariant.0.gate.gate ∙ c.requires.open in
-    search (rules, room, less, gate)
+    (omega (arith, less, c.decreases), (search rules, (search rules, (search rules, (search rules, (search rules, (search rules, (c.requires.dims, (gate, (c.requires.most, room))))))))))
 
 pub returns-in_err-taken-clause-alters : goal.returns-in_err-taken-clause-alters
 returns-in_err-taken-clause-alters g t c =
@@ -125,7 +130,7 @@ returns-in_err-taken-clause-absent g t c = λ h row stands lacks.
     let within : c.children.place < length entries = omega (arith, c.children-test.true, c.len-place-end.ensures.value, ap (λ (x : Node g.row.D). length x.entries.items) c.children.invariant.6) in
     let b = is_below m m0 c.args.at row c.children.node.level entries c.children.place c.child_of-below.result stands same (c.children.invariant.5 h.honest) c.children.invariant.3 c.if-at-eq0.false within c.child_of-below.ensures.page c.child_of-below.ensures.level in
     at_broken c.from_residual-in_err-taken.result c.in_err-taken.field-0.0 (λ (x : Broken). x.touched ≡ false) c.from_residual-in_err-taken.ensures.1
-    (c.in_err-taken.ensures.absent sound b.h.from.row b.stands (below_contained D c.args.m_max m m0 c.args.at row (map item_of entries) c.children.place c.child_of-below.result b c.args.id c.args.bounds.now lacks))
+    (c.in_err-taken.ensures.absent sound b.h.from.row b.stands (below_contained D c.args.m_max m m0 c.args.at row (map item_of entries) c.children.place c.child_of-below.result b c.args.id (c.args.bounds.now, c.args.tag) lacks))
 
 pub returns-in_err-taken-clause-faults : goal.returns-in_err-taken-clause-faults
 returns-in_err-taken-clause-faults g t c = λ h row stands.
@@ -155,7 +160,7 @@ children-preserved g t c =
           let sound = c.children.invariant.0.map.sound.0 h in
           let within : c.children.place < length entries = omega (arith, c.children-test.true, c.len-place-end.ensures.value, ap (λ (x : Node g.row.D). length x.entries.items) c.children.invariant.6) in
           let b = is_below m m0 c.args.at row c.children.node.level entries c.children.place c.child_of-below.result stands same (c.children.invariant.5 h.honest) c.children.invariant.3 c.if-at-eq0.false within c.child_of-below.ensures.page c.child_of-below.ensures.level in
-          later_than D c.args.m_max m m0 c.args.at row (map item_of entries) c.children.place c.child_of-below.result b c.args.id c.args.bounds.now
+          later_than D c.args.m_max m m0 c.args.at row (map item_of entries) c.children.place c.child_of-below.result b c.args.id (c.args.bounds.now, c.args.tag)
           (λ both. true≢false (sym (c.in_ok-taken.ensures.found sound b.h.from.row b.stands both.1) ∙ none)) (c.children.invariant.2 h row stands leads),
       c.children.invariant.3,
       c.children.invariant.4,
@@ -219,11 +224,11 @@ returns-in-Ok-clause-taken g t c = λ h row stands yes.
     let within : c.children.place < length entries = omega (arith, c.children-test.true, c.len-place-end.ensures.value, ap (λ (x : Node g.row.D). length x.entries.items) c.children.invariant.6) in
     let b = is_below m m0 c.args.at row c.children.node.level entries c.children.place c.child_of-below.result stands same (c.children.invariant.5 h.honest) c.children.invariant.3 c.if-at-eq0.false within c.child_of-below.ensures.page c.child_of-below.ensures.level in
     let done = c.in_ok-taken.ensures.taken sound b.h.from.row b.stands c.if-not-taken.false in
-    let took = took_below D c.args.m_max m m0 c.args.at row (map (item_of {D = D}) entries) c.children.place c.child_of-below.result b c.args.id c.args.bounds.now (pages c.take_out.new.cache) c.children.node.level (held_now c.children.kept) (held_now c.args.kept.now) (held_now c.take_out.new.kept)
+    let took = took_below D c.args.m_max m m0 c.args.at row (map (item_of {D = D}) entries) c.children.place c.child_of-below.result b c.args.id (c.args.bounds.now, c.args.tag) (pages c.take_out.new.cache) c.children.node.level (held_now c.children.kept) (held_now c.args.kept.now) (held_now c.take_out.new.kept)
     (map (item_of {D = D}) c.take_out.new.node.entries.items) stands same c.children.invariant.3 (ap (map (orphan_held {D = D})) c.children.invariant.1) done.1 in
     subst (λ l. IsPageMap c.put_child.new.cache
-    × HasTaken D c.args.m_max m (pages c.put_child.new.cache) l c.args.id c.args.bounds.now row (held_now c.args.kept.now) (held_now c.put_child.new.kept) (map (item_of {D = D}) c.put_child.new.node.entries.items)) c.children.invariant.3
-    (c.in-Ok.ensures.taken done.0 m c.args.at.page c.args.id c.args.bounds.now row (held_now c.args.kept.now) took
+    × HasTaken D c.args.m_max m (pages c.put_child.new.cache) l c.args.id (c.args.bounds.now, c.args.tag) row (held_now c.args.kept.now) (held_now c.put_child.new.kept) (map (item_of {D = D}) c.put_child.new.node.entries.items)) c.children.invariant.3
+    (c.in-Ok.ensures.taken done.0 m c.args.at.page c.args.id (c.args.bounds.now, c.args.tag) row (held_now c.args.kept.now) took
     (settled_child c.take_out.new.node (pages c.take_out.new.cache) (map (item_of {D = D}) entries) c.children.place c.child_of-below.result.page c.take_out.new.settled c.child_of-below.ensures.page (λ so. c.in_ok-taken.ensures.settled sound b.h.from.row b.stands so c.if-not-taken.false)))
 
 pub returns-in-Ok-clause-settled : goal.returns-in-Ok-clause-settled
@@ -237,12 +242,12 @@ returns-in-Ok-clause-settled g t c = λ h row stands so yes.
     let within : c.children.place < length entries = omega (arith, c.children-test.true, c.len-place-end.ensures.value, ap (λ (x : Node g.row.D). length x.entries.items) c.children.invariant.6) in
     let b = is_below m m0 c.args.at row c.children.node.level entries c.children.place c.child_of-below.result stands same (c.children.invariant.5 h.honest) c.children.invariant.3 c.if-at-eq0.false within c.child_of-below.ensures.page c.child_of-below.ensures.level in
     let done = c.in_ok-taken.ensures.taken sound b.h.from.row b.stands c.if-not-taken.false in
-    let took = took_below D c.args.m_max m m0 c.args.at row (map (item_of {D = D}) entries) c.children.place c.child_of-below.result b c.args.id c.args.bounds.now (pages c.take_out.new.cache) c.children.node.level (held_now c.children.kept) (held_now c.args.kept.now) (held_now c.take_out.new.kept)
+    let took = took_below D c.args.m_max m m0 c.args.at row (map (item_of {D = D}) entries) c.children.place c.child_of-below.result b c.args.id (c.args.bounds.now, c.args.tag) (pages c.take_out.new.cache) c.children.node.level (held_now c.children.kept) (held_now c.args.kept.now) (held_now c.take_out.new.kept)
     (map (item_of {D = D}) c.take_out.new.node.entries.items) stands same c.children.invariant.3 (ap (map (orphan_held {D = D})) c.children.invariant.1) done.1 in
-    settled_still c.args.m_max m (pages c.put_child.new.cache) c.args.at.page c.children.node.level c.args.id c.args.bounds.now row (held_now c.args.kept.now) (held_now c.put_child.new.kept)
+    settled_still c.args.m_max m (pages c.put_child.new.cache) c.args.at.page c.children.node.level c.args.id (c.args.bounds.now, c.args.tag) row (held_now c.args.kept.now) (held_now c.put_child.new.kept)
     (content_of c.children.node) c.put_child.new.node (subst (λ k. Stands D m (record { page = c.args.at.page; level = k; row = row })) (sym c.children.invariant.3) stands)
     (c.children.invariant.5 h.honest (page_of_node D (m c.args.at.page) _ stands.root)) (c.in-Ok.ensures.settled so)
-    (c.in-Ok.ensures.taken done.0 m c.args.at.page c.args.id c.args.bounds.now row (held_now c.args.kept.now) took
+    (c.in-Ok.ensures.taken done.0 m c.args.at.page c.args.id (c.args.bounds.now, c.args.tag) row (held_now c.args.kept.now) took
     (settled_child c.take_out.new.node (pages c.take_out.new.cache) (map (item_of {D = D}) entries) c.children.place c.child_of-below.result.page c.take_out.new.settled c.child_of-below.ensures.page (λ so. c.in_ok-taken.ensures.settled sound b.h.from.row b.stands so c.if-not-taken.false))).1
 
 pub returns-in-Err-clause-absent : goal.returns-in-Err-clause-absent
@@ -256,8 +261,8 @@ returns-in-Err-clause-absent g t c = λ h row stands lacks.
     let within : c.children.place < length entries = omega (arith, c.children-test.true, c.len-place-end.ensures.value, ap (λ (x : Node g.row.D). length x.entries.items) c.children.invariant.6) in
     let b = is_below m m0 c.args.at row c.children.node.level entries c.children.place c.child_of-below.result stands same (c.children.invariant.5 h.honest) c.children.invariant.3 c.if-at-eq0.false within c.child_of-below.ensures.page c.child_of-below.ensures.level in
     let done = c.in_ok-taken.ensures.taken sound b.h.from.row b.stands c.if-not-taken.false in
-    absurd (below_contained D c.args.m_max m m0 c.args.at row (map item_of entries) c.children.place c.child_of-below.result b c.args.id c.args.bounds.now lacks
-    (takes_contained D c.args.m_max c.args.id c.args.bounds.now c.child_of-below.result.level b.h.from.row done.1.out done.1.takes_out))
+    absurd (below_contained D c.args.m_max m m0 c.args.at row (map item_of entries) c.children.place c.child_of-below.result b c.args.id (c.args.bounds.now, c.args.tag) lacks
+    (takes_contained D c.args.m_max c.args.id (c.args.bounds.now, c.args.tag) c.child_of-below.result.level b.h.from.row done.1.out done.1.takes_out))
 
 pub returns-in-Err-clause-faults : goal.returns-in-Err-clause-faults
 returns-in-Err-clause-faults g t c = λ h row stands.
@@ -270,10 +275,10 @@ returns-in-Err-clause-faults g t c = λ h row stands.
     let within : c.children.place < length entries = omega (arith, c.children-test.true, c.len-place-end.ensures.value, ap (λ (x : Node g.row.D). length x.entries.items) c.children.invariant.6) in
     let b = is_below m m0 c.args.at row c.children.node.level entries c.children.place c.child_of-below.result stands same (c.children.invariant.5 h.honest) c.children.invariant.3 c.if-at-eq0.false within c.child_of-below.ensures.page c.child_of-below.ensures.level in
     let done = c.in_ok-taken.ensures.taken sound b.h.from.row b.stands c.if-not-taken.false in
-    let took = took_below D c.args.m_max m m0 c.args.at row (map (item_of {D = D}) entries) c.children.place c.child_of-below.result b c.args.id c.args.bounds.now (pages c.take_out.new.cache) c.children.node.level (held_now c.children.kept) (held_now c.args.kept.now) (held_now c.take_out.new.kept)
+    let took = took_below D c.args.m_max m m0 c.args.at row (map (item_of {D = D}) entries) c.children.place c.child_of-below.result b c.args.id (c.args.bounds.now, c.args.tag) (pages c.take_out.new.cache) c.children.node.level (held_now c.children.kept) (held_now c.args.kept.now) (held_now c.take_out.new.kept)
     (map (item_of {D = D}) c.take_out.new.node.entries.items) stands same c.children.invariant.3 (ap (map (orphan_held {D = D})) c.children.invariant.1) done.1 in
     subst (λ (x : Broken). IsOfDevice x.cause) (sym c.midway.ensures)
-    (c.in-Err.ensures.faults done.0 m c.args.at.page c.args.id c.args.bounds.now row (held_now c.args.kept.now) took
+    (c.in-Err.ensures.faults done.0 m c.args.at.page c.args.id (c.args.bounds.now, c.args.tag) row (held_now c.args.kept.now) took
     (settled_child c.take_out.new.node (pages c.take_out.new.cache) (map (item_of {D = D}) entries) c.children.place c.child_of-below.result.page c.take_out.new.settled c.child_of-below.ensures.page (λ so. c.in_ok-taken.ensures.settled sound b.h.from.row b.stands so c.if-not-taken.false)))
 
 pub returns-clause-alters : goal.returns-clause-alters
@@ -287,7 +292,7 @@ returns-clause-none g t c = λ is. (c.children.invariant.0, c.children.invariant
 
 pub returns-clause-found : goal.returns-clause-found
 returns-clause-found g t c = λ h row stands leads.
-    absurd (nothing_later (pages c.args.cache.now) c.args.at row c.children.node.level c.children.node.entries.items c.children.place c.args.id c.args.bounds.now stands (c.children.invariant.5 h.honest)
+    absurd (nothing_later (pages c.args.cache.now) c.args.at row c.children.node.level c.children.node.entries.items c.children.place c.args.id (c.args.bounds.now, c.args.tag) stands (c.children.invariant.5 h.honest)
     (omega (arith, c.children-test.false, c.len-place-end.ensures.value, ap (λ (x : Node g.row.D). length x.entries.items) c.children.invariant.6)) (c.children.invariant.2 h row stands leads))
 
 pub returns-clause-cut : goal.returns-clause-cut

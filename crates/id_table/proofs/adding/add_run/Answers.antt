@@ -1,20 +1,26 @@
 -- The goals of `add_run` that are proved by hand: where the chain of the objects begins, and what is put there.
 use Rattle.std.proofs.Common.{◌≡◌, ◌∙◌, ◌<◌, ◌≤◌, ◌⊎◌, ℕ, None, Some, ap, arith, inl, inr, length, subst, sym, take}
-use Rattle.page_file.specs.Fault.{IsOfDevice}
+use Rattle.page_file.specs.Fault.{IsDamage, IsOfDevice}
 use Rattle.page_cache.specs.Cache.{Grows, pages}
 use Rattle.page_cache.specs.Calls.{asks_in_turn}
+use Rattle.node_page.specs.Broken.{asks_and_breaks}
 use Rattle.node_page.specs.Faults.{IsNoDamage}
 use Rattle.id_table.specs.Changes.{Fills}
 use Rattle.id_table.specs.Pages.{IsRun, IsWholeRun, PutsBefore, with_more}
 use Rattle.id_table.specs.Table.{bucket_in, chain_at, objects_of}
 use Rattle.id_table.proofs.AddLemmas.{puts_from}
-use Rattle.id_table.proofs.BucketLemmas.{if_err}
+use Rattle.id_table.proofs.BucketLemmas.{if_err, is_there}
 use Rattle.id_table.proofs.FillLemmas.{first_new}
 use Rattle.id_table.proofs.ManyLemmas.{fills_before, fills_in_place}
 use Rattle.id_table.proofs.Results.{alters_after, broken_err, broken_if, refused_before}
 use Rattle.id_table.proofs.StartLemmas.{first_is_live, starts}
 use Rattle.id_table.proofs.WalkLemmas.{begins_at}
 use Rattle.id_table.proofs.adding.add_run.Goals as goal
+
+pub returns-in_err-room-clause-alters : goal.returns-in_err-room-clause-alters
+returns-in_err-room-clause-alters g c =
+    asks_and_breaks c.args.cache.now c.read_link.new.cache c.has_room.new.cache c.in_err-room.field-0.0 c.from_residual-in_err-room.result c.from_residual-in_err-room.ensures.1
+    c.in_ok-first.ensures.asks c.in_err-room.ensures.asks
 
 pub returns-in_err-room-clause-faults : goal.returns-in_err-room-clause-faults
 returns-in_err-room-clause-faults g c = λ map t at stands.
@@ -121,3 +127,20 @@ returns-clause-added g c = λ map t at stands fresh.
     c.put_alone.ensures.run (c.put_alone.ensures.put (asks.map.sound.0 map) stands.directory there)
     (λ n run put. fills_before g.row.D m now t class (take n objects) first stands c.class_of-class.ensures.bound (first_new n objects (objects_of t) fresh) run.placed s.link
     (subst (λ d. PutsBefore g.row.D m now d class first (take n objects) stands.directory) (sym at) (puts_from g.row.D m mid now c.args.directory class first (take n objects) stands.directory (asks.map.pages_stay map.honest) put)) full)
+
+pub returns-clause-sound : goal.returns-clause-sound
+returns-clause-sound g c = λ map t at stands.
+    let asks = asks_in_turn c.args.cache.now c.read_link.new.cache c.has_room.new.cache None c.in_ok-first.ensures.asks c.in_ok-room.ensures.asks in
+    let there = asks.map.pages_stay map.honest c.args.directory ∙ ap (pages c.args.cache.now) (sym at) ∙ stands.there in
+    c.put_alone.ensures.sound (asks.map.sound.0 map) (is_there (pages c.has_room.new.cache c.args.directory) stands.directory there)
+
+pub returns-clause-faults : goal.returns-clause-faults
+returns-clause-faults g c = λ map t at stands.
+    let asks = asks_in_turn c.args.cache.now c.read_link.new.cache c.has_room.new.cache None c.in_ok-first.ensures.asks c.in_ok-room.ensures.asks in
+    let there = asks.map.pages_stay map.honest c.args.directory ∙ ap (pages c.args.cache.now) (sym at) ∙ stands.there in
+    broken_err c.put_alone.result c.midway-2.result (IsNoDamage c.put_alone.new.cache) c.midway-2.ensures
+    (c.put_alone.ensures.faults (asks.map.sound.0 map) (is_there (pages c.has_room.new.cache c.args.directory) stands.directory there))
+
+pub returns-clause-other_faults : goal.returns-clause-other_faults
+returns-clause-other_faults g c =
+    broken_err c.put_alone.result c.midway-2.result (λ f. IsNoDamage c.put_alone.new.cache f ⊎ IsDamage f) c.midway-2.ensures c.put_alone.ensures.other_faults

@@ -1,13 +1,16 @@
 -- The goals of `check_table` that are proved by hand: a directory that is none, and chains that cannot be its.
-use Rattle.std.proofs.Common.{◌≡◌, ◌∙◌, ◌++◌, ◌∷◌, [], ℕ, List, None, Vec, ap, inl, inr, subst, sym}
+use Rattle.std.proofs.Common.{◌≡◌, ◌∙◌, ◌++◌, ◌∷◌, ◌<◌, [], ℕ, List, None, Vec, ap, arith, inl, inr, length, subst, sym}
 use Rattle.page_file.specs.Fault.{IsOfDevice}
 use Rattle.page_file.specs.declared.fault.Fault.TheVariants as fault
-use Rattle.page_cache.specs.Cache.{given}
+use Rattle.page_cache.specs.Cache.{given, pages}
 use Rattle.page_cache.specs.Calls.{asks_and_refuses, asks_in_turn, no_call_asks}
+use Rattle.page_cache.specs.Laws.{a_live_page_was_given_out}
+use Rattle.node_page.specs.Checked.{named_pages}
 use Rattle.node_page.proofs.CheckLemmas.{quiet_visit, refuses_quietly}
 use Rattle.node_page.proofs.DamageLemmas.{damaged_read, damaged_visit}
 use Rattle.node_page.proofs.NodeLemmas.{at_error}
 use Rattle.id_table.specs.Checked.{ComesInTable, IsCheckedTable}
+use Rattle.id_table.proofs.BucketLemmas.{is_there}
 use Rattle.id_table.proofs.CheckedLemmas.{chains_on, checked_live, is_spelled, live_table_is_given, may_stand, may_stand_on, table_checked}
 use Rattle.id_table.proofs.DamageLemmas.{comes_so}
 use Rattle.id_table.proofs.check.check_table.Goals as goal
@@ -16,6 +19,17 @@ pub returns-in_err-come_to-clause-asks : goal.returns-in_err-come_to-clause-asks
 returns-in_err-come_to-clause-asks g c =
     refuses_quietly c.args.cache.now c.args.cache.now c.in_err-come_to.field-0.0 c.from_residual-in_err-come_to.result c.from_residual-in_err-come_to.ensures.1 (no_call_asks c.args.cache.now)
     (quiet_visit c.in_err-come_to.field-0.0 _ c.in_err-come_to.ensures.faults)
+
+pub returns-in_err-come_to-clause-stands : goal.returns-in_err-come_to-clause-stands
+returns-in_err-come_to-clause-stands g c = λ h t at stands.
+    let old = c.args.cache.now in
+    let here = c.args.directory in
+    let out = a_live_page_was_given_out old here (is_there (pages old here) stands.directory (ap (pages old) (sym at) ∙ stands.there)) in
+    let low : 2 < here = subst (λ (n : ℕ). 2 < n) at stands.low in
+    let none = ap (λ (list : List ℕ). named_pages list here) c.in_ok-visits.ensures.none in
+    let within : here < length c.in_ok-visits.visits.marks.items = omega (arith, out.1, c.in_ok-visits.ensures.marks, c.next_number.ensures) in
+    at_error c.from_residual-in_err-come_to.result c.in_err-come_to.field-0.0 IsOfDevice c.from_residual-in_err-come_to.ensures.1
+    (inl (c.in_err-come_to.ensures.first low none within))
 
 pub returns-then-not-is_directory-clause-stands : goal.returns-then-not-is_directory-clause-stands
 returns-then-not-is_directory-clause-stands g c = λ h t at stands.

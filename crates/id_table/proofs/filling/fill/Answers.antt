@@ -1,5 +1,6 @@
 -- The goals of `fill` that are proved by hand.
 use Rattle.std.proofs.Common.{◌≡◌, ◌∙◌, ◌⊎◌, ◌-◌, ℕ, List, drop, ◌<◌, ◌≤◌, Some, false, arith, length, length-drop, ltb, subst, sym, take}
+use Rattle.bucket_page.specs.Layout.{Entry}
 use Rattle.std.proofs.lemmas.List.{take_rest}
 use Rattle.std.proofs.lemmas.Bool.Decides.{nat_tests}
 use Rattle.page_cache.specs.Cache.{Grows, pages}
@@ -9,7 +10,7 @@ use Rattle.page_file.specs.declared.fault.Fault.{Fault}
 use Rattle.node_page.specs.Faults.{IsNoDamage}
 use Rattle.id_table.specs.Changes.{AreNew, Fills}
 use Rattle.id_table.specs.Pages.{IsWholeRun}
-use Rattle.id_table.specs.Table.{Object, objects_of}
+use Rattle.id_table.specs.Table.{objects_of}
 use Rattle.id_table.proofs.FillLemmas.{all_filled, filling_begins, fills_on, next_is_low, next_of_some, run_takes}
 use Rattle.id_table.proofs.filling.fill.Goals as goal
 
@@ -29,15 +30,15 @@ loop-filled-preserved g c =
     let filled = c.loop-filled.filled in
     let count = c.in-Ok.count in
     let rest : take (length objects - filled) (drop filled objects) ≡ drop filled objects = take_rest objects filled in
-    let few : count ≤ length (drop filled objects) = subst (λ (es : List Object). count ≤ length es) rest c.in-Ok.ensures.count.1 in
+    let few : count ≤ length (drop filled objects) = subst (λ (es : List Entry). count ≤ length es) rest c.in-Ok.ensures.count.1 in
     record {
       filling = fills_on so_far.filling count c.add_run.new.cache c.in-Ok.ensures.alters.changes c.in-Ok.ensures.sound (λ map t at stands new.
-          subst (λ (es : List Object). Fills g.row.D (pages c.loop-filled.cache) (pages c.add_run.new.cache) t (take count es)) rest
-          (c.in-Ok.ensures.added map t at stands (subst (λ (es : List Object). AreNew (objects_of t) es) (sym rest) new)));
+          subst (λ (es : List Entry). Fills g.row.D (pages c.loop-filled.cache) (pages c.add_run.new.cache) t (take count es)) rest
+          (c.in-Ok.ensures.added map t at stands (subst (λ (es : List Entry). AreNew (objects_of t) es) (sym rest) new)));
       within = omega (arith, so_far.within, few, length-drop filled objects);
       grows = omega (arith, so_far.grows, c.in-Ok.ensures.grows, c.in-Ok.ensures.count.0);
       takes = λ sorted. run_takes c.args.cache.now c.loop-filled.cache c.add_run.new.cache objects filled count sorted (omega (arith, c.loop-filled-test.true)) (so_far.takes sorted) c.in-Ok.ensures.grows
-          (subst (λ (es : List Object). Grows 0 c.loop-filled.cache c.add_run.new.cache ⊎ IsWholeRun es count) rest c.in-Ok.ensures.whole);
+          (subst (λ (es : List Entry). Grows 0 c.loop-filled.cache c.add_run.new.cache ⊎ IsWholeRun es count) rest c.in-Ok.ensures.whole);
       kept = λ none. absurd (omega (arith, none, c.in-Ok.ensures.count.0));
     }
 

@@ -1,7 +1,7 @@
 -- The goals of `place_in` that are proved by hand.
-use Rattle.std.proofs.Common.{subst, arith}
+use Rattle.std.proofs.Common.{None, subst, arith}
 use Rattle.page_file.specs.Fault.{IsOfDevice}
-use Rattle.page_cache.specs.Calls.{no_call_asks}
+use Rattle.page_cache.specs.Calls.{asks_in_turn, no_call_asks}
 use Rattle.node_page.proofs.NodeLemmas.{at_error}
 use Rattle.id_table.specs.Pages.{IsFoundAt}
 use Rattle.id_table.proofs.PlaceLemmas.{begins_here, found_place, goes_past, not_ended, not_so_long, searches, there_now}
@@ -16,6 +16,9 @@ returns-in_err-found-clause-there g c = λ h chain stands short has.
     let some = not_ended so_far h chain stands has in
     at_error c.from_residual.result c.in_err-found.field-0.0 IsOfDevice c.from_residual.ensures.1
     (c.in_err-found.ensures.there (so_far.asks.gate.honest.0 h) (begins_here so_far some h chain stands).content (there_now so_far some h chain stands))
+
+pub returns-in-Some-clause-asks : goal.returns-in-Some-clause-asks
+returns-in-Some-clause-asks g c = asks_in_turn c.args.cache.now c.loop-walked.cache c.place_at.new.cache None c.loop-walked.invariant.asks c.in_ok-found.ensures.asks
 
 pub returns-in-Some-clause-found : goal.returns-in-Some-clause-found
 returns-in-Some-clause-found g c = λ h chain stands.

@@ -16,7 +16,7 @@ returns-in-Some-clause-less g c = λ map differ links there content is.
     let was = bytes_of_bucket D (pages old first) content is in
     let live = page_of_bucket D (pages old first) content is in
     let did = c.in_ok-emptied.ensures.edited map.honest was.0 (a_live_page_is_given old first was.0 was.1) in
-    let only = did.3.met.only c.in-Some.next c.in-Some.is D content (ap (bucket_at D) did.3.shows ∙ was.2) in
+    let only = did.3.met.only c.in-Some.next c.in-Some.is content (ap (bucket_at D) did.3.shows ∙ was.2) in
     let others = c.in_ok-emptied.ensures.others map.honest live in
     on_ok c.unlink.result
     (λ u. inr (record {
@@ -37,7 +37,7 @@ returns-in-None-clause-less g c = λ map differ links there content is.
     let was = bytes_of_bucket D (pages old first) content is in
     let live = page_of_bucket D (pages old first) content is in
     let did = c.in_ok-emptied.ensures.edited map.honest was.0 (a_live_page_is_given old first was.0 was.1) in
-    let less = did.3.met.popped c.in-None.is D content (ap (bucket_at D) did.3.shows ∙ was.2) in
+    let less = did.3.met.popped c.in-None.is content (ap (bucket_at D) did.3.shows ∙ was.2) in
     inl (record {
       more = less.0;
       bucket = ap (bucket_in D) (did.2 live) ∙ ap (bucket_at D) (sym did.3.leaves) ∙ less.1;

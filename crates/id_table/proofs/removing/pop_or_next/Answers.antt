@@ -5,9 +5,10 @@ use Rattle.id_table.proofs.removing.pop_or_next.Goals as goal
 use Rattle.id_table.proofs.removing.pop_or_next.Goals.{then-count-le1-via-then-count-le1, then-count-le1-via-else-count-le1+then-count-gt100}
 
 pub returns-then-count-le1 : goal.returns-then-count-le1
-returns-then-count-le1 c = record {
+returns-then-count-le1 g c = record {
   popped = λ never. absurd (cc);
-  only = λ next is dims content there.
+  only = λ next is content there.
+      let dims = g.row.D in
       let head = (spells dims c.args.page.now content there).head in
       let counted = count_of_bucket dims c.args.page.now content there in
       let count = c.count_at-count.ensures.of_bucket dims content there in

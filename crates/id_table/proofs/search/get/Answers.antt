@@ -10,28 +10,28 @@ use Rattle.id_table.proofs.search.get.Goals as goal
 pub returns-then-number-eq0-clause-found : goal.returns-then-number-eq0-clause-found
 returns-then-number-eq0-clause-found g c = λ h t at stands. ends_without c.loop-walked.invariant c.if-number-eq0.true h t at stands
 
-pub returns-in_err-bounds-clause-stands : goal.returns-in_err-bounds-clause-stands
-returns-in_err-bounds-clause-stands g c = λ h t at stands.
+pub returns-in_err-kept-clause-stands : goal.returns-in_err-kept-clause-stands
+returns-in_err-kept-clause-stands g c = λ h t at stands.
     let so_far = c.loop-walked.invariant in
-    at_error c.from_residual-in_err-bounds.result c.in_err-bounds.field-0.0 IsOfDevice c.from_residual-in_err-bounds.ensures.1
-    (c.in_err-bounds.ensures.there (so_far.asks.gate.honest.0 h) (here_is so_far c.if-number-eq0.false h t at stands).content (there_now so_far c.if-number-eq0.false h t at stands))
+    at_error c.from_residual-in_err-kept.result c.in_err-kept.field-0.0 IsOfDevice c.from_residual-in_err-kept.ensures.1
+    (c.in_err-kept.ensures.there (so_far.asks.gate.honest.0 h) (here_is so_far c.if-number-eq0.false h t at stands).content (there_now so_far c.if-number-eq0.false h t at stands))
 
-pub returns-in_err-bounds-clause-asks : goal.returns-in_err-bounds-clause-asks
-returns-in_err-bounds-clause-asks g c =
-    asks_and_refuses c.args.cache.now c.loop-walked.cache c.look.new.cache c.in_err-bounds.field-0.0 c.from_residual-in_err-bounds.result c.from_residual-in_err-bounds.ensures.1
-    c.loop-walked.invariant.asks c.in_err-bounds.ensures.asks
+pub returns-in_err-kept-clause-asks : goal.returns-in_err-kept-clause-asks
+returns-in_err-kept-clause-asks g c =
+    asks_and_refuses c.args.cache.now c.loop-walked.cache c.look.new.cache c.in_err-kept.field-0.0 c.from_residual-in_err-kept.result c.from_residual-in_err-kept.ensures.1
+    c.loop-walked.invariant.asks c.in_err-kept.ensures.asks
 
 pub returns-then-is_some-clause-asks : goal.returns-then-is_some-clause-asks
-returns-then-is_some-clause-asks g c = asks_in_turn c.args.cache.now c.loop-walked.cache c.look.new.cache None c.loop-walked.invariant.asks c.in_ok-bounds.ensures.asks
+returns-then-is_some-clause-asks g c = asks_in_turn c.args.cache.now c.loop-walked.cache c.look.new.cache None c.loop-walked.invariant.asks c.in_ok-kept.ensures.asks
 
 pub returns-then-is_some-clause-found : goal.returns-then-is_some-clause-found
 returns-then-is_some-clause-found g c = λ h t at stands.
-    ends_with c.loop-walked.invariant c.in_ok-bounds.bounds c.if-number-eq0.false (sym c.is_some.ensures ∙ c.if-is_some.true) (λ honest content is. (c.in_ok-bounds.ensures.found honest content is).0) h t at stands
+    ends_with c.loop-walked.invariant c.in_ok-kept.kept c.if-number-eq0.false (sym c.is_some.ensures ∙ c.if-is_some.true) (λ honest content is. (c.in_ok-kept.ensures.found honest content is).0) h t at stands
 
 pub loop-walked-preserved : goal.loop-walked-preserved
 loop-walked-preserved g c =
-    goes_on c.loop-walked.invariant c.in_ok-bounds.bounds c.in_ok-bounds.next c.look.new.cache c.if-number-eq0.false (sym c.is_some.ensures ∙ c.if-is_some.false)
-    c.in_ok-bounds.ensures.asks c.in_ok-bounds.ensures.found
+    goes_on c.loop-walked.invariant c.in_ok-kept.kept c.in_ok-kept.next c.look.new.cache c.if-number-eq0.false (sym c.is_some.ensures ∙ c.if-is_some.false)
+    c.in_ok-kept.ensures.asks c.in_ok-kept.ensures.found
 
 pub returns-clause-stands : goal.returns-clause-stands
 returns-clause-stands g c = λ h t at stands.

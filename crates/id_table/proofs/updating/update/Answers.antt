@@ -1,18 +1,22 @@
 -- The goals of `update` that are proved by hand: where the object is, and what its chain has then.
-use Rattle.std.proofs.Common.{◌≡◌, ◌∙◌, ◌<◌, None, Some, ap, arith}
-use Rattle.bucket_page.specs.Layout.{BucketContent, replaced}
+use Rattle.std.proofs.Common.{◌≡◌, ◌∙◌, ◌<◌, List, None, Some, ap, arith, get_or}
+use Rattle.bucket_page.specs.Layout.{BucketContent, Entry, replaced}
 use Rattle.page_file.specs.Fault.{IsOfDevice}
 use Rattle.page_cache.specs.Cache.{pages}
 use Rattle.page_cache.specs.Calls.{asks_changes, asks_in_turn, changes_in_turn, fault_in, no_call_asks}
 use Rattle.page_cache.specs.Laws.{the_map_is_kept_in_turn}
 use Rattle.node_page.proofs.NodeLemmas.{at_error, on_ok}
+use Rattle.id_table.specs.Changes.{with_box}
+use Rattle.id_table.specs.Pages.{moved}
 use Rattle.id_table.specs.Table.{bucket_in, chain_at, class_of, link_at}
 use Rattle.id_table.proofs.AddLemmas.{in_chain}
 use Rattle.id_table.proofs.GetLemmas.{chain_is_short}
 use Rattle.id_table.proofs.ReachLemmas.{reached}
 use Rattle.id_table.proofs.Results.{on_err}
 use Rattle.id_table.proofs.StartLemmas.{starts}
-use Rattle.id_table.proofs.UpdateLemmas.{sets_box}
+use Rattle.id_table.proofs.BucketLemmas.{some_object}
+use Rattle.id_table.proofs.PlaceLemmas.{holder_entries}
+use Rattle.id_table.proofs.UpdateLemmas.{kept_there, sets_box}
 use Rattle.id_table.proofs.updating.update.Goals as goal
 
 pub returns-in_err-holder-clause-faults : goal.returns-in_err-holder-clause-faults
@@ -26,37 +30,47 @@ returns-in_err-holder-clause-faults g c = λ map t at stands has.
 
 pub returns-clause-changes : goal.returns-clause-changes
 returns-clause-changes g c =
-    changes_in_turn c.args.cache.now c.place_in.new.cache c.put_at.new.cache (fault_in c.put_at.result) (asks_changes c.args.cache.now c.place_in.new.cache None (asks_in_turn c.args.cache.now c.read_link.new.cache c.place_in.new.cache None c.in_ok-first.ensures.asks c.in_ok-holder.ensures.asks)) c.put_at.ensures.changes
+    changes_in_turn c.args.cache.now c.place_in.new.cache c.move_at.new.cache (fault_in c.move_at.result) (asks_changes c.args.cache.now c.place_in.new.cache None (asks_in_turn c.args.cache.now c.read_link.new.cache c.place_in.new.cache None c.in_ok-first.ensures.asks c.in_ok-holder.ensures.asks)) c.move_at.ensures.changes
 
 pub returns-clause-refused : goal.returns-clause-refused
 returns-clause-refused g c =
     let asked = asks_in_turn c.args.cache.now c.read_link.new.cache c.place_in.new.cache None c.in_ok-first.ensures.asks c.in_ok-holder.ensures.asks in
-    on_err c.put_at.result (the_map_is_kept_in_turn c.args.cache.now c.place_in.new.cache c.put_at.new.cache asked.gate.honest.0 asked.map) c.put_at.ensures.refused
+    on_err c.move_at.result (the_map_is_kept_in_turn c.args.cache.now c.place_in.new.cache c.move_at.new.cache asked.gate.honest.0 asked.map) c.move_at.ensures.refused
 
 pub returns-clause-sound : goal.returns-clause-sound
 returns-clause-sound g c = λ map t at stands.
     let r = reached g.row.D c.args.directory c.args.id c.in_ok-first.first c.in_ok-holder.holder c.in_ok-holder.place c.args.cache.now c.read_link.new.cache c.place_in.new.cache c.place_in.new.cache c.in_ok-first.ensures.asks
     (λ honest p there spelled. c.in_ok-first.ensures.link honest p there spelled ∙ ap (λ k. link_at k p) c.class_of-class.ensures.value)
     c.in_ok-holder.ensures.asks c.in_ok-holder.ensures.found (no_call_asks c.place_in.new.cache) map t at stands in
-    c.put_at.ensures.sound r.map_is r.holder_live
+    c.move_at.ensures.sound r.map_is r.holder_live
 
 pub returns-clause-updated : goal.returns-clause-updated
-returns-clause-updated g c = λ map t at stands has.
+returns-clause-updated g c = λ map t at stands kept has.
     let r = reached g.row.D c.args.directory c.args.id c.in_ok-first.first c.in_ok-holder.holder c.in_ok-holder.place c.args.cache.now c.read_link.new.cache c.place_in.new.cache c.place_in.new.cache c.in_ok-first.ensures.asks
     (λ honest p there spelled. c.in_ok-first.ensures.link honest p there spelled ∙ ap (λ k. link_at k p) c.class_of-class.ensures.value)
     c.in_ok-holder.ensures.asks c.in_ok-holder.ensures.found (no_call_asks c.place_in.new.cache) map t at stands in
-    let others = c.put_at.ensures.others r.map_is.honest r.holder_live in
+    let others = c.move_at.ensures.others r.map_is.honest r.holder_live in
     let place = c.in_ok-holder.place in
-    on_ok c.put_at.result
-    (λ written. sets_box g.row.D (pages c.args.cache.now) (pages c.put_at.new.cache) t c.args.id c.in_ok-holder.holder place c.args.bounds.now stands r.found (record {
+    let holder = c.in_ok-holder.holder in
+    let old = pages c.args.cache.now in
+    let box = c.args.bounds.now in
+    let small : class_of c.args.id < 1000 = omega arith in
+    on_ok c.move_at.result
+    (λ written. sets_box g.row.D old t c.args.id holder place stands r.found (pages c.move_at.new.cache) (with_box kept box) (record {
       others = λ k off. others k off ∙ r.stay k;
-      written = λ k is within. let same : r.held.content ≡ k = cc (is, r.held.there) in written ∙ ap (λ (k : BucketContent). Some (replaced k place (c.args.id, c.args.bounds.now))) same;
+      written = λ k is within.
+          let same : r.held.content ≡ k = cc (is, r.held.there) in
+          let object : get_or k.entries place some_object ≡ (c.args.id, kept)
+          = ap (λ (es : List Entry). get_or es place some_object) (holder_entries g.row.D old c.args.id (chain_at t (class_of c.args.id)) (link_at (class_of c.args.id) stands.directory) holder place (stands.chains (class_of c.args.id) small) r.found k is)
+          ∙ kept_there g.row.D old t c.args.id holder place stands r.found kept has in
+          written ∙ ap (λ (k : BucketContent). Some (replaced k place (moved (get_or k.entries place some_object) box))) same
+          ∙ ap (λ (o : Entry). Some (replaced k place (moved o box))) object;
     }))
-    (c.put_at.ensures.written r.map_is.honest r.held.content (ap (bucket_in g.row.D) (r.stay c.in_ok-holder.holder) ∙ r.held.there) r.held.within)
+    (c.move_at.ensures.written r.map_is.honest r.held.content some_object (ap (bucket_in g.row.D) (r.stay holder) ∙ r.held.there) r.held.within)
 
 pub returns-clause-faults : goal.returns-clause-faults
 returns-clause-faults g c = λ map t at stands has.
     let r = reached g.row.D c.args.directory c.args.id c.in_ok-first.first c.in_ok-holder.holder c.in_ok-holder.place c.args.cache.now c.read_link.new.cache c.place_in.new.cache c.place_in.new.cache c.in_ok-first.ensures.asks
     (λ honest p there spelled. c.in_ok-first.ensures.link honest p there spelled ∙ ap (λ k. link_at k p) c.class_of-class.ensures.value)
     c.in_ok-holder.ensures.asks c.in_ok-holder.ensures.found (no_call_asks c.place_in.new.cache) map t at stands in
-    c.put_at.ensures.faults r.map_is.honest r.holder_live
+    c.move_at.ensures.faults r.map_is.honest r.holder_live

@@ -7,7 +7,8 @@ use Rattle.std.proofs.lemmas.List.Sorted.{length_permutation}
 use Rattle.page_file.specs.declared.fault.Fault.TheVariants as fault
 use Rattle.layer_pages.specs.Checked.{odd_page}
 use Rattle.box_math.specs.Bounds.{IsBox}
-use Rattle.id_table.specs.Table.{Object}
+use Rattle.box_math.specs.Objects.{bounds_of}
+use Rattle.bucket_page.specs.Layout.{Entry}
 use Rattle.layer_pages.proofs.checking.pages_of_both.Goals as goal
 
 pub returns-then-len-count-clause-stands : goal.returns-then-len-count-clause-stands
@@ -17,8 +18,8 @@ returns-then-len-count-clause-stands g c = λ objects count_is held_are listed_a
 pub returns-then-not-have_same-clause-stands : goal.returns-then-not-have_same-clause-stands
 returns-then-not-have_same-clause-stands g c = λ objects count_is held_are listed_are.
     let yes = c.have_same.ensures.found objects
-    (subst (λ (os : List Object). IsPermutation os (entries objects)) (sym c.as_mut_slice.ensures.value) held_are)
-    (subst (λ (os : List Object). IsPermutation os (entries objects)) (sym c.as_mut_slice-2.ensures.value) listed_are) in
+    (subst (λ (os : List Entry). IsPermutation os (entries objects)) (sym c.as_mut_slice.ensures.value) held_are)
+    (subst (λ (os : List Entry). IsPermutation os (entries objects)) (sym c.as_mut_slice-2.ensures.value) listed_are) in
     absurd (cc)
 
 pub returns-then-len-count-clause-damage : goal.returns-then-len-count-clause-damage
@@ -35,11 +36,11 @@ returns-then-not-have_same-clause-damage g c =
 
 pub returns-clause-joined : goal.returns-clause-joined
 returns-clause-joined g c =
-    let P : Object → Type 0 = λ o. IsBox g.row.D o.1 in
+    let P : Entry → Type 0 = λ o. IsBox g.row.D (bounds_of o.1) in
     record {
-      same = subst (λ (os : List Object). IsPermutation os c.args.table.pairs.items) c.as_mut_slice.ensures.value
-          (subst (λ (os : List Object). IsPermutation c.as_mut_slice.result.now os) c.as_mut_slice-2.ensures.value (c.have_same.ensures.same c.if-not-have_same.false));
-      boxes = subst (λ (os : List Object). All P os) c.as_mut_slice.ensures.value (c.have_same.ensures.boxes c.if-not-have_same.false);
+      same = subst (λ (os : List Entry). IsPermutation os c.args.table.pairs.items) c.as_mut_slice.ensures.value
+          (subst (λ (os : List Entry). IsPermutation c.as_mut_slice.result.now os) c.as_mut_slice-2.ensures.value (c.have_same.ensures.same c.if-not-have_same.false));
+      boxes = subst (λ (os : List Entry). All P os) c.as_mut_slice.ensures.value (c.have_same.ensures.boxes c.if-not-have_same.false);
       many = sym c.args.tree.pairs.ok.0 ∙ sym c.len.ensures ∙ c.if-len-count.false;
       pages_are = c.in_ok-extend_from_slice.ensures.items ∙ ap (λ (list : List ℕ). c.args.tree.pages.items ++ list) c.as_slice.ensures.value;
     }

@@ -1,6 +1,7 @@
 -- An object more in the tree, and then in the table.
 use Rattle.std.proofs.Common.{ℕ, None, ⊎_elim, inl, inr, sym, subst, arith}
 use Rattle.std.specs.FinMap as map
+use Rattle.box_math.specs.Objects.{Object}
 use Rattle.page_cache.specs.Cache.{pages}
 use Rattle.page_cache.specs.Calls.{changes_in_turn}
 use Rattle.node_page.specs.Broken.{alters_and_breaks, made_alters}
@@ -19,12 +20,12 @@ returns-in_err-after-clause-faults g c = λ sound l objects at.
     let D = g.row.D in
     let m = pages c.args.cache.now in
     let id = c.args.object.now.reference in
-    let bounds = c.args.object.now.bounds in
+    let kept : Object = (c.args.object.now.bounds, c.args.object.now.tag) in
     let is = subst (λ (most : ℕ). IsLayerAt D most m c.args.root c.args.directory l objects) (sym c.from.ensures) at in
     at_broken c.from_residual.result c.in_err-after.field-0.0 (λ (b : Broken). IsNoDamage c.insert_with.new.cache b.cause) c.from_residual.ensures.1
-    (c.in_err-after.ensures.faults sound l.tree (branch D c.from.result m c.args.root c.args.directory l objects is id bounds) (part_of l.ids)
-    (can_insert D c.from.result m c.args.root c.args.directory l objects is id bounds) (loose D c.from.result l.tree is.tree.shape) is.boxes
-    (entry_has_shape D c.from.result m c.args.root c.args.directory l objects is id bounds c.low.ensures.is_box))
+    (c.in_err-after.ensures.faults sound l.tree (branch D c.from.result m c.args.root c.args.directory l objects is id kept) (part_of l.ids)
+    (can_insert D c.from.result m c.args.root c.args.directory l objects is id kept) (loose D c.from.result l.tree is.tree.shape) is.boxes
+    (entry_has_shape D c.from.result m c.args.root c.args.directory l objects is id kept c.low.ensures.is_box))
 
 pub returns-in-Ok-clause-alters : goal.returns-in-Ok-clause-alters
 returns-in-Ok-clause-alters g c = made_alters c.args.cache.now c.add.new.cache c.in_ok-after.after
@@ -35,11 +36,11 @@ returns-in-Ok-clause-sound g c = λ sound l objects at.
     let D = g.row.D in
     let m = pages c.args.cache.now in
     let id = c.args.object.now.reference in
-    let bounds = c.args.object.now.bounds in
+    let kept : Object = (c.args.object.now.bounds, c.args.object.now.tag) in
     let is = subst (λ (most : ℕ). IsLayerAt D most m c.args.root c.args.directory l objects) (sym c.from.ensures) at in
-    let to = c.in_ok-after.ensures.inserted sound l.tree (branch D c.from.result m c.args.root c.args.directory l objects is id bounds) (part_of l.ids)
-    (can_insert D c.from.result m c.args.root c.args.directory l objects is id bounds) in
-    c.in-Ok.ensures.sound to.0 l.ids is.directory_is (ids_meanwhile D c.from.result m c.args.root c.args.directory l objects is id bounds (pages c.insert_with.new.cache) c.in_ok-after.after to.1)
+    let to = c.in_ok-after.ensures.inserted sound l.tree (branch D c.from.result m c.args.root c.args.directory l objects is id kept) (part_of l.ids)
+    (can_insert D c.from.result m c.args.root c.args.directory l objects is id kept) in
+    c.in-Ok.ensures.sound to.0 l.ids is.directory_is (ids_meanwhile D c.from.result m c.args.root c.args.directory l objects is id kept (pages c.insert_with.new.cache) c.in_ok-after.after to.1)
 
 pub returns-in-Ok-clause-inserted : goal.returns-in-Ok-clause-inserted
 returns-in-Ok-clause-inserted g c = λ sound l objects at absent.
@@ -47,15 +48,15 @@ returns-in-Ok-clause-inserted g c = λ sound l objects at absent.
     let m = pages c.args.cache.now in
     let mid = pages c.insert_with.new.cache in
     let id = c.args.object.now.reference in
-    let bounds = c.args.object.now.bounds in
+    let kept : Object = (c.args.object.now.bounds, c.args.object.now.tag) in
     let is = subst (λ (most : ℕ). IsLayerAt D most m c.args.root c.args.directory l objects) (sym c.from.ensures) at in
-    let to = c.in_ok-after.ensures.inserted sound l.tree (branch D c.from.result m c.args.root c.args.directory l objects is id bounds) (part_of l.ids)
-    (can_insert D c.from.result m c.args.root c.args.directory l objects is id bounds) in
-    let stand = ids_meanwhile D c.from.result m c.args.root c.args.directory l objects is id bounds mid c.in_ok-after.after to.1 in
-    let none = absent_meanwhile D c.from.result m c.args.root c.args.directory l objects is id bounds mid c.in_ok-after.after to.1 absent in
+    let to = c.in_ok-after.ensures.inserted sound l.tree (branch D c.from.result m c.args.root c.args.directory l objects is id kept) (part_of l.ids)
+    (can_insert D c.from.result m c.args.root c.args.directory l objects is id kept) in
+    let stand = ids_meanwhile D c.from.result m c.args.root c.args.directory l objects is id kept mid c.in_ok-after.after to.1 in
+    let none = absent_meanwhile D c.from.result m c.args.root c.args.directory l objects is id kept mid c.in_ok-after.after to.1 absent in
     let added = c.in-Ok.ensures.added to.0 l.ids is.directory_is stand none in
-    subst (λ (most : ℕ). BecomesLayer D most m (pages c.add.new.cache) (part_of_layer l) c.in_ok-after.after c.args.directory (map.insert objects id bounds) (HasInserted D most l id bounds)) c.from.ensures
-    (layer_inserted D c.from.result m c.args.root c.args.directory l objects is id bounds mid c.in_ok-after.after to.1 (pages c.add.new.cache) added
+    subst (λ (most : ℕ). BecomesLayer D most m (pages c.add.new.cache) (part_of_layer l) c.in_ok-after.after c.args.directory (map.insert objects id kept) (HasInserted D most l id kept)) c.from.ensures
+    (layer_inserted D c.from.result m c.args.root c.args.directory l objects is id kept mid c.in_ok-after.after to.1 (pages c.add.new.cache) added
     (omega (arith, c.requires.most.0, c.from.ensures)) c.low.ensures.is_box absent)
 
 pub returns-in-Err-clause-alters : goal.returns-in-Err-clause-alters
@@ -67,11 +68,11 @@ returns-in-Err-clause-faults g c = λ sound l objects at.
     let D = g.row.D in
     let m = pages c.args.cache.now in
     let id = c.args.object.now.reference in
-    let bounds = c.args.object.now.bounds in
+    let kept : Object = (c.args.object.now.bounds, c.args.object.now.tag) in
     let is = subst (λ (most : ℕ). IsLayerAt D most m c.args.root c.args.directory l objects) (sym c.from.ensures) at in
-    let to = c.in_ok-after.ensures.inserted sound l.tree (branch D c.from.result m c.args.root c.args.directory l objects is id bounds) (part_of l.ids)
-    (can_insert D c.from.result m c.args.root c.args.directory l objects is id bounds) in
-    let stand = ids_meanwhile D c.from.result m c.args.root c.args.directory l objects is id bounds (pages c.insert_with.new.cache) c.in_ok-after.after to.1 in
+    let to = c.in_ok-after.ensures.inserted sound l.tree (branch D c.from.result m c.args.root c.args.directory l objects is id kept) (part_of l.ids)
+    (can_insert D c.from.result m c.args.root c.args.directory l objects is id kept) in
+    let stand = ids_meanwhile D c.from.result m c.args.root c.args.directory l objects is id kept (pages c.insert_with.new.cache) c.in_ok-after.after to.1 in
     subst (λ (b : Broken). IsNoDamage c.add.new.cache b.cause) (sym c.midway.ensures)
     (c.in-Err.ensures.faults to.0 l.ids is.directory_is stand)
 

@@ -2,6 +2,7 @@
 use Rattle.std.proofs.Common.{◌≡◌, ◌∙◌, ℕ, List, None, All, length, map as each, refl, sym, ap, subst, arith}
 use Rattle.std.proofs.lemmas.List.{length-map}
 use Rattle.box_math.specs.Bounds.{IsBox}
+use Rattle.box_math.specs.Objects.{Object}
 use Rattle.page_cache.specs.Cache.{pages}
 use Rattle.page_cache.specs.Calls.{changes_in_turn}
 use Rattle.tree_node.specs.Nodes.{Item, item_of, items_of}
@@ -10,12 +11,11 @@ use Rattle.node_page.specs.Broken.{alters_and_breaks, made_alters}
 use Rattle.node_page.specs.declared.broken.Broken.{Broken}
 use Rattle.bulk_load.specs.Loads.{Loads}
 use Rattle.node_page.specs.Faults.{IsNoDamage}
-use Rattle.id_table.specs.Table.{Object}
 use Rattle.layer_pages.specs.Changes.{item_of_object}
 use Rattle.layer_pages.proofs.LoadLemmas.{layer_loaded, layer_still, low_root}
 use Rattle.layer_pages.proofs.loading.load.Goals as goal
 
-as_many : {D : ℕ} (entries lent : List (Entry D)) (objects : List Object) → lent ≡ entries → items_of entries ≡ each item_of_object objects → length lent ≡ length objects
+as_many : {D : ℕ} (entries lent : List (Entry D)) (objects : List (ℕ × Object)) → lent ≡ entries → items_of entries ≡ each item_of_object objects → length lent ≡ length objects
 as_many entries lent objects same items = ap length same ∙ sym (length-map entries item_of) ∙ ap length items ∙ length-map objects item_of_object
 
 pub returns-then-not-can_be_root-clause-faults : goal.returns-then-not-can_be_root-clause-faults

@@ -4,11 +4,12 @@ use Rattle.std.specs.FinMap as map
 use Rattle.std.specs.FinMap.{entries}
 use Rattle.std.specs.Prelude.{IsPermutation}
 use Rattle.std.proofs.lemmas.List.Sorted.{IsNonDecreasingBy-from_sort_by_key, IsPermutation-sym, IsPermutation-trans, length_permutation}
+use Rattle.bucket_page.specs.Layout.{Entry}
 use Rattle.page_cache.specs.Cache.{Grows, pages}
 use Rattle.page_cache.specs.Calls.{changes_in_turn}
 use Rattle.node_page.specs.Broken.{alters_and_breaks, made_alters}
 use Rattle.node_page.specs.declared.broken.Broken.{Broken}
-use Rattle.id_table.specs.Table.{Object, class_of}
+use Rattle.id_table.specs.Table.{class_of}
 use Rattle.node_page.specs.Faults.{IsNoDamage}
 use Rattle.reinsert.proofs.BrokenLemmas.{at_broken}
 use Rattle.layer_pages.specs.Changes.{most_filled_pages}
@@ -17,7 +18,7 @@ use Rattle.layer_pages.proofs.LayerLemmas.{root_of}
 use Rattle.layer_pages.proofs.LoadLemmas.{all_new, table_left, tree_still}
 use Rattle.layer_pages.proofs.loading.put_ids.Goals as goal
 
-still_all : (old sorted : List Object) (all : Objects) → IsPermutation old sorted → IsPermutation old (entries all) → IsPermutation sorted (entries all)
+still_all : (old sorted : List Entry) (all : Objects) → IsPermutation old sorted → IsPermutation old (entries all) → IsPermutation sorted (entries all)
 still_all old sorted all moved same = IsPermutation-trans sorted old (entries all) (IsPermutation-sym old sorted moved) same
 
 pub returns-in_err-fill-clause-faults : goal.returns-in_err-fill-clause-faults
@@ -70,21 +71,21 @@ returns-in-Err-clause-faults g c = λ sound l most all is same.
 
 pub returns-in_err-fill-clause-grows : goal.returns-in_err-fill-clause-grows
 returns-in_err-fill-clause-grows g c =
-    let class : Object → ℕ = λ o. class_of o.0 in
+    let class : Entry → ℕ = λ o. class_of o.0 in
     let filled : Grows (most_filled_pages (length c.sort_unstable_by_key.new.self)) c.args.cache.now c.fill.new.cache =
     c.fill.ensures.grows_in_order (IsNonDecreasingBy-from_sort_by_key class _ c.sort_unstable_by_key.ensures.sorted (λ a r q k. search rules)) in
     omega (arith, filled, length_permutation _ _ c.sort_unstable_by_key.ensures.permutation)
 
 pub returns-in-Ok-clause-grows : goal.returns-in-Ok-clause-grows
 returns-in-Ok-clause-grows g c =
-    let class : Object → ℕ = λ o. class_of o.0 in
+    let class : Entry → ℕ = λ o. class_of o.0 in
     let filled : Grows (most_filled_pages (length c.sort_unstable_by_key.new.self)) c.args.cache.now c.fill.new.cache =
     c.fill.ensures.grows_in_order (IsNonDecreasingBy-from_sort_by_key class _ c.sort_unstable_by_key.ensures.sorted (λ a r q k. search rules)) in
     omega (arith, filled, length_permutation _ _ c.sort_unstable_by_key.ensures.permutation, c.free_tree.ensures.grows)
 
 pub returns-in-Err-clause-grows : goal.returns-in-Err-clause-grows
 returns-in-Err-clause-grows g c =
-    let class : Object → ℕ = λ o. class_of o.0 in
+    let class : Entry → ℕ = λ o. class_of o.0 in
     let filled : Grows (most_filled_pages (length c.sort_unstable_by_key.new.self)) c.args.cache.now c.fill.new.cache =
     c.fill.ensures.grows_in_order (IsNonDecreasingBy-from_sort_by_key class _ c.sort_unstable_by_key.ensures.sorted (λ a r q k. search rules)) in
     omega (arith, filled, length_permutation _ _ c.sort_unstable_by_key.ensures.permutation, c.free_tree.ensures.grows)

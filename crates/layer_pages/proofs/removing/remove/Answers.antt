@@ -2,6 +2,7 @@
 use Rattle.std.proofs.Common.{ℕ, ◌≡◌, None, false, inl, sym, subst, arith}
 use Rattle.std.specs.FinMap as map
 use Rattle.std.specs.Prelude.{◌⊎◌}
+use Rattle.box_math.specs.Objects.{Object}
 use Rattle.page_file.specs.Fault.{IsOfDevice}
 use Rattle.page_file.specs.declared.fault.Fault.TheVariants as fault
 use Rattle.page_cache.specs.Cache.{pages}
@@ -25,7 +26,7 @@ returns-in_err-after-clause-absent g c = λ sound l objects at absent.
     let is = subst (λ (most : ℕ). IsLayerAt D most m c.args.root c.args.directory l objects) (sym c.from.ensures) at in
     refused_so c.from_residual.result c.in_err-after.field-0.0 (λ (b : Broken). (b.touched ≡ false) × (IsOfDevice b.cause ⊎ (b.cause ≡ fault.Damaged c.args.root.page))) c.from_residual.ensures.1
     (c.in_err-after.ensures.absent sound l.tree (part_of l.ids) (can_remove D c.from.result m c.args.root c.args.directory l objects is)
-    (in_no_leaf D c.from.result m c.args.root c.args.directory l objects is c.args.id c.args.bounds.now absent))
+    (in_no_leaf D c.from.result m c.args.root c.args.directory l objects is c.args.id (c.args.bounds.now, c.args.tag) absent))
 
 pub returns-in_err-after-clause-faults : goal.returns-in_err-after-clause-faults
 returns-in_err-after-clause-faults g c = λ sound l objects at there.
@@ -34,7 +35,7 @@ returns-in_err-after-clause-faults g c = λ sound l objects at there.
     let is = subst (λ (most : ℕ). IsLayerAt D most m c.args.root c.args.directory l objects) (sym c.from.ensures) at in
     at_broken c.from_residual.result c.in_err-after.field-0.0 (λ (b : Broken). IsNoDamage c.remove_with.new.cache b.cause) c.from_residual.ensures.1
     (c.in_err-after.ensures.faults sound l.tree (part_of l.ids) (can_remove D c.from.result m c.args.root c.args.directory l objects is) is.tree.shape is.boxes
-    (in_a_leaf D c.from.result m c.args.root c.args.directory l objects is c.args.id c.args.bounds.now there))
+    (in_a_leaf D c.from.result m c.args.root c.args.directory l objects is c.args.id (c.args.bounds.now, c.args.tag) there))
 
 pub returns-in-Ok-clause-alters : goal.returns-in-Ok-clause-alters
 returns-in-Ok-clause-alters g c = made_alters c.args.cache.now c.remove.new.cache c.in_ok-after.after
@@ -47,7 +48,7 @@ returns-in-Ok-clause-sound g c = λ sound l objects at.
     let is = subst (λ (most : ℕ). IsLayerAt D most m c.args.root c.args.directory l objects) (sym c.from.ensures) at in
     let to = c.in_ok-after.ensures.removed sound l.tree (part_of l.ids) (can_remove D c.from.result m c.args.root c.args.directory l objects is) in
     c.in-Ok.ensures.sound to.0 l.ids is.directory_is
-    (ids_between D c.from.result m c.args.root c.args.directory l objects is c.args.id c.args.bounds.now (pages c.remove_with.new.cache) c.in_ok-after.after to.1)
+    (ids_between D c.from.result m c.args.root c.args.directory l objects is c.args.id (c.args.bounds.now, c.args.tag) (pages c.remove_with.new.cache) c.in_ok-after.after to.1)
 
 pub returns-in-Ok-clause-removed : goal.returns-in-Ok-clause-removed
 returns-in-Ok-clause-removed g c = λ sound l objects at there.
@@ -55,13 +56,13 @@ returns-in-Ok-clause-removed g c = λ sound l objects at there.
     let m = pages c.args.cache.now in
     let mid = pages c.remove_with.new.cache in
     let id = c.args.id in
-    let bounds = c.args.bounds.now in
+    let kept : Object = (c.args.bounds.now, c.args.tag) in
     let is = subst (λ (most : ℕ). IsLayerAt D most m c.args.root c.args.directory l objects) (sym c.from.ensures) at in
     let to = c.in_ok-after.ensures.removed sound l.tree (part_of l.ids) (can_remove D c.from.result m c.args.root c.args.directory l objects is) in
-    let stand = ids_between D c.from.result m c.args.root c.args.directory l objects is id bounds mid c.in_ok-after.after to.1 in
-    let removed = c.in-Ok.ensures.removed to.0 l.ids is.directory_is stand (in_table D c.from.result m c.args.root c.args.directory l objects is id bounds there) in
-    subst (λ (most : ℕ). BecomesLayer D most m (pages c.remove.new.cache) (part_of_layer l) c.in_ok-after.after c.args.directory (map.remove objects id) (HasRemoved D most l id bounds)) c.from.ensures
-    (layer_removed D c.from.result m c.args.root c.args.directory l objects is id bounds mid c.in_ok-after.after to.1 (pages c.remove.new.cache) removed (omega (arith, c.requires.most.0, c.from.ensures)) there)
+    let stand = ids_between D c.from.result m c.args.root c.args.directory l objects is id kept mid c.in_ok-after.after to.1 in
+    let removed = c.in-Ok.ensures.removed to.0 l.ids is.directory_is stand (in_table D c.from.result m c.args.root c.args.directory l objects is id kept there) in
+    subst (λ (most : ℕ). BecomesLayer D most m (pages c.remove.new.cache) (part_of_layer l) c.in_ok-after.after c.args.directory (map.remove objects id) (HasRemoved D most l id kept)) c.from.ensures
+    (layer_removed D c.from.result m c.args.root c.args.directory l objects is id kept mid c.in_ok-after.after to.1 (pages c.remove.new.cache) removed (omega (arith, c.requires.most.0, c.from.ensures)) there)
 
 pub returns-in-Ok-clause-absent : goal.returns-in-Ok-clause-absent
 returns-in-Ok-clause-absent g c = λ sound l objects at absent.
@@ -69,7 +70,7 @@ returns-in-Ok-clause-absent g c = λ sound l objects at absent.
     let m = pages c.args.cache.now in
     let is = subst (λ (most : ℕ). IsLayerAt D most m c.args.root c.args.directory l objects) (sym c.from.ensures) at in
     absurd (c.in_ok-after.ensures.absent sound l.tree (part_of l.ids) (can_remove D c.from.result m c.args.root c.args.directory l objects is)
-    (in_no_leaf D c.from.result m c.args.root c.args.directory l objects is c.args.id c.args.bounds.now absent))
+    (in_no_leaf D c.from.result m c.args.root c.args.directory l objects is c.args.id (c.args.bounds.now, c.args.tag) absent))
 
 pub returns-in-Err-clause-alters : goal.returns-in-Err-clause-alters
 returns-in-Err-clause-alters g c =
@@ -81,20 +82,20 @@ returns-in-Err-clause-absent g c = λ sound l objects at absent.
     let m = pages c.args.cache.now in
     let is = subst (λ (most : ℕ). IsLayerAt D most m c.args.root c.args.directory l objects) (sym c.from.ensures) at in
     absurd (c.in_ok-after.ensures.absent sound l.tree (part_of l.ids) (can_remove D c.from.result m c.args.root c.args.directory l objects is)
-    (in_no_leaf D c.from.result m c.args.root c.args.directory l objects is c.args.id c.args.bounds.now absent))
+    (in_no_leaf D c.from.result m c.args.root c.args.directory l objects is c.args.id (c.args.bounds.now, c.args.tag) absent))
 
 pub returns-in-Err-clause-faults : goal.returns-in-Err-clause-faults
 returns-in-Err-clause-faults g c = λ sound l objects at there.
     let D = g.row.D in
     let m = pages c.args.cache.now in
     let id = c.args.id in
-    let bounds = c.args.bounds.now in
+    let kept : Object = (c.args.bounds.now, c.args.tag) in
     let is = subst (λ (most : ℕ). IsLayerAt D most m c.args.root c.args.directory l objects) (sym c.from.ensures) at in
     let to = c.in_ok-after.ensures.removed sound l.tree (part_of l.ids) (can_remove D c.from.result m c.args.root c.args.directory l objects is) in
-    let stand = ids_between D c.from.result m c.args.root c.args.directory l objects is id bounds (pages c.remove_with.new.cache) c.in_ok-after.after to.1 in
+    let stand = ids_between D c.from.result m c.args.root c.args.directory l objects is id kept (pages c.remove_with.new.cache) c.in_ok-after.after to.1 in
     subst (λ (b : Broken). IsNoDamage c.remove.new.cache b.cause) (sym c.midway.ensures)
     (inl
-    (c.in-Err.ensures.faults to.0 l.ids is.directory_is stand (in_table D c.from.result m c.args.root c.args.directory l objects is id bounds there)))
+    (c.in-Err.ensures.faults to.0 l.ids is.directory_is stand (in_table D c.from.result m c.args.root c.args.directory l objects is id kept there)))
 
 pub returns-in-Err-clause-other_faults : goal.returns-in-Err-clause-other_faults
 returns-in-Err-clause-other_faults g c = subst (λ (b : Broken). IsChangeFault b.cause) (sym c.midway.ensures) (one_more _ _ _ c.in-Err.ensures.other_faults)

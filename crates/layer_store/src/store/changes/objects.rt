@@ -18,24 +18,24 @@ use plain_table::{RawBox, Refusal};
 use std::alloc::Allocator;
 
 impl<D: BlockDevice, A: Allocator + Copy> Store<D, A> {
-    /// Adds an object with a new identifier to a layer, by a lawful insertion into its tree.
+    /// Adds an object with a new identifier, a box and a tag to a layer, by a lawful insertion into its tree.
     ///
     /// Refused, in this order, by BadName, NoLayer, WrongDims, BadBox, Duplicate and TooManyObjects.
-    pub fn insert(&mut self, layer: &[u8], id: u64, bounds: RawBox) -> Result<(), Refusal>
-        ensures changes { Changes self.old self.new (Insert layer.now id bounds) result }
+    pub fn insert(&mut self, layer: &[u8], id: u64, bounds: RawBox, tag: u32) -> Result<(), Refusal>
+        ensures changes { Changes self.old self.new (Insert layer.now id bounds tag) result }
         ensures tree { (t : Table) → RepresentsTable self.old t →
             OnOk result (ChangesTree (layers_in self.old) (layers_in self.new) layer.now
-            (HasGained (layer_at t layer.now) id (given_bounds bounds))) }
+            (HasGained (layer_at t layer.now) id (given_bounds bounds, tag))) }
     {
         if self.failed {
             return Err(FAILED);
         }
-        let made = self.layers.insert(layer, id, bounds, &mut self.rooms);
+        let made = self.layers.insert(layer, id, bounds, tag, &mut self.rooms);
         tell(&mut self.failed, made)
     }
 
     /// Gives the object with that identifier that box: by a lawful removal from the layer's tree, and then a lawful
-    /// insertion into it. A move to the box that the object has changes nothing.
+    /// insertion into it. It keeps its tag. A move to the box that the object has changes nothing.
     ///
     /// Refused, in this order, by BadName, NoLayer, WrongDims, BadBox and NoObject.
     pub fn move_object(&mut self, layer: &[u8], id: u64, bounds: RawBox) -> Result<(), Refusal>

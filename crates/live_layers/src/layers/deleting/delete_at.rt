@@ -39,8 +39,10 @@ impl<B: BlockDevice, A: Allocator + Copy> Layers<B, A> {
             OnOk result (ChangesTree self.old self.new name (HasLost (layer_at t name) id)) }
         ensures keeps { KeepsInChange self.old self.new result }
     {
-        match self.box_of::<D>(located, id) {
-            Ok(bounds) => change_of(self.take_object(place, id, &bounds, waiting_room, kept_room)),
+        match self.object_of::<D>(located, id) {
+            Ok(known) => {
+                change_of(self.take_object(place, id, &known.0, known.1, waiting_room, kept_room))
+            }
             Err(refusal) => Err(Unmade::Refused(refusal)),
         }
     }

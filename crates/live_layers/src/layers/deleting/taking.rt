@@ -20,26 +20,27 @@ use reinsert::Waiting;
 use std::alloc::Allocator;
 
 impl<B: BlockDevice, A: Allocator + Copy> Layers<B, A> {
-    // Takes out an object that the layer at a place has with that box. The memory of what is inserted again, and of
-    // what waits in that, is taken before the gate is opened.
+    // Takes out an object that the layer at a place has with that box and that tag. The memory of what is inserted
+    // again, and of what waits in that, is taken before the gate is opened.
     pub(crate) fn take_object<const D: usize>(
         &mut self,
         place: usize,
         id: u64,
         bounds: &BBox<D>,
+        tag: u32,
         waiting_room: &mut Room<Waiting<D>, A>,
         kept_room: &mut Room<Kept<D>, A>,
     ) -> Result<(), Broken>
         requires dims { IsDims D }
         requires within { place < length (records_in self.old) }
         ensures taken { (t : Table) (name : List ℕ) → IsSound self.old t → Finds t name place →
-            (layer_at t name).dims ≡ D → map.get (layer_at t name).objects id ≡ Some bounds.now →
+            (layer_at t name).dims ≡ D → map.get (layer_at t name).objects id ≡ Some (bounds.now, tag) →
             OnOk result (IsSound self.new (map.insert t name (without_object (layer_at t name) id))) }
         ensures tree { (t : Table) (name : List ℕ) → IsSound self.old t → Finds t name place →
-            (layer_at t name).dims ≡ D → map.get (layer_at t name).objects id ≡ Some bounds.now →
+            (layer_at t name).dims ≡ D → map.get (layer_at t name).objects id ≡ Some (bounds.now, tag) →
             OnOk result (ChangesTree self.old self.new name (HasLost (layer_at t name) id)) }
         ensures faults { (t : Table) (name : List ℕ) → IsSound self.old t → Finds t name place →
-            (layer_at t name).dims ≡ D → map.get (layer_at t name).objects id ≡ Some bounds.now →
+            (layer_at t name).dims ≡ D → map.get (layer_at t name).objects id ≡ Some (bounds.now, tag) →
             IfErr result (λ b. IsOfDevice b.cause) }
         ensures begins { BeginsChange self.old self.new result }
     {
@@ -53,6 +54,7 @@ impl<B: BlockDevice, A: Allocator + Copy> Layers<B, A> {
             located.directory,
             id,
             bounds,
+            tag,
             located.fanout,
             &mut waiting,
             &mut kept,

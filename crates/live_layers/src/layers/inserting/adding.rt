@@ -26,6 +26,7 @@ impl<B: BlockDevice, A: Allocator + Copy> Layers<B, A> {
         place: usize,
         id: u64,
         bounds: &BBox<D>,
+        tag: u32,
         waiting_room: &mut Room<Waiting<D>, A>,
     ) -> Result<(), Broken>
         requires dims { IsDims D }
@@ -33,10 +34,10 @@ impl<B: BlockDevice, A: Allocator + Copy> Layers<B, A> {
         requires room { self.old.object_count < most_objects }
         ensures added { (t : Table) (name : List ℕ) → IsSound self.old t → Finds t name place →
             (layer_at t name).dims ≡ D → map.contains_key (layer_at t name).objects id ≡ false →
-            OnOk result (IsSound self.new (map.insert t name (with_object (layer_at t name) id bounds.now))) }
+            OnOk result (IsSound self.new (map.insert t name (with_object (layer_at t name) id (bounds.now, tag)))) }
         ensures tree { (t : Table) (name : List ℕ) → IsSound self.old t → Finds t name place →
             (layer_at t name).dims ≡ D → map.contains_key (layer_at t name).objects id ≡ false →
-            OnOk result (ChangesTree self.old self.new name (HasGained (layer_at t name) id bounds.now)) }
+            OnOk result (ChangesTree self.old self.new name (HasGained (layer_at t name) id (bounds.now, tag))) }
         ensures faults { (t : Table) (name : List ℕ) → IsSound self.old t → Finds t name place →
             (layer_at t name).dims ≡ D → IfErr result (λ b. IsOfDevice b.cause) }
         ensures begins { BeginsChange self.old self.new result }
@@ -47,6 +48,7 @@ impl<B: BlockDevice, A: Allocator + Copy> Layers<B, A> {
         let object = Entry {
             bounds: *bounds,
             reference: id,
+            tag,
         };
         let root = insert(
             &mut self.cache,

@@ -27,21 +27,22 @@ impl<B: BlockDevice, A: Allocator + Copy> Layers<B, A> {
         id: u64,
         low: [i32; D],
         high: [i32; D],
+        tag: u32,
         waiting_room: &mut Room<Waiting<D>, A>,
     ) -> Result<(), Unmade>
         requires dims { IsDims D }
         requires within { place < length (records_in self.old) }
         ensures change { (t : Table) (name : List ℕ) (box : GivenBox) → IsSound self.old t →
             ReachesBox t name place box D (record { low = low.entry; high = high.entry }) →
-            IsChange self.old self.new t (Insert name id box) result }
+            IsChange self.old self.new t (Insert name id box tag) result }
         ensures tree { (t : Table) (name : List ℕ) (box : GivenBox) → IsSound self.old t →
             ReachesBox t name place box D (record { low = low.entry; high = high.entry }) →
-            OnOk result (ChangesTree self.old self.new name (HasGained (layer_at t name) id (given_bounds box))) }
+            OnOk result (ChangesTree self.old self.new name (HasGained (layer_at t name) id (given_bounds box, tag))) }
         ensures keeps { KeepsInChange self.old self.new result }
     {
         let located = self.locate(place);
         match self.check_object(&located, id, low, high) {
-            Ok(bounds) => change_of(self.add_object(place, id, &bounds, waiting_room)),
+            Ok(bounds) => change_of(self.add_object(place, id, &bounds, tag, waiting_room)),
             Err(refusal) => Err(Unmade::Refused(refusal)),
         }
     }

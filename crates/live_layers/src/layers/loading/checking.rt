@@ -22,7 +22,7 @@ impl<B: BlockDevice, A: Allocator + Copy> Layers<B, A> {
     pub(crate) fn check_load<const D: usize>(
         &self,
         place: usize,
-        objects: &[(u64, BBox<D>)],
+        objects: &[(u64, (BBox<D>, u32))],
     ) -> Result<(), Refusal>
         requires within { place < length (records_in self.now) }
         ensures allowed { (t : Table) (name : List ℕ) (given : GivenObjects) → IsSound self.now t →

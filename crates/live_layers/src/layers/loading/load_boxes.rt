@@ -24,7 +24,7 @@ impl<B: BlockDevice, A: Allocator + Copy> Layers<B, A> {
     pub(crate) fn load_boxes<const D: usize>(
         &mut self,
         place: usize,
-        objects: &mut [(u64, BBox<D>)],
+        objects: &mut [(u64, (BBox<D>, u32))],
     ) -> Result<(), Unmade>
         requires dims { IsDims D }
         requires within { place < length (records_in self.old) }

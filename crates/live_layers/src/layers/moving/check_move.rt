@@ -20,14 +20,14 @@ use plain_table::Refusal;
 use std::alloc::Allocator;
 
 impl<B: BlockDevice, A: Allocator + Copy> Layers<B, A> {
-    // The box that an object of the layer that stands there has, and the one that it may get; or why it may not.
+    // The object of the layer that stands there, and the box that it may get; or why it may not.
     pub(crate) fn check_move<const D: usize>(
         &mut self,
         located: &Located,
         id: u64,
         low: [i32; D],
         high: [i32; D],
-    ) -> Result<(BBox<D>, BBox<D>), Refusal>
+    ) -> Result<((BBox<D>, u32), BBox<D>), Refusal>
         requires dims { IsDims D }
         ensures allowed { (t : Table) (name : List ℕ) (box : GivenBox) → IsSound self.old t →
             IsLocated self.old t name located.now → dims_of box ≡ D →
@@ -35,8 +35,8 @@ impl<B: BlockDevice, A: Allocator + Copy> Layers<B, A> {
             (first_refusal (box_refusals (layer_at t name).dims box (missing_refusals (layer_at t name) id))) result }
         ensures axes { IfOk result (λ _. located.now.dims ≡ D) }
         ensures has { (t : Table) (name : List ℕ) → IsSound self.old t → IsLocated self.old t name located.now →
-            IfOk result (λ boxes. map.get (layer_at t name).objects id ≡ Some boxes.0) }
-        ensures gets { IfOk result (λ boxes. boxes.1 ≡ record { low = low.entry; high = high.entry }) }
+            IfOk result (λ both. map.get (layer_at t name).objects id ≡ Some both.0) }
+        ensures gets { IfOk result (λ both. both.1 ≡ record { low = low.entry; high = high.entry }) }
         ensures keeps { KeepsInQuestion self.old self.new result }
     {
         if usize::from(located.dims) != D {
@@ -45,7 +45,7 @@ impl<B: BlockDevice, A: Allocator + Copy> Layers<B, A> {
         let Some(bounds) = BBox::try_new(low, high) else {
             return Err(Refusal::BadBox);
         };
-        match self.box_of::<D>(located, id) {
+        match self.object_of::<D>(located, id) {
             Ok(known) => Ok((known, bounds)),
             Err(refusal) => Err(refusal),
         }

@@ -49,12 +49,20 @@ impl<B: BlockDevice, A: Allocator + Copy> Layers<B, A> {
     {
         let located = self.locate(place);
         let (known, bounds) = match self.check_move(&located, id, low, high) {
-            Ok(boxes) => boxes,
+            Ok(both) => both,
             Err(refusal) => return Err(Unmade::Refused(refusal)),
         };
-        if known == bounds {
+        if known.0 == bounds {
             return Ok(());
         }
-        change_of(self.replace_box(place, id, &known, &bounds, waiting_room, kept_room))
+        change_of(self.replace_box(
+            place,
+            id,
+            &known.0,
+            known.1,
+            &bounds,
+            waiting_room,
+            kept_room,
+        ))
     }
 }

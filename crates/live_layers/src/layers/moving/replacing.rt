@@ -20,13 +20,14 @@ use reinsert::Waiting;
 use std::alloc::Allocator;
 
 impl<B: BlockDevice, A: Allocator + Copy> Layers<B, A> {
-    // Gives an object, which the layer at a place has with the box `known`, another box. The memory of what is inserted
-    // again, and of what waits in that, is taken before the gate is opened.
+    // Gives an object, which the layer at a place has with the box `known` and that tag, another box. The memory of what
+    // is inserted again, and of what waits in that, is taken before the gate is opened.
     pub(crate) fn replace_box<const D: usize>(
         &mut self,
         place: usize,
         id: u64,
         known: &BBox<D>,
+        tag: u32,
         bounds: &BBox<D>,
         waiting_room: &mut Room<Waiting<D>, A>,
         kept_room: &mut Room<Kept<D>, A>,
@@ -34,13 +35,13 @@ impl<B: BlockDevice, A: Allocator + Copy> Layers<B, A> {
         requires dims { IsDims D }
         requires within { place < length (records_in self.old) }
         ensures replaced { (t : Table) (name : List ℕ) → IsSound self.old t → Finds t name place →
-            (layer_at t name).dims ≡ D → map.get (layer_at t name).objects id ≡ Some known.now →
-            OnOk result (IsSound self.new (map.insert t name (with_object (layer_at t name) id bounds.now))) }
+            (layer_at t name).dims ≡ D → map.get (layer_at t name).objects id ≡ Some (known.now, tag) →
+            OnOk result (IsSound self.new (map.insert t name (with_object (layer_at t name) id (bounds.now, tag)))) }
         ensures tree { (t : Table) (name : List ℕ) → IsSound self.old t → Finds t name place →
-            (layer_at t name).dims ≡ D → map.get (layer_at t name).objects id ≡ Some known.now →
+            (layer_at t name).dims ≡ D → map.get (layer_at t name).objects id ≡ Some (known.now, tag) →
             OnOk result (ChangesTree self.old self.new name (HasMoved (layer_at t name) id bounds.now)) }
         ensures faults { (t : Table) (name : List ℕ) → IsSound self.old t → Finds t name place →
-            (layer_at t name).dims ≡ D → map.get (layer_at t name).objects id ≡ Some known.now →
+            (layer_at t name).dims ≡ D → map.get (layer_at t name).objects id ≡ Some (known.now, tag) →
             IfErr result (λ b. IsOfDevice b.cause) }
         ensures begins { BeginsChange self.old self.new result }
     {
@@ -54,6 +55,7 @@ impl<B: BlockDevice, A: Allocator + Copy> Layers<B, A> {
             located.directory,
             id,
             known,
+            tag,
             bounds,
             located.fanout,
             &mut waiting,

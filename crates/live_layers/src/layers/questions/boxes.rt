@@ -1,4 +1,4 @@
-//! The box of an object, from the identifier table of its layer.
+//! The box and the tag of an object, from the identifier table of its layer.
 
 ghost use Rattle.std.specs.Prelude.{◌≡◌, ◌∷◌, [], ℕ, List};
 ghost use Rattle.box_math.specs.Bounds.{IsDims};
@@ -8,7 +8,7 @@ ghost use Rattle.plain_table.specs.Table.{Table, layer_at};
 ghost use Rattle.live_layers.specs.Changes.{KeepsInQuestion, Rose};
 ghost use Rattle.live_layers.specs.Keeping.{IsSound};
 ghost use Rattle.live_layers.specs.Located.{IsLocated};
-ghost use Rattle.live_layers.specs.Questions.{IsReply, bounds_answer};
+ghost use Rattle.live_layers.specs.Questions.{IsReply, kept_answer};
 
 use crate::faults::as_refusal;
 use crate::layers::Layers;
@@ -20,21 +20,21 @@ use plain_table::Refusal;
 use std::alloc::Allocator;
 
 impl<B: BlockDevice, A: Allocator + Copy> Layers<B, A> {
-    // The box of an object of the layer that stands there, which has D axes. Refused by NoObject.
-    pub(crate) fn box_of<const D: usize>(
+    // The box and the tag of an object of the layer that stands there, which has D axes. Refused by NoObject.
+    pub(crate) fn object_of<const D: usize>(
         &mut self,
         located: &Located,
         id: u64,
-    ) -> Result<BBox<D>, Refusal>
+    ) -> Result<(BBox<D>, u32), Refusal>
         requires dims { IsDims D }
         requires axes { located.now.dims ≡ D }
         ensures replied { (t : Table) (name : List ℕ) → IsSound self.old t → IsLocated self.old t name located.now →
             IsReply (Rose self.old self.new) (first_refusal (missing_refusals (layer_at t name) id))
-            (Boxes (object_row (layer_at t name) id ∷ [])) (bounds_answer id result) }
+            (Boxes (object_row (layer_at t name) id ∷ [])) (kept_answer id result) }
         ensures keeps { KeepsInQuestion self.old self.new result }
     {
         match get::<D, B, A>(&mut self.cache, located.directory, id) {
-            Ok(Some(bounds)) => Ok(bounds),
+            Ok(Some(kept)) => Ok(kept),
             Ok(None) => Err(Refusal::NoObject),
             Err(fault) => Err(as_refusal(fault)),
         }

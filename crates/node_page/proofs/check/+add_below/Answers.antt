@@ -14,7 +14,7 @@ use Rattle.node_page.specs.Standing.{RowStands, node_in}
 use Rattle.node_page.specs.Visits.{times_in}
 use Rattle.node_page.proofs.DamageLemmas.{comes_below_child, comes_below_so, comes_to_child, damaged_read, damaged_visit, entry_names}
 use Rattle.node_page.proofs.GivenLemmas.{node_was_given_out}
-use Rattle.node_page.proofs.LeafLemmas.{child_page}
+use Rattle.node_page.proofs.LeafLemmas.{child_page, child_tag}
 use Rattle.node_page.proofs.StandingLemmas.{row_stays}
 use Rattle.node_page.proofs.NodeLemmas.{at_error, if_error, on_ok}
 use Rattle.node_page.proofs.check.+add_below.Goals as goal
@@ -146,13 +146,14 @@ loop-entry-preserved g t c =
     let here = entry_item c.as_slice-entry-items.result.now c.loop-entry.entry-index entry (omega (arith, c.loop-entry-test.true)) c.entry-item.is in
     let a = asks_in_turn c.args.cache.now c.loop-entry.cache c.read_node.new.cache None inv.asks c.in_ok-below.ensures.asks in
     let fits = c.fits_below.ensures.0 c.if-not-fits_below.false in
+    let untagged = child_tag c.args.node.now.level c.args.node.now.entries.items c.as_slice-entry-items.result.now c.loop-entry.entry-index entry c.requires.spellable.refers c.as_slice-entry-items.ensures.value (omega (arith, c.loop-entry-test.true)) c.entry-item.is (omega (arith, c.if-node-eq0.false)) in
     record {
       asks = asks_in_turn c.args.cache.now c.read_node.new.cache c.add_below.new.cache None a c.in_ok-add_below.ensures.asks;
       checked = λ h.
           let there = ap (node_in g.row.D) (sym (inv.asks.map.given_stay h entry.reference)) ∙ c.in_ok-below.ensures.given_node (inv.asks.gate.honest.0 h) in
           checked_more g.row.D c.args.m_max (given c.args.cache.now) c.args.node.now.level items c.args.pairs.now.items c.args.visits.now.pages.items c.loop-entry.entry-index x (content_of c.in_ok-below.below)
           c.loop-entry.pairs.items c.add_below.new.pairs.items c.loop-entry.visits.pages.items c.visit.new.self.pages.items c.add_below.new.visits.pages.items
-          (omega (arith, c.if-node-eq0.false)) within here (inv.checked h) c.in_ok-visit.ensures.added
+          (omega (arith, c.if-node-eq0.false)) untagged within here (inv.checked h) c.in_ok-visit.ensures.added
           (record { there = there; at_level = c.in_ok-below.ensures.level; boxes = c.in_ok-below.ensures.boxes; least = fits.0; few = fits.1; box = fits.2 })
           (adds_on g.row.D c.args.m_max (given c.read_node.new.cache) (given c.args.cache.now) (content_of c.in_ok-below.below) c.loop-entry.pairs.items c.add_below.new.pairs.items c.visit.new.self.pages.items c.add_below.new.visits.pages.items
           (λ n. sym (a.map.given_stay h n)) (c.in_ok-add_below.ensures.found (a.gate.honest.0 h)));

@@ -1,5 +1,5 @@
 -- The goals of `check_tree` that are proved by hand.
-use Rattle.std.proofs.Common.{◌≡◌, ◌∙◌, ◌++◌, ◌∷◌, [], ℕ, List, None, Vec, ap, subst, sym, ⊎_elim, arith}
+use Rattle.std.proofs.Common.{◌≡◌, ◌∙◌, ◌++◌, ◌∷◌, [], ℕ, List, None, Vec, ap, inl, refl, subst, sym, ⊎_elim, arith}
 use Rattle.std.proofs.lemmas.List.{length-map}
 use Rattle.block_device.specs.Device.{one_more}
 use Rattle.page_file.specs.Fault.{IsOfDevice}
@@ -10,9 +10,10 @@ use Rattle.page_cache.specs.Laws.{numbers_are_few}
 use Rattle.tree_node.specs.Nodes.{content_of, item_of}
 use Rattle.node_page.specs.Checked.{ComesTo, IsCheckedTree}
 use Rattle.node_page.specs.Standing.{RowStands}
+use Rattle.node_page.specs.Visits.{times_in}
 use Rattle.node_page.proofs.CheckLemmas.{adds_on, checked_live, quiet_visit, refuses_quietly, root_count, root_visited, tree_checked}
 use Rattle.node_page.proofs.DamageLemmas.{comes_below_so, comes_on, damaged_read, damaged_visit}
-use Rattle.node_page.proofs.GivenLemmas.{live_tree_is_given}
+use Rattle.node_page.proofs.GivenLemmas.{live_tree_is_given, node_was_given_out}
 use Rattle.node_page.proofs.LeafLemmas.{entries_there}
 use Rattle.node_page.proofs.NodeLemmas.{at_error}
 use Rattle.node_page.proofs.StandingLemmas.{row_stays}
@@ -21,12 +22,25 @@ use Rattle.node_page.proofs.check.check_tree.Goals as goal
 pub returns-in_err-visit-clause-asks : goal.returns-in_err-visit-clause-asks
 returns-in_err-visit-clause-asks g c = refuses_quietly c.args.cache.now c.args.cache.now c.in_err-visit.field-0.0 c.from_residual-in_err-visit.result c.from_residual-in_err-visit.ensures.1 (no_call_asks c.args.cache.now) (quiet_visit c.in_err-visit.field-0.0 _ c.in_err-visit.ensures.faults)
 
+pub returns-in_err-visit-clause-stands : goal.returns-in_err-visit-clause-stands
+returns-in_err-visit-clause-stands g c = λ h t page level stands shape.
+    let at = live_tree_is_given g.row.D c.args.cache.now t c.args.root.page c.args.root.level page level stands in
+    let out = node_was_given_out g.row.D c.args.cache.now c.args.root.page _ at.node in
+    let none : times_in c.args.root.page c.in_ok-visits.visits.pages.items ≡ 0 = ap (times_in c.args.root.page) c.in_ok-visits.ensures.none in
+    at_error c.from_residual-in_err-visit.result c.in_err-visit.field-0.0 IsOfDevice c.from_residual-in_err-visit.ensures.1
+    (inl (c.in_err-visit.ensures.first none (omega (arith, out.1, c.in_ok-visits.ensures.marks, c.next_number.ensures))))
+
 pub returns-in_err-node-clause-looks : goal.returns-in_err-node-clause-looks
 returns-in_err-node-clause-looks g c =
     ⊎_elim
     (λ (same : looks_of c.read_node.new.cache ≡ looks_of c.args.cache.now). omega (arith, same))
     (λ (one : looks_of c.read_node.new.cache ≡ one_more (looks_of c.args.cache.now)). omega (arith, one, numbers_are_few c.args.cache.now))
     c.in_err-node.ensures.refused_looks
+
+pub returns-in_err-node-clause-stands : goal.returns-in_err-node-clause-stands
+returns-in_err-node-clause-stands g c = λ h t page level stands shape.
+    let at = live_tree_is_given g.row.D c.args.cache.now t c.args.root.page c.args.root.level page level stands in
+    at_error c.from_residual-in_err-node.result c.in_err-node.field-0.0 IsOfDevice c.from_residual-in_err-node.ensures.1 (c.in_err-node.ensures.given_there h _ at.node refl)
 
 pub returns-then-not-is_root_count-clause-stands : goal.returns-then-not-is_root_count-clause-stands
 returns-then-not-is_root_count-clause-stands g c = λ h t page level stands shape.

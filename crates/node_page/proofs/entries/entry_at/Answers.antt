@@ -17,4 +17,4 @@ new-requires g c =
     (search rules, (search rules, subst (IsBox g.row.D) same there))
 
 pub returns : goal.returns
-returns g c = item_is g.row.D c.args.place c.args.page.now _ c.read_u64-reference.result (cc) c.read_u64-reference.ensures
+returns g c = item_is g.row.D c.args.place c.args.page.now _ c.read_u64-reference.result c.tag_in-tag.result (cc) c.read_u64-reference.ensures c.tag_in-tag.ensures

@@ -11,7 +11,7 @@ returns-then-not-is_reference-clause-some g c =
     )
 
 pub returns-in-Some-clause-value : goal.returns-in-Some-clause-value
-returns-in-Some-clause-value g c = item_is g.row.D c.args.place c.args.page.now c.in-Some.bounds c.read_u64-reference.result c.in-Some.ensures.value c.read_u64-reference.ensures
+returns-in-Some-clause-value g c = item_is g.row.D c.args.place c.args.page.now c.in-Some.bounds c.read_u64-reference.result c.tag_in-tag.result c.in-Some.ensures.value c.read_u64-reference.ensures c.tag_in-tag.ensures
 
 pub returns-in-Some-clause-some : goal.returns-in-Some-clause-some
 returns-in-Some-clause-some g c =

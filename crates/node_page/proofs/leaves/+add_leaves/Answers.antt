@@ -11,7 +11,7 @@ use Rattle.node_page.specs.Checked.{ComesTo}
 use Rattle.node_page.specs.Lists.{lists_of}
 use Rattle.node_page.specs.Standing.{PageMap}
 use Rattle.node_page.proofs.DamageLemmas.{comes_below_so, comes_on, damaged_read, entry_names}
-use Rattle.node_page.proofs.LeafLemmas.{below_here, child_page, entries_there, found_all, found_none, leaf_found, one_more_read}
+use Rattle.node_page.proofs.LeafLemmas.{below_here, child_page, child_tag, entries_there, found_all, found_none, leaf_found, one_more_read}
 use Rattle.node_page.proofs.NodeLemmas.{at_error, if_error, on_ok}
 use Rattle.node_page.proofs.leaves.+add_leaves.Goals as goal
 
@@ -44,6 +44,7 @@ loop-entry-init g t c = record {
 
 pub loop-entry-preserved : goal.loop-entry-preserved
 loop-entry-preserved g t c = one_more_read c.loop-entry.invariant c.entry-item.result (omega (arith, c.loop-entry-test.true)) c.entry-item.is (omega (arith, c.if-root-eq0.false))
+    (child_tag c.in_ok-node.node.level c.in_ok-node.node.entries.items c.as_slice-entry-items.result.now c.loop-entry.entry-index c.entry-item.result c.in_ok-node.ensures.spellable.refers c.as_slice-entry-items.ensures.value (omega (arith, c.loop-entry-test.true)) c.entry-item.is (omega (arith, c.in_ok-node.ensures.level, c.if-root-eq0.false)))
     c.add_leaves.new.cache (lists_of c.add_leaves.new.lists) c.in_ok-add_leaves.ensures.asks
     (λ h. c.in_ok-add_leaves.ensures.found h)
 

@@ -2,7 +2,7 @@
 use Rattle.std.proofs.Common.{ap, ◌∙◌, length, subst, sym}
 use Rattle.block_device.specs.Device.{block_at}
 use Rattle.block_device.specs.Written.{block_at-written, block_at-written_other, length-written_within, torn_other}
-use Rattle.page_file.specs.Layout.{IsHeader}
+use Rattle.page_file.specs.Layout.{version_of, IsHeader}
 use Rattle.page_file.specs.Written.{torn_size}
 use Rattle.page_file.proofs.blocks.write_header.Goals as goal
 
@@ -28,3 +28,7 @@ pub returns-clause-header : goal.returns-clause-header
 returns-clause-header g c = λ h. subst (IsHeader c.args.header.now)
     (sym (ap (block_at 1) (c.sync.ensures.shown (c.write.ensures.honest.0 h)) ∙ ap (block_at 1) (c.in_ok-write.ensures.written h) ∙ block_at-written 1 _ _ c.requires.room))
     c.header_page-page.ensures.reads
+
+pub returns-clause-version : goal.returns-clause-version
+returns-clause-version g c = λ h. ap version_of (ap (block_at 1) (c.sync.ensures.shown (c.write.ensures.honest.0 h)) ∙ ap (block_at 1) (c.in_ok-write.ensures.written h) ∙ block_at-written 1 _ _ c.requires.room)
+    ∙ c.header_page-page.ensures.version

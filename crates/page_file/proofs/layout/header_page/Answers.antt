@@ -1,7 +1,7 @@
 -- The goals of `header_page` that are proved by hand.
-use Rattle.std.proofs.Common.{sym, subst, arith, rules}
-use Rattle.page_file.specs.Layout.{header_block, IsHeader}
-use Rattle.page_file.specs.Reading.{header_reads}
+use Rattle.std.proofs.Common.{◌∙◌, ap, sym, subst, arith, rules}
+use Rattle.page_file.specs.Layout.{header_block, version_of, IsHeader}
+use Rattle.page_file.specs.Reading.{header_reads, version_written}
 use Rattle.page_file.proofs.layout.header_page.Goals as goal
 
 pub returns-clause-is : goal.returns-clause-is
@@ -10,3 +10,6 @@ returns-clause-is c = search rules
 
 pub returns-clause-reads : goal.returns-clause-reads
 returns-clause-reads c = subst (IsHeader c.args.header.now) (sym (returns-clause-is c)) (header_reads c.args.header.now (omega arith) (omega arith) (omega arith))
+
+pub returns-clause-version : goal.returns-clause-version
+returns-clause-version c = ap version_of (returns-clause-is c) ∙ version_written c.args.header.now

@@ -1,6 +1,6 @@
 -- The goals of `descend` that are proved by hand.
 use Rattle.std.proofs.Common.{◌∙◌, ℕ, ◌+◌, ◌<◌, ◌++◌, List, ap, sym, arith, refl}
-use Rattle.box_math.specs.Bounds.{Bounds}
+use Rattle.box_math.specs.Objects.{Object}
 use Rattle.page_file.specs.Fault.{IsOfDevice}
 use Rattle.page_cache.specs.Cache.{looks_of, pages}
 use Rattle.page_cache.specs.Calls.{asks_and_refuses}
@@ -13,8 +13,8 @@ use Rattle.range_query.proofs.descent.+descend.Goals as goal
 
 pub returns-then-root-eq0-clause-rows : goal.returns-then-root-eq0-clause-rows
 returns-then-root-eq0-clause-rows g t c = λ h row at.
-    let leaf = leaf_found g.row.D (pages c.args.cache.now) c.args.root.level (is_admitted c.args.query.now) (is_sought c.args.query.now) row c.if-root-eq0.true at.below in
-    on_ok c.add_sought.result (λ added. added ∙ ap (λ (xs : List (ℕ × Bounds)). c.args.rows.now.items ++ xs) leaf) (c.add_sought.ensures.rows h _ at.node c.if-root-eq0.true)
+    let leaf = leaf_found g.row.D (pages c.args.cache.now) c.args.root.level (is_admitted c.args.query.now) (is_sought c.args.query.now) c.args.tag row c.if-root-eq0.true at.below in
+    on_ok c.add_sought.result (λ added. added ∙ ap (λ (xs : List (ℕ × Object)). c.args.rows.now.items ++ xs) leaf) (c.add_sought.ensures.rows h _ at.node c.if-root-eq0.true)
 
 pub returns-then-root-eq0-clause-looks : goal.returns-then-root-eq0-clause-looks
 returns-then-root-eq0-clause-looks g t c = λ h row at.
@@ -47,7 +47,7 @@ returns-clause-rows g t c = λ h row at.
     let above : 0 < c.args.root.level = omega (arith, c.if-root-eq0.false) in
     let named = children_named g.row.D m c.args.root.level guard row above at.below ∙ sym (c.in_ok-children.ensures.children h _ at.node refl) ∙ sym c.as_slice-page-items.ensures.value in
     all_found c.loop-page.invariant (omega (arith, c.loop-page-test.false)) h (children_of guard row) named (children_stand g.row.D m c.args.root.level guard row at.below)
-    ∙ ap (λ (xs : List (ℕ × Bounds)). c.args.rows.now.items ++ xs) (children_found g.row.D m c.args.root.level guard test row above at.below)
+    ∙ ap (λ (xs : List (ℕ × Object)). c.args.rows.now.items ++ xs) (children_found g.row.D m c.args.root.level guard test c.args.tag row above at.below)
 
 pub returns-clause-looks : goal.returns-clause-looks
 returns-clause-looks g t c = λ h row at.

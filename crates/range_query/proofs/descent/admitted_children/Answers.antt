@@ -1,7 +1,7 @@
 -- The goals of `admitted_children` that are proved by hand.
 use Rattle.std.proofs.Common.{◌≡◌, ◌∙◌, ◌+◌, ap, sym, subst, map, arith, length, []}
 use Rattle.page_cache.specs.Cache.{pages}
-use Rattle.tree_node.specs.Nodes.{item_of}
+use Rattle.tree_node.specs.Nodes.{Item, item_of}
 use Rattle.node_page.specs.Standing.{PageMap}
 use Rattle.node_page.specs.Views.{content_in}
 use Rattle.node_page.proofs.StandingLemmas.{page_of_node, same_content}
@@ -13,7 +13,7 @@ use Rattle.range_query.proofs.descent.admitted_children.Goals as goal
 pub entries-init : goal.entries-init
 entries-init g c = (
   admitted_to c.args.query.now c.reach.result c.mask-mask.result 0 c.next_set-place.result c.reach.ensures c.in_ok-node.ensures.boxes c.mask-mask.ensures.met c.next_set-place.ensures.within c.next_set-place.ensures.unset
-      (subst (λ xs. Taken reference_of (is_admitted c.args.query.now) (content_in c.in_ok-node.node).entries 0 [] xs) (sym c.new-children.ensures) (none_taken reference_of (is_admitted c.args.query.now) (content_in c.in_ok-node.node).entries [])),
+      (subst (λ xs. Taken reference_of (λ (item : Item). is_admitted c.args.query.now item.bounds) (content_in c.in_ok-node.node).entries 0 [] xs) (sym c.new-children.ensures) (none_taken reference_of (λ (item : Item). is_admitted c.args.query.now item.bounds) (content_in c.in_ok-node.node).entries [])),
   omega (arith, ap length c.new-children.ensures),
 )
 

@@ -29,7 +29,7 @@ returns-clause-grown g c = λ h.
     let D = g.row.D in
     let n = c.in_ok-page.page in
     let m1 : PageMap = pages c.allocate.new.self in
-    let a : Entry D = record { bounds = c.args.bounds; reference = c.from.result } in
+    let a : Entry D = record { bounds = c.args.bounds; reference = c.from.result; tag = 0 } in
     let b : Entry D = c.args.beside in
     let items : c.push-2.new.self.items ≡ a ∷ b ∷ [] = c.push-2.ensures.items ∙ ap (λ (xs : List (Entry D)). xs ++ b ∷ []) (c.push.ensures.items ∙ ap (λ (xs : List (Entry D)). xs ++ a ∷ []) c.new-entries.ensures) in
     let fresh = c.in_ok-page.ensures.fresh h in
@@ -40,7 +40,7 @@ returns-clause-grown g c = λ h.
         free = fresh.0;
         there = c.in_ok-write_node.ensures.written map1.honest live1
             ∙ ap (λ (xs : List (Entry D)). let x : NodeContent = record { level = c.args.root.level + 1; entries = map item_of xs } in Some x) items
-            ∙ ap (λ r. let x : NodeContent = record { level = c.args.root.level + 1; entries = record { bounds = c.args.bounds; reference = r } ∷ item_of b ∷ [] } in Some x) c.from.ensures;
+            ∙ ap (λ r. let x : NodeContent = record { level = c.args.root.level + 1; entries = record { bounds = c.args.bounds; reference = r; tag = 0 } ∷ item_of b ∷ [] } in Some x) c.from.ensures;
         others = λ k differs. c.write_node.ensures.others map1.honest live1 k differs ∙ fresh.2 k differs;
       },
     )

@@ -1,5 +1,5 @@
 -- The goals of `place` that are proved by hand.
-use Rattle.std.proofs.Common.{rules, ◌≡◌, ◌∙◌, ◌+◌, ◌-◌, [], ◌∷◌, ◌++◌, IfSome, None, Ok, Result, Some, inl, refl, sym, ap, subst, arith}
+use Rattle.std.proofs.Common.{rules, ◌≡◌, ◌∙◌, ◌+◌, ◌-◌, ◌<◌, [], ◌∷◌, ◌++◌, IfSome, None, Ok, Result, Some, inl, refl, sym, ap, subst, arith}
 use Rattle.page_cache.specs.Cache.{IsPageMap, pages}
 use Rattle.page_cache.specs.Calls.{asks_changes, changes_in_turn}
 use Rattle.page_cache.specs.Laws.{the_map_is_kept_in_turn}
@@ -8,7 +8,7 @@ use Rattle.tree_node.specs.Nodes.{Item}
 use Rattle.tree_node.specs.Trees.{row_items}
 use Rattle.choose_subtree.specs.Choice.{IsChosenChild}
 use Rattle.node_page.specs.Broken.{alters_so, before, made_alters}
-use Rattle.node_page.specs.Layout.{IsReference}
+use Rattle.node_page.specs.Layout.{IsOfLevel}
 use Rattle.node_page.specs.Standing.{PageMap}
 use Rattle.node_page.specs.declared.broken.Broken.{Broken}
 use Rattle.node_page.specs.Faults.{IsNoDamage, IsChangeFault}
@@ -22,7 +22,7 @@ use Rattle.reinsert.proofs.place.+place.Goals as goal
 
 pub put_here-requires : goal.put_here-requires
 put_here-requires g t c =
-    let refers : IsReference c.args.at.level c.args.entry.now.reference = subst (λ l. IsReference l c.args.entry.now.reference) (sym c.if-at-target.true) c.requires.refers in
+    let refers : IsOfLevel c.args.at.level c.args.entry.now.reference c.args.entry.now.tag = subst (λ l. IsOfLevel l c.args.entry.now.reference c.args.entry.now.tag) (sym c.if-at-target.true) c.requires.refers in
     (search rules, (search rules, (search rules, (c.requires.dims, (c.requires.open, (c.requires.most, ((omega (arith, c.requires.levels), omega (arith, c.requires.levels)), refers)))))))
 
 pub returns-then-at-target-clause-placed : goal.returns-then-at-target-clause-placed
@@ -78,6 +78,31 @@ pub returns-in_err-lower-clause-other_faults : goal.returns-in_err-lower-clause-
 returns-in_err-lower-clause-other_faults g t c =
     at_broken c.from_residual-in_err-lower.result c.in_err-lower.field-0.0 (λ (b : Broken). IsChangeFault b.cause) c.from_residual-in_err-lower.ensures.1 c.in_err-lower.ensures.other_faults
 
+-- ---- the call below
+
+pub place-requires : goal.place-requires
+place-requires g t c κs within =
+    let above : c.args.target < c.args.at.level = omega (arith, c.requires.levels, c.if-at-target.false) in
+    let gate = c.in_ok-way.ensures.asks.gate.gate ∙ c.requires.open in (
+      omega (arith, above, c.decreases),
+      (
+        search rules,
+        (
+          search rules,
+          (
+            search rules,
+            (
+              search rules,
+              (
+                search rules,
+                (search rules, (c.requires.dims, (gate, (c.requires.most, (omega (arith, above, c.requires.levels), c.requires.refers))))),
+              ),
+            ),
+          ),
+        ),
+      ),
+    )
+
 -- ---- the node stays
 
 pub returns-then-keeps_entries-clause-placed : goal.returns-then-keeps_entries-clause-placed
@@ -117,8 +142,8 @@ returns-then-keeps_entries-clause-alters g t c =
 pub put_above-requires : goal.put_above-requires
 put_above-requires g t c =
     let up : c.args.at.level - 1 + 1 ≡ c.args.at.level = omega (arith, c.requires.levels, c.if-at-target.false) in
-    let beside : IfSome c.in_ok-lower.lower.beside (λ (e : Entry g.row.D). IsReference c.args.at.level e.reference) =
-    subst (λ l. IfSome c.in_ok-lower.lower.beside (λ (e : Entry g.row.D). IsReference l e.reference)) up c.in_ok-lower.ensures.beside in (
+    let beside : IfSome c.in_ok-lower.lower.beside (λ (e : Entry g.row.D). IsOfLevel c.args.at.level e.reference e.tag) =
+    subst (λ l. IfSome c.in_ok-lower.lower.beside (λ (e : Entry g.row.D). IsOfLevel l e.reference e.tag)) up c.in_ok-lower.ensures.beside in (
       search rules,
       (
         search rules,

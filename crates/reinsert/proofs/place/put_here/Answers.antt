@@ -9,7 +9,7 @@ use Rattle.page_cache.specs.Calls.{AsksUntil, asks_changes, asks_in_turn, change
 use Rattle.tree_node.specs.Boxes.{least_box}
 use Rattle.tree_node.specs.declared.node.Entry.{Entry}
 use Rattle.tree_node.specs.Nodes.{Item, NodeContent, item_of}
-use Rattle.node_page.specs.Layout.{IsReference, pushed}
+use Rattle.node_page.specs.Layout.{IsOfLevel, pushed}
 use Rattle.node_page.specs.Standing.{PageMap, node_in}
 use Rattle.node_page.specs.Broken.{alters_so, before, changes_and_breaks, made_alters}
 use Rattle.node_page.proofs.StandingLemmas.{page_of_node, same_content}
@@ -68,9 +68,9 @@ pub settle-requires : goal.settle-requires
 settle-requires g c =
     let level = c.in_ok-read_fitting.ensures.level in
     let asked : AsksUntil c.args.cache.now c.add_entry.new.cache None = at_none c.in_ok-bounds.field-0 _ c.in_ok-bounds.ensures.full c.in_default.not-Some in
-    let P : Entry g.row.D → Type 0 = λ e. IsReference c.read_fitting.new.node.level e.reference in
-    let before : All P c.read_fitting.new.node.entries.items = subst (λ l. All (λ (e : Entry g.row.D). IsReference l e.reference) c.read_fitting.new.node.entries.items) (sym level) c.in_ok-read_fitting.ensures.refers in
-    let too : P c.args.entry.now = subst (λ l. IsReference l c.args.entry.now.reference) (sym level) c.requires.refers in
+    let P : Entry g.row.D → Type 0 = λ e. IsOfLevel c.read_fitting.new.node.level e.reference e.tag in
+    let before : All P c.read_fitting.new.node.entries.items = subst (λ l. All (λ (e : Entry g.row.D). IsOfLevel l e.reference e.tag) c.read_fitting.new.node.entries.items) (sym level) c.in_ok-read_fitting.ensures.refers in
+    let too : P c.args.entry.now = subst (λ l. IsOfLevel l c.args.entry.now.reference c.args.entry.now.tag) (sym level) c.requires.refers in
     let refers : All P c.push.new.self.items = subst (λ xs. All P xs) (sym c.push.ensures.items) (All-append P c.read_fitting.new.node.entries.items (c.args.entry.now ∷ []) before (All-one P c.args.entry.now too)) in (
       search rules,
       (
@@ -100,7 +100,7 @@ returns-in-Ok-clause-alters g c =
     made_alters old c.settle.new.cache _ (changes_in_turn old read c.settle.new.cache None (asks_changes old read None (asks_in_turn old mid read None asked c.in_ok-read_fitting.ensures.asks)) c.in-Ok.ensures.changes)
 
 pub returns-in-Ok-clause-beside : goal.returns-in-Ok-clause-beside
-returns-in-Ok-clause-beside g c = subst (λ l. IfSome c.in-Ok.settled.beside (λ (e : Entry g.row.D). IsReference (l + 1) e.reference)) c.in_ok-read_fitting.ensures.level c.in-Ok.ensures.beside
+returns-in-Ok-clause-beside g c = subst (λ l. IfSome c.in-Ok.settled.beside (λ (e : Entry g.row.D). IsOfLevel (l + 1) e.reference e.tag)) c.in_ok-read_fitting.ensures.level c.in-Ok.ensures.beside
 
 pub returns-in-Ok-clause-settled : goal.returns-in-Ok-clause-settled
 returns-in-Ok-clause-settled g c = λ h items branches there are can.

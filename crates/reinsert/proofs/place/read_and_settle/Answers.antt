@@ -6,7 +6,7 @@ use Rattle.page_cache.specs.Calls.{asks_changes, changes_in_turn}
 use Rattle.tree_node.specs.declared.node.Entry.{Entry}
 use Rattle.tree_node.specs.Nodes.{Item, NodeContent, item_of}
 use Rattle.node_page.specs.Faults.{IsNoDamage}
-use Rattle.node_page.specs.Layout.{IsReference}
+use Rattle.node_page.specs.Layout.{IsOfLevel}
 use Rattle.node_page.specs.Standing.{PageMap}
 use Rattle.node_page.proofs.NodeLemmas.{at_error}
 use Rattle.node_page.proofs.StandingLemmas.{page_of_node, same_content}
@@ -29,10 +29,10 @@ returns-then-place-len-clause-faults g c = λ h items there within few.
 pub settle_above-requires : goal.settle_above-requires
 settle_above-requires g c =
     let level = c.in_ok-read_fitting.ensures.level in
-    let refers : All (λ (e : Entry g.row.D). IsReference c.read_fitting.new.node.level e.reference) c.read_fitting.new.node.entries.items =
-    subst (λ l. All (λ (e : Entry g.row.D). IsReference l e.reference) c.read_fitting.new.node.entries.items) (sym level) c.in_ok-read_fitting.ensures.refers in
-    let beside : IfSome c.args.lower.beside (λ (e : Entry g.row.D). IsReference c.read_fitting.new.node.level e.reference) =
-    subst (λ l. IfSome c.args.lower.beside (λ (e : Entry g.row.D). IsReference l e.reference)) (sym level) c.requires.beside in (
+    let refers : All (λ (e : Entry g.row.D). IsOfLevel c.read_fitting.new.node.level e.reference e.tag) c.read_fitting.new.node.entries.items =
+    subst (λ l. All (λ (e : Entry g.row.D). IsOfLevel l e.reference e.tag) c.read_fitting.new.node.entries.items) (sym level) c.in_ok-read_fitting.ensures.refers in
+    let beside : IfSome c.args.lower.beside (λ (e : Entry g.row.D). IsOfLevel c.read_fitting.new.node.level e.reference e.tag) =
+    subst (λ l. IfSome c.args.lower.beside (λ (e : Entry g.row.D). IsOfLevel l e.reference e.tag)) (sym level) c.requires.beside in (
       search rules,
       (
         search rules,
@@ -58,7 +58,7 @@ returns-clause-changes g c =
 
 pub returns-clause-beside : goal.returns-clause-beside
 returns-clause-beside g c =
-    subst (λ l. IfOk c.settle_above.result (λ s. IfSome s.beside (λ (e : Entry g.row.D). IsReference (l + 1) e.reference))) c.in_ok-read_fitting.ensures.level c.settle_above.ensures.beside
+    subst (λ l. IfOk c.settle_above.result (λ s. IfSome s.beside (λ (e : Entry g.row.D). IsOfLevel (l + 1) e.reference e.tag))) c.in_ok-read_fitting.ensures.level c.settle_above.ensures.beside
 
 pub returns-clause-settled : goal.returns-clause-settled
 returns-clause-settled g c = λ h items branches there are can.

@@ -5,7 +5,7 @@ use Rattle.page_file.specs.Fault.{IsOfDevice}
 use Rattle.page_cache.specs.Cache.{pages}
 use Rattle.tree_node.specs.declared.node.Entry.{Entry}
 use Rattle.tree_node.specs.Nodes.{NodeContent, content_of, item_of}
-use Rattle.node_page.specs.Layout.{IsReference}
+use Rattle.node_page.specs.Layout.{IsOfLevel}
 use Rattle.node_page.specs.Standing.{PageMap}
 use Rattle.node_page.proofs.NodeLemmas.{at_error}
 use Rattle.node_page.proofs.StandingLemmas.{page_of_node, same_content}
@@ -24,5 +24,5 @@ returns-then-len-m_max-clause-faults g c = λ honest node there level few.
     absurd (omega (arith, ap (λ (x : NodeContent). length x.entries) same, length-map c.read_into.new.node.entries.items item_of, few, c.if-len-m_max.true, c.len.ensures.value))
 
 pub returns-clause-refers : goal.returns-clause-refers
-returns-clause-refers g c = subst (λ l. All (λ (e : Entry g.row.D). IsReference l e.reference) c.read_into.new.node.entries.items) c.in_ok-read_into.ensures.level
+returns-clause-refers g c = subst (λ l. All (λ (e : Entry g.row.D). IsOfLevel l e.reference e.tag) c.read_into.new.node.entries.items) c.in_ok-read_into.ensures.level
     (All-mapped c.read_into.new.node.level c.read_into.new.node.entries.items c.in_ok-read_into.ensures.spellable.refers)

@@ -3,7 +3,7 @@ use Rattle.std.proofs.Common.{rules, ◌≡◌, ◌∙◌, ◌+◌, sym, ap, sub
 use Rattle.page_cache.specs.Cache.{IsPageMap, pages}
 use Rattle.tree_node.specs.declared.node.Entry.{Entry}
 use Rattle.tree_node.specs.declared.node.Node.{Node}
-use Rattle.node_page.specs.Layout.{IsReference}
+use Rattle.node_page.specs.Layout.{IsOfLevel}
 use Rattle.reinsert.specs.Placed.{CanSettle, SettlesTo}
 use Rattle.reinsert.proofs.AboveLemmas.{Above, above_some, above_none}
 use Rattle.reinsert.proofs.place.settle_above.Goals.{in-Some, in_default}
@@ -31,7 +31,7 @@ settle-requires g c =
                 c.requires.most,
                 (
                   (omega (arith, level, c.requires.top), omega (arith, c.requires.top)),
-                  (new.some, (omega (arith, new.few, c.requires.few), subst (λ l. (k : ℕ) → (d : Entry g.row.D) → k < length c.match-beside.node.entries.items → IsReference l (get_or c.match-beside.node.entries.items k d).reference) (sym level) new.refers)),
+                  (new.some, (omega (arith, new.few, c.requires.few), subst (λ l. (k : ℕ) → (d : Entry g.row.D) → k < length c.match-beside.node.entries.items → IsOfLevel l (get_or c.match-beside.node.entries.items k d).reference (get_or c.match-beside.node.entries.items k d).tag) (sym level) new.refers)),
                 ),
               ),
             ),
@@ -43,7 +43,7 @@ settle-requires g c =
 pub returns-clause-beside : goal.returns-clause-beside
 returns-clause-beside g c =
     let level : c.match-beside.node.level ≡ c.args.node.now.level = elim c.match-beside.branch [ in-Some w ↦ ap (λ (x : Node g.row.D). x.level) w.node-is | in_default w ↦ ap (λ (x : Node g.row.D). x.level) w.node-is ] in
-    subst (λ l. IfOk c.settle.result (λ s. IfSome s.beside (λ (e : Entry g.row.D). IsReference (l + 1) e.reference))) level c.settle.ensures.beside
+    subst (λ l. IfOk c.settle.result (λ s. IfSome s.beside (λ (e : Entry g.row.D). IsOfLevel (l + 1) e.reference e.tag))) level c.settle.ensures.beside
 
 pub returns-clause-settled : goal.returns-clause-settled
 returns-clause-settled g c = λ h branches are can.

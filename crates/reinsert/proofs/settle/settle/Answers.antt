@@ -1,7 +1,7 @@
 -- The goals of `settle` that are proved by hand.
 use Rattle.std.proofs.Common.{◌≡◌, ◌+◌, ◌<◌, true, sym, arith}
 use Rattle.tree_node.specs.declared.node.Entry.{Entry}
-use Rattle.node_page.specs.Layout.{IsReference}
+use Rattle.node_page.specs.Layout.{IsOfLevel}
 use Rattle.reinsert.specs.Called.{is_called}
 use Rattle.reinsert.proofs.SettledLemmas.{none_refers}
 use Rattle.reinsert.proofs.settle.settle.Goals as goal
@@ -12,7 +12,7 @@ returns-then-len-m_max-clause-settled g c = λ h branches are can.
     c.write_fitting.ensures.settled h c.args.m_max c.args.top c.args.waiting.now.called c.args.waiting.now.waits.items branches (omega (arith, c.if-len-m_max.true, c.len.ensures.value)) are can
 
 pub returns-then-not-is_called-clause-beside : goal.returns-then-not-is_called-clause-beside
-returns-then-not-is_called-clause-beside g c = none_refers c.take_out_far.result (λ (e : Entry g.row.D). IsReference (c.args.node.now.level + 1) e.reference) c.take_out_far.ensures.alone
+returns-then-not-is_called-clause-beside g c = none_refers c.take_out_far.result (λ (e : Entry g.row.D). IsOfLevel (c.args.node.now.level + 1) e.reference e.tag) c.take_out_far.ensures.alone
 
 pub returns-then-not-is_called-clause-settled : goal.returns-then-not-is_called-clause-settled
 returns-then-not-is_called-clause-settled g c = λ h branches are can. c.take_out_far.ensures.settled h c.args.top branches c.if-node-top.true are can

@@ -31,13 +31,13 @@ returns-clause-settled g c = λ h top branches held are can.
     let second = c.split-first.result.1.items in
     let other : c.least-other.result ≡ least_box g.row.D (map item_of second) =
     c.least-other.ensures ∙ ap (λ (es : List (Entry g.row.D)). least_box g.row.D (map item_of es)) c.as_slice-2.ensures.value in
-    let item : ◌≡◌ {A = Item} (record { bounds = c.least-other.result; reference = c.from.result }) (record { bounds = least_box g.row.D (map item_of second); reference = c.in_ok-number.number }) =
-    ap (λ b. let i : Item = record { bounds = b; reference = c.from.result } in i) other
-    ∙ ap (λ r. let i : Item = record { bounds = least_box g.row.D (map item_of second); reference = r } in i) c.from.ensures in
+    let item : ◌≡◌ {A = Item} (record { bounds = c.least-other.result; reference = c.from.result; tag = 0 }) (record { bounds = least_box g.row.D (map item_of second); reference = c.in_ok-number.number; tag = 0 }) =
+    ap (λ b. let i : Item = record { bounds = b; reference = c.from.result; tag = 0 } in i) other
+    ∙ ap (λ r. let i : Item = record { bounds = least_box g.row.D (map item_of second); reference = r; tag = 0 } in i) c.from.ensures in
     let written = c.in_ok-number.ensures.written h can.live in (
       written.0,
       split_settled c.args.m_max top c.args.node.now.level c.args.waiting.now.called branches c.args.node.now.entries.items _ _ c.args.page _ _ _ _ are can
-          c.in_ok-number.number (record { bounds = c.least-other.result; reference = c.from.result }) first second c.split-first.ensures.divided
+          c.in_ok-number.number (record { bounds = c.least-other.result; reference = c.from.result; tag = 0 }) first second c.split-first.ensures.divided
           c.requires.many held
           (c.least-bounds.ensures ∙ ap (λ (es : List (Entry g.row.D)). least_box g.row.D (map item_of es)) c.as_slice.ensures.value) refl item
           c.call.ensures.waits c.call.ensures.called written.1,

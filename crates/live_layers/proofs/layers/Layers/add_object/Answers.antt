@@ -1,5 +1,6 @@
 -- The object is in the tree and in the table, and the record says so; or the change was refused, or broke off.
 use Rattle.std.proofs.Common.{refl, inl, arith}
+use Rattle.box_math.specs.Objects.{Object}
 use Rattle.plain_table.specs.Table.{layer_at}
 use Rattle.layer_pages.specs.Changes.{most_inserted_pages}
 use Rattle.live_layers.proofs.CountLemmas.{no_page_wanted}
@@ -36,7 +37,6 @@ returns-in_err-root-clause-faults g c = λ t name sound finds dims.
     let located = c.locate-located.result in
     let by = c.locate-located.ensures.by_record in
     let id = c.args.id in
-    let bounds = c.args.bounds.now in
     let at = stands_at kept t name c.args.place before finds located by g.row.D dims in
     the_err c.from_residual-in_err-root.result c.in_err-root.field-0.0 _ c.from_residual-in_err-root.ensures.1
     (no_page_wanted kept t before c.locate-located.ensures.few most_inserted_pages c.insert.new.cache _ (omega (arith)) c.insert.ensures.grows
@@ -49,12 +49,12 @@ returns-clause-added g c = λ t name sound finds dims absent.
     let located = c.locate-located.result in
     let by = c.locate-located.ensures.by_record in
     let id = c.args.id in
-    let bounds = c.args.bounds.now in
+    let object : Object = (c.args.bounds.now, c.args.tag) in
     let at = stands_at kept t name c.args.place before finds located by g.row.D dims in
     let l = (reading kept t name c.args.place before finds).pages in
     let objects = (layer_at t name).objects in
     let became = c.in_ok-root.ensures.inserted before.map l objects at absent in
-    sound_added kept t name c.args.place before finds located by g.row.D dims id bounds absent c.insert.new.cache c.in_ok-root.root became _ c.note.ensures.cache c.count_at.result c.saturating_add-count.result c.count_at.ensures
+    sound_added kept t name c.args.place before finds located by g.row.D dims id object absent c.insert.new.cache c.in_ok-root.root became _ c.note.ensures.cache c.count_at.result c.saturating_add-count.result c.count_at.ensures
     c.saturating_add-count.ensures c.in_ok-root.ensures.root c.in_ok-root.ensures.alters.changes.next (omega (arith, c.requires.room, c.begin.ensures.count)) c.note.ensures.records
     (c.in_ok-root.ensures.sound before.map l objects at) (omega (arith, c.note.ensures.count)) c.note.ensures.written
 
@@ -65,13 +65,13 @@ returns-clause-tree g c = λ t name sound finds dims absent.
     let located = c.locate-located.result in
     let by = c.locate-located.ensures.by_record in
     let id = c.args.id in
-    let bounds = c.args.bounds.now in
+    let object : Object = (c.args.bounds.now, c.args.tag) in
     let at = stands_at kept t name c.args.place before finds located by g.row.D dims in
     let l = (reading kept t name c.args.place before finds).pages in
     let objects = (layer_at t name).objects in
     let became = c.in_ok-root.ensures.inserted before.map l objects at absent in
-    changes_before c.args.self.now kept _ name (HasGained (layer_at t name) id bounds) (c.begin.ensures.keeps.map.pages_stay sound.map.honest) c.begin.ensures.keeps.records
-    (tree_added kept t name c.args.place before finds located by g.row.D dims id bounds absent c.insert.new.cache c.in_ok-root.root became _ c.note.ensures.cache c.count_at.result c.saturating_add-count.result c.count_at.ensures
+    changes_before c.args.self.now kept _ name (HasGained (layer_at t name) id object) (c.begin.ensures.keeps.map.pages_stay sound.map.honest) c.begin.ensures.keeps.records
+    (tree_added kept t name c.args.place before finds located by g.row.D dims id object absent c.insert.new.cache c.in_ok-root.root became _ c.note.ensures.cache c.count_at.result c.saturating_add-count.result c.count_at.ensures
     c.saturating_add-count.ensures c.in_ok-root.ensures.root c.in_ok-root.ensures.alters.changes.next (omega (arith, c.requires.room, c.begin.ensures.count)) c.note.ensures.records)
 
 pub returns-clause-begins : goal.returns-clause-begins

@@ -3,12 +3,12 @@ use Rattle.std.proofs.Common.{◌≡◌, ◌∙◌, [], ◌∷◌, true, Option,
 use Rattle.std.specs.Prelude.{◌==◌, ◌⊎◌, is_some}
 use Rattle.plain_table.specs.Boxes.{dims_of, given_bounds, is_ordered}
 use Rattle.plain_table.specs.Step.{first_refusal, missing_refusals, object_row}
-use Rattle.plain_table.specs.Table.{layer_at, object_box}
+use Rattle.plain_table.specs.Table.{layer_at, object_at}
 use Rattle.plain_table.specs.declared.refusal.Refusal.{Refusal}
 use Rattle.store_law.specs.Lawful.{IsFault}
 use Rattle.live_layers.specs.Changes.{Rose}
 use Rattle.live_layers.proofs.AskLemmas.{tested_same}
-use Rattle.live_layers.proofs.DeleteLemmas.{box_answered, has_box, none_answered}
+use Rattle.live_layers.proofs.DeleteLemmas.{object_answered, has_object, none_answered}
 use Rattle.live_layers.proofs.MoveLemmas.{good_box}
 use Rattle.live_layers.proofs.layers.Layers.check_move.Goals as goal
 
@@ -20,17 +20,17 @@ returns-in-Ok-clause-allowed g c = λ t name box sound located axes given.
     let right : (dims_of box == layer.dims) ≡ true = tested_same (dims_of box) layer.dims there.dims located.dims ((sym c.from.ensures ∙ c.if-from.false) ∙ sym axes) in
     let test : is_ordered (dims_of box) (given_bounds box) ≡ is_some c.try_new.result = (λ i. is_ordered (axes i) (given i)) ∙ sym c.try_new.ensures.test in
     good_box layer id box right (test ∙ ap is_some c.in-Some.is)
-    ∙ (box_answered (Rose c.args.self.now c.box_of.new.self) (first_refusal (missing_refusals layer id)) id (object_box layer id) c.in-Ok.known (c.in-Ok.ensures.replied t name sound located)).0
+    ∙ (object_answered (Rose c.args.self.now c.object_of.new.self) (first_refusal (missing_refusals layer id)) id (object_at layer id) c.in-Ok.known (c.in-Ok.ensures.replied t name sound located)).0
 
 pub returns-in-Ok-clause-has : goal.returns-in-Ok-clause-has
-returns-in-Ok-clause-has g c = λ t name sound located. has_box (layer_at t name) c.args.id (Rose c.args.self.now c.box_of.new.self) c.in-Ok.known (c.in-Ok.ensures.replied t name sound located)
+returns-in-Ok-clause-has g c = λ t name sound located. has_object (layer_at t name) c.args.id (Rose c.args.self.now c.object_of.new.self) c.in-Ok.known (c.in-Ok.ensures.replied t name sound located)
 
 pub returns-in-Err-clause-allowed : goal.returns-in-Err-clause-allowed
 returns-in-Err-clause-allowed g c = λ t name box sound located axes given.
     let there = c.args.located.now in
     let layer = layer_at t name in
     let id = c.args.id in
-    let rose = Rose c.args.self.now c.box_of.new.self in
+    let rose = Rose c.args.self.now c.object_of.new.self in
     let right : (dims_of box == layer.dims) ≡ true = tested_same (dims_of box) layer.dims there.dims located.dims ((sym c.from.ensures ∙ c.if-from.false) ∙ sym axes) in
     let test : is_ordered (dims_of box) (given_bounds box) ≡ is_some c.try_new.result = (λ i. is_ordered (axes i) (given i)) ∙ sym c.try_new.ensures.test in
     subst (λ (o : Option Refusal). (o ≡ Some c.in-Err.refusal) ⊎ IsFault rose c.in-Err.refusal) (sym (good_box layer id box right (test ∙ ap is_some c.in-Some.is)))

@@ -1,4 +1,4 @@
--- The object of the box that is answered is taken out.
+-- The object that is answered is taken out.
 use Rattle.std.proofs.Common.{◌≡◌, ◌∙◌, Option, Some, [], ◌∷◌, refl, sym, subst}
 use Rattle.std.specs.Prelude.{◌⊎◌}
 use Rattle.plain_table.specs.Commands.Command.{Delete}
@@ -9,21 +9,21 @@ use Rattle.store_law.specs.Lawful.{IsFault}
 use Rattle.live_layers.specs.Changes.{Rose}
 use Rattle.live_layers.specs.Rules.{HasLost}
 use Rattle.live_layers.proofs.ChangeLemmas.{begun_change, begun_keeps, begun_tree, refused_change, refused_keeps}
-use Rattle.live_layers.proofs.DeleteLemmas.{as_missing, has_box, it_shrinks, none_answered, not_missing}
+use Rattle.live_layers.proofs.DeleteLemmas.{as_missing, has_object, it_shrinks, none_answered, not_missing}
 use Rattle.live_layers.proofs.layers.Layers.delete_at.Goals as goal
 
 pub returns-in-Ok-clause-keeps : goal.returns-in-Ok-clause-keeps
 returns-in-Ok-clause-keeps g c =
-    begun_keeps c.args.self.now c.box_of.new.self c.take_object.new.self c.in-Ok.ensures.keeps c.take_object.result c.take_object.ensures.begins c.change_of.result c.change_of.ensures
+    begun_keeps c.args.self.now c.object_of.new.self c.take_object.new.self c.in-Ok.ensures.keeps c.take_object.result c.take_object.ensures.begins c.change_of.result c.change_of.ensures
 
 pub returns-in-Ok-clause-change : goal.returns-in-Ok-clause-change
 returns-in-Ok-clause-change g c = λ t name sound reaches.
     let old = c.args.self.now in
-    let mid = c.box_of.new.self in
+    let mid = c.object_of.new.self in
     let id = c.args.id in
     let reply = c.in-Ok.ensures.replied t name sound reaches.located in
-    let none = not_missing t name id reaches.named (Rose old mid) c.in-Ok.bounds reply in
-    let there = has_box (layer_at t name) id (Rose old mid) c.in-Ok.bounds reply in
+    let none = not_missing t name id reaches.named (Rose old mid) c.in-Ok.known reply in
+    let there = has_object (layer_at t name) id (Rose old mid) c.in-Ok.known reply in
     let dims = reaches.located.dims ∙ c.requires.axes in
     let before = c.in-Ok.ensures.keeps.sound t sound in
     begun_change old mid c.take_object.new.self c.in-Ok.ensures.keeps c.take_object.result c.take_object.ensures.begins c.change_of.result c.change_of.ensures t (Delete name id)
@@ -33,20 +33,20 @@ returns-in-Ok-clause-change g c = λ t name sound reaches.
 pub returns-in-Ok-clause-tree : goal.returns-in-Ok-clause-tree
 returns-in-Ok-clause-tree g c = λ t name sound reaches.
     let old = c.args.self.now in
-    let mid = c.box_of.new.self in
+    let mid = c.object_of.new.self in
     let layer = layer_at t name in
     let id = c.args.id in
-    let there = has_box layer id (Rose old mid) c.in-Ok.bounds (c.in-Ok.ensures.replied t name sound reaches.located) in
+    let there = has_object layer id (Rose old mid) c.in-Ok.known (c.in-Ok.ensures.replied t name sound reaches.located) in
     begun_tree old mid c.take_object.new.self c.in-Ok.ensures.keeps c.take_object.result c.take_object.ensures.begins c.change_of.result c.change_of.ensures t name (HasLost layer id) sound
     (c.take_object.ensures.tree t name (c.in-Ok.ensures.keeps.sound t sound) reaches.finds (reaches.located.dims ∙ c.requires.axes) there)
 
 pub returns-in-Err-clause-keeps : goal.returns-in-Err-clause-keeps
-returns-in-Err-clause-keeps g c = refused_keeps c.args.self.now c.box_of.new.self c.in-Err.refusal c.in-Err.ensures.keeps
+returns-in-Err-clause-keeps g c = refused_keeps c.args.self.now c.object_of.new.self c.in-Err.refusal c.in-Err.ensures.keeps
 
 pub returns-in-Err-clause-change : goal.returns-in-Err-clause-change
 returns-in-Err-clause-change g c = λ t name sound reaches.
     let old = c.args.self.now in
-    let new = c.box_of.new.self in
+    let new = c.object_of.new.self in
     let layer = layer_at t name in
     let id = c.args.id in
     let r = c.in-Err.refusal in

@@ -10,7 +10,7 @@ use Rattle.live_layers.proofs.layers.Layers.insert.Goals as goal
 pub returns-in-Err-clause-change : goal.returns-in-Err-clause-change
 returns-in-Err-clause-change g c =
     let name = c.args.name.now in
-    refused_by c.args.self.now (Insert name c.args.id c.args.bounds) c.in-Err.refusal g.met.B.BlockDevice.only_now c.in-Err.ensures.cause
+    refused_by c.args.self.now (Insert name c.args.id c.args.bounds c.args.tag) c.in-Err.refusal g.met.B.BlockDevice.only_now c.in-Err.ensures.cause
     (λ t sound. inl (c.in-Err.ensures.unnamed t sound (object_refusals (layer_at t name) c.args.id c.args.bounds (nat_le most_objects (object_count t)))))
 
 pub returns-in-Two-clause-change : goal.returns-in-Two-clause-change

@@ -27,7 +27,7 @@ returns-in-Ok-objects_in_plane-clause-change g c = record {
       let finds = c.in-Ok.ensures.found t sound in
       let is_2 : c.locate.result.dims ≡ 2 = c.if-locate-eq2.true in
       let axes = (c.locate.ensures.located t name sound finds).dims ∙ is_2 in
-      let reaches = all_reach t name c.in-Ok.place given 2 c.as_mut_slice.result.now good finds axes c.in-Ok-objects_in_plane.ensures.allowed (c.as_mut_slice.ensures.value ∙ c.in-Ok-objects_in_plane.ensures.boxes) in
+      let reaches = all_reach t name c.in-Ok.place given 2 c.as_mut_slice.result.now good finds axes c.in-Ok-objects_in_plane.ensures.allowed (c.as_mut_slice.ensures.value ∙ c.in-Ok-objects_in_plane.ensures.given) in
       c.load_boxes.ensures.change t name given sound reaches;
 }
 
@@ -40,8 +40,8 @@ returns-in-Ok-objects_in_plane-clause-tree g c = λ t sound changed.
     let finds = c.in-Ok.ensures.found t sound in
     let is_2 : c.locate.result.dims ≡ 2 = c.if-locate-eq2.true in
     let axes = (c.locate.ensures.located t name sound finds).dims ∙ is_2 in
-    let reaches = all_reach t name c.in-Ok.place given 2 c.as_mut_slice.result.now good finds axes c.in-Ok-objects_in_plane.ensures.allowed (c.as_mut_slice.ensures.value ∙ c.in-Ok-objects_in_plane.ensures.boxes) in
-    subst (λ objects. OnOk c.load_boxes.result (ChangesTree old c.load_boxes.new.self name (HasFilled (layer_at t name) objects))) reaches.boxes (c.load_boxes.ensures.tree t name given sound reaches changed)
+    let reaches = all_reach t name c.in-Ok.place given 2 c.as_mut_slice.result.now good finds axes c.in-Ok-objects_in_plane.ensures.allowed (c.as_mut_slice.ensures.value ∙ c.in-Ok-objects_in_plane.ensures.given) in
+    subst (λ objects. OnOk c.load_boxes.result (ChangesTree old c.load_boxes.new.self name (HasFilled (layer_at t name) objects))) reaches.objects_are (c.load_boxes.ensures.tree t name given sound reaches changed)
 
 pub returns-in-Ok-objects_in_plane-clause-same : goal.returns-in-Ok-objects_in_plane-clause-same
 returns-in-Ok-objects_in_plane-clause-same g c = λ t sound unchanged.
@@ -52,7 +52,7 @@ returns-in-Ok-objects_in_plane-clause-same g c = λ t sound unchanged.
     let finds = c.in-Ok.ensures.found t sound in
     let is_2 : c.locate.result.dims ≡ 2 = c.if-locate-eq2.true in
     let axes = (c.locate.ensures.located t name sound finds).dims ∙ is_2 in
-    let reaches = all_reach t name c.in-Ok.place given 2 c.as_mut_slice.result.now good finds axes c.in-Ok-objects_in_plane.ensures.allowed (c.as_mut_slice.ensures.value ∙ c.in-Ok-objects_in_plane.ensures.boxes) in
+    let reaches = all_reach t name c.in-Ok.place given 2 c.as_mut_slice.result.now good finds axes c.in-Ok-objects_in_plane.ensures.allowed (c.as_mut_slice.ensures.value ∙ c.in-Ok-objects_in_plane.ensures.given) in
     c.load_boxes.ensures.same t name given sound reaches unchanged
 
 pub returns-in-Err-objects_in_plane-clause-change : goal.returns-in-Err-objects_in_plane-clause-change
@@ -78,7 +78,7 @@ returns-in-Ok-objects_in_space-clause-change g c = record {
       let finds = c.in-Ok.ensures.found t sound in
       let is_3 : c.locate.result.dims ≡ 3 = (omega (arith, c.locate.ensures.dims.0, c.locate.ensures.dims.1, c.if-locate-eq2.false)) in
       let axes = (c.locate.ensures.located t name sound finds).dims ∙ is_3 in
-      let reaches = all_reach t name c.in-Ok.place given 3 c.as_mut_slice-in-Ok-objects_in_space.result.now good finds axes c.in-Ok-objects_in_space.ensures.allowed (c.as_mut_slice-in-Ok-objects_in_space.ensures.value ∙ c.in-Ok-objects_in_space.ensures.boxes) in
+      let reaches = all_reach t name c.in-Ok.place given 3 c.as_mut_slice-in-Ok-objects_in_space.result.now good finds axes c.in-Ok-objects_in_space.ensures.allowed (c.as_mut_slice-in-Ok-objects_in_space.ensures.value ∙ c.in-Ok-objects_in_space.ensures.given) in
       c.load_boxes-in-Ok-objects_in_space.ensures.change t name given sound reaches;
 }
 
@@ -91,8 +91,8 @@ returns-in-Ok-objects_in_space-clause-tree g c = λ t sound changed.
     let finds = c.in-Ok.ensures.found t sound in
     let is_3 : c.locate.result.dims ≡ 3 = (omega (arith, c.locate.ensures.dims.0, c.locate.ensures.dims.1, c.if-locate-eq2.false)) in
     let axes = (c.locate.ensures.located t name sound finds).dims ∙ is_3 in
-    let reaches = all_reach t name c.in-Ok.place given 3 c.as_mut_slice-in-Ok-objects_in_space.result.now good finds axes c.in-Ok-objects_in_space.ensures.allowed (c.as_mut_slice-in-Ok-objects_in_space.ensures.value ∙ c.in-Ok-objects_in_space.ensures.boxes) in
-    subst (λ objects. OnOk c.load_boxes-in-Ok-objects_in_space.result (ChangesTree old c.load_boxes-in-Ok-objects_in_space.new.self name (HasFilled (layer_at t name) objects))) reaches.boxes (c.load_boxes-in-Ok-objects_in_space.ensures.tree t name given sound reaches changed)
+    let reaches = all_reach t name c.in-Ok.place given 3 c.as_mut_slice-in-Ok-objects_in_space.result.now good finds axes c.in-Ok-objects_in_space.ensures.allowed (c.as_mut_slice-in-Ok-objects_in_space.ensures.value ∙ c.in-Ok-objects_in_space.ensures.given) in
+    subst (λ objects. OnOk c.load_boxes-in-Ok-objects_in_space.result (ChangesTree old c.load_boxes-in-Ok-objects_in_space.new.self name (HasFilled (layer_at t name) objects))) reaches.objects_are (c.load_boxes-in-Ok-objects_in_space.ensures.tree t name given sound reaches changed)
 
 pub returns-in-Ok-objects_in_space-clause-same : goal.returns-in-Ok-objects_in_space-clause-same
 returns-in-Ok-objects_in_space-clause-same g c = λ t sound unchanged.
@@ -103,7 +103,7 @@ returns-in-Ok-objects_in_space-clause-same g c = λ t sound unchanged.
     let finds = c.in-Ok.ensures.found t sound in
     let is_3 : c.locate.result.dims ≡ 3 = (omega (arith, c.locate.ensures.dims.0, c.locate.ensures.dims.1, c.if-locate-eq2.false)) in
     let axes = (c.locate.ensures.located t name sound finds).dims ∙ is_3 in
-    let reaches = all_reach t name c.in-Ok.place given 3 c.as_mut_slice-in-Ok-objects_in_space.result.now good finds axes c.in-Ok-objects_in_space.ensures.allowed (c.as_mut_slice-in-Ok-objects_in_space.ensures.value ∙ c.in-Ok-objects_in_space.ensures.boxes) in
+    let reaches = all_reach t name c.in-Ok.place given 3 c.as_mut_slice-in-Ok-objects_in_space.result.now good finds axes c.in-Ok-objects_in_space.ensures.allowed (c.as_mut_slice-in-Ok-objects_in_space.ensures.value ∙ c.in-Ok-objects_in_space.ensures.given) in
     c.load_boxes-in-Ok-objects_in_space.ensures.same t name given sound reaches unchanged
 
 pub returns-in-Err-objects_in_space-clause-change : goal.returns-in-Err-objects_in_space-clause-change

@@ -3,11 +3,12 @@ use Rattle.std.proofs.Common.{◌≡◌, ◌∙◌, true, false, not, Option, re
 use Rattle.std.specs.Prelude.{Err, OnOk}
 use Rattle.std.specs.FinMap.{insert as map_insert}
 use Rattle.box_math.specs.Bounds.{Bounds}
+use Rattle.box_math.specs.Objects.{Object, tag_of}
 use Rattle.plain_table.specs.Boxes.{given_bounds}
 use Rattle.plain_table.specs.Commands.Command.{Move}
 use Rattle.plain_table.specs.Laws.{a_change_makes_another_table, no_change_leaves_the_table}
 use Rattle.plain_table.specs.Step.{changes}
-use Rattle.plain_table.specs.Table.{layer_at, with_object}
+use Rattle.plain_table.specs.Table.{layer_at, object_at, with_object}
 use Rattle.plain_table.specs.declared.refusal.Refusal.{Refusal}
 use Rattle.live_layers.specs.Changes.{Rose}
 use Rattle.live_layers.specs.Inserting.{IsAllowedOr}
@@ -17,6 +18,7 @@ use Rattle.live_layers.proofs.ChangeLemmas.{begun_change, begun_keeps, begun_tre
 use Rattle.live_layers.proofs.MoveLemmas.{as_move, tested_boxes}
 use Rattle.live_layers.proofs.ReplyLemmas.{is_named}
 use Rattle.live_layers.proofs.Results.{on_ok}
+use Rattle.live_layers.proofs.TakeLemmas.{its_object}
 use Rattle.live_layers.proofs.layers.Layers.move_box.Goals as goal
 
 pub returns-in-Err-clause-keeps : goal.returns-in-Err-clause-keeps
@@ -42,7 +44,7 @@ returns-then-eq-clause-change g c = λ t name box sound reaches.
     let named = is_named t name c.args.place reaches.good reaches.finds in
     let none = as_move t name id box named ∙ c.in-Ok.ensures.allowed t name box sound located reaches.axes reaches.given in
     let there = c.in-Ok.ensures.has t name sound located in
-    let still : changes t (Move name id box) ≡ false = tested_boxes t name id box c.in-Ok.boxes.0 there none c.in-Ok.boxes.1 (c.in-Ok.ensures.gets ∙ sym reaches.given) ∙ ap not (sym c.eq.ensures ∙ c.if-eq.true) in
+    let still : changes t (Move name id box) ≡ false = tested_boxes t name id box c.in-Ok.both.0 there none c.in-Ok.both.1 (c.in-Ok.ensures.gets ∙ sym reaches.given) ∙ ap not (sym c.eq.ensures ∙ c.if-eq.true) in
     unbegun_change c.args.self.now c.check_move.new.self t (Move name id box) g.met.B.BlockDevice.only_now c.in-Ok.ensures.keeps sound none refl (no_change_leaves_the_table t (Move name id box) still)
 
 pub returns-then-eq-clause-tree : goal.returns-then-eq-clause-tree
@@ -52,7 +54,7 @@ returns-then-eq-clause-tree g c = λ t name box sound reaches moves.
     let named = is_named t name c.args.place reaches.good reaches.finds in
     let none = as_move t name id box named ∙ c.in-Ok.ensures.allowed t name box sound located reaches.axes reaches.given in
     let there = c.in-Ok.ensures.has t name sound located in
-    let still : changes t (Move name id box) ≡ false = tested_boxes t name id box c.in-Ok.boxes.0 there none c.in-Ok.boxes.1 (c.in-Ok.ensures.gets ∙ sym reaches.given) ∙ ap not (sym c.eq.ensures ∙ c.if-eq.true) in
+    let still : changes t (Move name id box) ≡ false = tested_boxes t name id box c.in-Ok.both.0 there none c.in-Ok.both.1 (c.in-Ok.ensures.gets ∙ sym reaches.given) ∙ ap not (sym c.eq.ensures ∙ c.if-eq.true) in
     let no : true ≡ false = sym moves ∙ still in absurd (cc)
 
 pub returns-clause-keeps : goal.returns-clause-keeps
@@ -70,12 +72,14 @@ returns-clause-change g c = λ t name box sound reaches.
     let named = is_named t name c.args.place reaches.good reaches.finds in
     let none = as_move t name id box named ∙ c.in-Ok.ensures.allowed t name box sound located reaches.axes reaches.given in
     let there = c.in-Ok.ensures.has t name sound located in
-    let given : c.in-Ok.boxes.1 ≡ given_bounds box = c.in-Ok.ensures.gets ∙ sym reaches.given in
-    let moves : changes t (Move name id box) ≡ true = tested_boxes t name id box c.in-Ok.boxes.0 there none c.in-Ok.boxes.1 given ∙ ap not (sym c.eq.ensures ∙ c.if-eq.false) in
+    let known = c.in-Ok.both.0 in
+    let given : c.in-Ok.both.1 ≡ given_bounds box = c.in-Ok.ensures.gets ∙ sym reaches.given in
+    let moves : changes t (Move name id box) ≡ true = tested_boxes t name id box c.in-Ok.both.0 there none c.in-Ok.both.1 given ∙ ap not (sym c.eq.ensures ∙ c.if-eq.false) in
     let dims = located.dims ∙ c.in-Ok.ensures.axes in
     let before = c.in-Ok.ensures.keeps.sound t sound in
     let made = c.replace_box.result in
-    let moved = on_ok made (λ so. subst (λ (b : Bounds). IsSound new (map_insert t name (with_object layer id b))) given so) (c.replace_box.ensures.replaced t name before reaches.finds dims there) in
+    let same : (c.in-Ok.both.1, tag_of known) ≡ (given_bounds box, tag_of (object_at layer id)) = λ i. (given i, tag_of (its_object layer id known there i)) in
+    let moved = on_ok made (λ so. subst (λ (o : Object). IsSound new (map_insert t name (with_object layer id o))) same so) (c.replace_box.ensures.replaced t name before reaches.finds dims there) in
     begun_change old mid new c.in-Ok.ensures.keeps made c.replace_box.ensures.begins c.change_of.result c.change_of.ensures t (Move name id box)
     (a_change_makes_another_table t (Move name id box) moves) g.met.B.BlockDevice.only_now sound none refl moved (c.replace_box.ensures.faults t name before reaches.finds dims there)
 
@@ -88,7 +92,7 @@ returns-clause-tree g c = λ t name box sound reaches moves.
     let id = c.args.id in
     let located = c.locate-located.ensures.located t name sound reaches.finds in
     let there = c.in-Ok.ensures.has t name sound located in
-    let given : c.in-Ok.boxes.1 ≡ given_bounds box = c.in-Ok.ensures.gets ∙ sym reaches.given in
+    let given : c.in-Ok.both.1 ≡ given_bounds box = c.in-Ok.ensures.gets ∙ sym reaches.given in
     let changed = subst (λ (b : Bounds). OnOk c.replace_box.result (ChangesTree mid new name (HasMoved layer id b))) given
     (c.replace_box.ensures.tree t name (c.in-Ok.ensures.keeps.sound t sound) reaches.finds (located.dims ∙ c.in-Ok.ensures.axes) there) in
     begun_tree old mid new c.in-Ok.ensures.keeps c.replace_box.result c.replace_box.ensures.begins c.change_of.result c.change_of.ensures t name (HasMoved layer id (given_bounds box)) sound changed
@@ -100,5 +104,5 @@ returns-clause-same g c = λ t name box sound reaches still.
     let named = is_named t name c.args.place reaches.good reaches.finds in
     let none = as_move t name id box named ∙ c.in-Ok.ensures.allowed t name box sound located reaches.axes reaches.given in
     let there = c.in-Ok.ensures.has t name sound located in
-    let moves : changes t (Move name id box) ≡ true = tested_boxes t name id box c.in-Ok.boxes.0 there none c.in-Ok.boxes.1 (c.in-Ok.ensures.gets ∙ sym reaches.given) ∙ ap not (sym c.eq.ensures ∙ c.if-eq.false) in
+    let moves : changes t (Move name id box) ≡ true = tested_boxes t name id box c.in-Ok.both.0 there none c.in-Ok.both.1 (c.in-Ok.ensures.gets ∙ sym reaches.given) ∙ ap not (sym c.eq.ensures ∙ c.if-eq.false) in
     let no : true ≡ false = sym moves ∙ still in absurd (cc)

@@ -47,7 +47,7 @@ returns-clause-replaced g c = λ t name sound finds dims there.
     let at = stands_at kept t name c.args.place before finds located by g.row.D dims in
     let l = (reading kept t name c.args.place before finds).pages in
     let objects = (layer_at t name).objects in
-    sound_moved kept t name c.args.place before finds located by g.row.D dims c.args.id c.args.known.now c.args.bounds.now there c.replace.new.cache c.in_ok-root.root (c.in_ok-root.ensures.replaced before.map l objects at there) _ c.note.ensures.cache
+    sound_moved kept t name c.args.place before finds located by g.row.D dims c.args.id (c.args.known.now, c.args.tag) c.args.bounds.now there c.replace.new.cache c.in_ok-root.root (c.in_ok-root.ensures.replaced before.map l objects at there) _ c.note.ensures.cache
     c.count_at-count.result c.count_at-count.ensures c.in_ok-root.ensures.root c.in_ok-root.ensures.alters.changes.next c.note.ensures.records (c.in_ok-root.ensures.sound before.map l objects at there) c.note.ensures.count c.note.ensures.written
 
 pub returns-clause-tree : goal.returns-clause-tree
@@ -59,7 +59,7 @@ returns-clause-tree g c = λ t name sound finds dims there.
     let at = stands_at kept t name c.args.place before finds located by g.row.D dims in
     let l = (reading kept t name c.args.place before finds).pages in
     changes_before c.args.self.now kept _ name (HasMoved (layer_at t name) c.args.id c.args.bounds.now) (c.begin.ensures.keeps.map.pages_stay sound.map.honest) c.begin.ensures.keeps.records
-    (tree_moved kept t name c.args.place before finds located by g.row.D dims c.args.id c.args.known.now c.args.bounds.now there c.replace.new.cache c.in_ok-root.root
+    (tree_moved kept t name c.args.place before finds located by g.row.D dims c.args.id (c.args.known.now, c.args.tag) c.args.bounds.now there c.replace.new.cache c.in_ok-root.root
     (c.in_ok-root.ensures.replaced before.map l (layer_at t name).objects at there) _ c.note.ensures.cache c.count_at-count.result c.count_at-count.ensures c.in_ok-root.ensures.root c.in_ok-root.ensures.alters.changes.next c.note.ensures.records)
 
 pub returns-clause-begins : goal.returns-clause-begins

@@ -1,5 +1,5 @@
 -- What is found in the tree are the objects of the layer that are sought.
-use Rattle.std.proofs.Common.{sym, subst}
+use Rattle.std.proofs.Common.{◌∙◌, sym, subst}
 use Rattle.layer_pages.proofs.AnswerLemmas.{ranges_answer_objects}
 use Rattle.page_cache.specs.Cache.{pages}
 use Rattle.plain_table.specs.Queries.{seeks}
@@ -9,6 +9,7 @@ use Rattle.store_law.specs.Lawful.{IsFault}
 use Rattle.live_layers.specs.Changes.{Rose}
 use Rattle.live_layers.proofs.AskLemmas.{device_refuses, risen_of}
 use Rattle.live_layers.proofs.LocateLemmas.{stands_with}
+use Rattle.live_layers.proofs.ReplyLemmas.{same_tags}
 use Rattle.live_layers.proofs.layers.Layers.seek.Goals as goal
 
 pub returns-in-Ok-clause-rows : goal.returns-in-Ok-clause-rows
@@ -16,8 +17,9 @@ returns-in-Ok-clause-rows g c = λ t name sound located.
     let there = c.args.located.now in
     let old = c.args.self.now in
     let at = stands_with old t name there located g.row.D c.requires.axes in
-    ranges_answer_objects g.row.D there.fanout (pages old.cache) there.root there.directory located.layer (layer_at t name).objects (seeks c.args.query.now) c.in-Ok.rows.items at
+    ranges_answer_objects g.row.D there.fanout (pages old.cache) there.root there.directory located.layer (layer_at t name).objects (seeks c.args.query.now) c.args.tag c.in-Ok.rows.items at
     (c.in-Ok.ensures.rows sound.map.honest located.layer.tree there.fanout at.tree)
+    ∙ same_tags g.row.D c.args.query.now c.args.tag (layer_at t name).objects
 
 pub returns-in-Ok-clause-looks : goal.returns-in-Ok-clause-looks
 returns-in-Ok-clause-looks g c = λ t name sound located.

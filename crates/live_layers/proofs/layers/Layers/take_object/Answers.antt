@@ -46,7 +46,7 @@ returns-clause-taken g c = λ t name sound finds dims there.
     let at = stands_at kept t name c.args.place before finds located by g.row.D dims in
     let l = (reading kept t name c.args.place before finds).pages in
     let objects = (layer_at t name).objects in
-    sound_taken kept t name c.args.place before finds located by g.row.D dims c.args.id c.args.bounds.now there c.remove.new.cache c.in_ok-root.root (c.in_ok-root.ensures.removed before.map l objects at there) _ c.note.ensures.cache
+    sound_taken kept t name c.args.place before finds located by g.row.D dims c.args.id (c.args.bounds.now, c.args.tag) there c.remove.new.cache c.in_ok-root.root (c.in_ok-root.ensures.removed before.map l objects at there) _ c.note.ensures.cache
     c.count_at.result c.saturating_sub-count.result c.count_at.ensures c.saturating_sub-count.ensures c.in_ok-root.ensures.root c.in_ok-root.ensures.alters.changes.next c.note.ensures.records
     (c.in_ok-root.ensures.sound before.map l objects at) (omega (arith, c.note.ensures.count, c.saturating_sub-self.ensures)) c.note.ensures.written
 
@@ -59,7 +59,7 @@ returns-clause-tree g c = λ t name sound finds dims there.
     let at = stands_at kept t name c.args.place before finds located by g.row.D dims in
     let l = (reading kept t name c.args.place before finds).pages in
     changes_before c.args.self.now kept _ name (HasLost (layer_at t name) c.args.id) (c.begin.ensures.keeps.map.pages_stay sound.map.honest) c.begin.ensures.keeps.records
-    (tree_taken kept t name c.args.place before finds located by g.row.D dims c.args.id c.args.bounds.now there c.remove.new.cache c.in_ok-root.root (c.in_ok-root.ensures.removed before.map l (layer_at t name).objects at there) _ c.note.ensures.cache
+    (tree_taken kept t name c.args.place before finds located by g.row.D dims c.args.id (c.args.bounds.now, c.args.tag) there c.remove.new.cache c.in_ok-root.root (c.in_ok-root.ensures.removed before.map l (layer_at t name).objects at there) _ c.note.ensures.cache
     c.count_at.result c.saturating_sub-count.result c.count_at.ensures c.saturating_sub-count.ensures c.in_ok-root.ensures.root c.in_ok-root.ensures.alters.changes.next c.note.ensures.records)
 
 pub returns-clause-begins : goal.returns-clause-begins

@@ -9,7 +9,7 @@ entry_at-requires g c =
     let view = c.args.self.now in
     let many = length-first_places (item_at g.row.D view.page.now) view.count in
     let within : c.args.place < view.count = omega (arith, many) in
-    (search rules, (view.laid_out.dims_is, (omega (arith, view.laid_out.few), (view.laid_out.each c.args.place within).ordered)))
+    (search rules, (view.laid_out.dims_is, (omega (arith, view.laid_out.few), (view.tags, (view.laid_out.each c.args.place within).ordered))))
 
 pub returns : goal.returns
 returns g c =

@@ -1,8 +1,8 @@
 -- The goals of `wait_again` that are proved by hand.
-use Rattle.std.proofs.Common.{◌≡◌, ◌∙◌, ◌-◌, ℕ, arith, ap, subst, sym, get_or, length, All, [], ◌∷◌}
+use Rattle.std.proofs.Common.{rules, ◌≡◌, ◌∙◌, ◌-◌, ℕ, arith, ap, subst, sym, get_or, length, All, [], ◌∷◌}
 use Rattle.std.proofs.lemmas.List.Elements.{All-append}
 use Rattle.tree_node.specs.declared.node.Entry.{Entry}
-use Rattle.node_page.specs.Layout.{IsReference}
+use Rattle.node_page.specs.Layout.{IsOfLevel}
 use Rattle.reinsert.specs.declared.waiting.Wait.{Wait}
 use Rattle.reinsert.specs.Called.{free_levels}
 use Rattle.reinsert.proofs.CalledLemmas.{free_levels_le, free_levels_fall}
@@ -15,7 +15,7 @@ invariant_of-self-clause-room g c = omega (arith, free_levels_le c.args.self.now
 pub push-requires : goal.push-requires
 push-requires g c =
     let free = ap free_levels c.loop-passed.invariant.2 in
-    omega (arith, free, free_levels_fall c.args.self.now.called c.args.level c.requires.first, c.args.self.now.room, c.loop-passed.invariant.1, c.requires.few, c.len-passed-end.ensures.value, c.loop-passed-test.true)
+    (search rules, omega (arith, free, free_levels_fall c.args.self.now.called c.args.level c.requires.first, c.args.self.now.room, c.loop-passed.invariant.1, c.requires.few, c.len-passed-end.ensures.value, c.loop-passed-test.true))
 
 pub invariant_of-self-in-loop-passed-clause-room : goal.invariant_of-self-in-loop-passed-clause-room
 invariant_of-self-in-loop-passed-clause-room g c =
@@ -29,9 +29,9 @@ invariant_of-self-in-loop-passed-clause-refers g c =
     let at = length far - 1 - c.loop-passed.passed in
     let this : e ≡ get_or far at e =
     c.index-deref-len.is ∙ ap (λ xs. get_or xs (c.len.result - 1 - c.loop-passed.passed) e) c.deref.ensures.0 ∙ ap (λ (n : ℕ). get_or far (n - 1 - c.loop-passed.passed) e) c.len.ensures.value in
-    let P : Wait g.row.D → Type 0 = λ w. IsReference w.level w.entry.reference in
-    let one : IsReference c.args.level e.reference =
-    subst (λ (x : Entry g.row.D). IsReference c.args.level x.reference) (sym this) (c.requires.refers at e (omega (arith, c.loop-passed-test.true, c.len-passed-end.ensures.value))) in
+    let P : Wait g.row.D → Type 0 = λ w. IsOfLevel w.level w.entry.reference w.entry.tag in
+    let one : IsOfLevel c.args.level e.reference e.tag =
+    subst (λ (x : Entry g.row.D). IsOfLevel c.args.level x.reference x.tag) (sym this) (c.requires.refers at e (omega (arith, c.loop-passed-test.true, c.len-passed-end.ensures.value))) in
     subst (λ xs. All P xs) (sym c.push.ensures.items)
     (All-append P c.loop-passed.self.waits.items (record { entry = e; level = c.args.level } ∷ []) c.loop-passed.self.refers (All-one P (record { entry = e; level = c.args.level }) one))
 
