@@ -1,0 +1,8 @@
+//! A device over blocks that are only read: each write fails, and nothing is written.
+#![tactic(auto)]
+
+mod device;
+mod reader;
+
+pub use device::ReadOnlyDevice;
+pub use reader::BlockReader;
