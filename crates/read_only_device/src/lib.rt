@@ -2,7 +2,9 @@
 #![tactic(auto)]
 
 mod device;
+mod held;
 mod reader;
 
 pub use device::ReadOnlyDevice;
+pub use held::HeldBlocks;
 pub use reader::BlockReader;
