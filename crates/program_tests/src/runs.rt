@@ -1,7 +1,9 @@
 //! Runs of the program: its words, its file, its texts and its status.
 
 use command_line::{greet, serve};
-use file_device::{FileDevice, FileReader, HostFile, HostReader, OpenError, open_file, open_reader};
+use file_device::{
+    FileDevice, FileReader, HostFile, HostReader, OpenError, open_file, open_reader,
+};
 use std::io::{ErrorKind, Read, Write};
 use std::test::Fail;
 use std::{fs, io};
@@ -166,10 +168,7 @@ fn a_file_that_is_only_read(rt: HostRuntime) -> Result<(), Fail> {
     );
     let store = fs::read(&rt, file)?;
     let rows = "ok 2\n1 0 0 10 10\n2 20 20 30 30\n";
-    assert_eq!(rt;
-        runs(&rt, &words, "window a 5 5 25 25", rows, "")?,
-        Some(0)
-    );
+    assert_eq!(rt; runs(&rt, &words, "window a 5 5 25 25", rows, "")?, Some(0));
     // what changes nothing is no change, and neither is what is refused for the table's sake
     let asked = "reopen\nmove a 1 0 0 10 10\ninsert a 1 0 0 1 1\ncheck\ncount a\n";
     let told = "ok\nok\nfail 9 Duplicate\nok\nok 2\n";
@@ -200,7 +199,10 @@ fn a_file_that_is_only_read(rt: HostRuntime) -> Result<(), Fail> {
     }
     fs::remove_file(&rt, file)?;
     for path in [".", "/dev/null", "command_line_none/a"] {
-        assert_eq!(rt; says(&rt, &["rstore", "--read-only", path], UNOPENED)?, Some(1));
+        assert_eq!(rt;
+            says(&rt, &["rstore", "--read-only", path], UNOPENED)?,
+            Some(1)
+        );
     }
     Ok(())
 }
@@ -222,7 +224,10 @@ fn a_file_that_is_in_use(rt: HostRuntime) -> Result<(), Fail> {
         runs(&rt, &["rstore", "--read-only", file], asked, "ok 2\n", "")?,
         Some(0)
     );
-    for words in [["rstore", file].as_slice(), ["rstore", "--create", file].as_slice()] {
+    for words in [
+        ["rstore", file].as_slice(),
+        ["rstore", "--create", file].as_slice(),
+    ] {
         assert_eq!(rt; says(&rt, words, IN_USE)?, Some(1));
     }
     drop(readers);
@@ -251,7 +256,10 @@ fn each_refusal_of_a_file_is_told(rt: HostRuntime) -> Result<(), Fail> {
         (OpenError::Refused, UNOPENED),
         (OpenError::InUse, IN_USE),
         (OpenError::NoLocks, "rstore: FILE cannot be locked\n"),
-        (OpenError::ClosedStream, "rstore: a standard stream is closed\n"),
+        (
+            OpenError::ClosedStream,
+            "rstore: a standard stream is closed\n",
+        ),
     ] {
         for words in [
             ["rstore", "a"].as_slice(),
