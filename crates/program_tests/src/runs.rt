@@ -221,7 +221,13 @@ fn a_file_that_is_in_use(rt: HostRuntime) -> Result<(), Fail> {
     let asked = "count a";
     let readers = open_reader(&rt, file)?;
     assert_eq!(rt;
-        runs(&rt, &["rstore", "--read-only", file], asked, "ok 1\n2\n", "")?,
+        runs(
+            &rt,
+            &["rstore", "--read-only", file],
+            asked,
+            "ok 1\n2\n",
+            ""
+        )?,
         Some(0)
     );
     for words in [
@@ -240,7 +246,10 @@ fn a_file_that_is_in_use(rt: HostRuntime) -> Result<(), Fail> {
         assert_eq!(rt; says(&rt, words, IN_USE)?, Some(1));
     }
     drop(writer);
-    assert_eq!(rt; runs(&rt, &["rstore", file], asked, "ok 1\n2\n", "")?, Some(0));
+    assert_eq!(rt;
+        runs(&rt, &["rstore", file], asked, "ok 1\n2\n", "")?,
+        Some(0)
+    );
     fs::remove_file(&rt, file)?;
     Ok(())
 }
