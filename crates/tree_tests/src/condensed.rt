@@ -26,12 +26,12 @@ fn five_points(alloc: Global) -> Result<Cache, Fault>
     open_cache(alloc, device)
 }
 
-// Removes the point at that place of the line, if it has the identifier.
+// Removes the point at that place of the line, if it has the identifier. All points have the tag 0.
 fn take(alloc: Global, cache: &mut Cache, id: u64, x: i32) -> Result<Root, Broken>
     requires { gate_of cache.old ≡ Open }
     ensures { gate_of cache.new ≡ Open }
 {
-    remove(alloc, cache, FIVE, id, &at(x), 4)
+    remove(alloc, cache, FIVE, id, &at(x), 0, 4)
 }
 
 // The box of a point on the line.
@@ -79,6 +79,7 @@ fn an_object_that_is_not_there_changes_nothing(rt: HostRuntime) -> Result<(), Fa
     });
     assert!(rt; take(rt.alloc(), &mut cache, 9, 0) == absent);
     assert!(rt; take(rt.alloc(), &mut cache, 1, 1) == absent);
+    assert!(rt; remove(rt.alloc(), &mut cache, FIVE, 1, &at(0), 1, 4) == absent);
     let are = leaves_are(rt.alloc(), &mut cache, FIVE, &[&[1, 2], &[3, 4, 5]])?;
     assert!(rt; are);
     Ok(())
@@ -89,8 +90,8 @@ fn the_room_serves_one_removal_after_the_other(rt: HostRuntime) -> Result<(), Fa
     let mut cache = five_points(rt.alloc())?;
     let mut waiting = Waiting::make(rt.alloc())?;
     let mut kept = Kept::make(rt.alloc())?;
-    let first = remove_with(&mut cache, FIVE, 1, &at(0), 4, &mut waiting, &mut kept)?;
-    let second = remove_with(&mut cache, first, 4, &at(3), 4, &mut waiting, &mut kept)?;
+    let first = remove_with(&mut cache, FIVE, 1, &at(0), 0, 4, &mut waiting, &mut kept)?;
+    let second = remove_with(&mut cache, first, 4, &at(3), 0, 4, &mut waiting, &mut kept)?;
     let are = leaves_are(rt.alloc(), &mut cache, second, &[&[3, 5, 2]])?;
     assert!(rt; are);
     Ok(())

@@ -31,8 +31,13 @@ fn grow(rt: &impl Abort, alloc: Global, count: u64, m_max: u8) -> Result<(), Fai
     let mut dice = Dice::new(count);
     'windows: for turn in 0..100u32 {
         let asked = dice.bounds(Spread::Uniform, 0x7fff);
-        let rows = window::<2, _, _, _>(alloc, &mut cache, root, &asked)?;
-        let are = are_rows(rows.as_slice(), entries.as_slice(), &Asked::Window(asked));
+        let rows = window::<2, _, _, _>(alloc, &mut cache, root, &asked, None)?;
+        let are = are_rows(
+            rows.as_slice(),
+            entries.as_slice(),
+            &Asked::Window(asked),
+            None,
+        );
         assert!(rt; are, "{turn}");
     }
     Ok(())

@@ -2,7 +2,7 @@
 
 ghost use Rattle.std.specs.Prelude.{◌≤◌};
 
-use crate::scene::{Asked, Dice, Spread, are_rows, boxes, is_whole, load_boxes};
+use crate::scene::{Asked, Dice, Spread, are_rows, boxes, is_whole, load_boxes, tag_for};
 use box_math::BBox;
 use node_page::{Entry, Root};
 use page_file::Fault;
@@ -27,19 +27,28 @@ fn ask(dice: &mut Dice, spread: Spread, turn: u32, objects: &[Entry<2>]) -> Aske
     }
 }
 
+// In every third turn a tag that objects have, and in the others none.
+fn tag_asked(turn: u32) -> Option<u32> {
+    if turn % 3 == 0 {
+        return Some(tag_for(u64::from(turn)));
+    }
+    None
+}
+
 // What the tree answers.
 fn rows_of(
     alloc: Global,
     cache: &mut Cache,
     root: Root,
     asked: &Asked<2>,
-) -> Result<Vec<(u64, BBox<2>)>, Fault> {
+    tag: Option<u32>,
+) -> Result<Vec<(u64, (BBox<2>, u32))>, Fault> {
     match asked {
         Asked::All => Ok(Vec::new(alloc)),
-        Asked::Window(bounds) => window::<2, _, _, _>(alloc, cache, root, bounds),
-        Asked::Inside(bounds) => inside::<2, _, _, _>(alloc, cache, root, bounds),
-        Asked::Around(inner) => around::<2, _, _, _>(alloc, cache, root, inner),
-        Asked::Point(place) => point::<2, _, _, _>(alloc, cache, root, place),
+        Asked::Window(bounds) => window::<2, _, _, _>(alloc, cache, root, bounds, tag),
+        Asked::Inside(bounds) => inside::<2, _, _, _>(alloc, cache, root, bounds, tag),
+        Asked::Around(inner) => around::<2, _, _, _>(alloc, cache, root, inner, tag),
+        Asked::Point(place) => point::<2, _, _, _>(alloc, cache, root, place, tag),
     }
 }
 
@@ -61,10 +70,11 @@ fn load_and_ask(
     let mut found: usize = 0;
     'queries: for turn in 0..200u32 {
         let asked = ask(&mut dice, spread, turn, objects.as_slice());
-        let rows = rows_of(alloc, &mut cache, root, &asked)?;
+        let tag = tag_asked(turn);
+        let rows = rows_of(alloc, &mut cache, root, &asked, tag)?;
         found = found.saturating_add(rows.len());
-        let are = are_rows(rows.as_slice(), objects.as_slice(), &asked);
-        assert!(rt; are, "{turn}: {asked:?}");
+        let are = are_rows(rows.as_slice(), objects.as_slice(), &asked, tag);
+        assert!(rt; are, "{turn}: {asked:?} {tag:?}");
     }
     assert!(rt; found > 200, "{found}");
     Ok(())

@@ -4,7 +4,7 @@ ghost use Rattle.std.specs.Prelude.{◌≡◌, ◌^◌, ◌<◌, ◌≤◌};
 ghost use Rattle.page_cache.specs.Cache.{gate_of};
 ghost use Rattle.page_file.specs.declared.gate.Gate.TheVariants.{Open};
 
-use crate::scene::{Dice, Spread, add_tree, is_whole};
+use crate::scene::{Dice, Spread, add_tree, is_whole, tag_for};
 use condense::{Kept, remove_with};
 use node_page::{Broken, Entry, Root};
 use page_file::Fault;
@@ -78,6 +78,7 @@ impl Scene {
             self.root,
             object.reference,
             &object.bounds,
+            object.tag,
             most,
             &mut self.waiting,
             &mut self.kept,
@@ -97,7 +98,11 @@ impl Scene {
                 self.take()?;
                 Ok(())
             }
-            _ => self.add(Entry { bounds, reference }),
+            _ => self.add(Entry {
+                bounds,
+                reference,
+                tag: tag_for(reference),
+            }),
         }
     }
 

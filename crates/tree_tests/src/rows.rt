@@ -23,7 +23,7 @@ fn meeting(
     ensures { gate_of cache.new ≡ gate_of cache.old }
 {
     let before = cache.looks();
-    let rows = window::<2, _, _, _>(alloc, cache, root, &object(0, asked).bounds)?;
+    let rows = window::<2, _, _, _>(alloc, cache, root, &object(0, asked).bounds, None)?;
     let mut ids = Vec::with_capacity(alloc, rows.len())?;
     for row in rows.iter() {
         ids.push(row.0)?;

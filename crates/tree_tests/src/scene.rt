@@ -130,7 +130,7 @@ pub fn is_whole<const D: usize, B: BlockDevice, A: Allocator + Copy>(
 {
     let mut facts = check_tree::<D, _, _, _>(alloc, cache, root, m_max)?;
     facts.pairs.sort_unstable_by_key(|pair| pair.0);
-    Ok(are_rows(facts.pairs.as_slice(), objects, &Asked::All))
+    Ok(are_rows(facts.pairs.as_slice(), objects, &Asked::All, None))
 }
 
 /// What is asked of boxes: each, those that meet a box or lie in it, and those around a box or at a point.
@@ -155,22 +155,25 @@ pub fn passes<const D: usize>(asked: &Asked<D>, bounds: &BBox<D>) -> bool {
 }
 
 // Whether a row is that of the object.
-fn is_row<const D: usize>(row: Option<&(u64, BBox<D>)>, object: &Entry<D>) -> bool {
+fn is_row<const D: usize>(row: Option<&(u64, (BBox<D>, u32))>, object: &Entry<D>) -> bool {
     match row {
-        Some(&(id, bounds)) => id == object.reference && bounds == object.bounds,
+        Some(&(id, (bounds, tag))) => {
+            id == object.reference && bounds == object.bounds && tag == object.tag
+        }
         None => false,
     }
 }
 
-/// Whether the rows are the objects that are asked for, in the order of the list.
+/// Whether the rows are the objects that are asked for, and have the tag if one is, in the order of the list.
 pub fn are_rows<const D: usize>(
-    rows: &[(u64, BBox<D>)],
+    rows: &[(u64, (BBox<D>, u32))],
     objects: &[Entry<D>],
     asked: &Asked<D>,
+    tag: Option<u32>,
 ) -> bool {
     let mut count: usize = 0;
     for object in objects {
-        if passes(asked, &object.bounds) {
+        if passes(asked, &object.bounds) && tag.unwrap_or(object.tag) == object.tag {
             if !is_row(rows.get(count), object) {
                 return false;
             }
@@ -201,15 +204,16 @@ pub fn leaves_are<B: BlockDevice, A: Allocator + Copy>(
     Ok(true)
 }
 
-/// The box of two axes from (x, y) to (u, v), with a reference.
+/// The box of two axes from (x, y) to (u, v), with a reference and the tag 0.
 pub fn object(reference: u64, [x, y, u, v]: [i32; 4]) -> Entry<2> {
     Entry {
         bounds: BBox::try_new([x, y], [u, v]).unwrap_or_default(),
         reference,
+        tag: 0,
     }
 }
 
-/// The point (x, y), with a reference.
+/// The point (x, y), with a reference and the tag 0.
 pub fn point(reference: u64, x: i32, y: i32) -> Entry<2> {
     object(reference, [x, y, x, y])
 }
@@ -276,13 +280,22 @@ impl Dice {
     }
 }
 
-/// So many boxes with sides below 2^10, with references from 0 on.
+/// The tag of a random object, one of five for all references.
+pub fn tag_for(reference: u64) -> u32 {
+    ((reference % 5) as u32).wrapping_mul(0x3579_bdf1)
+}
+
+/// So many boxes with sides below 2^10, with references from 0 on and tags by these.
 pub fn boxes(alloc: Global, spread: Spread, count: u64) -> Result<Vec<Entry<2>>, Fault> {
     let mut dice = Dice::new(count);
     let mut entries = Vec::new(alloc);
     for reference in 0..count {
         let bounds = dice.bounds(spread, 0x3ff);
-        entries.push(Entry { bounds, reference })?;
+        entries.push(Entry {
+            bounds,
+            reference,
+            tag: tag_for(reference),
+        })?;
     }
     Ok(entries)
 }
