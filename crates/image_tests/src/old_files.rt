@@ -133,12 +133,10 @@ fn any_objects(dice: &mut Dice, alloc: Global, count: u32) -> Result<Vec<Object>
     Ok(objects)
 }
 
-// A change of an object, or a question, beside those of the identifiers below that.
-fn any_command(dice: &mut Dice, ids: u32) -> Command<'static>
-    requires { 0 < ids }
-{
+// A change of an object, or a question. Some identifiers are of no object.
+fn any_command(dice: &mut Dice) -> Command<'static> {
     let bounds = any_box(dice);
-    let id = u64::from(dice.below(ids));
+    let id = u64::from(dice.below(20_400));
     match dice.below(8) {
         0 | 1 => Command::InsertTagged(b"a", id, bounds, dice.below(3)),
         2 | 3 => Command::Move(b"a", id, bounds),
@@ -157,7 +155,7 @@ fn put_hundred(
     dice: &mut Dice,
 ) {
     for _ in 0..100 {
-        let command = any_command(dice, 20_400);
+        let command = any_command(dice);
         let given = answer(alloc, store, command);
         assert!(rt; given == listed(alloc, table, command), "{command:?}");
     }
