@@ -40,12 +40,52 @@ refused() {
     [ ! -f "$file" ] || [ "$before" = "$(cksum "$file")" ] || wrong "'$*' changed the file"
 }
 
+# holds NAME WORD..: runs the program, called by these words, until `lets NAME`. It has answered a line, so it has FILE.
+declare -A holder gate
+holds() {
+    local name=$1 pid end _
+    shift
+    rm -f "$name.in"
+    mkfifo "$name.in"
+    "$@" <"$name.in" >"$name.out" 2>"$name.said" &
+    pid=$!
+    exec {end}>"$name.in"
+    holder[$name]=$pid
+    gate[$name]=$end
+    echo 'layers' >&"$end"
+    for _ in {1..400}; do
+        [ -s "$name.out" ] && return
+        kill -0 "$pid" 2>/dev/null || wrong "'$*' ended: $(cat "$name.said")"
+        sleep 0.05
+    done
+    wrong "'$*' answers nothing"
+}
+
+# The input of one that holds ends, and its status has to be that.
+lets() {
+    local wanted=$2 status=0 end=${gate[$1]}
+    exec {end}>&-
+    wait "${holder[$1]}" || status=$?
+    [ "$status" -eq "$wanted" ] || wrong "$1 ended with status $status, not $wanted: $(cat "$1.said")"
+}
+
+# One that holds is killed, and has no time to do anything.
+kills() {
+    local end=${gate[$1]}
+    kill -9 "${holder[$1]}"
+    wait "${holder[$1]}" 2>/dev/null || true
+    exec {end}>&-
+}
+
 unopened='rstore: cannot open the file'
 failed='rstore: input or output failed'
+in_use='rstore: FILE is in use'
+closed_stream='rstore: a standard stream is closed'
+readers='1 2 3 4 5 6 7 8 9 10'
 
 for made in "$program" "$program.by-rattle"; do
     [ -x "$made" ] || continue
-    rm -rf store folder fifo bytes
+    rm -rf ./*
 
     ends 0 '' "$made" </dev/null >/dev/null
     ends 1 "$failed" "$made" </ >/dev/null
@@ -57,7 +97,8 @@ for made in "$program" "$program.by-rattle"; do
 
     # the words
     line='*' status=2
-    for words in 'x y' '--cache 7' '--cache 4097' '--cache x' '--cache' '--other' '--create --create'; do
+    for words in 'x y' '--cache 7' '--cache 4097' '--cache x' '--cache' '--other' '--create --create' '--read-only' \
+        '--read-only --create store' '--read-only --read-only store'; do
         # shellcheck disable=SC2086
         refused _ _ store "$made" $words
     done
@@ -73,7 +114,9 @@ for made in "$program" "$program.by-rattle"; do
     for path in folder folder/none/store fifo /dev/null ''; do
         refused _ _ "$path" "$made" "$path"
         refused _ _ "$path" "$made" --create "$path"
+        refused _ _ "$path" "$made" --read-only "$path"
     done
+    refused _ _ store "$made" --read-only store
     line='rstore: the file is not empty'
     refused _ _ bytes "$made" --create bytes
     line='rstore: fail 21 NotAStore'
@@ -85,18 +128,88 @@ for made in "$program" "$program.by-rattle"; do
     refused _ _ store "$made" --create store
     ends 1 "$failed" "$made" store <<<'insert a 1 0 0 1 1' >/dev/full
     ends 0 '' "$made" store <<<'window a 0 0 1 1' >replies
-    # no file takes the place of a standard stream that is closed
+    # no file takes the place of a standard stream that is closed, and none is made
     before=$(cksum store)
-    ends 1 "$failed" "$made" store <<<'window a 0 0 1 1' >&-
-    ends 1 "$failed" "$made" store <&- >replies
+    for words in store '--create store' '--read-only store' '--create none'; do
+        # shellcheck disable=SC2086
+        {
+            ends 1 "$closed_stream" "$made" $words <<<'window a 0 0 1 1' >&-
+            ends 1 "$closed_stream" "$made" $words <&- >replies
+        }
+        [ ! -s replies ] || wrong "'$words' wrote: $(cat replies)"
+        # shellcheck disable=SC2086
+        ! "$made" $words <<<'window a 0 0 1 1' >replies 2>&- || wrong "'$words' without a standard error ended well"
+    done
     [ "$before" = "$(cksum store)" ] || wrong "a closed stream's place was taken by the file"
+    [ ! -e none ] || wrong "a file was made that takes a closed stream's place"
+    ends 0 '' "$made" <<<'layers' 2>errors >/dev/null
+
+    # one writer, by whatever name the file has
+    ln store link
+    ln -s store symlink
+    line=$in_use status=1
+    holds writer "$made" store
+    for path in store link symlink ./store; do
+        refused _ _ store "$made" "$path"
+        refused _ _ store "$made" --create "$path"
+        refused _ _ store "$made" --read-only "$path"
+    done
+    lets writer 0
+    ends 0 '' "$made" store <<<'window a 0 0 1 1' >/dev/null
+    # also of one that has just made it, and of one that was killed
+    holds maker "$made" --create new
+    refused _ _ new "$made" new
+    refused _ _ new "$made" --create new
+    refused _ _ new "$made" --read-only new
+    kills maker
+    ends 0 '' "$made" new <<<'layers' >/dev/null
+    holds writer "$made" store
+    kills writer
+    ends 0 '' "$made" store <<<'window a 0 0 1 1' >/dev/null
+
+    # many readers, and no writer beside them
+    before=$(cksum store)
+    for reader in $readers; do
+        holds "reader$reader" "$made" --read-only store
+    done
+    for path in store link symlink; do
+        refused _ _ store "$made" "$path"
+        refused _ _ store "$made" --create "$path"
+    done
+    kills reader10
+    refused _ _ store "$made" store
+    ends 0 '' "$made" --read-only symlink <<<'window a 0 0 1 1' >replies
+    grep -q '^ok 1$' replies || wrong "a reader beside readers answered: $(cat replies)"
+    for reader in 9 8 7 6 5 4 3 2 1; do
+        lets "reader$reader" 0
+        grep -q '^a 2 4 ' "reader$reader.out" || wrong "reader $reader answered: $(cat "reader$reader.out")"
+    done
+    [ "$before" = "$(cksum store)" ] || wrong "a reader changed the file"
+    ends 0 '' "$made" store <<<'window a 0 0 1 1' >/dev/null
+
+    # each change is refused, the store goes on, and the file is as it was, also where it may not be written
+    chmod 400 store
+    before=$(cksum store)
+    printf '%s\n' 'insert a 2 0 0 1 1' 'delete a 1' 'create b 2 4' 'window a 0 0 1 1' >asked
+    ends 1 'rstore: fail 17 Device' "$made" --read-only store <asked >replies
+    printf '%s\n' 'fail 17 Device' 'fail 17 Device' 'fail 17 Device' 'ok 1' '1 0 0 1 1' >wanted
+    cmp -s replies wanted || wrong "changes of a file that is only read: $(cat replies)"
+    ends 0 '' "$made" --read-only store <<<'reopen' >replies
+    [ "$before" = "$(cksum store)" ] || wrong "a file that is only read was changed"
+    chmod 600 store
     if [ "$(id -u)" -ne 0 ]; then
         chmod 000 store
         line=$unopened
         refused _ _ none "$made" store
+        refused _ _ none "$made" --read-only store
+        chmod 400 store
+        refused _ _ none "$made" store
+        ends 0 '' "$made" --read-only store <<<'layers' >/dev/null
         chmod 600 store
     fi
     printf '\0' | dd of=store bs=1 seek=8 conv=notrunc status=none
     line='rstore: fail 20 NotClosed'
     refused _ _ store "$made" store
+    line='rstore: fail 20 NotClosed: open FILE once for writing'
+    refused _ _ store "$made" --read-only store
 done

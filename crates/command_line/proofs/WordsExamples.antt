@@ -12,6 +12,9 @@ pages_in words = one_of (codes "cache") (matches_of program words)
 abbrev made_in : List Text → Option Text
 made_in words = one_of (codes "create") (matches_of program words)
 
+abbrev read_in : List Text → Option Text
+read_in words = one_of (codes "read-only") (matches_of program words)
+
 abbrev said : List Text → List Text
 said words = codes "rstore" ∷ words
 
@@ -34,6 +37,11 @@ in_another_order = said (codes "map.rst" ∷ codes "--cache=4096" ∷ [])
 order_is_free : (fault_of program in_another_order ≡ []) × (file_in in_another_order ≡ Some (codes "map.rst")) × (pages_in in_another_order ≡ Some (codes "4096")) × (made_in in_another_order ≡ Some (codes "false"))
 unfolding clap_on_literals
 order_is_free = (refl, refl, refl, refl)
+
+-- a file that is only read
+only_read : (fault_of program (said (codes "--read-only" ∷ codes "map.rst" ∷ [])) ≡ []) × (file_in (said (codes "--read-only" ∷ codes "map.rst" ∷ [])) ≡ Some (codes "map.rst")) × (read_in (said (codes "--read-only" ∷ codes "map.rst" ∷ [])) ≡ Some (codes "true")) × (made_in (said (codes "--read-only" ∷ codes "map.rst" ∷ [])) ≡ Some (codes "false")) × (read_in (said []) ≡ Some (codes "false"))
+unfolding clap_on_literals
+only_read = (refl, refl, refl, refl, refl)
 
 -- after `--` each word is a file
 file_after_dashes : file_in (said (codes "--" ∷ codes "--create" ∷ [])) ≡ Some (codes "--create")

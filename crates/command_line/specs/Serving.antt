@@ -3,7 +3,8 @@ use Rattle.std.specs.Prelude.{ℕ, ◌≡◌, ◌<◌, ◌⊎◌, ◌==◌, Bool
 use Rattle.std.specs.FinMap.{empty}
 use Rattle.block_device.specs.Device.{Blocks, LeavesOnly, Only}
 use Rattle.block_device.specs.declared.device.BlockDevice as device
-use Rattle.block_device.specs.declared.device.DeviceError.{DeviceError}
+use Rattle.file_device.specs.declared.open.OpenError.{OpenError}
+use Rattle.read_only_device.specs.declared.reader.BlockReader as reader
 use Rattle.page_file.specs.Opening.{IsRefused}
 use Rattle.page_file.specs.declared.fault.Fault.{Fault}
 use Rattle.live_layers.specs.Image.{IsImage, OpeningRefuses}
@@ -71,6 +72,38 @@ pub record HasAnswered (t : Table) (unread unread' written written' : Option (Li
   pub well : status ≡ 0 → end ≡ Finished
   pub faultless : new.faults ≡ 0
 
+-- The words do not go together: nothing has begun, and the status says so.
+pub record IsMisused {R W : Type 0} (r r' : R) (w w' : W) (status : ℕ) : Type 0 where
+  pub failed : status ≡ 2
+  pub unread : r' ≡ r
+  pub unwritten : w' ≡ w
+
+-- Commands were answered by a lawful session that begins with this table. With status 0 all that the reader had was
+-- read, and each reply was written.
+pub record HasAnsweredFrom (t : Table) (unread unread' written written' : Option (List ℕ)) (status : ℕ) : Type 0 where
+  pub old : SessionState
+  pub new : SessionState
+  pub begins : old.state ≡ Alive t
+  pub end : RunEnd
+  pub runs : Runs end (run_state old unread written) (run_state new unread' written')
+  pub well : status ≡ 0 → end ≡ Finished
+
+-- What was done over blocks that are only read, which stay as they are. Where their reader is honest, their store was
+-- opened, and its commands were answered; or its opening was refused.
+pub record HasRead {B R W : Type 0} (m : reader.Ghosts B) (blocks : B) (r r' : R) (w w' : W)
+    (unread unread' written written' : Option (List ℕ)) (status : ℕ) : Type 0 where
+  pub answers : m.honest blocks → (t : Table) → IsImage (m.shown blocks) t →
+      HasNotBegun r r' w w' status ⊎ HasAnsweredFrom t unread unread' written written' status
+  pub refused : m.honest blocks → (f : Fault) → OpeningRefuses (m.shown blocks) f → HasNotBegun r r' w w' status
+
+-- A reader was opened, of which `opens` tells, and with this status it was done what is done over it; or its opening was
+-- refused, and nothing has begun.
+abbrev pub OpensAndReads : {B R W : Type 0} → reader.Ghosts B → (Result B OpenError → Type 0) → R → R → W → W
+    → Option (List ℕ) → Option (List ℕ) → Option (List ℕ) → Option (List ℕ) → ℕ → Type 0
+OpensAndReads {B} m opens r r' w w' unread unread' written written' status =
+    ((e : OpenError) × opens (Err e) × HasNotBegun r r' w w' status)
+    ⊎ ((blocks : B) × opens (Ok blocks) × HasRead m blocks r r' w w' unread unread' written written' status)
+
 -- What was done on a device that was opened, and what is left of it. Where a store was to be made and there are
 -- blocks, nothing has begun, and the device is left as it was opened. Where it is honest, a store was made on it, or
 -- opened, its commands were answered and it was closed; or its making or its opening was refused.
@@ -88,9 +121,9 @@ pub record HasServedOn {D R W : Type 0} (m : device.Ghosts D) (create : Bool) (d
 
 -- A file was opened, of which `opens` tells, and with this status there is left what was done on it; or its opening was
 -- refused, and nothing has begun.
-abbrev pub OpensAndServes : {D R W : Type 0} → device.Ghosts D → (Result D DeviceError → Type 0) → Bool → R → R → W → W
+abbrev pub OpensAndServes : {D R W : Type 0} → device.Ghosts D → (Result D OpenError → Type 0) → Bool → R → R → W → W
     → Option (List ℕ) → Option (List ℕ) → Option (List ℕ) → Option (List ℕ) → ℕ → Type 0
 OpensAndServes {D} m opens create r r' w w' unread unread' written written' status =
-    ((e : DeviceError) × opens (Err e) × HasNotBegun r r' w w' status)
+    ((e : OpenError) × opens (Err e) × HasNotBegun r r' w w' status)
     ⊎ ((device : D) × (left : Served D) × opens (Ok device) × (left.status ≡ status)
     × HasServedOn m create device r r' w w' unread unread' written written' left)

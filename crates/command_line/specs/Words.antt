@@ -21,9 +21,17 @@ cache_rule = record (new_rule (codes "cache")) {
   defaults = codes "64" ∷ [];
 }
 
+-- a flag of this name
+abbrev pub flag_rule : Text → Rule
+flag_rule name = record (new_rule name) { long = Some name; action = Some SetTrue }
+
 -- `--create`
 abbrev pub create_rule : Rule
-create_rule = record (new_rule (codes "create")) { long = Some (codes "create"); action = Some SetTrue }
+create_rule = flag_rule (codes "create")
+
+-- `--read-only`
+abbrev pub read_only_rule : Rule
+read_only_rule = flag_rule (codes "read-only")
 
 -- `FILE`
 abbrev pub file_rule : Rule
@@ -32,8 +40,8 @@ file_rule = record (new_rule (codes "file")) { value_names = 1 }
 -- the program, which tells its version too
 abbrev pub program : App
 program =
-    with_rule (with_rule (with_rule (on_top (λ s. record s { has_version = true }) (new_app (codes "rstore")))
-    cache_rule) create_rule) file_rule
+    with_rule (with_rule (with_rule (with_rule (on_top (λ s. record s { has_version = true }) (new_app (codes "rstore")))
+    cache_rule) create_rule) read_only_rule) file_rule
 
 -- the file that words name, if they name one
 abbrev pub file_in : List Text → Option Text
@@ -44,18 +52,24 @@ abbrev pub AsksToMake : List Text → Bool → Type 0
 AsksToMake words create =
     (flag : Bool) → one_of (codes "create") (matches_of program words) ≡ Some (bool_text flag) → create ≡ flag
 
+-- whether they ask for it to be only read
+abbrev pub AsksToRead : List Text → Bool → Type 0
+AsksToRead words read =
+    (flag : Bool) → one_of (codes "read-only") (matches_of program words) ≡ Some (bool_text flag) → read ≡ flag
+
 -- a text is this decimal number
 pub record IsNumber (text : Text) (n : ℕ) : Type 0 where
   pub numeral : IsNumeral 10 (without_leading_plus text)
   pub value : digits_value 10 (without_leading_plus text) ≡ n
 
 -- The words, the first of which is the program's name, are taken, and ask for so many cached pages, for a file to be
--- made or not, and for this file, or for none.
-pub record AskFor (words : List Text) (cache : ℕ) (create : Bool) (file : Option Text) : Type 0 where
+-- made or not, for it to be only read or not, and for this file, or for none.
+pub record AskFor (words : List Text) (cache : ℕ) (create read : Bool) (file : Option Text) : Type 0 where
   pub taken : fault_of program words ≡ []
   pub cache_is : (text : Text) (n : ℕ) → one_of (codes "cache") (matches_of program words) ≡ Some text → IsNumber text n
       → 8 ≤ n → n ≤ 4096 → cache ≡ n
   pub create_is : AsksToMake words create
+  pub read_is : AsksToRead words read
   pub file_is : file ≡ file_in words
 
 -- the status with which the program ends where words are not taken: help and version were asked for

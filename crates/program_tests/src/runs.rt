@@ -1,7 +1,9 @@
 //! Runs of the program: its words, its file, its texts and its status.
 
 use command_line::{greet, serve};
-use file_device::open_file;
+use file_device::{
+    FileDevice, FileReader, HostFile, HostReader, OpenError, open_file, open_reader,
+};
 use std::io::{ErrorKind, Read, Write};
 use std::test::Fail;
 use std::{fs, io};
@@ -20,7 +22,8 @@ fn run<I: Read, W: Write, E: Write>(
     errors: &mut E,
 ) -> u8 {
     let open = |path: &str, create: bool| open_file(rt, path, create);
-    serve(rt.alloc(), words, open, input, output, errors)
+    let read = |path: &str| open_reader(rt, path);
+    serve(rt.alloc(), words, open, read, input, output, errors)
 }
 
 // The status of a run with these words and this text, and whether it wrote these replies and said this.
@@ -152,6 +155,148 @@ fn files_that_are_refused(rt: HostRuntime) -> Result<(), Fail> {
     Ok(())
 }
 
+// Questions are answered with status 0, and a change is refused with the store alive; the file is as it was.
+#[test]
+fn a_file_that_is_only_read(rt: HostRuntime) -> Result<(), Fail> {
+    let file = "command_line_e";
+    let _ = fs::remove_file(&rt, file);
+    let words = ["rstore", "--read-only", file];
+    assert_eq!(rt; says(&rt, &words, UNOPENED)?, Some(1));
+    assert_eq!(rt;
+        runs(&rt, &["rstore", "--create", file], FIRST, SAID, "")?,
+        Some(0)
+    );
+    let store = fs::read(&rt, file)?;
+    let rows = "ok 2\n1 0 0 10 10\n2 20 20 30 30\n";
+    assert_eq!(rt; runs(&rt, &words, "window a 5 5 25 25", rows, "")?, Some(0));
+    // what changes nothing is no change, and neither is what is refused for the table's sake
+    let asked = "reopen\nmove a 1 0 0 10 10\ninsert a 1 0 0 1 1\ncheck\ncount a\n";
+    let told = "ok\nok\nfail 9 Duplicate\nok\nok 1\n2\n";
+    assert_eq!(rt; runs(&rt, &words, asked, told, "")?, Some(0));
+    let asked = "insert a 3 0 0 1 1\ndelete a 1\ncreate b 2 4\nreopen\nwindow a 5 5 25 25\n";
+    let told = "fail 17 Device\nfail 17 Device\nfail 17 Device\nfail 17 Device\nok 2\n\
+1 0 0 10 10\n2 20 20 30 30\n";
+    assert_eq!(rt;
+        runs(&rt, &words, asked, told, "rstore: fail 17 Device\n")?,
+        Some(1)
+    );
+    assert!(rt; fs::read(&rt, file)?.as_slice() == store.as_slice());
+    // one that was not closed
+    let mut open = store.clone()?;
+    if let Some(byte) = open.get_mut(GATE_BYTE) {
+        *byte = 0;
+    }
+    for (bytes, said) in [
+        (
+            open.as_slice(),
+            "rstore: fail 20 NotClosed: open FILE once for writing\n",
+        ),
+        (b"some bytes".as_slice(), "rstore: fail 21 NotAStore\n"),
+    ] {
+        fs::write(&rt, file, bytes)?;
+        assert_eq!(rt; says(&rt, &words, said)?, Some(1));
+        assert!(rt; fs::read(&rt, file)?.as_slice() == bytes);
+    }
+    fs::remove_file(&rt, file)?;
+    for path in [".", "/dev/null", "command_line_none/a"] {
+        assert_eq!(rt;
+            says(&rt, &["rstore", "--read-only", path], UNOPENED)?,
+            Some(1)
+        );
+    }
+    Ok(())
+}
+
+const IN_USE: &str = "rstore: FILE is in use\n";
+
+// One writer or many readers: another open of the file holds its lock meanwhile.
+#[test]
+fn a_file_that_is_in_use(rt: HostRuntime) -> Result<(), Fail> {
+    let file = "command_line_f";
+    let _ = fs::remove_file(&rt, file);
+    assert_eq!(rt;
+        runs(&rt, &["rstore", "--create", file], FIRST, SAID, "")?,
+        Some(0)
+    );
+    let asked = "count a";
+    let readers = open_reader(&rt, file)?;
+    assert_eq!(rt;
+        runs(
+            &rt,
+            &["rstore", "--read-only", file],
+            asked,
+            "ok 1\n2\n",
+            ""
+        )?,
+        Some(0)
+    );
+    for words in [
+        ["rstore", file].as_slice(),
+        ["rstore", "--create", file].as_slice(),
+    ] {
+        assert_eq!(rt; says(&rt, words, IN_USE)?, Some(1));
+    }
+    drop(readers);
+    let writer = open_file(&rt, file, false)?;
+    for words in [
+        ["rstore", file].as_slice(),
+        ["rstore", "--create", file].as_slice(),
+        ["rstore", "--read-only", file].as_slice(),
+    ] {
+        assert_eq!(rt; says(&rt, words, IN_USE)?, Some(1));
+    }
+    drop(writer);
+    assert_eq!(rt;
+        runs(&rt, &["rstore", file], asked, "ok 1\n2\n", "")?,
+        Some(0)
+    );
+    fs::remove_file(&rt, file)?;
+    Ok(())
+}
+
+type Written = FileDevice<HostFile<fs::File>>;
+
+type OnlyRead = FileReader<HostReader>;
+
+// What a run says whose file is refused so, by either opening.
+#[test]
+fn each_refusal_of_a_file_is_told(rt: HostRuntime) -> Result<(), Fail> {
+    for (error, said) in [
+        (OpenError::Refused, UNOPENED),
+        (OpenError::InUse, IN_USE),
+        (OpenError::NoLocks, "rstore: FILE cannot be locked\n"),
+        (
+            OpenError::ClosedStream,
+            "rstore: a standard stream is closed\n",
+        ),
+    ] {
+        for words in [
+            ["rstore", "a"].as_slice(),
+            ["rstore", "--create", "a"].as_slice(),
+            ["rstore", "--read-only", "a"].as_slice(),
+        ] {
+            let open = |_: &str, _: bool| -> Result<Written, OpenError> { Err(error) };
+            let read = |_: &str| -> Result<OnlyRead, OpenError> { Err(error) };
+            let mut input = FIRST.as_bytes();
+            let mut output = Vec::new(rt.alloc());
+            let mut errors = Vec::new(rt.alloc());
+            let status = serve(
+                rt.alloc(),
+                words,
+                open,
+                read,
+                &mut input,
+                &mut output,
+                &mut errors,
+            );
+            assert_eq!(rt; status, 1);
+            assert!(rt; output.is_empty() && errors.as_slice() == said.as_bytes());
+            assert!(rt; input.len() == FIRST.len());
+        }
+    }
+    Ok(())
+}
+
 // An empty file may be made a store, and the words may stand in either order.
 #[test]
 fn an_empty_file_is_made_a_store(rt: HostRuntime) -> Result<(), Fail> {
@@ -263,6 +408,9 @@ fn words_are_refused_or_told(rt: HostRuntime) {
         ["rstore", "--cache"].as_slice(),
         ["rstore", "a", "b"].as_slice(),
         ["rstore", "--other"].as_slice(),
+        ["rstore", "--read-only"].as_slice(),
+        ["rstore", "--read-only", "--create", "a"].as_slice(),
+        ["rstore", "--read-only", "--read-only", "a"].as_slice(),
     ] {
         assert_eq!(rt; prints(&rt, words, false), Some(2), "{words:?}");
     }
@@ -278,6 +426,10 @@ fn a_person_is_told_where_the_store_is(rt: HostRuntime) -> Result<(), Fail> {
     greet(rt.alloc(), &["rstore"], &mut said);
     let text = std::str::from_utf8(said.as_slice())?;
     assert!(rt; text.contains("in memory") && text.ends_with('\n'));
+    said.clear();
+    greet(rt.alloc(), &["rstore", "a.store", "--read-only"], &mut said);
+    let text = std::str::from_utf8(said.as_slice())?;
+    assert!(rt; text.contains("a.store") && !text.contains("`reopen`") && text.ends_with('\n'));
     said.clear();
     greet(rt.alloc(), &["rstore", "--help"], &mut said);
     assert!(rt; said.is_empty());

@@ -1,11 +1,10 @@
-//! The program `rstore`: `rstore [--cache N] [--create] [FILE]` (docs/COMMANDS.md, "The program").
+//! The program `rstore`: `rstore [--cache N] [--create | --read-only] [FILE]` (docs/COMMANDS.md, "The program").
 #![tactic(auto)]
 
 use command_line::{greet, serve};
 use command_shell::tell_refusal;
-use file_device::open_file;
+use file_device::{open_file, open_reader};
 use layer_store::Refusal;
-use std::fs::File;
 use std::io::{BufWriter, IsTerminal, Write};
 use std::process::ExitCode;
 use std::{env, io};
@@ -37,20 +36,15 @@ fn run(rt: &HostRuntime) -> io::Result<u8> {
     if rt.stdin().is_terminal() {
         greet(alloc, words.as_slice(), &mut errors);
     }
-    // A standard stream that is closed leaves its number to the next file that is opened. A folder takes it, which can
-    // be neither read nor written, so that no store's file does.
-    let _held = [
-        File::open(rt, "/").ok(),
-        File::open(rt, "/").ok(),
-        File::open(rt, "/").ok(),
-    ];
     let mut output = BufWriter::new(alloc, io::writer(rt))?;
     let mut input = rt.reader();
     let open = |path: &str, create: bool| open_file(rt, path, create);
+    let read = |path: &str| open_reader(rt, path);
     Ok(serve(
         alloc,
         words.as_slice(),
         open,
+        read,
         &mut input,
         &mut output,
         &mut errors,

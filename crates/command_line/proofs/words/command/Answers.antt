@@ -7,7 +7,7 @@ use Rattle.clap.specs.Walk.{Rule, rule_of}
 use Rattle.clap.specs.Words.{app_of, new_app, new_rule, with_rule}
 use Rattle.clap.specs.declared.builder.value_parser.ValueParser.{ValueParser}
 use Rattle.clap.specs.declared.builder.value_parser.ValueParser.TheVariants.{Signed}
-use Rattle.command_line.specs.Words.{cache_rule, create_rule, file_rule}
+use Rattle.command_line.specs.Words.{cache_rule, create_rule, file_rule, read_only_rule}
 use Rattle.command_line.proofs.words.command.Goals as goal
 
 pub returns : goal.returns
@@ -22,10 +22,13 @@ returns c =
     rw (c.default_value-cache.ensures, parsed) (ap (λ (r : Rule). record r { parser = Some (Signed (pos 8) (pos 4096)); defaults = codes "64" ∷ [] }) helped) in
     let here : c.help.result.global ≡ false = rw (c.help.ensures, c.value_name.ensures, c.long.ensures) c.new.ensures.optional.1 in
     let own : c.default_value-cache.result.global ≡ false = rw (c.default_value-cache.ensures, parsed) here in
-    let create_is : rule_of c.action-create.result ≡ create_rule = search rules in
+    let create_is : rule_of c.flag-create.result ≡ create_rule = c.flag-create.ensures.rule in
+    let read_is : rule_of c.flag-read_only.result ≡ read_only_rule = c.flag-read_only.ensures.rule in
     let file_is : rule_of c.help-file.result ≡ file_rule = search rules in
     let named : app_of c.after_help-rstore.result ≡ on_top (λ s. record s { has_version = true }) (new_app (codes "rstore")) =
-    rw (c.after_help-rstore.ensures, c.about.ensures, c.version.ensures) (ap (on_top (λ s. record s { has_version = true })) c.new-5.ensures.app) in
-    IfOk-weaker c.arg-3.result _ _
-    (λ r h. h.shape (search rules) ∙ ap₂ with_rule (c.in_ok-arg-2.ensures.shape (search rules) ∙ ap₂ with_rule (c.in_ok-arg.ensures.shape own ∙ ap₂ with_rule named cache_is) create_is) file_is)
-    c.arg-3.ensures
+    rw (c.after_help-rstore.ensures, c.about.ensures, c.version.ensures) (ap (on_top (λ s. record s { has_version = true })) c.new-4.ensures.app) in
+    IfOk-weaker c.arg-4.result _ _
+    (λ r h.
+    h.shape (search rules)
+    ∙ ap₂ with_rule (c.in_ok-arg-3.ensures.shape c.flag-read_only.ensures.own ∙ ap₂ with_rule (c.in_ok-arg-2.ensures.shape c.flag-create.ensures.own ∙ ap₂ with_rule (c.in_ok-arg.ensures.shape own ∙ ap₂ with_rule named cache_is) create_is) read_is) file_is)
+    c.arg-4.ensures

@@ -1,0 +1,87 @@
+//! A run of the program over a file that is only read.
+ghost use Rattle.std.specs.Io.KnownBytes.{Keeps};
+ghost use Rattle.std.specs.Prelude.{◌≡◌, ◌≤◌, true};
+ghost use Rattle.layer_store.specs.Starting.{is_cache};
+ghost use Rattle.command_line.specs.Serving.{HasRead, OpensAndReads};
+
+use crate::program::{FAILED, status_of, tell_unopened};
+use command_shell::{FlushedWrite, run_and_close, tell_refusal};
+use file_device::OpenError;
+use layer_store::{Refusal, open_store};
+use read_only_device::{BlockReader, ReadOnlyDevice};
+use std::alloc::{Allocator, Global};
+use std::io::{Read, Write};
+
+// Opens the file at a path to be only read, and serves over it, or says that it can't be opened.
+pub(crate) fn read_path<
+    B: BlockReader + Drop,
+    P: FnOnce(&str) -> Result<B, OpenError>,
+    I: Read,
+    W: FlushedWrite,
+    E: Write,
+>(
+    alloc: Global,
+    path: &str,
+    cache: u32,
+    read_at: P,
+    input: &mut I,
+    output: &mut W,
+    errors: &mut E,
+) -> u8
+    requires reads { P.IsAlwaysCallable read_at }
+    requires cache { is_cache cache ≡ true }
+    ensures status { result ≤ 1 }
+    ensures quiet { result ≡ 0 → Keeps (E.contents errors.old) (E.contents errors.new) }
+    ensures flushed { result ≡ 0 → W.is_flushed output.new }
+    ensures served { OpensAndReads B.BlockReader (P.post read_at path.entry)
+        input.old input.new output.old output.new (I.remaining input.old) (I.remaining input.new)
+        (W.contents output.old) (W.contents output.new) result }
+{
+    match read_at(path) {
+        Ok(blocks) => serve_reader(alloc, &blocks, cache, input, output, errors),
+        Err(error) => {
+            tell_unopened(error, errors);
+            FAILED
+        }
+    }
+}
+
+/// Opens the store that a reader has, and answers the commands of the input over it. **No block is written: the reader
+/// is borrowed, and has no call that writes.**
+///
+/// Where it is honest and holds an image of a table, the commands are answered by a lawful session that begins with that
+/// table; each change is refused, or answers what changes nothing. Blocks that a check of opening refuses are never run
+/// on. The status is 0 where all went well and no change was asked, and else 1.
+pub fn serve_reader<B: BlockReader, A: Allocator + Copy, I: Read, W: FlushedWrite, E: Write>(
+    alloc: A,
+    blocks: &B,
+    cache: u32,
+    input: &mut I,
+    output: &mut W,
+    errors: &mut E,
+) -> u8
+    requires { is_cache cache ≡ true }
+    ensures status { result ≤ 1 }
+    ensures quiet { result ≡ 0 → Keeps (E.contents errors.old) (E.contents errors.new) }
+    ensures flushed { result ≡ 0 → W.is_flushed output.new }
+    ensures served { HasRead B.BlockReader blocks.now
+        input.old input.new output.old output.new (I.remaining input.old) (I.remaining input.new)
+        (W.contents output.old) (W.contents output.new) result }
+{
+    match open_store(alloc, ReadOnlyDevice::over(blocks), cache) {
+        Ok(store) => status_of(run_and_close(store, input, output, errors).went_well),
+        Err((refusal, _)) => {
+            tell_unread(refusal, errors);
+            FAILED
+        }
+    }
+}
+
+// Says why a store can't be read.
+fn tell_unread<E: Write>(refusal: Refusal, errors: &mut E) {
+    if let Refusal::NotClosed = refusal {
+        let _ = errors.write_all(b"rstore: fail 20 NotClosed: open FILE once for writing\n");
+        return;
+    }
+    let _ = tell_refusal(refusal, errors);
+}
