@@ -169,3 +169,15 @@ pub ruleset fixing = (number_at-fixes, signed_at-fixes)
 
 -- what is passed and read of a signed number is that number
 pub ruleset signed_values = (to_z-of_z)
+
+-- a byte put into a block is read there
+first_byte : (x : ℕ) (rest : List ℕ) → x < 256 → get_or (big_bytes 1 x ++ rest) 0 0 ≡ x
+first_byte x rest small = omega (arith, small)
+
+pub byte_put : (at x : ℕ) (block : List ℕ) → x < 256 → at ≤ length block → get_or (put_number 1 at x block) at 0 ≡ x
+unfolding put_number
+byte_put at x block small le =
+    let front : List ℕ = take at block in
+    let rest : List ℕ = big_bytes 1 x ++ drop (at + 1) block in
+    let place : at ≡ length front + 0 = omega (arith, length-take-le at block le) in
+    ap (λ (i : ℕ). get_or (front ++ rest) i 0) place ∙ get_or-append-add front rest 0 0 ∙ first_byte x (drop (at + 1) block) small

@@ -1,6 +1,6 @@
 -- The words of a device's contract: what a call does to the blocks, what a stop may leave, and how
 -- faults are counted (our disk model, docs/FORMAT.md, "The disk model of a stop").
-use Rattle.std.specs.Prelude.{◌≡◌, ◌<◌, ◌≤◌, ◌⊎◌, ◌+◌, ◌-◌, ◌^◌, ℕ, zero, suc, List, [], ◌∷◌, length, slice_index, slice_index_or, Result, IsErrOf, min}
+use Rattle.std.specs.Prelude.{Bool, true, ◌≡◌, ◌<◌, ◌≤◌, ◌⊎◌, ◌+◌, ◌-◌, ◌^◌, ℕ, zero, suc, List, [], ◌∷◌, length, slice_index, slice_index_or, Result, IsErrOf, min}
 use Rattle.block_device.specs.declared.device.DeviceError.{DeviceError}
 use Rattle.block_device.specs.declared.device.DeviceError.TheVariants.{Failed}
 
@@ -38,6 +38,40 @@ LeavesNoMore old new = (c : Blocks) → new c → old c
 -- a stop leaves these blocks and nothing else
 abbrev pub Only : Blocks → (Blocks → Type 0) → Type 0
 Only blocks outcomes = (c : Blocks) → outcomes c → c ≡ blocks
+
+-- the blocks begin with these, and hold anything behind them
+pub record Begins (kept c : Blocks) : Type 0 where
+  pub no_shorter : length kept ≤ length c
+  pub same : (k : ℕ) → k < length kept → block_at k c ≡ block_at k kept
+
+-- a test holds of these blocks
+abbrev pub IsIn : (Blocks → Bool) → Blocks → Type 0
+IsIn test c = test c ≡ true
+
+-- block 0 asks a sync for a commit: its byte 8 is 1
+abbrev pub AsksCommit : Blocks → Type 0
+AsksCommit blocks = slice_index (block_at 0 blocks) 8 ≡ 1
+
+-- each new outcome of a stop is an old outcome after a step, which is still a fallback if it was one, or is a
+-- fallback now
+abbrev pub FollowsOr : (Blocks → Blocks → Type 0) → (Blocks → Type 0) → (Blocks → Type 0) → (Blocks → Type 0) → (Blocks → Type 0) → Type 0
+FollowsOr step fell old falls new = (c : Blocks) → new c → ((d : Blocks) × old d × step d c × (fell d → falls c)) ⊎ falls c
+
+-- no step
+abbrev pub Stays : Blocks → Blocks → Type 0
+Stays old new = new ≡ old
+
+-- a stop leaves these blocks, or a fallback
+abbrev pub OnlyOr : Blocks → (Blocks → Type 0) → (Blocks → Type 0) → Type 0
+OnlyOr blocks falls outcomes = (c : Blocks) → outcomes c → (c ≡ blocks) ⊎ falls c
+
+-- a fallback, or where a commit is asked for, blocks that begin with those that are committed
+abbrev pub OrCommit : Blocks → (Blocks → Type 0) → Blocks → Type 0
+OrCommit shown falls c = falls c ⊎ (AsksCommit shown × Begins shown c)
+
+-- an outcome of a stop now, or a fallback of before or now
+abbrev pub OrFalls : (Blocks → Type 0) → (Blocks → Type 0) → (Blocks → Type 0) → Blocks → Type 0
+OrFalls outcomes fell falls c = outcomes c ⊎ (fell c ⊎ falls c)
 
 -- Time goes on by a call: what a stop since t might have left, it might have left before the call,
 -- or it may leave it now.

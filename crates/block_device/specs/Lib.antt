@@ -12,4 +12,5 @@ pub mod KeptFact
 pub mod Laws
 pub mod Moments
 pub mod Outcomes
+pub mod Plain
 pub mod Written

@@ -1,10 +1,12 @@
 //! The trait of a device: what a read returns, what a stop may leave, and the count of faults.
-ghost use Rattle.std.specs.Prelude.{◌≡◌, ◌≤◌, ◌<◌, ◌+◌, ◌^◌, ◌↔◌, ℕ, List, length, Result, OnOk, OnErr, ⊤};
+ghost use Rattle.std.specs.Prelude.{◌≡◌, ◌≤◌, ◌<◌, ◌+◌, ◌^◌, ◌↔◌, ℕ, List, length, Bool, false, true};
+ghost use Rattle.std.specs.Prelude.{Result, OnOk, OnErr, ⊤};
 ghost use Rattle.block_device.specs.declared.device.DeviceError.{DeviceError};
 ghost use Rattle.block_device.specs.declared.device.DeviceError.TheVariants.{Memory};
 ghost use Rattle.std.specs.List.{All};
 ghost use Rattle.block_device.specs.Device.{Blocks, IsBlock, Only, LeavesNoMore, Follows, Torn, Elapses, Counts};
-ghost use Rattle.block_device.specs.Device.{block_at, written};
+ghost use Rattle.block_device.specs.Device.{Begins, IsIn, AsksCommit, FollowsOr, Stays, OnlyOr, OrCommit};
+ghost use Rattle.block_device.specs.Device.{OrFalls, block_at, written};
 
 use std::alloc::{AllocError, AllocFailed};
 use thiserror::Error;
@@ -53,6 +55,13 @@ pub trait BlockDevice {
     /// What a stop now may leave.
     ghost may_leave: { Self → Blocks → Type 0 };
 
+    /// Blocks that a stop may leave instead of what the writes since would leave: those that begin with the
+    /// blocks of the last commit. A device without commits has none.
+    ghost fallback: { Self → Blocks → Bool } = { λ _ _. false };
+
+    /// Devices of this kind commit, so that a stop may bring a commit back.
+    ghost recovers: { Bool } = { false };
+
     /// The moment, as a number that doesn't fall.
     ghost moment: { Self → ℕ };
 
@@ -86,9 +95,13 @@ pub trait BlockDevice {
 
         // A stop within the call or after it leaves what one before it might have left.
         ensures stops { honest self.old → LeavesNoMore (may_leave self.old) (may_leave self.new) }
+        ensures fallback { honest self.old →
+            LeavesNoMore (IsIn (fallback self.old)) (IsIn (fallback self.new)) }
+        ensures falls { honest self.old →
+            LeavesNoMore (IsIn (fallback self.new)) (IsIn (fallback self.old)) }
         ensures time { honest self.old →
             Elapses (moment self.old) (moment self.new) (left_since self.old) (left_since self.new)
-            (may_leave self.new) }
+            (OrFalls (may_leave self.new) (IsIn (fallback self.old)) (IsIn (fallback self.new))) }
 
         ensures honest { honest self.old ↔ honest self.new }
         ensures faults { Counts (faults self.old) (faults self.new) result }
@@ -102,25 +115,39 @@ pub trait BlockDevice {
         ensures written { honest self.old → OnOk result (shown self.new ≡ written i bytes.now (shown self.old)) }
         ensures torn { honest self.old → OnErr result (Torn i (shown self.old) (shown self.new)) }
 
-        // A stop leaves what one before the call might have left, with any bytes in this block.
-        ensures stops { honest self.old → Follows (Torn i) (may_leave self.old) (may_leave self.new) }
+        // A stop leaves what one before the call might have left, with any bytes in this block, or a
+        // fallback.
+        ensures stops { honest self.old →
+            FollowsOr (Torn i) (IsIn (fallback self.old)) (may_leave self.old) (IsIn (fallback self.new))
+            (may_leave self.new) }
+        ensures fallback { honest self.old →
+            LeavesNoMore (IsIn (fallback self.old)) (IsIn (fallback self.new)) }
         ensures time { honest self.old →
             Elapses (moment self.old) (moment self.new) (left_since self.old) (left_since self.new)
-            (may_leave self.new) }
+            (OrFalls (may_leave self.new) (IsIn (fallback self.old)) (IsIn (fallback self.new))) }
 
         ensures honest { honest self.old ↔ honest self.new }
         ensures faults { Counts (faults self.old) (faults self.new) result }
         ensures gives { write_gives self.old i bytes.now result self.new };
 
-    /// Makes what was written last: after an `Ok` a stop leaves the blocks as they are read.
+    /// Makes what was written last: after an `Ok` a stop leaves the blocks as they are read,
+    /// or a fallback; where block 0 asks for a commit, the blocks as they are read, which are the new commit.
     fn sync(&mut self) -> Result<(), DeviceError>
-        ensures durable { honest self.old → OnOk result (Only (shown self.old) (may_leave self.new)) }
+        ensures durable { honest self.old →
+            OnOk result (OnlyOr (shown self.old) (IsIn (fallback self.new)) (may_leave self.new)) }
+        ensures commits { honest self.old → OnOk result (AsksCommit (shown self.old) →
+            Only (shown self.old) (may_leave self.new) ×
+            LeavesNoMore (Begins (shown self.old)) (IsIn (fallback self.new))) }
         ensures shown { honest self.old → shown self.new ≡ shown self.old }
 
-        ensures stops { honest self.old → LeavesNoMore (may_leave self.old) (may_leave self.new) }
+        ensures stops { honest self.old →
+            FollowsOr Stays (IsIn (fallback self.old)) (may_leave self.old) (IsIn (fallback self.new))
+            (may_leave self.new) }
+        ensures fallback { honest self.old →
+            LeavesNoMore (OrCommit (shown self.old) (IsIn (fallback self.old))) (IsIn (fallback self.new)) }
         ensures time { honest self.old →
             Elapses (moment self.old) (moment self.new) (left_since self.old) (left_since self.new)
-            (may_leave self.new) }
+            (OrFalls (may_leave self.new) (IsIn (fallback self.old)) (IsIn (fallback self.new))) }
 
         ensures honest { honest self.old ↔ honest self.new }
         ensures faults { Counts (faults self.old) (faults self.new) result }
@@ -129,13 +156,20 @@ pub trait BlockDevice {
     /// There are at most 2^31 blocks.
     ghost few_blocks: { (d : Self) → length (shown d) ≤ 2 ^ 31 };
 
-    /// What is read is one of the outcomes of a stop now.
-    ghost shown_counts: { (d : Self) → honest d → may_leave d (shown d) };
+    /// Only a device that recovers has a fallback.
+    ghost fallback_recovers: { (d : Self) (c : Blocks) → IsIn (fallback d) c → recovers ≡ true };
+
+    /// What is read is one of the outcomes of a stop now, where there is no fallback.
+    ghost shown_counts: { (d : Self) → honest d → ((c : Blocks) → fallback d c ≡ false) →
+        may_leave d (shown d) };
 
     /// A stop leaves at most one block more than is read, one of an append that failed.
     ghost no_longer: { (d : Self) (c : Blocks) → honest d → may_leave d c → length c ≤ length (shown d) + 1 };
 
-    /// A stop leaves blocks of 4096 bytes, so what is read are such, too.
+    /// What is read are blocks of 4096 bytes.
+    ghost whole_shown: { (d : Self) → honest d → All IsBlock (shown d) };
+
+    /// A stop leaves blocks of 4096 bytes.
     ghost whole: { (d : Self) (c : Blocks) → honest d → may_leave d c → All IsBlock c };
 
     /// This moment is one of those since an earlier one.
@@ -149,4 +183,13 @@ pub trait BlockDevice {
 
     /// The count of faults is a u64.
     ghost faults_fit: { (d : Self) → faults d < 2 ^ 64 };
+}
+
+/// A device without commits: no call has a fallback.
+pub trait PlainDevice: BlockDevice {
+    /// A stop brings no commit back.
+    ghost no_recovery: { Self.BlockDevice.recovers ≡ false };
+
+    /// There is no fallback.
+    ghost no_fallback: { (d : Self) (c : Blocks) → Self.BlockDevice.fallback d c ≡ false };
 }

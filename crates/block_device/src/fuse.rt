@@ -4,7 +4,7 @@ ghost use Rattle.block_device.specs.Device.{one_more};
 ghost use Rattle.block_device.specs.Fuse.{inner_of, passes_of, mode_of, calls_of, blown_of, fails_next, faults_with};
 ghost use Rattle.block_device.specs.Fuse.{faults_with-fits, CallsBelow};
 
-use crate::{BlockDevice, DeviceError};
+use crate::{BlockDevice, DeviceError, PlainDevice};
 
 /// Whether a fuse that has failed a call lets the later ones pass.
 #[derive(Clone, Copy, Debug, PartialEq, Eq, Drop)]
@@ -88,6 +88,10 @@ impl<D: BlockDevice> BlockDevice for FuseDevice<D> {
 
     ghost may_leave = { λ f. D.may_leave (inner_of f) };
 
+    ghost fallback = { λ f. D.fallback (inner_of f) };
+
+    ghost recovers = { D.recovers };
+
     ghost moment = { λ f. D.moment (inner_of f) };
 
     ghost left_since = { λ f. D.left_since (inner_of f) };
@@ -131,7 +135,11 @@ impl<D: BlockDevice> BlockDevice for FuseDevice<D> {
 
     ghost few_blocks = { λ f. D.few_blocks (inner_of f) };
 
+    ghost fallback_recovers = { λ f. D.fallback_recovers (inner_of f) };
+
     ghost shown_counts = { λ f. D.shown_counts (inner_of f) };
+
+    ghost whole_shown = { λ f. D.whole_shown (inner_of f) };
 
     ghost no_longer = { λ f. D.no_longer (inner_of f) };
 
@@ -144,4 +152,10 @@ impl<D: BlockDevice> BlockDevice for FuseDevice<D> {
     ghost since_earlier = { λ f. D.since_earlier (inner_of f) };
 
     ghost faults_fit = { λ f. faults_with-fits (D.faults (inner_of f)) (blown_of f) };
+}
+
+impl<D: PlainDevice> PlainDevice for FuseDevice<D> {
+    ghost no_recovery = { D.no_recovery };
+
+    ghost no_fallback = { λ f. D.no_fallback (inner_of f) };
 }

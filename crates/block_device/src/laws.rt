@@ -1,5 +1,5 @@
 //! The laws of the device model, each the contract of a function that does nothing.
-ghost use Rattle.std.specs.Prelude.{◌≡◌, ◌≤◌, ◌+◌, ◌↔◌, ◌∷◌, ℕ, List, length};
+ghost use Rattle.std.specs.Prelude.{◌≡◌, ◌≤◌, ◌+◌, ◌↔◌, ◌∷◌, ℕ, List, length, false};
 ghost use Rattle.std.specs.List.{All};
 ghost use Rattle.block_device.specs.Device.{Blocks, IsBlock, Follows, LeavesNoMore, Only, Torn, block_at, written};
 ghost use Rattle.block_device.specs.History.{Event, MayLeave, Synced};
@@ -7,9 +7,9 @@ ghost use Rattle.block_device.specs.Laws.{Both};
 
 use crate::BlockDevice;
 
-/// What is read is one of the outcomes of a stop now.
+/// What is read is one of the outcomes of a stop now, where there is no fallback.
 pub fn what_is_read_may_be_left<D: BlockDevice>()
-    ensures { (d : D) → D.honest d → D.may_leave d (D.shown d) }
+    ensures { (d : D) → D.honest d → ((c : Blocks) → D.fallback d c ≡ false) → D.may_leave d (D.shown d) }
 {}
 
 /// A stop leaves at most one block more than is read, one of an append that failed.
@@ -38,7 +38,8 @@ pub fn a_stop_between_calls_is_during_none<D: BlockDevice>()
 pub fn a_sync_makes_all_outcomes_one<D: BlockDevice>()
     ensures one { (d : D) (blocks a b : Blocks) → Only blocks (D.may_leave d) → D.may_leave d a → D.may_leave d b →
         a ≡ b }
-    ensures shown { (d : D) (blocks : Blocks) → D.honest d → Only blocks (D.may_leave d) → D.shown d ≡ blocks }
+    ensures shown { (d : D) (blocks : Blocks) → D.honest d → ((c : Blocks) → D.fallback d c ≡ false) →
+        Only blocks (D.may_leave d) → D.shown d ≡ blocks }
     ensures stays { (d e : D) (blocks : Blocks) → Only blocks (D.may_leave d) →
         LeavesNoMore (D.may_leave d) (D.may_leave e) → Only blocks (D.may_leave e) }
     ensures in_memory { (blocks : Blocks) (es : List Event) (c : Blocks) → All IsBlock blocks →

@@ -11,7 +11,7 @@ mod log;
 mod memory;
 mod past;
 
-pub use device::{BlockDevice, DeviceError};
+pub use device::{BlockDevice, DeviceError, PlainDevice};
 pub use fuse::{FuseDevice, FuseMode};
 pub use left::Left;
 pub use memory::MemoryDevice;

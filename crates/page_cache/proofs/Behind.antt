@@ -4,6 +4,7 @@ use Rattle.std.specs.Prelude.{◌↔◌}
 use Rattle.block_device.specs.Device.{Blocks, block_at}
 use Rattle.page_file.specs.File as below
 use Rattle.page_file.specs.Given.{given_is, is_given}
+use Rattle.page_file.specs.Gated.{is_open}
 use Rattle.page_file.specs.Laws as kept
 use Rattle.page_file.specs.Opening.{IsRefused}
 use Rattle.page_file.specs.Stops.{SameButGate}
@@ -176,7 +177,7 @@ module _ {D A : Type 0} {m : _} where
   map_opened old new was_open frames keeps = ⊎_elim
       (λ (e : gate_of old ≡ Open). map_same old new (was_open e) (λ k. ap (λ f. changed_pages f.entries k) frames))
       (λ (closed : ¬ (gate_of old ≡ Open)). map_by_file old new (none_changed old closed) (λ k. ap (λ f. changed_pages f.entries k) frames ∙ none_changed old closed k) keeps)
-      (kept.is_open (gate_of old))
+      (is_open (gate_of old))
 
   -- a page that is held is lent as it is given
   pub given_held : (cache : PageCache D A m) (n : ℕ) (f : Frame A) → IsHonest cache → frame_at cache.frames.entries n ≡ Some f → given cache n ≡ Some f.bytes.value

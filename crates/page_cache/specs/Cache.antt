@@ -1,6 +1,6 @@
 -- What a cache of pages stands for, and what calls keep of it: the words that callers use.
 use Rattle.std.specs.Prelude.{◌≡◌, ◌<◌, ◌↔◌, ℕ, List, Option, None, IsSome, length}
-use Rattle.block_device.specs.Device.{Blocks, block_at}
+use Rattle.block_device.specs.Device.{Begins, Blocks, block_at}
 use Rattle.page_file.specs.File as below
 use Rattle.page_file.specs.Opening.{failed_check}
 use Rattle.page_file.specs.Pages.{HasFreeChain, IsSoundMap, free_page_link, free_pages_of, given_pages, next_in, page_of, pages_in}
@@ -103,6 +103,10 @@ pub record LiesIn {D A : Type 0} {m : _} (cache : PageCache D A m) (blocks : Blo
   pub next : next_in blocks ≡ next_of cache
   pub pages_there : (k : ℕ) → pages_in blocks k ≡ pages cache k
   pub sound : IsPageMap cache ↔ IsSoundMap blocks
+
+-- Blocks that begin with some in which the map lies.
+abbrev pub LiesAtStart : {D A : Type 0} {m : _} → PageCache D A m → Blocks → Type 0
+LiesAtStart cache c = (kept : Blocks) × LiesIn cache kept × Begins kept c
 
 -- Nothing that callers see has changed: the device, the gate, the map, the count of looks and the
 -- capacity are the same.

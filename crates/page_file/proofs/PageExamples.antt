@@ -1,11 +1,11 @@
 -- Worked examples of the pages of a file: which are live, which chains of free pages are sound, what a stop may leave,
 -- and what calls keep. No other proof rests on them. A definition that says another thing than docs/FORMAT.md is
 -- refused here.
-use Rattle.std.proofs.Common.{◌≡◌, ◌∙◌, ℕ, zero, suc, List, [], ◌∷◌, Option, Some, None, true, false, eqb, if◌then◌else◌, refl, sym, ap, subst, arith, inl, inr, lit<, ⊎_elim, drop, map}
+use Rattle.std.proofs.Common.{◌≡◌, ◌∙◌, ◌<◌, ℕ, zero, suc, Bool, List, [], ◌∷◌, Option, Some, None, true, false, eqb, if◌then◌else◌, refl, sym, ap, subst, arith, inl, inr, lit<, ⊎_elim, drop, map}
 use Rattle.std.specs.List.{IsDistinct}
 use Rattle.std.proofs.lemmas.Bool.Decides.{nat_tests}
 use Rattle.block_bytes.specs.Numbers.{zeros, number_at}
-use Rattle.block_device.specs.Device.{Blocks, block_at, written}
+use Rattle.block_device.specs.Device.{Begins, Blocks, Torn, block_at, written}
 use Rattle.block_device.specs.Outcomes.{repeated_block}
 use Rattle.page_file.specs.Chains.{a_chain_is_distinct}
 use Rattle.page_file.specs.File.{IsHonest, IsPageMap, KeepsGate, KeepsMap, LiesIn, blocks_of, gate_of, next_of, pages}
@@ -13,7 +13,7 @@ use Rattle.page_file.specs.Layout.{gate_block}
 use Rattle.page_file.specs.Opening.{gate_checks, header_checks, failed_check, IsRefused}
 use Rattle.page_file.specs.Pages.{chain, free_pages_of, is_live, page_of, given_pages, pages_in, next_in, IsChain, HasFreeChain, IsSoundMap, SameBut}
 use Rattle.page_file.specs.Reading.{shut-gate}
-use Rattle.page_file.specs.Stops.{SameButGate, StopSince, StopNow, GateAside, TornFrom, IsOpen, AllLeave, AddsOnly}
+use Rattle.page_file.specs.Stops.{SameButGate, StopSince, StopNow, StepOr, Aside, OrKept, IsOpen, OpenOr, AllLeave, AddsOnly}
 use Rattle.page_file.specs.declared.file.PageFile.{PageFile}
 use Rattle.page_file.specs.declared.gate.Gate.TheVariants.{Shut, Open, Unsure}
 use Rattle.page_file.specs.declared.header.Header.{Header}
@@ -126,11 +126,21 @@ gate_torn = (8 ∷ []) ∷ header 1 3 0 0 ∷ [] ∷ []
 abbrev page_torn : Blocks
 page_torn = gate ∷ header 1 3 0 0 ∷ (8 ∷ []) ∷ []
 
-behind_a_shut_gate_a_stop_leaves_what_is_read : (StopNow Shut closed closed) × (StopSince Shut closed closed)
-behind_a_shut_gate_a_stop_leaves_what_is_read = (refl, refl)
+-- on a device without fallbacks, and on one where all blocks are one
+abbrev never : Blocks → Bool
+never c = false
 
-behind_a_shut_gate_a_stop_leaves_no_torn_gate : StopNow Shut closed gate_torn → ⊥
-behind_a_shut_gate_a_stop_leaves_no_torn_gate h = absurd (cc)
+abbrev always : Blocks → Bool
+always c = true
+
+behind_a_shut_gate_a_stop_leaves_what_is_read : (StopNow never Shut closed closed) × (StopSince Shut closed closed)
+behind_a_shut_gate_a_stop_leaves_what_is_read = (λ none. refl, refl)
+
+behind_a_shut_gate_a_stop_leaves_no_torn_gate : StopNow never Shut closed gate_torn → ⊥
+behind_a_shut_gate_a_stop_leaves_no_torn_gate h = let no = h refl in absurd (cc)
+
+a_fallback_is_left_behind_any_gate : (StopNow always Shut closed page_torn) × (StopNow always Open closed page_torn) × (StopNow always Unsure closed page_torn)
+a_fallback_is_left_behind_any_gate = (λ none. absurd (let e : true ≡ false = none in cc), λ none. absurd (let e : true ≡ false = none in cc), λ none. absurd (let e : true ≡ false = none in cc))
 
 since_a_shut_gate_a_stop_leaves_no_torn_gate : StopSince Shut closed gate_torn → ⊥
 since_a_shut_gate_a_stop_leaves_no_torn_gate h = absurd (cc)
@@ -138,14 +148,14 @@ since_a_shut_gate_a_stop_leaves_no_torn_gate h = absurd (cc)
 since_a_shut_gate_a_stop_leaves_no_torn_page : StopSince Shut closed page_torn → ⊥
 since_a_shut_gate_a_stop_leaves_no_torn_page h = absurd (cc)
 
-behind_an_open_gate_a_stop_leaves_the_gate : (shown pages : Blocks) → StopNow Open shown (gate_block 0 ∷ pages)
-behind_an_open_gate_a_stop_leaves_the_gate shown pages = refl
+behind_an_open_gate_a_stop_leaves_the_gate : (shown pages : Blocks) → StopNow never Open shown (gate_block 0 ∷ pages)
+behind_an_open_gate_a_stop_leaves_the_gate shown pages = λ none. refl
 
 a_shut_gate_is_not_open : (pages : Blocks) → IsOpen (gate_block 1 ∷ pages) → ⊥
 a_shut_gate_is_not_open pages h = absurd (omega (arith, shut-gate 0 (lit< tt), shut-gate 1 (lit< tt), ap (number_at 1 8) h))
 
-behind_an_open_gate_a_stop_leaves_no_shut_gate : (shown pages : Blocks) → StopNow Open shown (gate_block 1 ∷ pages) → ⊥
-behind_an_open_gate_a_stop_leaves_no_shut_gate shown pages h = a_shut_gate_is_not_open pages h
+behind_an_open_gate_a_stop_leaves_no_shut_gate : (shown pages : Blocks) → StopNow never Open shown (gate_block 1 ∷ pages) → ⊥
+behind_an_open_gate_a_stop_leaves_no_shut_gate shown pages h = a_shut_gate_is_not_open pages (h refl)
 
 since_an_open_gate_a_stop_leaves_what_is_refused : StopSince Open closed gate_torn
 unfolding failed_check gate_checks header_checks number_at
@@ -154,11 +164,11 @@ since_an_open_gate_a_stop_leaves_what_is_refused = refl
 since_an_open_gate_a_stop_leaves_no_closed_file : (shown : Blocks) → StopSince Open shown closed → ⊥
 since_an_open_gate_a_stop_leaves_no_closed_file shown h = a_closed_file_is_not_refused h
 
-by_an_unsure_gate_a_stop_leaves_any_gate : (StopNow Unsure closed gate_torn) × (StopNow Unsure closed closed)
-by_an_unsure_gate_a_stop_leaves_any_gate = (refl, refl)
+by_an_unsure_gate_a_stop_leaves_any_gate : (StopNow never Unsure closed gate_torn) × (StopNow never Unsure closed closed)
+by_an_unsure_gate_a_stop_leaves_any_gate = (λ none. refl, λ none. refl)
 
-by_an_unsure_gate_a_stop_leaves_no_torn_page : StopNow Unsure closed page_torn → ⊥
-by_an_unsure_gate_a_stop_leaves_no_torn_page h = absurd (cc)
+by_an_unsure_gate_a_stop_leaves_no_torn_page : StopNow never Unsure closed page_torn → ⊥
+by_an_unsure_gate_a_stop_leaves_no_torn_page h = let no = h refl in absurd (cc)
 
 since_an_unsure_gate_a_stop_leaves_either : (StopSince Unsure closed (open_gate ∷ [])) × (StopSince Unsure closed closed)
 unfolding failed_check
@@ -169,25 +179,65 @@ unfolding failed_check gate_checks header_checks number_at
 since_an_unsure_gate_a_stop_leaves_no_other_closed_file (inl h) = absurd (cc)
 since_an_unsure_gate_a_stop_leaves_no_other_closed_file (inr h) = absurd (cc)
 
-an_outcome_with_another_gate : GateAside (λ c. c ≡ closed) gate_torn
-an_outcome_with_another_gate = (closed, refl, refl)
+abbrev no_blocks : Blocks → Type 0
+no_blocks c = ⊥
 
-no_outcome_with_another_page : GateAside (λ c. c ≡ closed) page_torn → ⊥
-no_outcome_with_another_page h = let same : SameButGate page_torn closed = h.2 ∙ ap (drop 1) h.1 in absurd (cc)
+an_outcome_with_another_gate : StepOr Aside (λ c. c ≡ closed) no_blocks gate_torn
+an_outcome_with_another_gate = inl (closed, refl, refl, λ f. f)
 
-an_outcome_that_was_not_torn : TornFrom 2 (λ c. c ≡ closed) closed
-an_outcome_that_was_not_torn = (closed, refl, inl refl)
+no_outcome_with_another_page : StepOr Aside (λ c. c ≡ closed) no_blocks page_torn → ⊥
+no_outcome_with_another_page = ⊎_elim (λ from. let same : SameButGate page_torn closed = from.2 ∙ ap (drop 1) from.1 in absurd (cc)) (λ f. f)
 
-an_outcome_with_a_torn_page : TornFrom 2 (λ c. c ≡ closed) (gate ∷ header 1 3 0 0 ∷ zeros ∷ [])
+an_outcome_that_was_not_torn : StepOr (Torn 2) (λ c. c ≡ closed) no_blocks closed
+an_outcome_that_was_not_torn = inl (closed, refl, inl refl, λ f. f)
+
+an_outcome_with_a_torn_page : StepOr (Torn 2) (λ c. c ≡ closed) no_blocks (gate ∷ header 1 3 0 0 ∷ zeros ∷ [])
 unfolding zeros
-an_outcome_with_a_torn_page = (closed, refl, inr (zeros, repeated_block 0 (omega arith), refl))
+an_outcome_with_a_torn_page = inl (closed, refl, inr (zeros, repeated_block 0 (omega arith), refl), λ f. f)
 
-no_outcome_with_another_block_torn : TornFrom 2 (λ c. c ≡ closed) gate_torn → ⊥
-no_outcome_with_another_block_torn (d, is, inl same) = let no = same ∙ is in absurd (cc)
-no_outcome_with_another_block_torn (d, is, inr w) = let no = w.2 ∙ ap (written 2 w.0) is in absurd (cc)
+no_outcome_with_another_block_torn : StepOr (Torn 2) (λ c. c ≡ closed) no_blocks gate_torn → ⊥
+no_outcome_with_another_block_torn (inl (d, is, inl same, more)) = let no = same ∙ is in absurd (cc)
+no_outcome_with_another_block_torn (inl (d, is, inr w, more)) = let no = w.2 ∙ ap (written 2 w.0) is in absurd (cc)
+no_outcome_with_another_block_torn (inr f) = f
+
+-- a fallback is an outcome as it is, and one that was torn is none unless it is still a fallback
+a_fallback_is_an_outcome : StepOr (Torn 2) (λ c. c ≡ closed) (λ c. c ≡ gate_torn) gate_torn
+a_fallback_is_an_outcome = inr refl
+
+no_outcome_is_a_fallback_torn : StepOr Aside (λ c. c ≡ closed) (λ c. c ≡ closed) gate_torn → ⊥
+no_outcome_is_a_fallback_torn = ⊎_elim (λ from. let no : gate_torn ≡ closed = from.3 from.1 in absurd (cc)) (λ f. let no : gate_torn ≡ closed = f in absurd (cc))
+
+-- what calls that keep the gate may add: on a device that recovers, and the gate not open, blocks that begin with those as
+-- read
+abbrev one_more : Blocks
+one_more = gate ∷ header 1 3 0 0 ∷ [] ∷ (9 ∷ []) ∷ []
+
+begins_with_closed : Begins closed one_more
+begins_with_closed = record { no_shorter = omega arith; same = same }
+  where
+    same : (k : ℕ) → k < 3 → block_at k one_more ≡ block_at k closed
+    same zero lt = refl
+    same (suc zero) lt = refl
+    same (suc (suc zero)) lt = refl
+    same (suc (suc (suc k))) lt = absurd (omega (arith, lt))
+
+a_commit_may_be_made_behind_a_shut_gate : OrKept true Shut closed no_blocks one_more
+a_commit_may_be_made_behind_a_shut_gate = inr (λ e. cc, refl, begins_with_closed)
+
+no_commit_is_made_behind_an_open_gate : (c : Blocks) → OrKept true Open closed no_blocks c → ⊥
+no_commit_is_made_behind_an_open_gate c = ⊎_elim (λ f. f) (λ made. made.0 refl)
+
+no_commit_is_made_by_a_plain_device : (c : Blocks) → OrKept false Shut closed no_blocks c → ⊥
+no_commit_is_made_by_a_plain_device c = ⊎_elim (λ f. f) (λ made. let no : false ≡ true = made.1 in absurd (cc))
+
+no_torn_gate_is_a_commit : OrKept true Shut closed no_blocks gate_torn → ⊥
+no_torn_gate_is_a_commit = ⊎_elim (λ f. f) (λ made. let no : block_at 0 gate_torn ≡ block_at 0 closed = made.2.same 0 (omega arith) in absurd (cc))
 
 all_that_is_left_is_open : (pages : Blocks) → AllLeave (λ c. c ≡ gate_block 0 ∷ pages) IsOpen
 all_that_is_left_is_open pages c left = ap (block_at 0) left
+
+all_that_is_left_is_open_or_a_fallback : (pages : Blocks) → AllLeave (λ c. c ≡ gate_block 1 ∷ pages) (OpenOr always)
+all_that_is_left_is_open_or_a_fallback pages c left none = absurd (let e : true ≡ false = none in cc)
 
 not_all_that_is_left_is_refused : AllLeave (λ c. c ≡ closed) IsRefused → ⊥
 not_all_that_is_left_is_refused h = a_closed_file_is_not_refused (h closed refl)

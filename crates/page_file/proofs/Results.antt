@@ -24,6 +24,10 @@ module _ {T E : Type 0} where
   on_ok_map (Ok x) f p = f p
   on_ok_map (Err e) f p = p
 
+  pub on_ok_both : {P Q R : Type 0} (r : Result T E) → OnOk r P → OnOk r Q → (P → Q → R) → OnOk r R
+  on_ok_both (Ok x) p q f = f p q
+  on_ok_both (Err e) p q f = tt
+
   -- an answer that hands on a fault
   pub is_handed_on : (r : Result T E) (e : E) (P : E → Type 0) → IsErrAnd r (λ x. x ≡ e) → P e → IfErr r P
   is_handed_on (Ok x) e P is p = tt

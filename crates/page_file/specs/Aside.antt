@@ -1,20 +1,24 @@
 -- Blocks that differ from those of a settled file in the gate alone.
-use Rattle.std.proofs.Common.{◌≡◌, ◌⊎◌, ◌∙◌, ℕ, ◌≤◌, List, Bool, true, false, cond, Option, Some, None, refl, sym, ap, arith, subst, inl, inr, ⊎_elim}
+use Rattle.std.proofs.Common.{◌≡◌, ◌⊎◌, ◌∙◌, ℕ, ◌≤◌, List, [], ◌∷◌, drop, length, Bool, true, false, cond, Option, Some, None, refl, sym, ap, arith, subst, inl, inr, ⊎_elim}
 use Rattle.std.specs.Prelude.{is_some, ◌↔◌}
 use Rattle.std.proofs.lemmas.Bool.Decides.{nat_tests}
-use Rattle.block_device.specs.Device.{Blocks, block_at}
+use Rattle.block_device.specs.Device.{Begins, Blocks, block_at, written}
+use Rattle.block_device.specs.Written.{block_at-written}
 use Rattle.page_file.specs.declared.fault.Fault.{Fault}
 use Rattle.page_file.specs.declared.file.PageFile.{PageFile}
 use Rattle.page_file.specs.declared.gate.Gate.TheVariants.{Open}
 use Rattle.page_file.specs.declared.header.Header.{Header}
 use Rattle.page_file.specs.File.{IsHonest, IsNewFile, LiesIn, gate_of}
-use Rattle.page_file.specs.Layout.{IsHeader, catalog_block, new_header}
-use Rattle.page_file.specs.Opening.{IsRefused, failed_check, header_of_block}
+use Rattle.page_file.specs.Layout.{IsHeader, IsShutGate, catalog_block, gate_block, new_header}
+use Rattle.page_file.specs.Opening.{IsRefused, failed_check, header_of_block, is_sound}
 use Rattle.page_file.specs.Pages.{HasFreeChain, IsSoundMap, header_in, is_live, next_in, page_of, pages_in}
 use Rattle.page_file.specs.Stops.{SameButGate}
 use Rattle.page_file.specs.Frames.{aside_at}
 use Rattle.page_file.specs.Live.{free_same, new_free, pages_same}
-use Rattle.page_file.specs.Settled.{header_is}
+use Rattle.page_file.specs.Settled.{header_is, passes_to, settled_passes, sound_says}
+use Rattle.page_file.specs.Prefix.{new_longer}
+use Rattle.page_file.specs.Reading.{shut_gate}
+use Rattle.page_file.specs.Written.{aside_written, written_longer}
 
 -- blocks in which opening finds the same as in those
 pub record FindsSame (c blocks : Blocks) : Type 0 where
@@ -48,6 +52,9 @@ aside_passes c blocks same = case (refused_or (failed_check c))
     case (inl refused) = inl refused
     case (inr passes) = inr (finds_same c blocks same passes)
 
+not_refused : (c : Blocks) {P : Type 0} → failed_check c ≡ None → IsRefused c ⊎ P → P
+not_refused c passes = ⊎_elim (λ refused. let no = ap is_some (sym passes) ∙ refused in absurd (cc)) (λ p. p)
+
 -- a file whose gate is not open lies in what differs from its blocks in the gate alone, unless opening refuses it
 pub aside_lies : {D : Type 0} {m : _} (file : PageFile D m) (c : Blocks) → IsHonest file → ¬ (gate_of file ≡ Open) → SameButGate c (m.shown file.device) → IsRefused c ⊎ LiesIn file c
 aside_lies {m = m} file c h closed same = ⊎_elim
@@ -69,6 +76,31 @@ aside_lies {m = m} file c h closed same = ⊎_elim
     header : header_in blocks ≡ file.header
     header = header_is file.header (block_at 1 blocks) (file.settled h closed)
 
+-- blocks that differ in the gate alone are the same once it is written
+pub gate_over : (b : List ℕ) (c d : Blocks) → SameButGate c d → written 0 b c ≡ written 0 b d
+gate_over b c d same = over c ∙ ap (λ (l : Blocks). b ∷ l) same ∙ sym (over d)
+  where
+    over : (bs : Blocks) → written 0 b bs ≡ b ∷ drop 1 bs
+    over [] = refl
+    over (x ∷ bs) = refl
+
+passes_once_shut : (blocks : Blocks) (h : Header) → IsHeader h (block_at 1 blocks) → h.next ≤ length blocks → is_sound h ≡ true → failed_check (written 0 (gate_block 1) blocks) ≡ None
+passes_once_shut blocks h header within sound =
+    let now = written 0 (gate_block 1) blocks in
+    let same : block_at 1 now ≡ block_at 1 blocks = aside_at now blocks 1 (aside_written (gate_block 1) blocks) (omega arith) in
+    passes_to now (settled_passes now h
+    (subst IsShutGate (sym (block_at-written 0 (gate_block 1) blocks (omega arith))) shut_gate)
+    (subst (IsHeader h) (sym same) header)
+    (omega (arith, within, written_longer 0 (gate_block 1) blocks)) sound (sound_says h sound).start)
+
+-- a file whose gate is not open lies in its blocks once the gate is written shut
+pub lies_once_shut : {D : Type 0} {m : _} (file : PageFile D m) → IsHonest file → ¬ (gate_of file ≡ Open) → LiesIn file (written 0 (gate_block 1) (m.shown file.device))
+lies_once_shut {m = m} file h closed = not_refused (written 0 (gate_block 1) blocks) (passes_once_shut blocks file.header (file.settled h closed) (file.room h) file.sound)
+    (aside_lies file (written 0 (gate_block 1) blocks) h closed (aside_written (gate_block 1) blocks))
+  where
+    blocks : Blocks
+    blocks = m.shown file.device
+
 not_live : (blocks : Blocks) (k : ℕ) → ¬ (k ≡ 2) → is_live blocks new_header k ≡ false
 not_live blocks k ne = grind (arith, nat_tests)
 
@@ -87,3 +119,9 @@ new_aside blocks c is catalog same = ⊎_elim
   where
     header : header_in blocks ≡ new_header
     header = header_is new_header (block_at 1 blocks) is
+
+-- so is what begins with them once the gate is written shut
+pub new_begins : (blocks c : Blocks) → IsHeader new_header (block_at 1 blocks) → block_at 2 blocks ≡ catalog_block → length blocks ≡ 3 → Begins (written 0 (gate_block 1) blocks) c → IsNewFile c
+new_begins blocks c is catalog size b =
+    let now = written 0 (gate_block 1) blocks in
+    new_longer now c (not_refused now (passes_once_shut blocks new_header is (omega (arith, size)) refl) (new_aside blocks now is catalog (aside_written (gate_block 1) blocks))) b

@@ -1,10 +1,10 @@
 -- What a file of pages stands for, and what calls keep of it.
-use Rattle.std.specs.Prelude.{◌≡◌, ◌+◌, ◌^◌, ◌<◌, ◌≤◌, ◌↔◌, ℕ, List, Option, Some, None, IsSome}
-use Rattle.block_device.specs.Device.{Blocks, block_at}
+use Rattle.std.specs.Prelude.{◌≡◌, ◌⊎◌, ◌+◌, ◌^◌, ◌<◌, ◌≤◌, ◌↔◌, ℕ, List, Option, Some, None, IsSome}
+use Rattle.block_device.specs.Device.{Begins, Blocks, IsIn, LeavesNoMore, block_at}
 use Rattle.page_file.specs.Layout.{catalog_block}
 use Rattle.page_file.specs.Opening.{failed_check}
 use Rattle.page_file.specs.Pages.{free_page_link, free_pages_of, page_of, given_pages, pages_in, next_in, HasFreeChain, IsSoundMap}
-use Rattle.page_file.specs.Stops.{AddsOnly, StopSince}
+use Rattle.page_file.specs.Stops.{AddsOnly, OrKept, StopSince}
 use Rattle.page_file.specs.declared.fault.Fault.{Fault}
 use Rattle.page_file.specs.declared.fault.Fault.TheVariants.{Damaged}
 use Rattle.page_file.specs.declared.gate.Gate.{Gate}
@@ -68,12 +68,14 @@ pub record IsPageMap {D : Type 0} {m : _} (file : PageFile D m) : Type 0 where
   pub free : HasFreeChain (m.shown file.device) file.header
 
 -- The gate and its moment stay: the same gate, the same blocks where it is not open, and no stop left
--- anything but what such a gate allows since its moment.
+-- anything but what such a gate allows since its moment, a fallback, or on a device that recovers what begins with the
+-- blocks of a gate that is not open.
 pub record KeepsGate {D : Type 0} {m : _} (old new : PageFile D m) : Type 0 where
   pub gate : gate_of new ≡ gate_of old
   pub honest : IsHonest old ↔ IsHonest new
   pub blocks : IsHonest old → ¬ (gate_of old ≡ Open) → blocks_of new ≡ blocks_of old
-  pub stops : IsHonest old → AddsOnly m.moment m.left_since old.device new.device (StopSince (gate_of old) (blocks_of old))
+  pub falls : IsHonest old → LeavesNoMore (OrKept m.recovers (gate_of old) (blocks_of old) (IsIn (m.fallback old.device))) (IsIn (m.fallback new.device))
+  pub stops : IsHonest old → AddsOnly m.moment m.left_since old.device new.device (λ c. StopSince (gate_of old) (blocks_of old) c ⊎ OrKept m.recovers (gate_of old) (blocks_of old) (IsIn (m.fallback old.device)) c)
 
 -- The map stays, and is as sound as it was; so do the pages given out that are not live, and the count of the free ones.
 pub record KeepsMap {D : Type 0} {m : _} (old new : PageFile D m) : Type 0 where
@@ -90,6 +92,10 @@ pub record LiesIn {D : Type 0} {m : _} (file : PageFile D m) (blocks : Blocks) :
   pub next : next_in blocks ≡ next_of file
   pub pages_there : (k : ℕ) → pages_in blocks k ≡ pages file k
   pub sound : IsPageMap file ↔ IsSoundMap blocks
+
+-- Blocks that begin with some in which the file lies.
+abbrev pub LiesAtStart : {D : Type 0} {m : _} → PageFile D m → Blocks → Type 0
+LiesAtStart file c = (kept : Blocks) × LiesIn file kept × Begins kept c
 
 -- Blocks of a new file: opening refuses them by no check, and finds one page, the catalog of no layers.
 pub record IsNewFile (blocks : Blocks) : Type 0 where

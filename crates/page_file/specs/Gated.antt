@@ -1,6 +1,7 @@
 -- What an open gate, and one that is shut, say of a stop.
-use Rattle.std.proofs.Common.{◌≡◌, ◌∙◌, ℕ, ◌<◌, ◌≤◌, List, [], ◌∷◌, ◌++◌, Bool, true, false, not, nat_lt, ◌==◌, length, Some, refl, sym, ap, arith, subst, lit<, inr, cond, length-drop}
+use Rattle.std.proofs.Common.{◌≡◌, ◌∙◌, ℕ, ◌<◌, ◌≤◌, List, [], ◌∷◌, ◌++◌, Bool, true, false, not, nat_lt, ◌==◌, length, Some, refl, sym, ap, arith, subst, lit<, inl, inr, ◌⊎◌, ⊎_elim, cond, length-drop}
 use Rattle.std.proofs.lemmas.Bool.Decides.{nat_tests}
+use Rattle.std.proofs.lemmas.Bool.{cases_Bool}
 use Rattle.std.specs.Prelude.{IsSome}
 use Rattle.block_device.specs.Device.{Blocks, Torn, block_at}
 use Rattle.block_bytes.specs.Numbers.{number_at}
@@ -10,7 +11,7 @@ use Rattle.page_file.specs.declared.fault.Fault.TheVariants.{NotAStore, NotClose
 use Rattle.page_file.specs.declared.gate.Gate.{Gate}
 use Rattle.page_file.specs.declared.gate.Gate.TheVariants.{Shut, Open, Unsure}
 use Rattle.page_file.specs.Opening.{IsRefused, failed_check, Check, first_fault, gate_checks, header_checks}
-use Rattle.page_file.specs.Stops.{SameButGate, StopNow, StopSince}
+use Rattle.page_file.specs.Stops.{GateNow, SameButGate, StopNow, StopSince}
 use Rattle.page_file.specs.Reading.{length-gate, shut-gate}
 use Rattle.page_file.specs.Written.{first_torn}
 
@@ -44,16 +45,25 @@ fails c e =
 pub still_open : (i : ℕ) (d c : Blocks) → 0 < i → block_at 0 d ≡ gate_block 0 → Torn i d c → block_at 0 c ≡ gate_block 0
 still_open i d c gt e torn = first_torn i d c torn gt (some_blocks d e) ∙ e
 
-pub stop_open : (gate : Gate) (shown d : Blocks) → gate ≡ Open → StopNow gate shown d → block_at 0 d ≡ gate_block 0
-stop_open gate shown d e now = subst (λ (x : Gate). StopNow x shown d) e now
+pub stop_open : (falls : Blocks → Bool) (gate : Gate) (shown d : Blocks) → gate ≡ Open → StopNow falls gate shown d → falls d ≡ false → block_at 0 d ≡ gate_block 0
+stop_open falls gate shown d e now = subst (λ (x : Gate). StopNow falls x shown d) e now
 
-pub open_stop : (gate : Gate) (shown c : Blocks) → gate ≡ Open → block_at 0 c ≡ gate_block 0 → StopNow gate shown c
-open_stop gate shown c e now = subst (λ (x : Gate). StopNow x shown c) (sym e) now
+pub open_stop : (falls : Blocks → Bool) (gate : Gate) (shown c : Blocks) → gate ≡ Open → (falls c ≡ false → block_at 0 c ≡ gate_block 0) → StopNow falls gate shown c
+open_stop falls gate shown c e now = subst (λ (x : Gate). StopNow falls x shown c) (sym e) now
 
-pub now_since : (gate : Gate) (shown c : Blocks) → StopNow gate shown c → StopSince gate shown c
-now_since Shut shown c now = now
-now_since Open shown c now = fails c now
-now_since Unsure shown c now = inr now
+gate_since : (gate : Gate) (shown c : Blocks) → GateNow gate shown c → StopSince gate shown c
+gate_since Shut shown c now = now
+gate_since Open shown c now = fails c now
+gate_since Unsure shown c now = inr now
+
+pub now_since : (falls : Blocks → Bool) (gate : Gate) (shown c : Blocks) → StopNow falls gate shown c → StopSince gate shown c ⊎ (falls c ≡ true)
+now_since falls gate shown c now = ⊎_elim (λ is. inr is) (λ none. inl (gate_since gate shown c (now none))) (cases_Bool (falls c))
+
+-- a gate is open or not
+pub is_open : (gate : Gate) → (gate ≡ Open) ⊎ ¬ (gate ≡ Open)
+is_open Shut = inr (λ e. cc)
+is_open Open = inl refl
+is_open Unsure = inr (λ e. cc)
 
 pub open_is_not_shut : (gate : Gate) → gate ≡ Open → gate ≡ Shut → ⊥
 open_is_not_shut gate a b = let e : Open ≡ Shut = sym a ∙ b in cc

@@ -1,34 +1,30 @@
 -- What follows from the facts that the calls on a file promise, for the crates that stand on them.
 use Rattle.std.specs.Prelude.{◌≡◌, ◌⊎◌, ◌↔◌, ◌≤◌, ◌<◌, ◌^◌, ℕ, List, [], length, Some, None, refl}
 use Rattle.std.specs.List.{All}
-use Rattle.std.proofs.Common.{drop, ap, inl, inr, ⊎_elim, sym, ◌∙◌, subst, arith}
+use Rattle.std.proofs.Common.{true, false, inl, inr, ⊎_elim, sym, ◌∙◌, subst, arith}
 use Rattle.block_bytes.specs.Kinds.{free_kind}
-use Rattle.block_device.specs.Device.{Blocks, IsBlock, LeavesOnly}
+use Rattle.block_device.specs.Device.{Begins, IsIn, Blocks, IsBlock, LeavesOnly}
 use Rattle.page_file.specs.declared.file.PageFile.{PageFile}
 use Rattle.page_file.specs.declared.gate.Gate.{Gate}
-use Rattle.page_file.specs.declared.gate.Gate.TheVariants.{Shut, Open, Unsure}
+use Rattle.page_file.specs.declared.gate.Gate.TheVariants.{Shut, Open}
 use Rattle.page_file.specs.File.{IsHonest, IsLive, IsPageMap, KeepsGate, KeepsMap, LiesIn, blocks_of, gate_of, given, next_of, pages}
 use Rattle.page_file.specs.Opening.{IsRefused, failed_check}
-use Rattle.page_file.specs.Stops.{AddsOnly, SameButGate, StopNow, StopSince}
+use Rattle.page_file.specs.Stops.{AddsOnly, OrKept, SameButGate, StopSince}
 use Rattle.page_file.specs.Aside.{aside_lies, aside_passes}
-use Rattle.page_file.specs.Gated.{now_since}
+use Rattle.page_file.specs.Gated.{is_open, now_since}
 use Rattle.page_file.specs.Frames as kept
+use Rattle.page_file.specs.Prefix.{lies_longer}
 use Rattle.page_file.specs.Given.{given_is, given_is_live, live_is_given}
 use Rattle.page_file.specs.Layout.{kind_of}
 use Rattle.page_file.specs.Live.{catalog_lives, lives}
 
--- a stop now leaves what the gate allows
-pub a_stop_follows_the_gate : {D : Type 0} {m : _} (file : PageFile D m) (c : Blocks) → IsHonest file → m.may_leave file.device c → StopSince (gate_of file) (blocks_of file) c
-a_stop_follows_the_gate {m = m} file c h left = now_since file.gate (m.shown file.device) c (file.stop_now h c left)
+-- a stop now leaves what the gate allows, or a fallback
+pub a_stop_follows_the_gate : {D : Type 0} {m : _} (file : PageFile D m) (c : Blocks) → IsHonest file → m.may_leave file.device c → StopSince (gate_of file) (blocks_of file) c ⊎ (m.fallback file.device c ≡ true)
+a_stop_follows_the_gate {m = m} file c h left = now_since (m.fallback file.device) file.gate (m.shown file.device) c (file.stop_now h c left)
 
 -- and all of the blocks but the gate, unless that is open
-pub a_stop_now_leaves_all_but_the_gate : {D : Type 0} {m : _} (file : PageFile D m) (c : Blocks) → IsHonest file → ¬ (gate_of file ≡ Open) → m.may_leave file.device c → SameButGate c (blocks_of file)
-a_stop_now_leaves_all_but_the_gate {m = m} file c h closed left = case file.gate closed (file.stop_now h c left)
-  where
-    case : (gate : Gate) → ¬ (gate ≡ Open) → StopNow gate (m.shown file.device) c → SameButGate c (m.shown file.device)
-    case Shut ne e = ap (drop 1) e
-    case Open ne e = absurd (ne refl)
-    case Unsure ne e = e
+pub a_stop_now_leaves_all_but_the_gate : {D : Type 0} {m : _} (file : PageFile D m) (c : Blocks) → IsHonest file → ¬ (gate_of file ≡ Open) → m.may_leave file.device c → m.fallback file.device c ≡ false → SameButGate c (blocks_of file)
+a_stop_now_leaves_all_but_the_gate {m = m} file c h closed left none = kept.closed_aside (m.fallback file.device) file.gate (m.shown file.device) c closed (file.stop_now h c left) none
 
 -- a file whose gate is shut lies in its blocks
 pub a_shut_file_lies_in_its_blocks : {D : Type 0} {m : _} (file : PageFile D m) → IsHonest file → gate_of file ≡ Shut → LiesIn file (blocks_of file)
@@ -90,24 +86,19 @@ a_kept_map_lies_there old new blocks h keeps = (
 
 -- no call keeps gate and map, and two calls in turn do where each does
 pub no_call_keeps_the_gate : {D : Type 0} {m : _} (file : PageFile D m) → KeepsGate file file
-no_call_keeps_the_gate file = record { gate = refl; honest = (λ h. h, λ h. h); blocks = λ h shut. refl; stops = λ h. record { later = omega arith; before = λ t c le left. inl left } }
+no_call_keeps_the_gate file = record { gate = refl; honest = (λ h. h, λ h. h); blocks = λ h shut. refl; falls = λ h c is. inl is; stops = λ h. record { later = omega arith; before = λ t c le left. inl left } }
 
 -- by an open gate a stop is no matter of the blocks
 of_open_any : (gate : Gate) (a b c : Blocks) → (gate ≡ Open) ⊎ (a ≡ b) → StopSince gate a c → StopSince gate b c
 of_open_any gate a b c (inl e) left = subst (λ (x : Gate). StopSince x b c) (sym e) (subst (λ (x : Gate). StopSince x a c) e left)
 of_open_any gate a b c (inr e) left = subst (λ (x : Blocks). StopSince gate x c) e left
 
--- a gate is open or not
-pub is_open : (gate : Gate) → (gate ≡ Open) ⊎ ¬ (gate ≡ Open)
-is_open Shut = inr (λ e. cc)
-is_open Open = inl refl
-is_open Unsure = inr (λ e. cc)
-
 pub the_gate_is_kept_in_turn : {D : Type 0} {m : _} (old mid new : PageFile D m) → KeepsGate old mid → KeepsGate mid new → KeepsGate old new
 the_gate_is_kept_in_turn {m = m} old mid new a b = record {
   gate = b.gate ∙ a.gate;
   honest = (λ h. b.honest.0 (a.honest.0 h), λ h. a.honest.1 (b.honest.1 h));
   blocks = λ h closed. b.blocks (a.honest.0 h) (λ e. closed (sym a.gate ∙ e)) ∙ a.blocks h closed;
+  falls = λ h c is. inherit h c (b.falls (a.honest.0 h) c is);
   stops = λ h.
       let first = a.stops h in let second = b.stops (a.honest.0 h) in
       let into : (c : Blocks) → StopSince mid.gate (m.shown mid.device) c → StopSince old.gate (m.shown old.device) c
@@ -116,9 +107,14 @@ the_gate_is_kept_in_turn {m = m} old mid new a b = record {
       (subst (λ (x : Gate). StopSince x (m.shown mid.device) c) a.gate left) in
       record {
         later = omega (arith, first.later, second.later);
-        before = λ t c le left. ⊎_elim (first.before t c le) (λ p. inr (into c p)) (second.before t c (omega (arith, le, first.later)) left);
+        before = λ t c le left. ⊎_elim (first.before t c le) (λ p. inr (⊎_elim (λ since. inl (into c since)) (λ back. inr (inherit h c back)) p)) (second.before t c (omega (arith, le, first.later)) left);
       };
 }
+  where
+    inherit : IsHonest old → (c : Blocks) → OrKept m.recovers (gate_of mid) (blocks_of mid) (IsIn (m.fallback mid.device)) c → OrKept m.recovers (gate_of old) (blocks_of old) (IsIn (m.fallback old.device)) c
+    inherit h c = ⊎_elim (λ f. a.falls h c f) (λ (begun : ¬ (gate_of mid ≡ Open) × (m.recovers ≡ true) × Begins (blocks_of mid) c).
+        let closed : ¬ (gate_of old ≡ Open) = λ e. begun.0 (a.gate ∙ e) in
+        inr (closed, begun.1, subst (λ (x : Blocks). Begins x c) (a.blocks h closed) begun.2))
 
 pub no_call_keeps_the_map : {D : Type 0} {m : _} (file : PageFile D m) → KeepsMap file file
 no_call_keeps_the_map file = record { next = refl; free_count = refl; pages_stay = λ h k. refl; given_stay = λ h k. refl; sound = (λ p. p, λ p. p) }
@@ -146,12 +142,19 @@ a_run_goes_on moment left_since old mid new P Q a more = record {
 
 -- a run of calls, and then calls that keep the gate
 pub stops_of_a_run_go_on : {D : Type 0} {m : _} (old : D) (mid new : PageFile D m) (P : Blocks → Type 0) → IsHonest mid → LeavesOnly m.moment m.left_since old mid.device P → KeepsGate mid new
-    → LeavesOnly m.moment m.left_since old new.device (λ c. P c ⊎ StopSince (gate_of mid) (blocks_of mid) c)
-stops_of_a_run_go_on {m = m} old mid new P h a b = a_run_goes_on m.moment m.left_since old mid.device new.device P (StopSince (gate_of mid) (blocks_of mid)) a (b.stops h)
+    → LeavesOnly m.moment m.left_since old new.device (λ c. P c ⊎ (StopSince (gate_of mid) (blocks_of mid) c ⊎ OrKept m.recovers (gate_of mid) (blocks_of mid) (IsIn (m.fallback mid.device)) c))
+stops_of_a_run_go_on {m = m} old mid new P h a b = a_run_goes_on m.moment m.left_since old mid.device new.device P (λ c. StopSince (gate_of mid) (blocks_of mid) c ⊎ OrKept m.recovers (gate_of mid) (blocks_of mid) (IsIn (m.fallback mid.device)) c) a (b.stops h)
 
 -- opening refuses a file whose gate is shut by no check
 pub a_shut_file_passes : {D : Type 0} {m : _} (file : PageFile D m) → IsHonest file → gate_of file ≡ Shut → failed_check (blocks_of file) ≡ None
 a_shut_file_passes file h shut = (kept.shut_lies file h shut).passes
+
+-- with the gate shut a fallback begins with the blocks as read, so that a sound file lies in it
+pub a_fallback_begins_with_the_blocks : {D : Type 0} {m : _} (file : PageFile D m) (c : Blocks) → IsHonest file → gate_of file ≡ Shut → IsIn (m.fallback file.device) c → Begins (blocks_of file) c
+a_fallback_begins_with_the_blocks file c h shut back = kept.shut_begins file h shut c back
+
+pub a_fallback_of_a_shut_gate_is_the_file : {D : Type 0} {m : _} (file : PageFile D m) (c : Blocks) → IsPageMap file → gate_of file ≡ Shut → IsIn (m.fallback file.device) c → LiesIn file c
+a_fallback_of_a_shut_gate_is_the_file file c map shut back = lies_longer file (blocks_of file) c map (kept.shut_lies file map.honest shut) (kept.shut_begins file map.honest shut c back)
 
 -- a live page was given out with its bytes
 pub a_live_page_is_given : {D : Type 0} {m : _} (file : PageFile D m) (n : ℕ) (page : List ℕ) → pages file n ≡ Some page → given file n ≡ Some page
@@ -171,3 +174,6 @@ a_page_in_use_is_live {m = m} file n page map e other = given_is_live (m.shown f
 
 -- what the laws of a file are proved by
 pub ruleset laws = (a_stop_follows_the_gate, a_stop_now_leaves_all_but_the_gate, a_live_page_was_given_out, the_catalog_is_live, a_gate_aside_is_refused_or_the_same, a_gate_aside_finds_the_file, no_call_keeps_the_gate, the_gate_is_kept_in_turn, no_call_keeps_the_map, the_map_is_kept_in_turn, a_live_page_is_given, a_page_in_use_is_live)
+
+-- and those of fallbacks
+pub ruleset fallbacks = (a_fallback_begins_with_the_blocks, a_fallback_of_a_shut_gate_is_the_file)

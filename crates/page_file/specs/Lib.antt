@@ -14,6 +14,9 @@ pub mod Live
 pub mod Given
 pub mod Settled
 pub mod Reused
+pub mod Byte
+pub mod Prefix
 pub mod Frames
 pub mod Aside
+pub mod Plain
 pub mod Laws

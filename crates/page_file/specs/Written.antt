@@ -7,7 +7,7 @@ use Rattle.page_file.specs.Stops.{SameButGate}
 pub torn_size : (i : ℕ) (old new : Blocks) → Torn i old new → i < length old → length new ≡ length old
 torn_size i old new torn lt = ⊎_elim (λ e. ap length e) (λ w. ap length w.2 ∙ length-written_within i w.0 old lt) torn
 
-written_longer : (i : ℕ) (b : List ℕ) (bs : Blocks) → length bs ≤ length (written i b bs)
+pub written_longer : (i : ℕ) (b : List ℕ) (bs : Blocks) → length bs ≤ length (written i b bs)
 written_longer i b [] = omega arith
 written_longer zero b (x ∷ bs) = omega arith
 written_longer (suc i) b (x ∷ bs) = omega (arith, written_longer i b bs)
@@ -33,7 +33,7 @@ first_written (suc i) b (x ∷ bs) gt some = refl
 pub first_torn : (i : ℕ) (old new : Blocks) → Torn i old new → 0 < i → 0 < length old → block_at 0 new ≡ block_at 0 old
 first_torn i old new torn gt some = ⊎_elim (λ e. ap (block_at 0) e) (λ w. ap (block_at 0) w.2 ∙ first_written i w.0 old gt some) torn
 
-aside_written : (b : List ℕ) (bs : Blocks) → SameButGate (written 0 b bs) bs
+pub aside_written : (b : List ℕ) (bs : Blocks) → SameButGate (written 0 b bs) bs
 aside_written b [] = refl
 aside_written b (x ∷ bs) = refl
 

@@ -1,10 +1,11 @@
 //! Single blocks of a device: the gate and the header, each with its sync, and any block where there is
 //! a place for it.
 ghost use Rattle.std.specs.Prelude.{◌≡◌, ◌≤◌, ◌<◌, ◌^◌, ◌↔◌, ◌⊎◌, length, ℕ, OnOk, IfErr};
-ghost use Rattle.block_device.specs.Device.{Blocks, Only, LeavesNoMore, LeavesOnly, Follows, Torn, block_at, written};
+ghost use Rattle.block_device.specs.Device.{Only, LeavesNoMore, LeavesOnly, Torn, block_at, written};
+ghost use Rattle.block_device.specs.Device.{AsksCommit, Begins, FollowsOr, IsIn, OnlyOr, OrCommit};
 ghost use Rattle.page_file.specs.Fault.{HasCause, IsOfDevice};
 ghost use Rattle.page_file.specs.Layout.{gate_block, version_in, IsHeader};
-ghost use Rattle.page_file.specs.Stops.{GateAside, TornFrom, SameButGate};
+ghost use Rattle.page_file.specs.Stops.{Aside, StepOr, SameButGate};
 ghost use Rattle.page_file.specs.declared.fault.Fault.TheVariants as fault;
 
 use crate::Fault;
@@ -20,10 +21,21 @@ pub fn write_gate<D: BlockDevice>(device: &mut D, shut: u8) -> Result<(), Fault>
     ensures shown { D.honest device.old →
         OnOk result (D.shown device.new ≡ written 0 (gate_block shut) (D.shown device.old)) }
     ensures gate { D.honest device.old → OnOk result (block_at 0 (D.shown device.new) ≡ gate_block shut) }
-    ensures durable { D.honest device.old → OnOk result (Only (D.shown device.new) (D.may_leave device.new)) }
-    ensures now { D.honest device.old → (c : Blocks) → D.may_leave device.new c → GateAside (D.may_leave device.old) c }
+    ensures durable { D.honest device.old →
+        OnOk result (OnlyOr (D.shown device.new) (IsIn (D.fallback device.new)) (D.may_leave device.new)) }
+    ensures commits { D.honest device.old → OnOk result (AsksCommit (D.shown device.new) →
+        Only (D.shown device.new) (D.may_leave device.new) ×
+        LeavesNoMore (Begins (D.shown device.new)) (IsIn (D.fallback device.new))) }
+    ensures fallback { D.honest device.old →
+        LeavesNoMore (OrCommit (written 0 (gate_block shut) (D.shown device.old))
+        (IsIn (D.fallback device.old))) (IsIn (D.fallback device.new)) }
+    ensures now { D.honest device.old →
+        FollowsOr Aside (IsIn (D.fallback device.old)) (D.may_leave device.old)
+        (IsIn (D.fallback device.new)) (D.may_leave device.new) }
     ensures stops { D.honest device.old →
-        LeavesOnly D.moment D.left_since device.old device.new (GateAside (D.may_leave device.old)) }
+        LeavesOnly D.moment D.left_since device.old device.new (λ c.
+        StepOr Aside (D.may_leave device.old) (IsIn (D.fallback device.old)) c ⊎
+        IsIn (D.fallback device.new) c) }
     ensures only { IfErr result IsOfDevice }
     ensures honest { D.honest device.old ↔ D.honest device.new }
     ensures cause { HasCause (D.faults device.old) (D.faults device.new) result }
@@ -43,10 +55,17 @@ pub fn write_header<D: BlockDevice>(device: &mut D, header: &Header) -> Result<(
         block_at k (D.shown device.new) ≡ block_at k (D.shown device.old) }
     ensures header { D.honest device.old → OnOk result (IsHeader header.now (block_at 1 (D.shown device.new))) }
     ensures version { D.honest device.old → OnOk result (version_in (D.shown device.new) ≡ 2) }
-    ensures durable { D.honest device.old → OnOk result (Only (D.shown device.new) (D.may_leave device.new)) }
-    ensures now { D.honest device.old → Follows (Torn 1) (D.may_leave device.old) (D.may_leave device.new) }
+    ensures durable { D.honest device.old →
+        OnOk result (OnlyOr (D.shown device.new) (IsIn (D.fallback device.new)) (D.may_leave device.new)) }
+    ensures fallback { D.honest device.old → ¬ AsksCommit (D.shown device.old) →
+        LeavesNoMore (IsIn (D.fallback device.old)) (IsIn (D.fallback device.new)) }
+    ensures now { D.honest device.old →
+        FollowsOr (Torn 1) (IsIn (D.fallback device.old)) (D.may_leave device.old)
+        (IsIn (D.fallback device.new)) (D.may_leave device.new) }
     ensures stops { D.honest device.old →
-        LeavesOnly D.moment D.left_since device.old device.new (TornFrom 1 (D.may_leave device.old)) }
+        LeavesOnly D.moment D.left_since device.old device.new (λ c.
+        StepOr (Torn 1) (D.may_leave device.old) (IsIn (D.fallback device.old)) c ⊎
+        IsIn (D.fallback device.new) c) }
     ensures only { IfErr result IsOfDevice }
     ensures honest { D.honest device.old ↔ D.honest device.new }
     ensures cause { HasCause (D.faults device.old) (D.faults device.new) result }
@@ -63,9 +82,14 @@ pub fn write_block<D: BlockDevice>(device: &mut D, n: u32, bytes: &[u8; 4096]) -
     ensures written { D.honest device.old →
         OnOk result (D.shown device.new ≡ written n bytes.now (D.shown device.old)) }
     ensures torn { D.honest device.old → Torn n (D.shown device.old) (D.shown device.new) }
-    ensures now { D.honest device.old → Follows (Torn n) (D.may_leave device.old) (D.may_leave device.new) }
+    ensures now { D.honest device.old →
+        FollowsOr (Torn n) (IsIn (D.fallback device.old)) (D.may_leave device.old)
+        (IsIn (D.fallback device.new)) (D.may_leave device.new) }
+    ensures fallback { D.honest device.old →
+        LeavesNoMore (IsIn (D.fallback device.old)) (IsIn (D.fallback device.new)) }
     ensures stops { D.honest device.old →
-        LeavesOnly D.moment D.left_since device.old device.new (TornFrom n (D.may_leave device.old)) }
+        LeavesOnly D.moment D.left_since device.old device.new
+        (StepOr (Torn n) (D.may_leave device.old) (IsIn (D.fallback device.old))) }
     ensures only { IfErr result (λ f. IsOfDevice f ⊎ (f ≡ fault.Damaged n)) }
     ensures below { n ≤ length (D.shown device.old) → IfErr result IsOfDevice }
     ensures honest { D.honest device.old ↔ D.honest device.new }
@@ -87,8 +111,13 @@ pub fn read_block<D: BlockDevice>(
     ensures bytes { D.honest device.old → OnOk result (into.new ≡ block_at n (D.shown device.old)) }
     ensures shown { D.honest device.old → D.shown device.new ≡ D.shown device.old }
     ensures now { D.honest device.old → LeavesNoMore (D.may_leave device.old) (D.may_leave device.new) }
+    ensures fallback { D.honest device.old →
+        LeavesNoMore (IsIn (D.fallback device.old)) (IsIn (D.fallback device.new)) }
+    ensures falls { D.honest device.old →
+        LeavesNoMore (IsIn (D.fallback device.new)) (IsIn (D.fallback device.old)) }
     ensures stops { D.honest device.old →
-        LeavesOnly D.moment D.left_since device.old device.new (D.may_leave device.old) }
+        LeavesOnly D.moment D.left_since device.old device.new (λ c.
+        D.may_leave device.old c ⊎ IsIn (D.fallback device.old) c) }
     ensures only { IfErr result (λ f. IsOfDevice f ⊎ (f ≡ fault.Damaged n)) }
     ensures below { n < length (D.shown device.old) → IfErr result IsOfDevice }
     ensures honest { D.honest device.old ↔ D.honest device.new }

@@ -1,11 +1,12 @@
 //! The blocks of a new file: the open gate, header and catalog after it, and at last the shut gate.
 ghost use Rattle.std.specs.Prelude.{◌≡◌, ◌≤◌, ◌<◌, ◌^◌, ◌↔◌, ◌⊎◌, length, ℕ, OnOk, IfErr};
-ghost use Rattle.block_device.specs.Device.{Blocks, Only, LeavesOnly, Torn, written, block_at};
+ghost use Rattle.block_device.specs.Device.{AsksCommit, Begins, IsIn, LeavesNoMore, LeavesOnly, Only, OnlyOr};
+ghost use Rattle.block_device.specs.Device.{Blocks, Torn, written, block_at};
 ghost use Rattle.page_file.specs.Fault.{HasCause, IsOfDevice, IsDamage};
 ghost use Rattle.page_file.specs.File.{IsNewFile};
 ghost use Rattle.page_file.specs.Layout.{IsHeader, catalog_block, gate_block, new_header, version_in};
 ghost use Rattle.page_file.specs.Opening.{IsRefused};
-ghost use Rattle.page_file.specs.Stops.{IsOpen, AllLeave, SameButGate};
+ghost use Rattle.page_file.specs.Stops.{AllLeave, OpenOr, SameButGate};
 
 use crate::Fault;
 use crate::blocks::{write_block, write_gate};
@@ -26,10 +27,13 @@ fn write_behind<D: BlockDevice>(device: &mut D, n: u32, bytes: &[u8; 4096]) -> R
     requires small { n < 2 ^ 31 }
     ensures written { D.honest device.old →
         OnOk result (D.shown device.new ≡ written n bytes.now (D.shown device.old)) }
-    ensures open { D.honest device.old → AllLeave (D.may_leave device.old) IsOpen →
-        AllLeave (D.may_leave device.new) IsOpen }
-    ensures stops { D.honest device.old → AllLeave (D.may_leave device.old) IsOpen →
-        LeavesOnly D.moment D.left_since device.old device.new IsRefused }
+    ensures open { D.honest device.old → AllLeave (D.may_leave device.old) (OpenOr (D.fallback device.old)) →
+        AllLeave (D.may_leave device.new) (OpenOr (D.fallback device.new)) }
+    ensures stops { D.honest device.old → AllLeave (D.may_leave device.old) (OpenOr (D.fallback device.old)) →
+        LeavesOnly D.moment D.left_since device.old device.new (λ c. IsRefused c ⊎
+        IsIn (D.fallback device.old) c) }
+    ensures fallback { D.honest device.old →
+        LeavesNoMore (IsIn (D.fallback device.old)) (IsIn (D.fallback device.new)) }
     ensures below { n ≤ length (D.shown device.old) → IfErr result IsOfDevice }
     ensures only { IfErr result (λ f. IsOfDevice f ⊎ IsDamage f) }
     ensures honest { D.honest device.old ↔ D.honest device.new }
@@ -43,13 +47,37 @@ fn write_first<D: BlockDevice>(device: &mut D) -> Result<(), Fault>
     requires { length (D.shown device.old) ≡ 0 }
     ensures shown { D.honest device.old →
         OnOk result (D.shown device.new ≡ written 0 (gate_block 0) (D.shown device.old)) }
-    ensures open { D.honest device.old → OnOk result (AllLeave (D.may_leave device.new) IsOpen) }
-    ensures stops { D.honest device.old → LeavesOnly D.moment D.left_since device.old device.new IsRefused }
+    ensures open { D.honest device.old →
+        OnOk result (AllLeave (D.may_leave device.new) (OpenOr (D.fallback device.new))) }
+    ensures stops { D.honest device.old →
+        LeavesOnly D.moment D.left_since device.old device.new (λ c. IsRefused c ⊎
+        IsIn (D.fallback device.old) c) }
+    ensures fallback { D.honest device.old →
+        LeavesNoMore (IsIn (D.fallback device.old)) (IsIn (D.fallback device.new)) }
     ensures only { IfErr result IsOfDevice }
     ensures honest { D.honest device.old ↔ D.honest device.new }
     ensures cause { HasCause (D.faults device.old) (D.faults device.new) result }
 {
     write_gate(device, 0)
+}
+
+// Syncs while the gate is open.
+fn sync_behind<D: BlockDevice>(device: &mut D) -> Result<(), Fault>
+    ensures shown { D.honest device.old → D.shown device.new ≡ D.shown device.old }
+    ensures durable { D.honest device.old →
+        OnOk result (OnlyOr (D.shown device.new) (IsIn (D.fallback device.new)) (D.may_leave device.new)) }
+    ensures stops { D.honest device.old → AllLeave (D.may_leave device.old) (OpenOr (D.fallback device.old)) →
+        ¬ AsksCommit (D.shown device.old) →
+        LeavesOnly D.moment D.left_since device.old device.new (λ c. IsRefused c ⊎
+        IsIn (D.fallback device.old) c) }
+    ensures fallback { D.honest device.old → ¬ AsksCommit (D.shown device.old) →
+        LeavesNoMore (IsIn (D.fallback device.old)) (IsIn (D.fallback device.new)) }
+    ensures only { IfErr result IsOfDevice }
+    ensures honest { D.honest device.old ↔ D.honest device.new }
+    ensures cause { HasCause (D.faults device.old) (D.faults device.new) result }
+{
+    device.sync()?;
+    Ok(())
 }
 
 // Writes gate, header and catalog, the gate still open, and syncs them.
@@ -59,8 +87,13 @@ fn lay_out<D: BlockDevice>(device: &mut D) -> Result<(), Fault>
     ensures header { D.honest device.old → OnOk result (IsHeader new_header (block_at 1 (D.shown device.new))) }
     ensures version { D.honest device.old → OnOk result (version_in (D.shown device.new) ≡ 2) }
     ensures catalog { D.honest device.old → OnOk result (block_at 2 (D.shown device.new) ≡ catalog_block) }
-    ensures durable { D.honest device.old → OnOk result (Only (D.shown device.new) (D.may_leave device.new)) }
-    ensures stops { D.honest device.old → LeavesOnly D.moment D.left_since device.old device.new IsRefused }
+    ensures durable { D.honest device.old →
+        OnOk result (OnlyOr (D.shown device.new) (IsIn (D.fallback device.new)) (D.may_leave device.new)) }
+    ensures stops { D.honest device.old →
+        LeavesOnly D.moment D.left_since device.old device.new (λ c. IsRefused c ⊎
+        IsIn (D.fallback device.old) c) }
+    ensures fallback { D.honest device.old →
+        LeavesNoMore (IsIn (D.fallback device.old)) (IsIn (D.fallback device.new)) }
     ensures below { D.honest device.old → IfErr result IsOfDevice }
     ensures only { IfErr result (λ f. IsOfDevice f ⊎ IsDamage f) }
     ensures honest { D.honest device.old ↔ D.honest device.new }
@@ -71,8 +104,7 @@ fn lay_out<D: BlockDevice>(device: &mut D) -> Result<(), Fault>
     write_behind(device, 1, &header)?;
     let catalog = catalog_page();
     write_behind(device, 2, &catalog)?;
-    device.sync()?;
-    Ok(())
+    sync_behind(device)
 }
 
 /// Makes the blocks of a new file on a device without blocks, and shuts the gate.
@@ -84,9 +116,14 @@ pub fn create<D: BlockDevice>(device: &mut D) -> Result<(), Fault>
     ensures version { D.honest device.old → OnOk result (version_in (D.shown device.new) ≡ 2) }
     ensures catalog { D.honest device.old → OnOk result (block_at 2 (D.shown device.new) ≡ catalog_block) }
     ensures durable { D.honest device.old → OnOk result (Only (D.shown device.new) (D.may_leave device.new)) }
+    ensures begins { D.honest device.old →
+        OnOk result (LeavesNoMore (Begins (D.shown device.new)) (IsIn (D.fallback device.new))) }
     ensures stops { D.honest device.old →
-        LeavesOnly D.moment D.left_since device.old device.new (λ c. IsRefused c ⊎
-        (SameButGate c (D.shown device.new) × IsNewFile c)) }
+        LeavesOnly D.moment D.left_since device.old device.new (λ c. (IsRefused c ⊎
+        (SameButGate c (D.shown device.new) × IsNewFile c)) ⊎ (IsIn (D.fallback device.old) c ⊎
+        IsIn (D.fallback device.new) c)) }
+    ensures fallback { D.honest device.old →
+        LeavesNoMore (λ c. IsIn (D.fallback device.old) c ⊎ IsNewFile c) (IsIn (D.fallback device.new)) }
     ensures below { D.honest device.old → IfErr result IsOfDevice }
     ensures only { IfErr result (λ f. IsOfDevice f ⊎ IsDamage f) }
     ensures honest { D.honest device.old ↔ D.honest device.new }

@@ -1,10 +1,10 @@
 //! A file of pages: its type, and what its fields keep.
-ghost use Rattle.std.specs.Prelude.{◌≡◌, ◌≤◌, ◌^◌, true, length};
+ghost use Rattle.std.specs.Prelude.{◌≡◌, ◌≤◌, ◌<◌, ◌^◌, ℕ, true, length};
 ghost use Rattle.block_device.specs.Device.{Blocks, block_at};
 ghost use Rattle.page_file.specs.declared.gate.Gate.TheVariants.{Shut, Open};
 ghost use Rattle.page_file.specs.Layout.{IsShutGate, IsHeader};
 ghost use Rattle.page_file.specs.Opening.{is_sound};
-ghost use Rattle.page_file.specs.Stops.{StopNow, StopsNow-prop};
+ghost use Rattle.page_file.specs.Stops.{is_shut_byte, set_bytes, StopNow, StopsNow-prop};
 
 mod change;
 mod open;
@@ -32,8 +32,14 @@ pub struct PageFile<D: BlockDevice> {
     ghost few: { header.next ≤ 2 ^ 31 },
     ghost room: { D.honest device → header.next ≤ length (D.shown device) },
     ghost stop_now: { D.honest device → (c : Blocks) → D.may_leave device c →
-        StopNow gate (D.shown device) c } by { λ p q i h. StopsNow-prop (D.may_leave device) gate (D.shown device)
-            (p h) (q h) i },
+        StopNow (D.fallback device) gate (D.shown device) c } by { λ p q i h.
+            StopsNow-prop (D.may_leave device) (D.fallback device) gate (D.shown device) (p h) (q h) i },
     ghost settled: { D.honest device → (gate ≡ Open → ⊥) → IsHeader header (block_at 1 (D.shown device)) },
+    ghost open_reads: { D.honest device → gate ≡ Open → is_shut_byte (D.shown device) ≡ 0 },
+    ghost shut_falls: { D.honest device → gate ≡ Shut → (c : Blocks) → D.fallback device c ≡ true →
+        (k : ℕ) → k < length (D.shown device) → block_at k c ≡ block_at k (D.shown device) } by { λ p q i h s c is k lt.
+            set_bytes (block_at k c) (block_at k (D.shown device)) (p h s c is k lt) (q h s c is k lt) i },
+    ghost shut_longer: { D.honest device → gate ≡ Shut → (c : Blocks) → D.fallback device c ≡ true →
+        length (D.shown device) ≤ length c },
     ghost shut_reads: { D.honest device → gate ≡ Shut → IsShutGate (block_at 0 (D.shown device)) },
 }

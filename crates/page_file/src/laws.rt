@@ -1,26 +1,29 @@
 //! What follows from the promises of the calls, each law the contract of a function that does nothing.
-ghost use Rattle.std.specs.Prelude.{◌≡◌, ◌⊎◌, ◌↔◌, ◌≤◌, ◌<◌, ◌^◌, ℕ, List, Some, length};
+ghost use Rattle.std.specs.Prelude.{false, true, ◌≡◌, ◌⊎◌, ◌↔◌, ◌≤◌, ◌<◌, ◌^◌, ℕ, List, Some, length};
 ghost use Rattle.block_bytes.specs.Kinds.{free_kind};
-ghost use Rattle.block_device.specs.Device.{Blocks, IsBlock};
+ghost use Rattle.block_device.specs.Device.{Begins, Blocks, IsBlock, IsIn, LeavesOnly, Only, OnlyOr};
 ghost use Rattle.page_file.specs.declared.file.PageFile.{PageFile};
 ghost use Rattle.page_file.specs.declared.gate.Gate.TheVariants.{Shut, Open};
-ghost use Rattle.page_file.specs.File.{IsHonest, IsLive, IsPageMap, KeepsGate, KeepsMap, LiesIn, blocks_of};
-ghost use Rattle.page_file.specs.File.{device_of, gate_of, given, next_of, pages};
+ghost use Rattle.page_file.specs.File.{IsHonest, IsLive, IsNewFile, IsPageMap, KeepsGate, KeepsMap};
+ghost use Rattle.page_file.specs.File.{LiesAtStart};
+ghost use Rattle.page_file.specs.File.{LiesIn, blocks_of, device_of, gate_of, given, next_of, pages};
 ghost use Rattle.page_file.specs.Layout.{kind_of};
 ghost use Rattle.page_file.specs.Opening.{IsRefused};
-ghost use Rattle.page_file.specs.Stops.{SameButGate, StopSince};
+ghost use Rattle.page_file.specs.Stops.{AddsOnly, SameButGate, StopSince};
 
-use block_device::BlockDevice;
+use block_device::{BlockDevice, PlainDevice};
 
-/// A stop now leaves what the gate allows: the blocks as read where it is shut, blocks that opening refuses where it is
-/// open, and the blocks as read but for the gate where it is unsure. Where it is not open, all of the blocks but the
-/// gate are left.
+/// A stop now leaves a fallback, or what the gate allows: the blocks as read where it is shut, blocks that
+/// opening refuses where it is open, and the blocks as read but for the gate where it is unsure. Where it is
+/// not open, all of the blocks but the gate are left, or a fallback.
 #[tactic(auto, using(crate::specs::Laws::laws))]
 pub fn a_stop_follows_the_gate<D: BlockDevice>()
     ensures gate { (file : PageFile D ⟦<D as BlockDevice>⟧) (c : Blocks) → IsHonest file →
-        D.may_leave (device_of file) c → StopSince (gate_of file) (blocks_of file) c }
+        D.may_leave (device_of file) c → StopSince (gate_of file) (blocks_of file) c ⊎
+        (D.fallback (device_of file) c ≡ true) }
     ensures others { (file : PageFile D ⟦<D as BlockDevice>⟧) (c : Blocks) → IsHonest file →
-        ¬ (gate_of file ≡ Open) → D.may_leave (device_of file) c → SameButGate c (blocks_of file) }
+        ¬ (gate_of file ≡ Open) → D.may_leave (device_of file) c → D.fallback (device_of file) c ≡ false →
+        SameButGate c (blocks_of file) }
 {}
 
 /// A file whose gate is shut lies in its blocks, and opening finds it there.
@@ -88,4 +91,58 @@ pub fn gate_and_map_are_kept_in_turn<D: BlockDevice>()
 #[tactic(auto, using(crate::specs::Laws::a_number_given_out_has_its_block))]
 pub fn a_number_given_out_has_its_block<D: BlockDevice>()
     ensures { (file : PageFile D ⟦<D as BlockDevice>⟧) → IsHonest file → next_of file ≤ length (blocks_of file) }
+{}
+
+/// Blocks that begin with those in which a sound file lies hold the same file. So it is with a new file.
+pub fn what_begins_with_a_file_is_the_file<D: BlockDevice>()
+    ensures file { (file : PageFile D ⟦<D as BlockDevice>⟧) (blocks c : Blocks) → IsPageMap file →
+        LiesIn file blocks → Begins blocks c → LiesIn file c }
+    ensures start { (file : PageFile D ⟦<D as BlockDevice>⟧) (c : Blocks) → IsPageMap file →
+        LiesAtStart file c → LiesIn file c }
+    ensures new { (blocks c : Blocks) → IsNewFile blocks → Begins blocks c → IsNewFile c }
+{}
+
+/// With the gate shut a fallback begins with the blocks as read, so that a sound file lies in it.
+#[tactic(auto, using(crate::specs::Laws::fallbacks))]
+pub fn a_fallback_of_a_shut_gate_is_the_file<D: BlockDevice>()
+    ensures begins { (file : PageFile D ⟦<D as BlockDevice>⟧) (c : Blocks) → IsHonest file →
+        gate_of file ≡ Shut → IsIn (D.fallback (device_of file)) c → Begins (blocks_of file) c }
+    ensures file { (file : PageFile D ⟦<D as BlockDevice>⟧) (c : Blocks) → IsPageMap file →
+        gate_of file ≡ Shut → IsIn (D.fallback (device_of file)) c → LiesIn file c }
+{}
+
+/// On a device without commits a stop now leaves what the gate allows, and what is durable is as read.
+pub fn a_plain_stop_follows_the_gate<D: PlainDevice>()
+    ensures gate { (file : PageFile D ⟦<D as BlockDevice>⟧) (c : Blocks) → IsHonest file →
+        D.may_leave (device_of file) c → StopSince (gate_of file) (blocks_of file) c }
+    ensures others { (file : PageFile D ⟦<D as BlockDevice>⟧) (c : Blocks) → IsHonest file →
+        ¬ (gate_of file ≡ Open) → D.may_leave (device_of file) c → SameButGate c (blocks_of file) }
+    ensures kept { (old new : PageFile D ⟦<D as BlockDevice>⟧) → IsHonest old → KeepsGate old new →
+        AddsOnly D.moment D.left_since (device_of old) (device_of new)
+        (StopSince (gate_of old) (blocks_of old)) }
+    ensures durable { (device : D) (blocks : Blocks) →
+        OnlyOr blocks (IsIn (D.fallback device)) (D.may_leave device) → Only blocks (D.may_leave device) }
+{}
+
+/// On a device without commits the stops of `begin_change`, of `settle` and `close`, of `create_pages` and of
+/// `open_pages` leave no fallback.
+pub fn a_plain_stop_leaves_no_fallback<D: PlainDevice>()
+    ensures begun { (old new : D) (blocks : Blocks) →
+        LeavesOnly D.moment D.left_since old new (λ c. SameButGate c blocks ⊎ IsIn (D.fallback old) c) →
+        LeavesOnly D.moment D.left_since old new (λ c. SameButGate c blocks) }
+    ensures settled { (file : PageFile D ⟦<D as BlockDevice>⟧) (old new : D) (blocks : Blocks) →
+        LeavesOnly D.moment D.left_since old new (λ c.
+        (IsRefused c ⊎ (SameButGate c blocks × LiesIn file c)) ⊎
+        (IsIn (D.fallback old) c ⊎ IsIn (D.fallback new) c)) →
+        LeavesOnly D.moment D.left_since old new (λ c. IsRefused c ⊎
+        (SameButGate c blocks × LiesIn file c)) }
+    ensures made { (old new : D) (blocks : Blocks) →
+        LeavesOnly D.moment D.left_since old new (λ c.
+        (IsRefused c ⊎ (SameButGate c blocks × IsNewFile c)) ⊎
+        (IsIn (D.fallback old) c ⊎ IsIn (D.fallback new) c)) →
+        LeavesOnly D.moment D.left_since old new (λ c. IsRefused c ⊎ (SameButGate c blocks × IsNewFile c)) }
+    ensures opened { (old new : D) →
+        LeavesOnly D.moment D.left_since old new (λ c. D.may_leave old c ⊎
+        (IsIn (D.fallback old) c ⊎ IsIn (D.fallback new) c)) →
+        LeavesOnly D.moment D.left_since old new (D.may_leave old) }
 {}

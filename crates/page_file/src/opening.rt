@@ -1,12 +1,14 @@
 //! The checks of opening, in their order.
 ghost use Rattle.std.specs.Prelude.{◌≡◌, ◌≤◌, ◌<◌, ◌^◌, ◌↔◌, ◌⊎◌, ◌++◌, Some, None, true, length, List, ℕ, IfOk};
 ghost use Rattle.std.specs.Prelude.{IfErr, OnOk};
-ghost use Rattle.block_device.specs.Device.{Blocks, Only, LeavesOnly, block_at};
+ghost use Rattle.block_device.specs.Device.{Begins, Blocks, FollowsOr, IsIn, LeavesNoMore, LeavesOnly};
+ghost use Rattle.block_device.specs.Device.{Only, OnlyOr, OrCommit, Stays, block_at};
 ghost use Rattle.page_file.specs.Fault.{HasCause, IsOfDevice, IsDamage};
 ghost use Rattle.page_file.specs.Opening.{Check, first_fault, gate_checks, header_checks, failed_check};
 ghost use Rattle.page_file.specs.Opening.{header_of_block};
 ghost use Rattle.page_file.specs.Opening as opening;
 ghost use Rattle.page_file.specs.Pages.{header_in};
+ghost use Rattle.page_file.specs.Stops.{Reads};
 ghost use Rattle.page_file.specs.declared.fault.Fault.TheVariants as fault;
 
 use crate::Fault;
@@ -55,9 +57,9 @@ fn check_header(page: &[u8; 4096], blocks: u32) -> Result<Header, Fault>
     }
 }
 
-/// Syncs the device, and then reads and checks gate and header.
+// Reads and checks gate and header.
 #[tactic(auto, unfolding(crate::specs::Opening::failed_check))]
-pub fn check_opening<D: BlockDevice>(device: &mut D) -> Result<Header, Fault>
+fn check_blocks<D: BlockDevice>(device: &mut D) -> Result<Header, Fault>
     ensures ok { D.honest device.old → OnOk result (failed_check (D.shown device.old) ≡ None) }
     ensures header { D.honest device.old → IfOk result (λ h. h ≡ header_in (D.shown device.old)) }
     ensures err { D.honest device.old →
@@ -65,15 +67,11 @@ pub fn check_opening<D: BlockDevice>(device: &mut D) -> Result<Header, Fault>
     ensures sound { IfOk result (λ h. (opening.is_sound h ≡ true) × (h.next ≤ 2 ^ 31)) }
     ensures never { IfErr result (λ e. ¬ (e ≡ fault.NoPages)) }
     ensures shown { D.honest device.old → D.shown device.new ≡ D.shown device.old }
-    ensures durable { D.honest device.old → OnOk result (Only (D.shown device.new) (D.may_leave device.new)) }
-    ensures refused_durable { D.honest device.old →
-        IfErr result (λ f. IsOfDevice f ⊎ Only (D.shown device.new) (D.may_leave device.new)) }
-    ensures stops { D.honest device.old →
-        LeavesOnly D.moment D.left_since device.old device.new (D.may_leave device.old) }
+    ensures reads { D.honest device.old →
+        Reads D.moment D.left_since D.may_leave D.fallback device.old device.new }
     ensures honest { D.honest device.old ↔ D.honest device.new }
     ensures cause { HasCause (D.faults device.old) (D.faults device.new) result }
 {
-    device.sync()?;
     let blocks = device.blocks();
     if blocks < 3 {
         return Err(Fault::NotAStore);
@@ -83,4 +81,35 @@ pub fn check_opening<D: BlockDevice>(device: &mut D) -> Result<Header, Fault>
     check_gate(&page)?;
     read_block(device, 1, &mut page)?;
     check_header(&page, blocks)
+}
+
+/// Syncs the device, and then reads and checks gate and header.
+pub fn check_opening<D: BlockDevice>(device: &mut D) -> Result<Header, Fault>
+    ensures ok { D.honest device.old → OnOk result (failed_check (D.shown device.old) ≡ None) }
+    ensures header { D.honest device.old → IfOk result (λ h. h ≡ header_in (D.shown device.old)) }
+    ensures err { D.honest device.old →
+        IfErr result (λ f. IsOfDevice f ⊎ (failed_check (D.shown device.old) ≡ Some f)) }
+    ensures sound { IfOk result (λ h. (opening.is_sound h ≡ true) × (h.next ≤ 2 ^ 31)) }
+    ensures never { IfErr result (λ e. ¬ (e ≡ fault.NoPages)) }
+    ensures shown { D.honest device.old → D.shown device.new ≡ D.shown device.old }
+    ensures durable { D.honest device.old → OnOk result (Only (D.shown device.new) (D.may_leave device.new)) }
+    ensures begins { D.honest device.old →
+        OnOk result (LeavesNoMore (Begins (D.shown device.new)) (IsIn (D.fallback device.new))) }
+    ensures refused_durable { D.honest device.old →
+        IfErr result (λ f. IsOfDevice f ⊎
+        OnlyOr (D.shown device.new) (IsIn (D.fallback device.new)) (D.may_leave device.new)) }
+    ensures now { D.honest device.old →
+        FollowsOr Stays (IsIn (D.fallback device.old)) (D.may_leave device.old)
+        (IsIn (D.fallback device.new)) (D.may_leave device.new) }
+    ensures stops { D.honest device.old →
+        LeavesOnly D.moment D.left_since device.old device.new (λ c. D.may_leave device.old c ⊎
+        (IsIn (D.fallback device.old) c ⊎ IsIn (D.fallback device.new) c)) }
+    ensures fallback { D.honest device.old →
+        LeavesNoMore (OrCommit (D.shown device.old) (IsIn (D.fallback device.old)))
+        (IsIn (D.fallback device.new)) }
+    ensures honest { D.honest device.old ↔ D.honest device.new }
+    ensures cause { HasCause (D.faults device.old) (D.faults device.new) result }
+{
+    device.sync()?;
+    check_blocks(device)
 }

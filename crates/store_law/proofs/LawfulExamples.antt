@@ -1,6 +1,6 @@
 -- Worked examples of lawful steps: what a live and a dead store may answer, and what they may not.
 -- No other proof rests on them. A definition that says another thing than docs/COMMANDS.md is refused here.
-use Rattle.std.proofs.Common.{List, None, Option, ◌≡◌, ℕ, [], ◌∷◌, refl, sym, ap, ◌∙◌, inl, inr, arith}
+use Rattle.std.proofs.Common.{List, None, Option, ◌≡◌, ℕ, [], ◌∷◌, refl, sym, ap, ◌∙◌, inl, inr, arith, true, false}
 use Rattle.std.specs.Cmp.Lexicographic.{slice_cmp}
 use Rattle.std.specs.Ordering.{nat_cmp}
 use Rattle.std.specs.FinMap.{entries, entries-from_sorted}
@@ -28,7 +28,7 @@ use Rattle.plain_table.proofs.Examples.{a, at, table, touching, empty_layer, cou
 
 -- no table was closed
 abbrev unclosed : Stops
-unclosed = record { now = Perhaps []; since = 0; so_far = [] }
+unclosed = record { now = Perhaps []; since = 0; so_far = []; recovers = false }
 
 -- a store with this table, after so many faults
 abbrev live : Table → ℕ → SessionState
@@ -227,22 +227,22 @@ a_window_ends_no_store s' (inr (inr h)) = elim h.1 [ inl e ↦ absurd (cc) | inr
 
 -- one table was closed last, at moment 7, and another stands now
 abbrev closed_before : Stops
-closed_before = record { now = Surely none; since = 7; so_far = none ∷ [] }
+closed_before = record { now = Surely none; since = 7; so_far = none ∷ []; recovers = false }
 
 -- a closing of it was refused
 abbrev closing_refused : Stops
-closing_refused = record { now = Perhaps (made ∷ none ∷ []); since = 7; so_far = made ∷ none ∷ [] }
+closing_refused = record { now = Perhaps (made ∷ none ∷ []); since = 7; so_far = made ∷ none ∷ []; recovers = false }
 
-a_closing_leaves_its_table_alone : after_request (Alive made) closed_before (Asks Reopen) Done ≡ record { now = Surely made; since = 7; so_far = made ∷ none ∷ [] }
+a_closing_leaves_its_table_alone : after_request (Alive made) closed_before (Asks Reopen) Done ≡ record { now = Surely made; since = 7; so_far = made ∷ none ∷ []; recovers = false }
 a_closing_leaves_its_table_alone = refl
 
-a_closing_is_finished_where_the_store_fails_behind_it : after_request (Alive made) closed_before (Asks Reopen) (Refused (refusal.StoreFailed 17)) ≡ record { now = Surely made; since = 7; so_far = made ∷ none ∷ [] }
+a_closing_is_finished_where_the_store_fails_behind_it : after_request (Alive made) closed_before (Asks Reopen) (Refused (refusal.StoreFailed 17)) ≡ record { now = Surely made; since = 7; so_far = made ∷ none ∷ []; recovers = false }
 a_closing_is_finished_where_the_store_fails_behind_it = refl
 
 a_refused_closing_leaves_either_table : after_request (Alive made) closed_before (Asks Reopen) (Refused refusal.Device) ≡ closing_refused
 a_refused_closing_leaves_either_table = refl
 
-the_next_closing_leaves_its_table_alone : after_request (Alive made) closing_refused (Asks Reopen) Done ≡ record { now = Surely made; since = 7; so_far = made ∷ made ∷ none ∷ [] }
+the_next_closing_leaves_its_table_alone : after_request (Alive made) closing_refused (Asks Reopen) Done ≡ record { now = Surely made; since = 7; so_far = made ∷ made ∷ none ∷ []; recovers = false }
 the_next_closing_leaves_its_table_alone = refl
 
 a_bad_line_changes_nothing_that_is_left : (t : Table) (answer : Answer) → after_request (Alive t) closed_before BadCommand answer ≡ closed_before
@@ -251,14 +251,27 @@ a_bad_line_changes_nothing_that_is_left t answer = refl
 a_question_changes_nothing_that_is_left : (t : Table) (name : List ℕ) (query : RawQuery) (tag : Option ℕ) (answer : Answer) → after_request (Alive t) closed_before (Asks (Range name query tag)) answer ≡ closed_before
 a_question_changes_nothing_that_is_left t name query tag answer = refl
 
-a_change_leaves_nothing_that_is_opened : after_request (Alive none) closed_before create Done ≡ record { now = Perhaps []; since = 7; so_far = none ∷ [] }
+a_change_leaves_nothing_that_is_opened : after_request (Alive none) closed_before create Done ≡ record { now = Perhaps []; since = 7; so_far = none ∷ []; recovers = false }
 a_change_leaves_nothing_that_is_opened = rw create_changes_the_table refl
 
-a_change_that_gave_up_perhaps_leaves_what_was_left : after_request (Alive none) closed_before create (Refused refusal.Device) ≡ record { now = Perhaps (none ∷ []); since = 7; so_far = none ∷ [] }
+a_change_that_gave_up_perhaps_leaves_what_was_left : after_request (Alive none) closed_before create (Refused refusal.Device) ≡ record { now = Perhaps (none ∷ []); since = 7; so_far = none ∷ []; recovers = false }
 a_change_that_gave_up_perhaps_leaves_what_was_left = rw create_changes_the_table refl
 
-a_change_that_ended_the_store_leaves_nothing_that_is_opened : after_request (Alive none) closed_before create (Refused (refusal.StoreFailed 17)) ≡ record { now = Perhaps []; since = 7; so_far = none ∷ [] }
+a_change_that_ended_the_store_leaves_nothing_that_is_opened : after_request (Alive none) closed_before create (Refused (refusal.StoreFailed 17)) ≡ record { now = Perhaps []; since = 7; so_far = none ∷ []; recovers = false }
 a_change_that_ended_the_store_leaves_nothing_that_is_opened = rw create_changes_the_table refl
+
+-- the same of a store on a device that recovers
+abbrev closed_and_kept : Stops
+closed_and_kept = record { now = Surely none; since = 7; so_far = none ∷ []; recovers = true }
+
+a_change_leaves_what_was_committed_last : after_request (Alive none) closed_and_kept create Done ≡ record { now = Perhaps (none ∷ []); since = 7; so_far = none ∷ []; recovers = true }
+a_change_leaves_what_was_committed_last = rw create_changes_the_table refl
+
+a_change_that_ended_the_store_leaves_what_was_committed_last : after_request (Alive none) closed_and_kept create (Refused (refusal.StoreFailed 17)) ≡ record { now = Perhaps (none ∷ []); since = 7; so_far = none ∷ []; recovers = true }
+a_change_that_ended_the_store_leaves_what_was_committed_last = rw create_changes_the_table refl
+
+a_closing_is_as_sure_there : after_request (Alive made) closed_and_kept (Asks Reopen) Done ≡ record { now = Surely made; since = 7; so_far = made ∷ none ∷ []; recovers = true }
+a_closing_is_as_sure_there = refl
 
 a_refused_change_changes_nothing_that_is_left : (answer : Answer) → after_request (Alive (table touching)) closed_before (Asks (Create a 3 100)) answer ≡ closed_before
 a_refused_change_changes_nothing_that_is_left answer = rw a_refused_create_does_not refl

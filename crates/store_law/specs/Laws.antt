@@ -128,3 +128,34 @@ a_session_keeps_its_beginning old new (r ∷ rs) (a ∷ as') p =
     a_session_keeps_its_beginning p.0 new rs as' p.2 ∙ ap (λ (stops : Stops). stops.since) p.1.stops ∙ same_beginning old.state old.stops r a
 a_session_keeps_its_beginning old new [] (a ∷ as') p = elim p [ ]
 a_session_keeps_its_beginning old new (r ∷ rs) [] p = elim p [ ]
+
+-- and whether it recovers
+either_recovers : (b : Bool) (x y : Stops) → x.recovers ≡ y.recovers → (cond b x y).recovers ≡ y.recovers
+either_recovers true x y e = e
+either_recovers false x y e = refl
+
+same_recovery : (state : StoreState) (old : Stops) (r : Request) (a : Answer) → (after_request state old r a).recovers ≡ old.recovers
+same_recovery state old BadCommand a = refl
+same_recovery (Alive t) old (Asks (Create name dims fanout)) a = either_recovers (changes t (Create name dims fanout)) _ old refl
+same_recovery (Alive t) old (Asks (Insert name id box)) a = either_recovers (changes t (Insert name id box)) _ old refl
+same_recovery (Alive t) old (Asks (Load name objects)) a = either_recovers (changes t (Load name objects)) _ old refl
+same_recovery (Alive t) old (Asks (Move name id box)) a = either_recovers (changes t (Move name id box)) _ old refl
+same_recovery (Alive t) old (Asks (Delete name id)) a = either_recovers (changes t (Delete name id)) _ old refl
+same_recovery (Alive t) old (Asks (Drop name)) a = either_recovers (changes t (Drop name)) _ old refl
+same_recovery (Alive t) old (Asks (Get name id)) a = refl
+same_recovery (Alive t) old (Asks (Count name)) a = refl
+same_recovery (Alive t) old (Asks (Range name query)) a = refl
+same_recovery (Alive t) old (Asks (Nearest name k point)) a = refl
+same_recovery (Alive t) old (Asks (Join first second)) a = refl
+same_recovery (Alive t) old (Asks Layers) a = refl
+same_recovery (Alive t) old (Asks Dump) a = refl
+same_recovery (Alive t) old (Asks Check) a = refl
+same_recovery (Alive t) old (Asks Reopen) a = refl
+same_recovery Dead old (Asks c) a = refl
+
+pub a_session_keeps_its_recovery : (old new : SessionState) (rs : List Request) (as' : List Answer) → Session old rs as' new → new.stops.recovers ≡ old.stops.recovers
+a_session_keeps_its_recovery old new [] [] p = ap (λ (s : SessionState). s.stops.recovers) p
+a_session_keeps_its_recovery old new (r ∷ rs) (a ∷ as') p =
+    a_session_keeps_its_recovery p.0 new rs as' p.2 ∙ ap (λ (stops : Stops). stops.recovers) p.1.stops ∙ same_recovery old.state old.stops r a
+a_session_keeps_its_recovery old new [] (a ∷ as') p = elim p [ ]
+a_session_keeps_its_recovery old new (r ∷ rs) [] p = elim p [ ]

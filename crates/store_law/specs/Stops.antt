@@ -18,11 +18,13 @@ pub data AfterStop : Type 0 where
   Perhaps : List Table → AfterStop
 
 -- What stops leave of a store: one now, between two requests; and of one at any moment since that of a beginning an image
--- of one of these tables, and else nothing that is opened.
+-- of one of these tables, and else nothing that is opened. Whether a stop may bring back what was committed last, as the
+-- store's device says, stays as it is.
 pub record Stops : Type 0 where
   pub now : AfterStop
   pub since : ℕ
   pub so_far : List Table
+  pub recovers : Bool
 
 -- the tables of which a stop may leave an image
 abbrev pub tables_left : AfterStop → List Table
@@ -40,16 +42,20 @@ abbrev pub after_closing : Table → AfterStop → Answer → AfterStop
 after_closing t old (Refused r) = if is_end r then Surely t else Perhaps (t ∷ tables_left old)
 after_closing t old a = Surely t
 
--- A change of the table is made behind an open gate, so a stop after it leaves nothing that is opened. One that gave up may
--- or may not have opened the gate.
-abbrev pub after_change : AfterStop → Answer → AfterStop
-after_change old (Refused r) = if is_end r then Perhaps [] else Perhaps (tables_left old)
-after_change old a = Perhaps []
+-- behind an open gate a stop leaves nothing that is opened, or where it may bring back what was committed last, what it
+-- left before
+abbrev pub behind_the_gate : Bool → AfterStop → AfterStop
+behind_the_gate recovers old = Perhaps (if recovers then tables_left old else [])
+
+-- A change of the table is made behind an open gate. One that gave up may or may not have opened the gate.
+abbrev pub after_change : Bool → AfterStop → Answer → AfterStop
+after_change recovers old (Refused r) = if is_end r then behind_the_gate recovers old else Perhaps (tables_left old)
+after_change recovers old a = behind_the_gate recovers old
 
 -- only a closing, and a change of the table, changes what stops leave
 abbrev pub after_command : Table → Stops → Command → Answer → Stops
-after_command t old Reopen a = record { now = after_closing t old.now a; since = old.since; so_far = t ∷ old.so_far }
-after_command t old c a = if changes t c then record { now = after_change old.now a; since = old.since; so_far = old.so_far } else old
+after_command t old Reopen a = record { now = after_closing t old.now a; since = old.since; so_far = t ∷ old.so_far; recovers = old.recovers }
+after_command t old c a = if changes t c then record { now = after_change old.recovers old.now a; since = old.since; so_far = old.so_far; recovers = old.recovers } else old
 
 -- what stops leave after a request
 abbrev pub after_request : StoreState → Stops → Request → Answer → Stops

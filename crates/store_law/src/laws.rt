@@ -1,5 +1,5 @@
 //! What follows from the law of a store: each law is the contract of a function that does nothing.
-ghost use Rattle.std.specs.Prelude.{◌≡◌, ◌≤◌, ◌++◌, false, List};
+ghost use Rattle.std.specs.Prelude.{◌≡◌, ◌≤◌, ◌++◌, false, List, []};
 ghost use Rattle.plain_table.specs.Commands.{Command};
 ghost use Rattle.plain_table.specs.Step.{Answer, reply_of};
 ghost use Rattle.plain_table.specs.Step.Answer.{Refused};
@@ -11,6 +11,8 @@ ghost use Rattle.store_law.specs.Sessions.{LawfulStep, Session, SessionState};
 ghost use Rattle.store_law.specs.States.{Request};
 ghost use Rattle.store_law.specs.States.Request.{BadCommand};
 ghost use Rattle.store_law.specs.States.StoreState.{Dead};
+ghost use Rattle.store_law.specs.Stops.{AfterStop, behind_the_gate};
+ghost use Rattle.store_law.specs.Stops.AfterStop.{Perhaps};
 
 /// A bad line may be answered so in every state, and leaves it.
 #[tactic(auto, using(crate::specs::Laws::a_bad_line_is_lawful))]
@@ -50,4 +52,13 @@ pub fn a_dead_store_stays_dead()
 pub fn a_session_keeps_its_beginning()
     ensures { (old new : SessionState) (rs : List Request) (xs : List Answer) → Session old rs xs new →
         new.stops.since ≡ old.stops.since }
+{}
+
+/// So is whether its device recovers; and where it does not, a stop behind an open gate leaves nothing that
+/// is opened.
+#[tactic(auto, using(crate::specs::Laws::a_session_keeps_its_recovery))]
+pub fn a_session_keeps_its_recovery()
+    ensures kept { (old new : SessionState) (rs : List Request) (xs : List Answer) → Session old rs xs new →
+        new.stops.recovers ≡ old.stops.recovers }
+    ensures plain { (old : AfterStop) → behind_the_gate false old ≡ Perhaps [] }
 {}

@@ -1,5 +1,5 @@
 //! The calls of a device in memory.
-ghost use Rattle.std.specs.Prelude.{false, true, slice_index_or, IsOk, ◌≡◌, ◌<◌, [], length, OnOk, OnErr, IsErrOf};
+ghost use Rattle.std.specs.Prelude.{refl, false, true, slice_index_or, IsOk, ◌≡◌, ◌<◌, [], length, OnOk, OnErr, IsErrOf};
 ghost use Rattle.block_device.specs.Kept.{Keeps};
 ghost use Rattle.block_device.specs.Memory.{shown_of, history_of, writes_of, may_leave_of, moment_of, left_since_of};
 ghost use Rattle.block_device.specs.Memory.{AnswersRead, AnswersWrite, AnswersSync};
@@ -10,7 +10,7 @@ use crate::append::append;
 use crate::log::Log;
 use crate::memory::MemoryDevice;
 use crate::past::Past;
-use crate::{BlockDevice, DeviceError};
+use crate::{BlockDevice, DeviceError, PlainDevice};
 use std::alloc::Allocator;
 
 impl<A: Allocator + Copy> MemoryDevice<A> {
@@ -93,7 +93,11 @@ impl<A: Allocator + Copy> BlockDevice for MemoryDevice<A> {
 
     ghost few_blocks = { λ d. d.few };
 
-    ghost shown_counts = { λ d _. shown_left (shown_of d) (history_of d) d.kept.whole d.kept.leads };
+    ghost fallback_recovers = { λ _ _ back. back };
+
+    ghost shown_counts = { λ d _ _. shown_left (shown_of d) (history_of d) d.kept.whole d.kept.leads };
+
+    ghost whole_shown = { λ d _. d.kept.whole };
 
     ghost no_longer = { λ d c _ now. no_longer_left (shown_of d) (history_of d) c now };
 
@@ -106,6 +110,12 @@ impl<A: Allocator + Copy> BlockDevice for MemoryDevice<A> {
     ghost since_earlier = { λ d t u c _ le left. since_earlier_left (shown_of d) (history_of d) t u c le left };
 
     ghost faults_fit = { λ d. none_fits };
+}
+
+impl<A: Allocator + Copy> PlainDevice for MemoryDevice<A> {
+    ghost no_recovery = { refl };
+
+    ghost no_fallback = { λ _ _. refl };
 }
 
 // Before the first write of block i since the last sync, marks it and logs what it holds.

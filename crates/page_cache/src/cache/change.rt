@@ -1,6 +1,6 @@
 //! The gate opened for a change, and what was put synced.
 ghost use Rattle.std.specs.Prelude.{◌≡◌, ◌⊎◌, ◌↔◌, IsOk, IfErr, OnOk, OnErr};
-ghost use Rattle.block_device.specs.Device.{LeavesOnly, Only};
+ghost use Rattle.block_device.specs.Device.{IsIn, LeavesNoMore, LeavesOnly, OnlyOr};
 ghost use Rattle.page_file.specs.Fault.{HasCause, IsDamage, IsOfDevice};
 ghost use Rattle.page_file.specs.Stops.{SameButGate};
 ghost use Rattle.page_file.specs.declared.gate.Gate.TheVariants.{Open, Unsure};
@@ -24,10 +24,12 @@ impl<D: BlockDevice, A: Allocator + Copy> PageCache<D, A> {
         ensures map { KeepsMap self.old self.new }
         ensures blocks { IsHonest self.old → SameButGate (blocks_of self.new) (blocks_of self.old) }
 
-        // A stop leaves the blocks as they were, the gate aside.
+        // A stop leaves the blocks as they were, the gate aside, or a fallback.
         ensures stops { IsHonest self.old → ¬ (gate_of self.old ≡ Open) →
             LeavesOnly D.moment D.left_since (device_of self.old) (device_of self.new)
-            (λ c. SameButGate c (blocks_of self.old)) }
+            (λ c. SameButGate c (blocks_of self.old) ⊎ IsIn (D.fallback (device_of self.old)) c) }
+        ensures fallback { IsHonest self.old →
+            LeavesNoMore (IsIn (D.fallback (device_of self.old))) (IsIn (D.fallback (device_of self.new))) }
 
         ensures looks { looks_of self.new ≡ looks_of self.old }
         ensures capacity { capacity_of self.new ≡ capacity_of self.old }
@@ -39,7 +41,7 @@ impl<D: BlockDevice, A: Allocator + Copy> PageCache<D, A> {
     }
 
     /// Writes what was put and is not yet on the device, and syncs: after an `Ok` a stop leaves the blocks as
-    /// they are. The gate and the map stay.
+    /// they are, or a fallback. The gate and the map stay.
     ///
     /// On an honest device a refusal is `Memory` or `Device`; on another one a page may be damaged.
     #[tactic(auto, using(crate::specs::Calls::counted_by_end))]
@@ -47,7 +49,8 @@ impl<D: BlockDevice, A: Allocator + Copy> PageCache<D, A> {
         ensures asks { Asks self.old self.new result }
         ensures written { IsHonest self.old → OnOk result (IsWritten self.new) }
         ensures durable { IsHonest self.old →
-            OnOk result (Only (blocks_of self.new) (D.may_leave (device_of self.new))) }
+            OnOk result (OnlyOr (blocks_of self.new) (IsIn (D.fallback (device_of self.new)))
+            (D.may_leave (device_of self.new))) }
         ensures looks { looks_of self.new ≡ looks_of self.old }
         ensures faults { IsHonest self.old → IfErr result IsOfDevice }
         ensures other_faults { IfErr result (λ f. IsOfDevice f ⊎ IsDamage f) }

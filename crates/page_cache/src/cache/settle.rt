@@ -1,12 +1,12 @@
 //! The gate shut after a change, and a cache closed.
 ghost use Rattle.std.specs.Prelude.{◌≡◌, ◌⊎◌, ◌↔◌, Ok, IsOk, IfOk, IfErr, OnOk, OnErr};
-ghost use Rattle.block_device.specs.Device.{LeavesOnly, Only};
+ghost use Rattle.block_device.specs.Device.{Begins, IsIn, LeavesNoMore, LeavesOnly, OnlyOr};
 ghost use Rattle.page_file.specs.Fault.{HasCause, IsDamage, IsOfDevice, faults_after};
 ghost use Rattle.page_file.specs.Opening.{IsRefused};
 ghost use Rattle.page_file.specs.Stops.{SameButGate};
 ghost use Rattle.page_file.specs.declared.gate.Gate.TheVariants.{Shut, Open, Unsure};
-ghost use Rattle.page_cache.specs.Cache.{IsHonest, IsUnchanged, KeepsMap, LiesIn, blocks_of, capacity_of, device_of};
-ghost use Rattle.page_cache.specs.Cache.{gate_of, looks_of};
+ghost use Rattle.page_cache.specs.Cache.{IsHonest, IsUnchanged, KeepsMap, LiesAtStart, LiesIn, blocks_of};
+ghost use Rattle.page_cache.specs.Cache.{capacity_of, device_of, gate_of, looks_of};
 
 use crate::cache::PageCache;
 use block_device::BlockDevice;
@@ -31,10 +31,16 @@ impl<D: BlockDevice, A: Allocator + Copy> PageCache<D, A> {
         ensures map { KeepsMap self.old self.new }
 
         // A stop leaves blocks that opening refuses, or those that are read afterwards, the gate aside, in which the
-        // map lies.
+        // map lies, or a fallback, of before or of those that are read afterwards.
         ensures stops { IsHonest self.old →
-            LeavesOnly D.moment D.left_since (device_of self.old) (device_of self.new) (λ c. IsRefused c ⊎
-            (SameButGate c (blocks_of self.new) × LiesIn self.new c)) }
+            LeavesOnly D.moment D.left_since (device_of self.old) (device_of self.new) (λ c. (IsRefused c ⊎
+            (SameButGate c (blocks_of self.new) × LiesIn self.new c)) ⊎
+            (IsIn (D.fallback (device_of self.old)) c ⊎ IsIn (D.fallback (device_of self.new)) c)) }
+
+        // A new fallback begins with blocks in which the map lies.
+        ensures fallback { IsHonest self.old →
+            LeavesNoMore (λ c. IsIn (D.fallback (device_of self.old)) c ⊎ LiesAtStart self.new c)
+            (IsIn (D.fallback (device_of self.new))) }
 
         ensures looks { looks_of self.new ≡ looks_of self.old }
         ensures capacity { capacity_of self.new ≡ capacity_of self.old }
@@ -53,17 +59,30 @@ impl<D: BlockDevice, A: Allocator + Copy> PageCache<D, A> {
     /// what one during the call leaves.
     pub fn close(self) -> Result<D, (Fault, D)>
         ensures lies { IfOk result (λ device. IsHonest self → LiesIn self (D.shown device)) }
-        ensures durable { IfOk result (λ device. IsHonest self → Only (D.shown device) (D.may_leave device)) }
+        ensures durable { IfOk result (λ device. IsHonest self →
+            OnlyOr (D.shown device) (IsIn (D.fallback device)) (D.may_leave device)) }
+        ensures begins { IfOk result (λ device. IsHonest self →
+            LeavesNoMore (Begins (D.shown device)) (IsIn (D.fallback device))) }
         ensures was_shut { gate_of self ≡ Shut → result ≡ Ok (device_of self) }
 
         // A stop leaves blocks that opening refuses, or those that are read afterwards, the gate aside, in which the
-        // map lies.
+        // map lies, or a fallback, of before or of those that are read afterwards.
         ensures stops { IfOk result (λ device. IsHonest self →
-            LeavesOnly D.moment D.left_since (device_of self) device (λ c. IsRefused c ⊎
-            (SameButGate c (D.shown device) × LiesIn self c))) }
+            LeavesOnly D.moment D.left_since (device_of self) device (λ c. (IsRefused c ⊎
+            (SameButGate c (D.shown device) × LiesIn self c)) ⊎ (IsIn (D.fallback (device_of self)) c ⊎
+            IsIn (D.fallback device) c))) }
         ensures refused_stops { IfErr result (λ e. IsHonest self →
-            LeavesOnly D.moment D.left_since (device_of self) e.1 (λ c. IsRefused c ⊎
-            (SameButGate c (D.shown e.1) × LiesIn self c))) }
+            LeavesOnly D.moment D.left_since (device_of self) e.1 (λ c. (IsRefused c ⊎
+            (SameButGate c (D.shown e.1) × LiesIn self c)) ⊎ (IsIn (D.fallback (device_of self)) c ⊎
+            IsIn (D.fallback e.1) c))) }
+
+        // A new fallback begins with blocks in which the map lies.
+        ensures fallback { IfOk result (λ device. IsHonest self →
+            LeavesNoMore (λ c. IsIn (D.fallback (device_of self)) c ⊎ LiesAtStart self c)
+            (IsIn (D.fallback device))) }
+        ensures refused_fallback { IfErr result (λ e. IsHonest self →
+            LeavesNoMore (λ c. IsIn (D.fallback (device_of self)) c ⊎ LiesAtStart self c)
+            (IsIn (D.fallback e.1))) }
 
         ensures honest { IfOk result (λ device. IsHonest self ↔ D.honest device) }
         ensures refused_honest { IfErr result (λ e. IsHonest self ↔ D.honest e.1) }

@@ -1,6 +1,6 @@
 //! The gate opened for a change.
-ghost use Rattle.std.specs.Prelude.{◌≡◌, ◌↔◌, IsOk, IfErr, OnOk, OnErr};
-ghost use Rattle.block_device.specs.Device.{LeavesOnly};
+ghost use Rattle.std.specs.Prelude.{◌≡◌, ◌⊎◌, ◌↔◌, IsOk, IfErr, OnOk, OnErr};
+ghost use Rattle.block_device.specs.Device.{IsIn, LeavesNoMore, LeavesOnly};
 ghost use Rattle.page_file.specs.Fault.{HasCause, IsOfDevice};
 ghost use Rattle.page_file.specs.File.{device_of, blocks_of, IsHonest, gate_of, KeepsMap};
 ghost use Rattle.page_file.specs.Stops.{SameButGate};
@@ -23,10 +23,12 @@ impl<D: BlockDevice> PageFile<D> {
         ensures map { KeepsMap self.old self.new }
         ensures blocks { IsHonest self.old → SameButGate (blocks_of self.new) (blocks_of self.old) }
 
-        // A stop leaves the blocks as they were, the gate aside.
+        // A stop leaves the blocks as they were, the gate aside, or a fallback.
         ensures stops { IsHonest self.old → ¬ (gate_of self.old ≡ Open) →
             LeavesOnly D.moment D.left_since (device_of self.old) (device_of self.new)
-            (λ c. SameButGate c (blocks_of self.old)) }
+            (λ c. SameButGate c (blocks_of self.old) ⊎ IsIn (D.fallback (device_of self.old)) c) }
+        ensures fallback { IsHonest self.old →
+            LeavesNoMore (IsIn (D.fallback (device_of self.old))) (IsIn (D.fallback (device_of self.new))) }
 
         ensures honest { IsHonest self.old ↔ IsHonest self.new }
         ensures faults { IfErr result IsOfDevice }

@@ -1,6 +1,6 @@
 //! The beginning of a file of pages: opened, made anew, or checked again after a closing.
 ghost use Rattle.std.specs.Prelude.{◌≡◌, ◌⊎◌, ◌↔◌, ◌≤◌, ◌<◌, ℕ, Some, None, length, IfOk, IfErr};
-ghost use Rattle.block_device.specs.Device.{Only, LeavesOnly};
+ghost use Rattle.block_device.specs.Device.{IsIn, LeavesNoMore, LeavesOnly, Only, OnlyOr, OrCommit};
 ghost use Rattle.page_file.specs.Fault.{HasCause, IsOfDevice, IsDamage, faults_after};
 ghost use Rattle.page_file.specs.File.{device_of, blocks_of, gate_of, next_of, pages, IsHonest, IsNewFile, IsPageMap};
 ghost use Rattle.page_file.specs.File.{KeepsGate, KeepsMap, LiesIn};
@@ -28,17 +28,28 @@ pub fn open_pages<D: BlockDevice>(device: D) -> Result<PageFile<D>, (Fault, D)>
     ensures refused { IfErr result (λ e. D.honest device →
         IsOfDevice e.0 ⊎ (failed_check (D.shown device) ≡ Some e.0)) }
 
-    // A stop leaves nothing but what one before the call might have left.
+    // A stop leaves nothing but what one before the call might have left, or a fallback.
     ensures blocks { IfOk result (λ file. D.honest device → blocks_of file ≡ D.shown device) }
     ensures stops { IfOk result (λ file. D.honest device →
-        LeavesOnly D.moment D.left_since device (device_of file) (D.may_leave device)) }
+        LeavesOnly D.moment D.left_since device (device_of file) (λ c. D.may_leave device c ⊎
+        (IsIn (D.fallback device) c ⊎ IsIn (D.fallback (device_of file)) c))) }
     ensures refused_blocks { IfErr result (λ e. D.honest device → D.shown e.1 ≡ D.shown device) }
     ensures refused_stops { IfErr result (λ e. D.honest device →
-        LeavesOnly D.moment D.left_since device e.1 (D.may_leave device)) }
+        LeavesOnly D.moment D.left_since device e.1 (λ c. D.may_leave device c ⊎
+        (IsIn (D.fallback device) c ⊎ IsIn (D.fallback e.1) c))) }
 
-    // What a check refuses is durable: no stop brings back other blocks.
+    // A new fallback begins with the blocks as read, where those ask for a commit.
+    ensures fallback { IfOk result (λ file. D.honest device →
+        LeavesNoMore (OrCommit (D.shown device) (IsIn (D.fallback device)))
+        (IsIn (D.fallback (device_of file)))) }
+    ensures refused_fallback { IfErr result (λ e. D.honest device →
+        LeavesNoMore (OrCommit (D.shown device) (IsIn (D.fallback device))) (IsIn (D.fallback e.1))) }
+
+    // What is read is durable: no stop brings back other blocks, but where a check refuses them a fallback.
+    ensures durable { IfOk result (λ file. D.honest device →
+        Only (blocks_of file) (D.may_leave (device_of file))) }
     ensures refused_durable { IfErr result (λ e. D.honest device →
-        IsOfDevice e.0 ⊎ Only (D.shown e.1) (D.may_leave e.1)) }
+        IsOfDevice e.0 ⊎ OnlyOr (D.shown e.1) (IsIn (D.fallback e.1)) (D.may_leave e.1)) }
 
     ensures honest { IfOk result (λ file. D.honest device ↔ D.honest (device_of file)) }
     ensures refused_honest { IfErr result (λ e. D.honest device ↔ D.honest e.1) }
@@ -92,12 +103,22 @@ pub fn create_pages<D: BlockDevice>(device: D) -> Result<PageFile<D>, (Fault, D)
     ensures version { IfOk result (λ file. D.honest device → version_in (blocks_of file) ≡ 2) }
     ensures lies { IfOk result (λ file. D.honest device → LiesIn file (blocks_of file)) }
 
-    // A stop leaves blocks that opening refuses, or a new file: what is read afterwards, the gate aside.
+    // A stop leaves blocks that opening refuses, or a new file: what is read afterwards, the gate aside; or a
+    // fallback.
     ensures stops { IfOk result (λ file. D.honest device →
-        LeavesOnly D.moment D.left_since device (device_of file) (λ c. IsRefused c ⊎
-        (SameButGate c (blocks_of file) × IsNewFile c))) }
+        LeavesOnly D.moment D.left_since device (device_of file) (λ c. (IsRefused c ⊎
+        (SameButGate c (blocks_of file) × IsNewFile c)) ⊎ (IsIn (D.fallback device) c ⊎
+        IsIn (D.fallback (device_of file)) c))) }
     ensures refused_stops { IfErr result (λ e. D.honest device →
-        LeavesOnly D.moment D.left_since device e.1 (λ c. IsRefused c ⊎ (SameButGate c (D.shown e.1) × IsNewFile c))) }
+        LeavesOnly D.moment D.left_since device e.1 (λ c. (IsRefused c ⊎
+        (SameButGate c (D.shown e.1) × IsNewFile c)) ⊎ (IsIn (D.fallback device) c ⊎
+        IsIn (D.fallback e.1) c))) }
+
+    // A new fallback is a new file.
+    ensures fallback { IfOk result (λ file. D.honest device →
+        LeavesNoMore (λ c. IsIn (D.fallback device) c ⊎ IsNewFile c) (IsIn (D.fallback (device_of file)))) }
+    ensures refused_fallback { IfErr result (λ e. D.honest device →
+        LeavesNoMore (λ c. IsIn (D.fallback device) c ⊎ IsNewFile c) (IsIn (D.fallback e.1))) }
 
     ensures honest { IfOk result (λ file. D.honest device ↔ D.honest (device_of file)) }
     ensures refused_honest { IfErr result (λ e. D.honest device ↔ D.honest e.1) }

@@ -2,7 +2,7 @@
 ghost use Rattle.std.specs.Prelude.{◌≡◌, ◌⊎◌, ◌≤◌, ◌<◌, ◌+◌, ◌-◌, ◌^◌, ℕ, Some, None, true, Err, IsErrOf, IfOk};
 ghost use Rattle.std.specs.Prelude.{IfErr, OnOk, OnErr};
 ghost use Rattle.block_bytes.specs.Numbers.{zeros};
-ghost use Rattle.block_device.specs.Device.{Only, Torn, block_at, written};
+ghost use Rattle.block_device.specs.Device.{IsIn, OnlyOr, Torn, block_at, written};
 ghost use Rattle.page_file.specs.Fault.{HasCause, IsOfDevice, IsDamage};
 ghost use Rattle.page_file.specs.File.{device_of, blocks_of, free_of, header_of, IsBroken, IsHonest, gate_of};
 ghost use Rattle.page_file.specs.File.{Grows, IsFull, next_of, pages, given, IsLive, IsPageMap, KeepsGate, KeepsMap};
@@ -301,14 +301,15 @@ impl<D: BlockDevice> PageFile<D> {
         read_block(&mut self.device, n, into)
     }
 
-    /// Syncs what was written, and writes nothing: after an `Ok` a stop leaves the blocks as they are.
-    /// The gate and the map stay.
+    /// Syncs what was written, and writes nothing: after an `Ok` a stop leaves the blocks as they are, or a
+    /// fallback. The gate and the map stay.
     pub fn flush(&mut self) -> Result<(), Fault>
         ensures gate { KeepsGate self.old self.new }
         ensures map { KeepsMap self.old self.new }
         ensures blocks { IsHonest self.old → blocks_of self.new ≡ blocks_of self.old }
         ensures durable { IsHonest self.old →
-            OnOk result (Only (blocks_of self.new) (D.may_leave (device_of self.new))) }
+            OnOk result (OnlyOr (blocks_of self.new) (IsIn (D.fallback (device_of self.new)))
+            (D.may_leave (device_of self.new))) }
         ensures faults { IfErr result IsOfDevice }
         ensures cause { HasCause (D.faults (device_of self.old)) (D.faults (device_of self.new)) result }
     {

@@ -1,8 +1,9 @@
 //! The gate shut after a change, and a file closed.
 ghost use Rattle.std.specs.Prelude.{◌≡◌, ◌⊎◌, ◌↔◌, ◌≤◌, Ok, IsOk, IfOk, IfErr, OnOk, OnErr};
-ghost use Rattle.block_device.specs.Device.{LeavesOnly, Only};
+ghost use Rattle.block_device.specs.Device.{Begins, IsIn, LeavesNoMore, LeavesOnly, OnlyOr};
 ghost use Rattle.page_file.specs.Fault.{HasCause, IsOfDevice, faults_after};
-ghost use Rattle.page_file.specs.File.{device_of, blocks_of, IsHonest, gate_of, KeepsMap, LiesIn};
+ghost use Rattle.page_file.specs.File.{IsHonest, KeepsMap, LiesAtStart, LiesIn, blocks_of, device_of};
+ghost use Rattle.page_file.specs.File.{gate_of};
 ghost use Rattle.page_file.specs.Layout.{version_in};
 ghost use Rattle.page_file.specs.Opening.{IsRefused};
 ghost use Rattle.page_file.specs.Stops.{SameButGate};
@@ -36,10 +37,16 @@ impl<D: BlockDevice> PageFile<D> {
         ensures map { KeepsMap self.old self.new }
 
         // A stop leaves blocks that opening refuses, or those that are read afterwards, the gate aside, in which
-        // the file lies.
+        // the file lies, or a fallback, of before or of those that are read afterwards.
         ensures stops { IsHonest self.old →
-            LeavesOnly D.moment D.left_since (device_of self.old) (device_of self.new) (λ c. IsRefused c ⊎
-            (SameButGate c (blocks_of self.new) × LiesIn self.new c)) }
+            LeavesOnly D.moment D.left_since (device_of self.old) (device_of self.new) (λ c. (IsRefused c ⊎
+            (SameButGate c (blocks_of self.new) × LiesIn self.new c)) ⊎
+            (IsIn (D.fallback (device_of self.old)) c ⊎ IsIn (D.fallback (device_of self.new)) c)) }
+
+        // A new fallback begins with blocks in which the file lies.
+        ensures fallback { IsHonest self.old →
+            LeavesNoMore (λ c. IsIn (D.fallback (device_of self.old)) c ⊎ LiesAtStart self.new c)
+            (IsIn (D.fallback (device_of self.new))) }
 
         ensures honest { IsHonest self.old ↔ IsHonest self.new }
         ensures faults { IsHonest self.old → IfErr result IsOfDevice }
@@ -58,17 +65,30 @@ impl<D: BlockDevice> PageFile<D> {
     /// what one during the call leaves.
     pub fn close(self) -> Result<D, (Fault, D)>
         ensures lies { IfOk result (λ device. IsHonest self → LiesIn self (D.shown device)) }
-        ensures durable { IfOk result (λ device. IsHonest self → Only (D.shown device) (D.may_leave device)) }
+        ensures durable { IfOk result (λ device. IsHonest self →
+            OnlyOr (D.shown device) (IsIn (D.fallback device)) (D.may_leave device)) }
+        ensures begins { IfOk result (λ device. IsHonest self →
+            LeavesNoMore (Begins (D.shown device)) (IsIn (D.fallback device))) }
         ensures was_shut { gate_of self ≡ Shut → result ≡ Ok (device_of self) }
 
         // A stop leaves blocks that opening refuses, or those that are read afterwards, the gate aside, in which
-        // the file lies.
+        // the file lies, or a fallback, of before or of those that are read afterwards.
         ensures stops { IfOk result (λ device. IsHonest self →
-            LeavesOnly D.moment D.left_since (device_of self) device (λ c. IsRefused c ⊎
-            (SameButGate c (D.shown device) × LiesIn self c))) }
+            LeavesOnly D.moment D.left_since (device_of self) device (λ c. (IsRefused c ⊎
+            (SameButGate c (D.shown device) × LiesIn self c)) ⊎ (IsIn (D.fallback (device_of self)) c ⊎
+            IsIn (D.fallback device) c))) }
         ensures refused_stops { IfErr result (λ e. IsHonest self →
-            LeavesOnly D.moment D.left_since (device_of self) e.1 (λ c. IsRefused c ⊎
-            (SameButGate c (D.shown e.1) × LiesIn self c))) }
+            LeavesOnly D.moment D.left_since (device_of self) e.1 (λ c. (IsRefused c ⊎
+            (SameButGate c (D.shown e.1) × LiesIn self c)) ⊎ (IsIn (D.fallback (device_of self)) c ⊎
+            IsIn (D.fallback e.1) c))) }
+
+        // A new fallback begins with blocks in which the file lies.
+        ensures fallback { IfOk result (λ device. IsHonest self →
+            LeavesNoMore (λ c. IsIn (D.fallback (device_of self)) c ⊎ LiesAtStart self c)
+            (IsIn (D.fallback device))) }
+        ensures refused_fallback { IfErr result (λ e. IsHonest self →
+            LeavesNoMore (λ c. IsIn (D.fallback (device_of self)) c ⊎ LiesAtStart self c)
+            (IsIn (D.fallback e.1))) }
 
         ensures honest { IfOk result (λ device. IsHonest self ↔ D.honest device) }
         ensures refused_honest { IfErr result (λ e. IsHonest self ↔ D.honest e.1) }
@@ -97,8 +117,11 @@ impl<D: BlockDevice> PageFile<D> {
         ensures version { IsHonest self.old → OnOk result (version_in (blocks_of self.new) ≡ 2) }
         ensures refused { OnErr result (gate_of self.new ≡ Open) }
         ensures map { KeepsMap self.old self.new }
+        ensures fallback { IsHonest self.old →
+            LeavesNoMore (IsIn (D.fallback (device_of self.old))) (IsIn (D.fallback (device_of self.new))) }
         ensures stops { IsHonest self.old →
-            LeavesOnly D.moment D.left_since (device_of self.old) (device_of self.new) IsRefused }
+            LeavesOnly D.moment D.left_since (device_of self.old) (device_of self.new)
+            (λ c. IsRefused c ⊎ IsIn (D.fallback (device_of self.old)) c) }
         ensures honest { IsHonest self.old ↔ IsHonest self.new }
         ensures faults { IsHonest self.old → IfErr result IsOfDevice }
         ensures other_faults { IfErr result (λ f. IsOfDevice f ⊎ (f ≡ fault.Damaged 1)) }
@@ -125,7 +148,11 @@ impl<D: BlockDevice> PageFile<D> {
         ensures map { KeepsMap self.old self.new }
         ensures stops { IsHonest self.old →
             LeavesOnly D.moment D.left_since (device_of self.old) (device_of self.new)
-            (λ c. SameButGate c (blocks_of self.old)) }
+            (λ c. SameButGate c (blocks_of self.old) ⊎ (IsIn (D.fallback (device_of self.old)) c ⊎
+            IsIn (D.fallback (device_of self.new)) c)) }
+        ensures fallback { IsHonest self.old →
+            LeavesNoMore (λ c. IsIn (D.fallback (device_of self.old)) c ⊎ LiesAtStart self.new c)
+            (IsIn (D.fallback (device_of self.new))) }
         ensures honest { IsHonest self.old ↔ IsHonest self.new }
         ensures faults { IfErr result IsOfDevice }
         ensures cause { HasCause (D.faults (device_of self.old)) (D.faults (device_of self.new)) result }

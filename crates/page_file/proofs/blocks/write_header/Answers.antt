@@ -1,6 +1,8 @@
 -- The goals of `write_header` that are proved by hand.
-use Rattle.std.proofs.Common.{ap, ◌∙◌, length, subst, sym}
-use Rattle.block_device.specs.Device.{block_at}
+use Rattle.std.proofs.Common.{slice_index, List, ℕ, arith, ⊎_elim, refl, inl, ap, ◌∙◌, length, subst, sym}
+use Rattle.block_device.specs.Device.{IsIn, Torn, block_at}
+use Rattle.page_file.proofs.Moments.{step_leaves, step_stays, step_sync_leaves}
+use Rattle.block_device.specs.Moments.{leaves_weaker}
 use Rattle.block_device.specs.Written.{block_at-written, block_at-written_other, length-written_within, torn_other}
 use Rattle.page_file.specs.Layout.{version_of, IsHeader}
 use Rattle.page_file.specs.Written.{torn_size}
@@ -32,3 +34,35 @@ returns-clause-header g c = λ h. subst (IsHeader c.args.header.now)
 pub returns-clause-version : goal.returns-clause-version
 returns-clause-version g c = λ h. ap version_of (ap (block_at 1) (c.sync.ensures.shown (c.write.ensures.honest.0 h)) ∙ ap (block_at 1) (c.in_ok-write.ensures.written h) ∙ block_at-written 1 _ _ c.requires.room)
     ∙ c.header_page-page.ensures.version
+
+pub returns-in_err-sync-clause-stops : goal.returns-in_err-sync-clause-stops
+returns-in_err-sync-clause-stops g c = λ h.
+    let d = g.D.BlockDevice in let h2 = c.write.ensures.honest.0 h in
+    step_sync_leaves d.moment d.left_since d.may_leave (λ x. IsIn (d.fallback x)) (Torn 1) c.args.device.now c.write.new.self c.sync.new.self (λ x. inl refl) (λ e left. g.met.D.BlockDevice.only_now c.args.device.now e h left)
+    (c.write.ensures.stops h) (c.write.ensures.fallback h) (c.write.ensures.time h) (c.sync.ensures.stops h2) (c.sync.ensures.time h2)
+
+pub returns-in_err-sync-clause-now : goal.returns-in_err-sync-clause-now
+returns-in_err-sync-clause-now g c = λ h. step_stays (Torn 1) _ _ _ _ _ _ (c.write.ensures.stops h) (c.sync.ensures.stops (c.write.ensures.honest.0 h))
+
+pub returns-clause-stops : goal.returns-clause-stops
+returns-clause-stops g c = λ h.
+    let d = g.D.BlockDevice in let h2 = c.write.ensures.honest.0 h in
+    step_sync_leaves d.moment d.left_since d.may_leave (λ x. IsIn (d.fallback x)) (Torn 1) c.args.device.now c.write.new.self c.sync.new.self (λ x. inl refl) (λ e left. g.met.D.BlockDevice.only_now c.args.device.now e h left)
+    (c.write.ensures.stops h) (c.write.ensures.fallback h) (c.write.ensures.time h) (c.sync.ensures.stops h2) (c.sync.ensures.time h2)
+
+pub returns-clause-now : goal.returns-clause-now
+returns-clause-now g c = λ h. step_stays (Torn 1) _ _ _ _ _ _ (c.write.ensures.stops h) (c.sync.ensures.stops (c.write.ensures.honest.0 h))
+
+pub returns-in_err-write-clause-stops : goal.returns-in_err-write-clause-stops
+returns-in_err-write-clause-stops g c = λ h. let d = g.D.BlockDevice in
+    leaves_weaker d.moment d.left_since _ _ _ _ (λ e left. inl left)
+    (step_leaves d.moment d.left_since d.may_leave (λ x. IsIn (d.fallback x)) (Torn 1) c.args.device.now c.write.new.self (λ x. inl refl) (λ e left. g.met.D.BlockDevice.only_now c.args.device.now e h left)
+    (c.write.ensures.stops h) (c.write.ensures.fallback h) (c.write.ensures.time h))
+
+pub returns-in_err-sync-clause-fallback : goal.returns-in_err-sync-clause-fallback
+returns-in_err-sync-clause-fallback g c = λ h not e back. let d = g.D.BlockDevice in
+    ⊎_elim (λ f. c.write.ensures.fallback h e f) (λ made. absurd (not (ap (λ (b : List ℕ). slice_index b 8) (sym (ap (block_at 0) (c.in_ok-write.ensures.written h) ∙ block_at-written_other 1 0 _ _ c.requires.room (λ eq. omega (arith, eq)))) ∙ made.0))) (c.sync.ensures.fallback (c.write.ensures.honest.0 h) e back)
+
+pub returns-clause-fallback : goal.returns-clause-fallback
+returns-clause-fallback g c = λ h not e back. let d = g.D.BlockDevice in
+    ⊎_elim (λ f. c.write.ensures.fallback h e f) (λ made. absurd (not (ap (λ (b : List ℕ). slice_index b 8) (sym (ap (block_at 0) (c.in_ok-write.ensures.written h) ∙ block_at-written_other 1 0 _ _ c.requires.room (λ eq. omega (arith, eq)))) ∙ made.0))) (c.sync.ensures.fallback (c.write.ensures.honest.0 h) e back)

@@ -71,7 +71,7 @@ returns-clause-freed g c = λ h live.
     let Y = laid_over (changed_pages mid.frames.entries) (below.blocks_of new) in
     let within = below_next cache n live in let torn = c.free.ensures.torn still in
     let honest = c.free.ensures.gate.honest.0 still in
-    let block = is_block cache mid new n within c.forget.ensures.file c.forget.ensures.frames h torn (d.whole (below.device_of new) (below.blocks_of new) honest (d.shown_counts (below.device_of new) honest)) in
+    let block = is_block cache mid new n within c.forget.ensures.file c.forget.ensures.frames h torn (d.whole_shown (below.device_of new) honest) in
     let behind = behind_is cache mid new n within c.forget.ensures.file c.forget.ensures.frames h torn in
     on_ok_both c.free.result c.free.ensures.header (c.free.ensures.block still)
     (λ header is. gone_none n (blocks_behind cache) Y cache.file.header new.header block behind (room cache h) live (omega (arith, c.if-n-lt3.false))
@@ -85,7 +85,7 @@ returns-clause-others g c = λ h live.
     let Y = laid_over (changed_pages mid.frames.entries) (below.blocks_of new) in
     let within = below_next cache n live in let torn = c.free.ensures.torn still in
     let honest = c.free.ensures.gate.honest.0 still in
-    let block = is_block cache mid new n within c.forget.ensures.file c.forget.ensures.frames h torn (d.whole (below.device_of new) (below.blocks_of new) honest (d.shown_counts (below.device_of new) honest)) in
+    let block = is_block cache mid new n within c.forget.ensures.file c.forget.ensures.frames h torn (d.whole_shown (below.device_of new) honest) in
     let behind = behind_is cache mid new n within c.forget.ensures.file c.forget.ensures.frames h torn in
     either_both c.free.result c.free.ensures.header (c.free.ensures.block still) c.free.ensures.refused_header
     (λ freed_header is. gone_others n (blocks_behind cache) Y cache.file.header new.header block behind (room cache h) live (omega (arith, c.if-n-lt3.false))
@@ -101,7 +101,7 @@ returns-clause-sound g c = λ map live.
     let Y = laid_over (changed_pages mid.frames.entries) (below.blocks_of new) in
     let within = below_next cache n live in let torn = c.free.ensures.torn still in
     let honest = c.free.ensures.gate.honest.0 still in
-    let block = is_block cache mid new n within c.forget.ensures.file c.forget.ensures.frames h torn (d.whole (below.device_of new) (below.blocks_of new) honest (d.shown_counts (below.device_of new) honest)) in
+    let block = is_block cache mid new n within c.forget.ensures.file c.forget.ensures.frames h torn (d.whole_shown (below.device_of new) honest) in
     let behind = behind_is cache mid new n within c.forget.ensures.file c.forget.ensures.frames h torn in record {
       honest = honest;
       free = either_both c.free.result c.free.ensures.header (c.free.ensures.block still) c.free.ensures.refused_header

@@ -1,7 +1,7 @@
 -- The goals of `PageCache::settle` that are proved by hand.
-use Rattle.std.proofs.Common.{◌≡◌, ◌∙◌, ℕ, ap, sym, subst, ⊎_elim}
+use Rattle.std.proofs.Common.{inl, ◌≡◌, ◌∙◌, ℕ, ap, sym, subst, ⊎_elim}
 use Rattle.page_file.specs.File as below
-use Rattle.page_file.specs.Laws.{is_open}
+use Rattle.page_file.specs.Gated.{is_open}
 use Rattle.page_file.specs.Stops.{SameButGate}
 use Rattle.page_file.specs.declared.file.PageFile.{PageFile}
 use Rattle.page_file.specs.declared.gate.Gate.{Gate}
@@ -11,7 +11,7 @@ use Rattle.page_cache.specs.Frames.{changed_pages}
 use Rattle.page_cache.specs.Laws.{the_map_is_kept_in_turn}
 use Rattle.page_cache.proofs.Behind.{lies_below, map_by_file, map_kept, none_changed, unchanged}
 use Rattle.page_cache.proofs.Results.{on_ok_map}
-use Rattle.page_cache.proofs.Stops.{stops_refused, stops_settled}
+use Rattle.page_cache.proofs.Stops.{falls_open, falls_settled, stops_refused, stops_settled}
 use Rattle.page_cache.proofs.cache.PageCache.settle.Goals as goal
 
 shut_not_open : (x : Gate) → x ≡ Shut → x ≡ Open → ⊥
@@ -56,5 +56,19 @@ returns-in_err-write_all-clause-stops g c = λ h.
     let d = g.met.D.BlockDevice in let old = c.args.self.now in
     ⊎_elim
     (λ (opened : gate_of old ≡ Open). stops_refused old c.write_all.new.self h opened (λ b left. d.only_now (device_of old) b h left) c.write_all.ensures.kept.gate)
+    (λ (closed : ¬ (gate_of old ≡ Open)). let quiet = c.in_err-write_all.ensures.quiet closed in absurd (let never = quiet.1 in cc))
+    (is_open (gate_of old))
+
+pub returns-clause-fallback : goal.returns-clause-fallback
+returns-clause-fallback g c = λ h.
+    let old = c.args.self.now in
+    falls_settled old _ c.write_all.new.self.file (λ k. ap (λ es. changed_pages es k) c.in_ok-write_all.ensures.empty) h c.write_all.ensures.kept.gate (λ closed. (c.write_all.ensures.quiet closed).0)
+    (c.settle.ensures.fallback (c.write_all.ensures.kept.gate.honest.0 h))
+
+pub returns-in_err-write_all-clause-fallback : goal.returns-in_err-write_all-clause-fallback
+returns-in_err-write_all-clause-fallback g c = λ h e back.
+    let old = c.args.self.now in
+    ⊎_elim
+    (λ (opened : gate_of old ≡ Open). inl (falls_open old.file c.write_all.new.self.file h opened c.write_all.ensures.kept.gate e back))
     (λ (closed : ¬ (gate_of old ≡ Open)). let quiet = c.in_err-write_all.ensures.quiet closed in absurd (let never = quiet.1 in cc))
     (is_open (gate_of old))

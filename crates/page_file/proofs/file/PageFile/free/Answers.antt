@@ -1,15 +1,15 @@
 -- The goals of `PageFile::free` that are proved by hand.
-use Rattle.std.proofs.Common.{◌≡◌, ◌<◌, ◌≤◌, ◌^◌, ℕ, ap, ◌∙◌, arith, length, refl}
+use Rattle.std.proofs.Common.{inl, slice_index, List, ◌≡◌, ◌<◌, ◌≤◌, ◌^◌, ℕ, ap, ◌∙◌, arith, length, refl}
 use Rattle.block_device.specs.Device.{block_at}
 use Rattle.block_device.specs.Written.{block_at-written}
 use Rattle.page_file.specs.Layout.{free_block, kind_of, link_of}
 use Rattle.page_file.specs.Gated.{open_is_not_shut}
 use Rattle.page_file.specs.Frames.{adds_behind, stop_behind}
 use Rattle.page_file.specs.Given.{given_torn}
-use Rattle.page_file.specs.Live.{lives, others_same, free_torn, freed_free, freed_others, room_for_one}
+use Rattle.page_file.specs.Live.{lives, others_same, free_torn, freed_free, freed_none, freed_others, room_for_one}
 use Rattle.page_file.specs.Reading.{free_link, kind_of_free}
 use Rattle.page_file.specs.Settled.{more_free, sound_says}
-use Rattle.page_file.specs.Written.{torn_longer}
+use Rattle.page_file.specs.Written.{first_torn, torn_longer}
 use Rattle.page_file.proofs.file.PageFile.free.Goals as goal
 use Rattle.page_file.proofs.file.PageFile.free.Goals.{then-n-lt3-via-then-n-lt3, then-n-lt3-via-else-n-lt3+then-n-self, then-n-lt3-via-else-n-lt3+else-n-self+then-self}
 
@@ -36,8 +36,11 @@ invariant_of-self g c =
       sound = file.sound;
       few = file.few;
       room = λ h2. let h = was h2 in omega (arith, file.room h, torn_longer _ _ _ (c.write_block.ensures.torn h));
-      stop_now = λ h2. let h = was h2 in stop_behind file.gate (d.shown file.device) (d.shown c.write_block.new.device) (d.may_leave file.device) (d.may_leave c.write_block.new.device) c.args.n c.requires (omega (arith, c.if-n-lt3.false)) (file.stop_now h) (c.write_block.ensures.now h);
+      stop_now = λ h2. let h = was h2 in stop_behind (d.fallback file.device) (d.fallback c.write_block.new.device) file.gate (d.shown file.device) (d.shown c.write_block.new.device) (d.may_leave file.device) (d.may_leave c.write_block.new.device) c.args.n c.requires (omega (arith, c.if-n-lt3.false)) (file.stop_now h) (c.write_block.ensures.now h);
       settled = λ _ ne. absurd (ne c.requires);
+      open_reads = λ h2 is. let h = was h2 in ap (λ (b : List ℕ). slice_index b 8) (first_torn c.args.n _ _ (c.write_block.ensures.torn h) (omega (arith, c.if-n-lt3.false)) (omega (arith, file.room h, (sound_says file.header file.sound).start))) ∙ file.open_reads h is;
+      shut_falls = λ _ is. absurd (open_is_not_shut file.gate c.requires is);
+      shut_longer = λ _ is. absurd (open_is_not_shut file.gate c.requires is);
       shut_reads = λ _ is. absurd (open_is_not_shut file.gate c.requires is);
     }
 
@@ -46,7 +49,8 @@ returns-in_err-write_block-clause-gate g c = let file = c.args.self.now in let d
   gate = refl;
   honest = c.write_block.ensures.honest;
   blocks = λ h ne. absurd (ne c.requires);
-  stops = λ h. adds_behind d.moment d.left_since file.device c.write_block.new.device file.gate (d.shown file.device) (d.may_leave file.device) c.args.n c.requires (omega (arith, c.if-n-lt3.false)) (file.stop_now h) (c.write_block.ensures.stops h);
+  falls = λ h e back. inl (c.write_block.ensures.fallback h e back);
+  stops = λ h. adds_behind d.moment d.left_since file.device c.write_block.new.device d.recovers (d.fallback file.device) file.gate (d.shown file.device) (d.may_leave file.device) c.args.n c.requires (omega (arith, c.if-n-lt3.false)) (file.stop_now h) (c.write_block.ensures.stops h);
 }
 
 pub returns-in_err-write_block-clause-others : goal.returns-in_err-write_block-clause-others
@@ -70,8 +74,11 @@ invariant_of-self-2 g c =
       sound = more_free file.header c.args.n file.sound (omega (arith, c.if-n-lt3.false)) (omega (arith, c.if-n-lt3.false)) (omega (arith, c.if-n-lt3.false));
       few = file.few;
       room = λ h2. let h = was h2 in omega (arith, file.room h, torn_longer _ _ _ (c.write_block.ensures.torn h));
-      stop_now = λ h2. let h = was h2 in stop_behind file.gate (d.shown file.device) (d.shown c.write_block.new.device) (d.may_leave file.device) (d.may_leave c.write_block.new.device) c.args.n c.requires (omega (arith, c.if-n-lt3.false)) (file.stop_now h) (c.write_block.ensures.now h);
+      stop_now = λ h2. let h = was h2 in stop_behind (d.fallback file.device) (d.fallback c.write_block.new.device) file.gate (d.shown file.device) (d.shown c.write_block.new.device) (d.may_leave file.device) (d.may_leave c.write_block.new.device) c.args.n c.requires (omega (arith, c.if-n-lt3.false)) (file.stop_now h) (c.write_block.ensures.now h);
       settled = λ _ ne. absurd (ne c.requires);
+      open_reads = λ h2 is. let h = was h2 in ap (λ (b : List ℕ). slice_index b 8) (first_torn c.args.n _ _ (c.write_block.ensures.torn h) (omega (arith, c.if-n-lt3.false)) (omega (arith, file.room h, (sound_says file.header file.sound).start))) ∙ file.open_reads h is;
+      shut_falls = λ _ is. absurd (open_is_not_shut file.gate c.requires is);
+      shut_longer = λ _ is. absurd (open_is_not_shut file.gate c.requires is);
       shut_reads = λ _ is. absurd (open_is_not_shut file.gate c.requires is);
     }
 
@@ -80,8 +87,18 @@ returns-clause-gate g c = let file = c.args.self.now in let d = g.D.BlockDevice 
   gate = refl;
   honest = c.write_block.ensures.honest;
   blocks = λ h ne. absurd (ne c.requires);
-  stops = λ h. adds_behind d.moment d.left_since file.device c.write_block.new.device file.gate (d.shown file.device) (d.may_leave file.device) c.args.n c.requires (omega (arith, c.if-n-lt3.false)) (file.stop_now h) (c.write_block.ensures.stops h);
+  falls = λ h e back. inl (c.write_block.ensures.fallback h e back);
+  stops = λ h. adds_behind d.moment d.left_since file.device c.write_block.new.device d.recovers (d.fallback file.device) file.gate (d.shown file.device) (d.may_leave file.device) c.args.n c.requires (omega (arith, c.if-n-lt3.false)) (file.stop_now h) (c.write_block.ensures.stops h);
 }
+
+pub returns-clause-freed : goal.returns-clause-freed
+returns-clause-freed g c = λ h live. let file = c.args.self.now in let d = g.D.BlockDevice in
+    let l = lives (d.shown file.device) file.header c.args.n live in
+    let le : c.args.n ≤ length (d.shown file.device) = omega (arith, l.below, file.room h) in
+    let is : block_at c.args.n (d.shown c.write_block.new.device) ≡ free_block file.header.first
+    = ap (block_at c.args.n) (c.in_ok-write_block.ensures.written h) ∙ block_at-written c.args.n _ (d.shown file.device) le ∙ c.free_page.ensures in
+    let small : file.header.first < 2 ^ 32 = omega (arith, (sound_says file.header file.sound).first_below, file.few) in
+    freed_none c.args.n _ _ file.header (c.write_block.ensures.torn h) le l.not_free (omega (arith, c.if-n-lt3.false)) (ap link_of is ∙ free_link file.header.first small)
 
 pub returns-clause-others : goal.returns-clause-others
 returns-clause-others g c = λ h live. let file = c.args.self.now in let d = g.D.BlockDevice in

@@ -1,9 +1,11 @@
 -- The goals of `PageFile::settle_blocks` that are proved by hand.
-use Rattle.std.proofs.Common.{refl, arith}
+use Rattle.std.proofs.Common.{◌⊎◌, ◌∙◌, ap, inr, ⊎_elim, List, ℕ, slice_index, refl, arith}
+use Rattle.block_device.specs.Device.{IsIn}
+use Rattle.page_file.specs.Byte.{unasked}
 use Rattle.block_device.specs.Moments.{leaves_weaker}
 use Rattle.page_file.specs.Opening.{IsRefused}
-use Rattle.page_file.specs.Gated.{fails, still_open, stop_open, open_is_not_shut}
-use Rattle.page_file.specs.Frames.{map_kept, stop_behind}
+use Rattle.page_file.specs.Gated.{open_is_not_shut}
+use Rattle.page_file.specs.Frames.{map_kept, steps_open, stop_behind}
 use Rattle.page_file.specs.Settled.{sound_says}
 use Rattle.page_file.proofs.file.PageFile.settle_blocks.Goals as goal
 
@@ -15,8 +17,11 @@ invariant_of-self g c =
       sound = file.sound;
       few = file.few;
       room = λ h2. let h = was h2 in let start = (sound_says file.header file.sound).start in omega (arith, file.room h, start, c.write_header.ensures.size h (omega (arith, file.room h, start)));
-      stop_now = λ h2. let h = was h2 in stop_behind file.gate (d.shown file.device) (d.shown c.write_header.new.device) (d.may_leave file.device) (d.may_leave c.write_header.new.device) 1 c.requires (omega arith) (file.stop_now h) (c.write_header.ensures.now h);
+      stop_now = λ h2. let h = was h2 in stop_behind (d.fallback file.device) (d.fallback c.write_header.new.device) file.gate (d.shown file.device) (d.shown c.write_header.new.device) (d.may_leave file.device) (d.may_leave c.write_header.new.device) 1 c.requires (omega arith) (file.stop_now h) (c.write_header.ensures.now h);
       settled = λ _ ne. absurd (ne c.requires);
+      open_reads = λ h2 is. let h = was h2 in ap (λ (b : List ℕ). slice_index b 8) (c.write_header.ensures.others h 0 (λ e. omega (arith, e))) ∙ file.open_reads h is;
+      shut_falls = λ _ is. absurd (open_is_not_shut file.gate c.requires is);
+      shut_longer = λ _ is. absurd (open_is_not_shut file.gate c.requires is);
       shut_reads = λ _ is. absurd (open_is_not_shut file.gate c.requires is);
     }
 
@@ -25,13 +30,21 @@ returns-in_err-write_header-clause-map g c = map_kept _ _ refl c.write_header.en
 
 pub returns-in_err-write_header-clause-stops : goal.returns-in_err-write_header-clause-stops
 returns-in_err-write_header-clause-stops g c = λ h. let file = c.args.self.now in let d = g.D.BlockDevice in
-    leaves_weaker d.moment d.left_since file.device c.write_header.new.device _ IsRefused
-    (λ e from. fails e (still_open 1 from.0 e (omega arith) (stop_open file.gate (d.shown file.device) from.0 c.requires (file.stop_now h from.0 from.1)) from.2)) (c.write_header.ensures.stops h)
+    let less = c.write_header.ensures.fallback h (unasked (d.shown file.device) (file.open_reads h c.requires)) in
+    leaves_weaker d.moment d.left_since file.device c.write_header.new.device _ (λ e. IsRefused e ⊎ IsIn (d.fallback file.device) e)
+    (λ e. ⊎_elim (steps_open (d.fallback file.device) file.gate (d.shown file.device) (d.may_leave file.device) 1 c.requires (omega arith) (file.stop_now h) e) (λ back. inr (less e back))) (c.write_header.ensures.stops h)
+
+pub returns-in_err-write_header-clause-fallback : goal.returns-in_err-write_header-clause-fallback
+returns-in_err-write_header-clause-fallback g c = λ h. let file = c.args.self.now in c.write_header.ensures.fallback h (unasked (g.D.BlockDevice.shown file.device) (file.open_reads h c.requires))
 
 pub returns-clause-map : goal.returns-clause-map
 returns-clause-map g c = map_kept _ _ refl c.write_header.ensures.honest (λ h k low. c.write_header.ensures.others h k (λ e. absurd (omega (arith, e, low))))
 
 pub returns-clause-stops : goal.returns-clause-stops
 returns-clause-stops g c = λ h. let file = c.args.self.now in let d = g.D.BlockDevice in
-    leaves_weaker d.moment d.left_since file.device c.write_header.new.device _ IsRefused
-    (λ e from. fails e (still_open 1 from.0 e (omega arith) (stop_open file.gate (d.shown file.device) from.0 c.requires (file.stop_now h from.0 from.1)) from.2)) (c.write_header.ensures.stops h)
+    let less = c.write_header.ensures.fallback h (unasked (d.shown file.device) (file.open_reads h c.requires)) in
+    leaves_weaker d.moment d.left_since file.device c.write_header.new.device _ (λ e. IsRefused e ⊎ IsIn (d.fallback file.device) e)
+    (λ e. ⊎_elim (steps_open (d.fallback file.device) file.gate (d.shown file.device) (d.may_leave file.device) 1 c.requires (omega arith) (file.stop_now h) e) (λ back. inr (less e back))) (c.write_header.ensures.stops h)
+
+pub returns-clause-fallback : goal.returns-clause-fallback
+returns-clause-fallback g c = λ h. let file = c.args.self.now in c.write_header.ensures.fallback h (unasked (g.D.BlockDevice.shown file.device) (file.open_reads h c.requires))

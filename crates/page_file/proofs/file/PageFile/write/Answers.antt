@@ -1,5 +1,5 @@
 -- The goals of `PageFile::write` that are proved by hand.
-use Rattle.std.proofs.Common.{◌≡◌, ◌<◌, ◌≤◌, ℕ, List, Some, ap, ◌∙◌, arith, length, refl}
+use Rattle.std.proofs.Common.{inl, slice_index, ◌≡◌, ◌<◌, ◌≤◌, ℕ, List, Some, ap, ◌∙◌, arith, length, refl}
 use Rattle.block_device.specs.Device.{block_at, written}
 use Rattle.block_device.specs.Written.{block_at-written}
 use Rattle.page_file.specs.Gated.{open_is_not_shut}
@@ -7,7 +7,8 @@ use Rattle.page_file.specs.Frames.{adds_behind, stop_behind}
 use Rattle.page_file.specs.Given.{given_torn, is_given}
 use Rattle.page_file.specs.Live.{lives, lives_some, others_same, page_live, free_torn, torn_lives}
 use Rattle.page_file.proofs.Results.{on_ok_map}
-use Rattle.page_file.specs.Written.{torn_longer}
+use Rattle.page_file.specs.Written.{first_torn, torn_longer}
+use Rattle.page_file.specs.Settled.{sound_says}
 use Rattle.page_file.proofs.file.PageFile.write.Goals as goal
 
 pub invariant_of-self : goal.invariant_of-self
@@ -18,8 +19,11 @@ invariant_of-self g c =
       sound = file.sound;
       few = file.few;
       room = λ h2. let h = was h2 in omega (arith, file.room h, torn_longer _ _ _ (c.write_block.ensures.torn h));
-      stop_now = λ h2. let h = was h2 in stop_behind file.gate (d.shown file.device) (d.shown c.write_block.new.device) (d.may_leave file.device) (d.may_leave c.write_block.new.device) c.args.n c.requires (omega (arith, c.if-n-lt2.false)) (file.stop_now h) (c.write_block.ensures.now h);
+      stop_now = λ h2. let h = was h2 in stop_behind (d.fallback file.device) (d.fallback c.write_block.new.device) file.gate (d.shown file.device) (d.shown c.write_block.new.device) (d.may_leave file.device) (d.may_leave c.write_block.new.device) c.args.n c.requires (omega (arith, c.if-n-lt2.false)) (file.stop_now h) (c.write_block.ensures.now h);
       settled = λ _ ne. absurd (ne c.requires);
+      open_reads = λ h2 is. let h = was h2 in ap (λ (b : List ℕ). slice_index b 8) (first_torn c.args.n _ _ (c.write_block.ensures.torn h) (omega (arith, c.if-n-lt2.false)) (omega (arith, file.room h, (sound_says file.header file.sound).start))) ∙ file.open_reads h is;
+      shut_falls = λ _ is. absurd (open_is_not_shut file.gate c.requires is);
+      shut_longer = λ _ is. absurd (open_is_not_shut file.gate c.requires is);
       shut_reads = λ _ is. absurd (open_is_not_shut file.gate c.requires is);
     }
 
@@ -28,7 +32,8 @@ returns-clause-gate g c = let file = c.args.self.now in let d = g.D.BlockDevice 
   gate = refl;
   honest = c.write_block.ensures.honest;
   blocks = λ h ne. absurd (ne c.requires);
-  stops = λ h. adds_behind d.moment d.left_since file.device c.write_block.new.device file.gate (d.shown file.device) (d.may_leave file.device) c.args.n c.requires (omega (arith, c.if-n-lt2.false)) (file.stop_now h) (c.write_block.ensures.stops h);
+  falls = λ h e back. inl (c.write_block.ensures.fallback h e back);
+  stops = λ h. adds_behind d.moment d.left_since file.device c.write_block.new.device d.recovers (d.fallback file.device) file.gate (d.shown file.device) (d.may_leave file.device) c.args.n c.requires (omega (arith, c.if-n-lt2.false)) (file.stop_now h) (c.write_block.ensures.stops h);
 }
 
 pub returns-clause-live : goal.returns-clause-live

@@ -1,5 +1,6 @@
 -- The goals of `create_pages` that are proved by hand.
-use Rattle.std.proofs.Common.{sym, subst, refl, arith}
+use Rattle.std.proofs.Common.{◌≡◌, sym, subst, refl, arith}
+use Rattle.page_file.specs.declared.gate.Gate.TheVariants.{Open, Shut}
 use Rattle.page_file.specs.Layout.{IsShutGate}
 use Rattle.page_file.specs.Frames.{shut_lies}
 use Rattle.page_file.specs.Reading.{shut_gate}
@@ -10,8 +11,11 @@ invariant_of-result g c = let was = c.create.ensures.honest.1 in record {
   sound = refl;
   few = omega arith;
   room = λ h2. omega (arith, c.in-Ok.ensures.size (was h2));
-  stop_now = λ h2. c.in-Ok.ensures.durable (was h2);
+  stop_now = λ h2 e left _. c.in-Ok.ensures.durable (was h2) e left;
   settled = λ h2 _. c.in-Ok.ensures.header (was h2);
+  open_reads = λ _ is. let e : Shut ≡ Open = is in absurd (cc);
+  shut_falls = λ h2 _ e back. (c.in-Ok.ensures.begins (was h2) e back).same;
+  shut_longer = λ h2 _ e back. (c.in-Ok.ensures.begins (was h2) e back).no_shorter;
   shut_reads = λ h2 _. subst IsShutGate (sym (c.in-Ok.ensures.gate (was h2))) shut_gate;
 }
 

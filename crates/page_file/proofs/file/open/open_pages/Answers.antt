@@ -1,7 +1,8 @@
 -- The goals of `open_pages` that are proved by hand.
-use Rattle.std.proofs.Common.{◌≤◌, sym, subst, length}
+use Rattle.std.proofs.Common.{◌≡◌, ◌≤◌, sym, subst, length}
 use Rattle.block_device.specs.Device.{Blocks, block_at}
 use Rattle.page_file.specs.declared.header.Header.{Header}
+use Rattle.page_file.specs.declared.gate.Gate.TheVariants.{Open, Shut}
 use Rattle.page_file.specs.Layout.{IsHeader, IsShutGate}
 use Rattle.page_file.specs.Settled.{passes_from}
 use Rattle.page_file.proofs.file.open.open_pages.Goals as goal
@@ -12,9 +13,12 @@ invariant_of-result g c = let d = g.D.BlockDevice in let old = c.check_opening.e
   few = c.in-Ok.ensures.sound.1;
   room = λ h2. let h = old.honest.1 h2 in
       subst (λ (b : Blocks). c.in-Ok.header.next ≤ length b) (sym (old.shown h)) (subst (λ (x : Header). x.next ≤ length (d.shown c.args.device)) (sym (c.in-Ok.ensures.header h)) (passes_from _ (c.in-Ok.ensures.ok h)).within);
-  stop_now = λ h2. c.in-Ok.ensures.durable (old.honest.1 h2);
+  stop_now = λ h2 e left _. c.in-Ok.ensures.durable (old.honest.1 h2) e left;
   settled = λ h2 _. let h = old.honest.1 h2 in
       subst (λ (b : Blocks). IsHeader c.in-Ok.header (block_at 1 b)) (sym (old.shown h)) (subst (λ (x : Header). IsHeader x (block_at 1 (d.shown c.args.device))) (sym (c.in-Ok.ensures.header h)) (passes_from _ (c.in-Ok.ensures.ok h)).header);
+  open_reads = λ _ is. let e : Shut ≡ Open = is in absurd (cc);
+  shut_falls = λ h2 _ e back. (c.in-Ok.ensures.begins (old.honest.1 h2) e back).same;
+  shut_longer = λ h2 _ e back. (c.in-Ok.ensures.begins (old.honest.1 h2) e back).no_shorter;
   shut_reads = λ h2 _. let h = old.honest.1 h2 in
       subst (λ (b : Blocks). IsShutGate (block_at 0 b)) (sym (old.shown h)) (passes_from _ (c.in-Ok.ensures.ok h)).gate;
 }

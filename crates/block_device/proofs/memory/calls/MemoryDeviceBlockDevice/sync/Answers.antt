@@ -1,19 +1,28 @@
 -- After a sync a stop leaves what is read.
-use Rattle.std.proofs.Common.{◌≡◌, ap, sym, subst, List}
+use Rattle.std.proofs.Common.{false, true, refl, ◌≡◌, ap, inl, sym, subst, List}
 use Rattle.block_device.specs.Device.{Blocks}
 use Rattle.block_device.specs.History.{Event, history, MayLeave}
 use Rattle.block_device.specs.Outcomes.{shown_left}
 use Rattle.block_device.proofs.Stops.{only_shown}
+use Rattle.block_device.specs.Plain.{stays_plain}
 use Rattle.block_device.proofs.memory.calls.MemoryDeviceBlockDevice.sync.Goals as goal
 
 pub returns-clause-durable : goal.returns-clause-durable
 returns-clause-durable g c = λ _ d now.
     let bs = c.args.self.now.blocks.items in
-    only_shown bs (history c.args.self.now.past.notes) d (subst (λ (l : List Event). MayLeave bs l d) (ap history c.syncs.ensures) now)
+    inl (only_shown bs (history c.args.self.now.past.notes) d (subst (λ (l : List Event). MayLeave bs l d) (ap history c.syncs.ensures) now))
 
 pub returns-clause-stops : goal.returns-clause-stops
-returns-clause-stops g c = λ _ d now.
+returns-clause-stops g c = λ _. stays_plain _ _ _ _ (λ _. refl) (λ d now.
     let bs = c.args.self.now.blocks.items in
     let es = history c.args.self.now.past.notes in
     let same : d ≡ bs = only_shown bs es d (subst (λ (l : List Event). MayLeave bs l d) (ap history c.syncs.ensures) now) in
-    subst (λ (b : Blocks). MayLeave bs es b) (sym same) (shown_left bs es c.args.self.now.kept.whole c.args.self.now.kept.leads)
+    subst (λ (b : Blocks). MayLeave bs es b) (sym same) (shown_left bs es c.args.self.now.kept.whole c.args.self.now.kept.leads))
+
+pub returns-clause-commits : goal.returns-clause-commits
+returns-clause-commits g c = λ _ _. (
+  (λ d now.
+      let bs = c.args.self.now.blocks.items in
+      only_shown bs (history c.args.self.now.past.notes) d (subst (λ (l : List Event). MayLeave bs l d) (ap history c.syncs.ensures) now)),
+  (λ d back. let e : false ≡ true = back in absurd (cc)),
+)

@@ -1,10 +1,11 @@
 -- A write of one block more, and of one that is there.
-use Rattle.std.proofs.Common.{◌≡◌, ◌∙◌, ◌<◌, [], false, true, get_or, length, set, ap, arith, rules, length-set}
+use Rattle.std.proofs.Common.{refl, ◌≡◌, ◌∙◌, ◌<◌, [], false, true, get_or, length, set, ap, arith, rules, length-set}
 use Rattle.std.proofs.lemmas.List.{get_or_read}
 use Rattle.block_device.specs.Device.{block_at}
 use Rattle.block_device.specs.History.{history, unsynced}
 use Rattle.block_device.proofs.Done.{answers_ok}
 use Rattle.block_device.proofs.Numbers.{is_in_from}
+use Rattle.block_device.specs.Plain.{follows_plain, elapses_or}
 use Rattle.block_device.proofs.Keeping.{Adds, appends, appended_kept, changes, changed}
 use Rattle.block_device.proofs.memory.calls.MemoryDeviceBlockDevice.write.Given as given
 use Rattle.block_device.proofs.memory.calls.MemoryDeviceBlockDevice.write.Goals as goal
@@ -27,7 +28,10 @@ pub returns-then-at-len-clause-written : goal.returns-then-at-len-clause-written
 returns-then-at-len-clause-written g c = λ _. (added g (goal.at.returns-then-at-len-clause-written g c).After-saturating_add-self).shown
 
 pub returns-then-at-len-clause-stops : goal.returns-then-at-len-clause-stops
-returns-then-at-len-clause-stops g c = λ _. (added g (goal.at.returns-then-at-len-clause-stops g c).After-saturating_add-self).stops
+returns-then-at-len-clause-stops g c = λ _. follows_plain _ _ _ _ _ (λ _. refl) (added g (goal.at.returns-then-at-len-clause-stops g c).After-saturating_add-self).stops
+
+pub returns-then-at-len-clause-time : goal.returns-then-at-len-clause-time
+returns-then-at-len-clause-time g c = λ _. elapses_or _ _ _ _ _ _ _ (added g (goal.at.returns-then-at-len-clause-time g c).After-saturating_add-self).time
 
 pub returns-then-at-len-clause-gives : goal.returns-then-at-len-clause-gives
 returns-then-at-len-clause-gives g c =
@@ -60,10 +64,10 @@ pub returns-clause-written : goal.returns-clause-written
 returns-clause-written g c = λ _. (changed_so g (goal.at.returns-clause-written g c).After-saturating_add-self-2).shown
 
 pub returns-clause-stops : goal.returns-clause-stops
-returns-clause-stops g c = λ _. (changed_so g (goal.at.returns-clause-stops g c).After-saturating_add-self-2).stops
+returns-clause-stops g c = λ _. follows_plain _ _ _ _ _ (λ _. refl) (changed_so g (goal.at.returns-clause-stops g c).After-saturating_add-self-2).stops
 
 pub returns-clause-time : goal.returns-clause-time
-returns-clause-time g c = λ _. (changed_so g (goal.at.returns-clause-time g c).After-saturating_add-self-2).time
+returns-clause-time g c = λ _. elapses_or _ _ _ _ _ _ _ (changed_so g (goal.at.returns-clause-time g c).After-saturating_add-self-2).time
 
 pub returns-clause-gives : goal.returns-clause-gives
 returns-clause-gives g c =
