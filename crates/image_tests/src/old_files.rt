@@ -69,23 +69,21 @@ fn a_file_of_format_1_becomes_one_of_format_2_where_it_is_changed(
     Ok(())
 }
 
-// A node page of format 1 from one of format 2, whose bytes in the tags' places are no tags.
+// A node page of two axes of format 1 from one of format 2. The bytes in the tags' places are no tags.
 fn old_node(page: &mut [u8; 4096]) {
     set(page, 0, 1, OLD_NODE);
-    let tags = 816 + 800 * usize::from(page[1].min(3));
     for place in 0..100 {
-        set(page, tags + 4 * place, 4, 0x0102_0304);
+        set(page, 2416 + 4 * place, 4, 0x0102_0304);
     }
 }
 
-// A bucket page of format 1 from one of format 2: its entries without their tags.
+// A bucket page of two axes of format 1 from one of format 2: its entries without their tags.
 fn old_bucket(page: &mut [u8; 4096]) {
     let new = *page;
-    let dims = usize::from(new[1].min(3));
     set(page, 0, 1, OLD_BUCKET);
-    for place in 0..usize::from(new[3].min(100)) {
-        for byte in 0..8 + 8 * dims {
-            page[16 + (8 + 8 * dims) * place + byte] = new[16 + (12 + 8 * dims) * place + byte];
+    for place in 0..100usize {
+        for byte in 0..24usize {
+            page[16 + 24 * place + byte] = new[16 + 28 * place + byte];
         }
     }
 }
@@ -107,16 +105,15 @@ fn as_format_1(device: &mut MemoryDevice) -> Result<(), Fail> {
 
 // How many pages have the kinds of node and bucket pages of format 1, and how many those of format 2.
 fn kinds(device: &mut MemoryDevice) -> Result<[u32; 4], Fail> {
-    let mut counts = [0; 4];
+    let mut counts = [0u32; 4];
     for block in 3..device.blocks() {
-        let of = match block_of(device, block)?[0] {
-            2 => 0,
-            4 => 1,
-            6 => 2,
-            7 => 3,
-            _ => continue,
-        };
-        counts[of] = u32::wrapping_add(counts[of], 1);
+        match block_of(device, block)?[0] {
+            2 => counts[0] = counts[0].saturating_add(1),
+            4 => counts[1] = counts[1].saturating_add(1),
+            6 => counts[2] = counts[2].saturating_add(1),
+            7 => counts[3] = counts[3].saturating_add(1),
+            _ => {}
+        }
     }
     Ok(counts)
 }

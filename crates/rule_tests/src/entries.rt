@@ -11,7 +11,8 @@ fn the_default_entry_is_the_origin(rt: HostRuntime) {
         Entry::<3>::default(),
         Entry {
             bounds,
-            reference: 0
+            reference: 0,
+            tag: 0,
         }
     );
 }
@@ -19,7 +20,11 @@ fn the_default_entry_is_the_origin(rt: HostRuntime) {
 // An entry of the box (low,-low) to (high,high).
 fn entry(reference: u64, low: i32, high: i32) -> Option<Entry<2>> {
     let bounds = BBox::try_new([low, low.checked_neg()?], [high, high])?;
-    Some(Entry { bounds, reference })
+    Some(Entry {
+        bounds,
+        reference,
+        tag: 0,
+    })
 }
 
 #[test]

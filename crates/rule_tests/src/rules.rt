@@ -24,6 +24,7 @@ fn points(all: &[(u64, i32, i32)]) -> ArrayVec<Entry<2>, 101>
         entries.push(Entry {
             bounds: plane([x, y], [x, y]),
             reference,
+            tag: 0,
         });
     }
     entries
@@ -49,10 +50,12 @@ fn chooses_by_overlap_on_the_first_level_alone(rt: HostRuntime) {
         entries.push(Entry {
             bounds: plane([0, 0], [2, 100]),
             reference: 10,
+            tag: 0,
         });
         entries.push(Entry {
             bounds: plane([2, 0], [30, 4]),
             reference: 11,
+            tag: 0,
         });
         let node = Node { level, entries };
         assert!(rt; level > 0);
@@ -68,10 +71,12 @@ fn chooses_the_first_of_equal_children(rt: HostRuntime) {
         entries.push(Entry {
             bounds: plane([0, 0], [5, 5]),
             reference: 10,
+            tag: 0,
         });
         entries.push(Entry {
             bounds: plane([0, 0], [5, 5]),
             reference: 11,
+            tag: 0,
         });
         let node = Node { level, entries };
         assert!(rt; level > 0);
@@ -89,10 +94,12 @@ fn a_flat_child_takes_in_a_box_and_stays_flat(rt: HostRuntime) {
     entries.push(Entry {
         bounds: plane([0, 0], [10, 10]),
         reference: 10,
+        tag: 0,
     });
     entries.push(Entry {
         bounds: plane([5, 0], [5, 3]),
         reference: 11,
+        tag: 0,
     });
     let node = Node { level: 2, entries };
     assert_eq!(rt; choose(&node, &plane([5, 5], [5, 5])), 1);
@@ -115,10 +122,12 @@ fn chooses_between_two_leaves(rt: HostRuntime) {
         entries.push(Entry {
             bounds: first,
             reference: 10,
+            tag: 0,
         });
         entries.push(Entry {
             bounds: second,
             reference: 11,
+            tag: 0,
         });
         let node = Node { level: 1, entries };
         assert_eq!(rt; choose(&node, &plane(at, at)), want, "at {at:?}");
@@ -169,6 +178,7 @@ fn greatest() -> ArrayVec<Entry<3>, 101> {
             entries.push(Entry {
                 bounds: whole,
                 reference: 100 - i,
+                tag: 0,
             });
         }
     }

@@ -129,9 +129,8 @@ fn writes_layers_and_dumps(rt: HostRuntime) -> Result<(), Fail> {
     let mut rows = Vec::new(rt.alloc());
     rows.push(DumpRow::Create(named(name), 2, 4))?;
     if let Some(bounds) = BBox::try_new([i32::MIN; 3], [i32::MIN; 3]) {
-        let bounds = AnyBox::Three(bounds);
-        rows.push(DumpRow::Insert(named(b"a"), 1, bounds, 0))?;
-        rows.push(DumpRow::Insert(named(name), u64::MAX, bounds, u32::MAX))?;
+        rows.push(DumpRow::Insert(named(b"a"), 1, AnyBox::Three(bounds), 0))?;
+        rows.push(DumpRow::Insert(named(name), u64::MAX, AnyBox::Three(bounds), u32::MAX))?;
     }
     let text = b"ok 3\ncreate abcdefghijklmnopqrstuvwx 2 4\n\
           insert a 1 -2147483648 -2147483648 -2147483648 -2147483648 -2147483648 -2147483648\n\

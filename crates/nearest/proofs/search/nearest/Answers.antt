@@ -79,3 +79,6 @@ pub returns-clause-looks : goal.returns-clause-looks
 returns-clause-looks g c = λ h t most tree.
     let answer = finished c.loop-first.invariant c.requires.some c.in_default.ensures.none h t most tree in
     on_ok _ c.into_rows.result answer.looks_are
+
+pub returns-in_err-look_at_objects-clause-asks : goal.returns-in_err-look_at_objects-clause-asks
+returns-in_err-look_at_objects-clause-asks g c = asks_and_refuses c.args.cache.now c.loop-first.cache c.look_at_objects.new.cache c.in_err-look_at_objects.field-0.0 c.from_residual-in_err-look_at_objects.result c.from_residual-in_err-look_at_objects.ensures.1 c.loop-first.invariant.asks c.in_err-look_at_objects.ensures.asks

@@ -1,5 +1,6 @@
 -- The object is in the tree and in the table, and the record says so; or the change was refused, or broke off.
 use Rattle.std.proofs.Common.{refl, inl, arith}
+use Rattle.box_math.specs.Objects.{Object}
 use Rattle.plain_table.specs.Table.{layer_at}
 use Rattle.layer_pages.specs.Changes.{most_inserted_pages}
 use Rattle.live_layers.proofs.CountLemmas.{no_page_wanted}
@@ -48,7 +49,7 @@ returns-clause-added g c = λ t name sound finds dims absent.
     let located = c.locate-located.result in
     let by = c.locate-located.ensures.by_record in
     let id = c.args.id in
-    let object = (c.args.bounds.now, c.args.tag) in
+    let object : Object = (c.args.bounds.now, c.args.tag) in
     let at = stands_at kept t name c.args.place before finds located by g.row.D dims in
     let l = (reading kept t name c.args.place before finds).pages in
     let objects = (layer_at t name).objects in
@@ -64,7 +65,7 @@ returns-clause-tree g c = λ t name sound finds dims absent.
     let located = c.locate-located.result in
     let by = c.locate-located.ensures.by_record in
     let id = c.args.id in
-    let object = (c.args.bounds.now, c.args.tag) in
+    let object : Object = (c.args.bounds.now, c.args.tag) in
     let at = stands_at kept t name c.args.place before finds located by g.row.D dims in
     let l = (reading kept t name c.args.place before finds).pages in
     let objects = (layer_at t name).objects in

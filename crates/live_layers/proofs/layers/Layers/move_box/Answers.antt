@@ -8,7 +8,7 @@ use Rattle.plain_table.specs.Boxes.{given_bounds}
 use Rattle.plain_table.specs.Commands.Command.{Move}
 use Rattle.plain_table.specs.Laws.{a_change_makes_another_table, no_change_leaves_the_table}
 use Rattle.plain_table.specs.Step.{changes}
-use Rattle.plain_table.specs.Table.{layer_at, with_object}
+use Rattle.plain_table.specs.Table.{layer_at, object_at, with_object}
 use Rattle.plain_table.specs.declared.refusal.Refusal.{Refusal}
 use Rattle.live_layers.specs.Changes.{Rose}
 use Rattle.live_layers.specs.Inserting.{IsAllowedOr}
@@ -18,6 +18,7 @@ use Rattle.live_layers.proofs.ChangeLemmas.{begun_change, begun_keeps, begun_tre
 use Rattle.live_layers.proofs.MoveLemmas.{as_move, tested_boxes}
 use Rattle.live_layers.proofs.ReplyLemmas.{is_named}
 use Rattle.live_layers.proofs.Results.{on_ok}
+use Rattle.live_layers.proofs.TakeLemmas.{its_object}
 use Rattle.live_layers.proofs.layers.Layers.move_box.Goals as goal
 
 pub returns-in-Err-clause-keeps : goal.returns-in-Err-clause-keeps
@@ -77,7 +78,8 @@ returns-clause-change g c = λ t name box sound reaches.
     let dims = located.dims ∙ c.in-Ok.ensures.axes in
     let before = c.in-Ok.ensures.keeps.sound t sound in
     let made = c.replace_box.result in
-    let moved = on_ok made (λ so. subst (λ (b : Bounds). IsSound new (map_insert t name (with_object layer id (b, tag_of known)))) given so) (c.replace_box.ensures.replaced t name before reaches.finds dims there) in
+    let same : (c.in-Ok.both.1, tag_of known) ≡ (given_bounds box, tag_of (object_at layer id)) = λ i. (given i, tag_of (its_object layer id known there i)) in
+    let moved = on_ok made (λ so. subst (λ (o : Object). IsSound new (map_insert t name (with_object layer id o))) same so) (c.replace_box.ensures.replaced t name before reaches.finds dims there) in
     begun_change old mid new c.in-Ok.ensures.keeps made c.replace_box.ensures.begins c.change_of.result c.change_of.ensures t (Move name id box)
     (a_change_makes_another_table t (Move name id box) moves) g.met.B.BlockDevice.only_now sound none refl moved (c.replace_box.ensures.faults t name before reaches.finds dims there)
 
@@ -90,7 +92,6 @@ returns-clause-tree g c = λ t name box sound reaches moves.
     let id = c.args.id in
     let located = c.locate-located.ensures.located t name sound reaches.finds in
     let there = c.in-Ok.ensures.has t name sound located in
-    let known = c.in-Ok.both.0 in
     let given : c.in-Ok.both.1 ≡ given_bounds box = c.in-Ok.ensures.gets ∙ sym reaches.given in
     let changed = subst (λ (b : Bounds). OnOk c.replace_box.result (ChangesTree mid new name (HasMoved layer id b))) given
     (c.replace_box.ensures.tree t name (c.in-Ok.ensures.keeps.sound t sound) reaches.finds (located.dims ∙ c.in-Ok.ensures.axes) there) in
