@@ -24,7 +24,8 @@ use Rattle.store_law.specs.Stops.{Stops, after_change, after_command, is_end, ta
 use Rattle.layer_store.specs.Commands.{Changes, TakesStep, Tells}
 use Rattle.layer_store.specs.Representation.{IsInState, cache_in, device_in}
 use Rattle.layer_store.specs.declared.store.Store.{Store}
-use Rattle.layer_store.proofs.StopLemmas.{OnlyNow, change_leaves, kept_leaves, left_rests}
+use Rattle.live_layers.proofs.StopLemmas.{left_rests}
+use Rattle.layer_store.proofs.StopLemmas.{OnlyNow, change_leaves, kept_leaves}
 use Rattle.layer_store.proofs.StoreLemmas.{alive_in, alive_with, blames_none, change_goes_on, dead_so, is_dead, is_settled, no_fewer_faults, not_both, settled_so, takes_change, takes_nothing, told_cause, what_is_kept}
 
 -- ---- one of a store that failed
@@ -91,7 +92,7 @@ module _ {D A : Type 0} {m : _} (old new : Store D A m) {made : Result (Unit {0}
       (λ t sound. no_fewer_faults (m.faults (device_in old)) (m.faults (device_in new)) result fits (cause_told tells cause))
 
   -- what the layers keep of a change is what their store does
-  pub told_changes : {c : Command} → MayGiveUp c → ((t : Table) (stops : Stops) (a : Answer) → after_command t stops c a ≡ cond (changes t c) (record { now = after_change stops.now a; since = stops.since; so_far = stops.so_far }) stops)
+  pub told_changes : {c : Command} → MayGiveUp c → ((t : Table) (stops : Stops) (a : Answer) → after_command t stops c a ≡ cond (changes t c) (record { now = after_change stops.recovers stops.now a; since = stops.since; so_far = stops.so_far; recovers = stops.recovers }) stops)
       → m.faults (device_in old) < 2 ^ 64 → (IsHonest (cache_in old) → OnlyNow (cache_in old))
       → IsChangeBy old.layers new.layers c made → ((t : Table) → IsSound old.layers t → changes t c ≡ false → IsWritten old.layers → IsWritten new.layers) → Changes old new c result
   told_changes {c = c} may by_change fits now change written = record {

@@ -1,7 +1,7 @@
 -- A closing of layers is a closing of their store.
 use Rattle.std.proofs.Common.{◌≡◌, ◌∙◌, ◌⊎◌, ℕ, ◌∷◌, true, false, inl, inr, sym, ap, subst}
 use Rattle.std.specs.Prelude.{IsOk, Result, Ok, Err, OnErr}
-use Rattle.block_device.specs.Device.{Only}
+use Rattle.block_device.specs.Device.{Blocks, IsIn, OnlyOr}
 use Rattle.live_layers.specs.Changes.{IsBegun}
 use Rattle.live_layers.specs.Closings.{ClosingLeaves}
 use Rattle.live_layers.specs.Faults.{as_refusal, faults_after_refusal}
@@ -11,7 +11,7 @@ use Rattle.live_layers.specs.Keeping.{IsSound}
 use Rattle.live_layers.specs.Unmade.{is_broken, told}
 use Rattle.live_layers.specs.declared.unmade.Unmade.{Unmade}
 use Rattle.live_layers.specs.declared.unmade.Unmade.TheVariants as unmade
-use Rattle.live_layers.proofs.StopLemmas.{shut_is_durable}
+use Rattle.live_layers.proofs.StopLemmas.{fallback_is_image, left_rests, shut_is_durable}
 use Rattle.page_cache.specs.Cache.{IsHonest, gate_of}
 use Rattle.page_file.specs.Fault.{IsOfDevice, faults_after}
 use Rattle.page_file.specs.declared.fault.Fault.{Fault}
@@ -24,9 +24,9 @@ use Rattle.store_law.specs.States.StoreState.{Alive, Dead}
 use Rattle.store_law.specs.Stops.{tables_left}
 use Rattle.layer_store.specs.Commands.{Tells}
 use Rattle.layer_store.specs.Faults.{IsMemoryOrDevice}
-use Rattle.layer_store.specs.Representation.{HasFailed, IsInState, IsSettled, Represents, RepresentsTable, StopsLeave, blocks_in, cache_in, device_in}
+use Rattle.layer_store.specs.Representation.{HasFailed, IsInState, IsLeftAlone, IsSettled, Represents, RepresentsTable, StopsLeave, blocks_in, cache_in, device_in}
 use Rattle.layer_store.specs.declared.store.Store.{Store}
-use Rattle.layer_store.proofs.StopLemmas.{OnlyNow, left_rests, read_alone}
+use Rattle.layer_store.proofs.StopLemmas.{OnlyNow, read_alone}
 use Rattle.layer_store.proofs.StoreLemmas.{alive_in, alive_with, dead_so, failed_so, is_settled, settled_so, what_is_kept}
 
 -- as a refusal
@@ -82,16 +82,23 @@ module _ {D A : Type 0} {m : _} (old new : Store D A m) {made : Result (Unit {0}
     pub image_closed : (t : Table) → RepresentsTable old t → IsOk result ⊎ HasFailed new → IsImage (blocks_in new) t
     image_closed t represents end = ((leaves t (alive_with old t represents).1).closed (finished end)).1
 
-    pub durable_closed : (IsHonest (cache_in old) → IsHonest (cache_in new)) → (t : Table) → RepresentsTable old t → IsOk result ⊎ HasFailed new → Only (blocks_in new) (m.may_leave (device_in new))
+    pub durable_closed : (IsHonest (cache_in old) → IsHonest (cache_in new)) → (t : Table) → RepresentsTable old t → IsOk result ⊎ HasFailed new → OnlyOr (blocks_in new) (IsIn (m.fallback (device_in new))) (m.may_leave (device_in new))
     durable_closed honest t represents end =
         let sound = (alive_with old t represents).1 in
         shut_is_durable (cache_in new) (honest sound.map.honest) ((leaves t sound).closed (finished end)).0
 
+    pub falls_closed : (IsHonest (cache_in old) → IsHonest (cache_in new)) → (t : Table) → RepresentsTable old t → IsOk result ⊎ HasFailed new → (c : Blocks) → IsIn (m.fallback (device_in new)) c → IsImage c t
+    falls_closed honest t represents end c back =
+        let sound = (alive_with old t represents).1 in
+        let closed = (leaves t sound).closed (finished end) in
+        fallback_is_image (cache_in new) c t (honest sound.map.honest) closed.0 closed.1 back
+
     pub stops_closed : (s : SessionState) (t : Table) → Represents old s → s.state ≡ Alive t → StopsLeave old new (IsRefusedOrImageOf (t ∷ tables_left s.stops.now))
     stops_closed s t represents alive = (leaves t (alive_in old s t represents alive).1).stops (tables_left s.stops.now) (rests_of_store old s represents)
 
-    pub quiet_closed : (IsHonest (cache_in old) → OnlyNow (cache_in old)) → (t : Table) → RepresentsTable old t → IsSettled old → StopsLeave old new (λ c. c ≡ blocks_in old)
-    quiet_closed now t represents was =
+    pub quiet_closed : ((d : D) (c : Blocks) → IsIn (m.fallback d) c → m.recovers ≡ true) → (IsHonest (cache_in old) → OnlyNow (cache_in old)) → (t : Table) → RepresentsTable old t → IsSettled old
+        → StopsLeave old new (IsLeftAlone m.recovers (blocks_in old))
+    quiet_closed recovers now t represents was =
         let sound = (alive_with old t represents).1 in
         let settled = is_settled old was in
-        read_alone (cache_in old) (cache_in new) sound.map.honest (now sound.map.honest) settled.0 ((leaves t sound).quiet settled)
+        read_alone (cache_in old) (cache_in new) recovers sound.map.honest (now sound.map.honest) settled.0 ((leaves t sound).quiet settled)

@@ -3,7 +3,8 @@ use Rattle.std.proofs.Common.{◌≡◌, Bool, true, false, cond, refl, inr, ari
 use Rattle.std.specs.Prelude.{Err}
 use Rattle.live_layers.specs.Keeping.{Leaves}
 use Rattle.live_layers.specs.declared.unmade.Unmade.TheVariants as unmade
-use Rattle.live_layers.proofs.StopLemmas.{or_this}
+use Rattle.live_layers.proofs.ClosingLemmas.{rests_on_more}
+use Rattle.live_layers.proofs.StopLemmas.{left_rests, or_this}
 use Rattle.page_cache.specs.declared.cache.PageCache.{PageCache}
 use Rattle.plain_table.specs.Commands.{Command, MayGiveUp}
 use Rattle.plain_table.specs.Commands.Command.{Create, Insert, Load, Move, Delete, Drop, Get, Count, Range, Nearest, Join, Layers, Dump, Check, Reopen}
@@ -15,22 +16,23 @@ use Rattle.store_law.specs.Stops.{Stops, after_command, tables_left}
 use Rattle.store_law.specs.Stops.AfterStop.{Perhaps}
 use Rattle.layer_store.specs.Commands.{TakesStep}
 use Rattle.layer_store.specs.declared.store.Store.{Store}
-use Rattle.layer_store.proofs.StopLemmas.{either_among, left_rests}
+use Rattle.layer_store.proofs.StopLemmas.{either_among}
 use Rattle.layer_store.proofs.StoreLemmas.{takes_change}
 
 module _ {D A : Type 0} {m : _} (cache : PageCache D A m) (t : Table) (stops : Stops) (was : Leaves cache stops) where
   -- what surely was left may be left
-  of_change : (b : Bool) → Leaves cache (cond b (record { now = Perhaps (tables_left stops.now); since = stops.since; so_far = stops.so_far }) stops)
-  of_change true = record { now = left_rests cache stops.now was.now; begun = was.begun; so_far = was.so_far; among = was.among }
+  of_change : (b : Bool) → Leaves cache (cond b (record { now = Perhaps (tables_left stops.now); since = stops.since; so_far = stops.so_far; recovers = stops.recovers }) stops)
+  of_change true = record { now = left_rests cache stops.now was.now; begun = was.begun; so_far = was.so_far; among = was.among; recovery = was.recovery }
   of_change false = was
 
   -- a stop leaves no more than it left
   wanting_leaves : (c : Command) → Leaves cache (after_command t stops c (Refused refusal.Memory))
   wanting_leaves Reopen = record {
-    now = λ closed c same. or_this (tables_left stops.now) t c (left_rests cache stops.now was.now closed c same);
+    now = rests_on_more cache (tables_left stops.now) t (left_rests cache stops.now was.now);
     begun = was.begun;
     so_far = λ c left. or_this stops.so_far t c (was.so_far c left);
     among = either_among t (tables_left stops.now) stops.so_far was.among;
+    recovery = was.recovery;
   }
   wanting_leaves (Create name dims fanout) = of_change (changes t (Create name dims fanout))
   wanting_leaves (Insert name id box tag) = of_change (changes t (Insert name id box tag))

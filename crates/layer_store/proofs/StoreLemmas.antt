@@ -144,9 +144,9 @@ module _ {D A : Type 0} {m : _} where
   failed_so store r = is_dead store (subst (IsInState store) r.so (what_is_kept store r.next r.represents).is.state)
 
   -- a store that was made or opened
-  pub begins : (store : Store D A m) (moment : ℕ) (t : Table) → IsInState store (Alive t) → IsHonest (cache_in store) → Leaves (cache_in store) (closed_since moment t) → BeginsWith store moment t
+  pub begins : (store : Store D A m) (moment : ℕ) (t : Table) → IsInState store (Alive t) → IsHonest (cache_in store) → Leaves (cache_in store) (closed_since m.recovers moment t) → BeginsWith store moment t
   begins store moment t alive honest leaves =
-      let s : SessionState = record { state = Alive t; stops = closed_since moment t; faults = m.faults (device_in store) } in
+      let s : SessionState = record { state = Alive t; stops = closed_since m.recovers moment t; faults = m.faults (device_in store) } in
       record {
         next = s;
         represents = represents_so store s (record { state = alive; faults = refl }) honest leaves;

@@ -1,6 +1,6 @@
 -- What a store represents, and the device and blocks that it has.
-use Rattle.std.specs.Prelude.{ℕ, ◌≡◌, true, false, [], ◌∷◌}
-use Rattle.block_device.specs.Device.{Blocks, LeavesOnly}
+use Rattle.std.specs.Prelude.{ℕ, ◌≡◌, ◌⊎◌, Bool, true, false, List, [], ◌∷◌, if◌then◌else◌}
+use Rattle.block_device.specs.Device.{Begins, Blocks, LeavesOnly}
 use Rattle.live_layers.specs.Keeping as keeping
 use Rattle.live_layers.specs.Keeping.{IsSound, Leaves, cache_of}
 use Rattle.live_layers.specs.Staying.{KeepsPagesAndRecords}
@@ -55,14 +55,14 @@ Represents store s = IsOfStore store s × IsHonest (cache_in store) × Leaves (c
 abbrev pub RepresentsTable : {D A : Type 0} {m : _} → Store D A m → Table → Type 0
 RepresentsTable store t = Reaches Represents store (λ s. s.state ≡ Alive t)
 
--- a table was closed, and since that moment no other
-abbrev pub closed_since : ℕ → Table → Stops
-closed_since moment t = record { now = Surely t; since = moment; so_far = t ∷ [] }
+-- a table was closed, on a device that recovers or not, and since that moment no other
+abbrev pub closed_since : Bool → ℕ → Table → Stops
+closed_since recovers moment t = record { now = Surely t; since = moment; so_far = t ∷ []; recovers = recovers }
 
 -- The store is sound and alive, and represents the table: a stop now leaves an image of it and nothing else, and one since
 -- that moment left that, or blocks that opening refuses.
 abbrev pub BeginsWith : {D A : Type 0} {m : _} → Store D A m → ℕ → Table → Type 0
-BeginsWith store moment t = Reaches Represents store (λ s. (s.state ≡ Alive t) × (s.stops ≡ closed_since moment t))
+BeginsWith {m = m} store moment t = Reaches Represents store (λ s. (s.state ≡ Alive t) × (s.stops ≡ closed_since m.recovers moment t))
 
 -- alive with some table; and one that begins so
 abbrev pub IsAliveWithSome : {D A : Type 0} {m : _} → Store D A m → Type 0
@@ -73,15 +73,24 @@ BeginsWithSome store moment = (t : Table) × BeginsWith store moment t
 
 -- the same state of a session, seen from this moment on
 abbrev pub from_now : SessionState → ℕ → SessionState
-from_now s moment = record { state = s.state; stops = record { now = s.stops.now; since = moment; so_far = tables_left s.stops.now }; faults = s.faults }
+from_now s moment = record { state = s.state; stops = record { now = s.stops.now; since = moment; so_far = tables_left s.stops.now; recovers = s.stops.recovers }; faults = s.faults }
 
--- the same, where a stop leaves an image of this table, or blocks that opening refuses
+-- the tables of which a stop leaves an image where the blocks are one of this table: it alone, or where a stop may bring
+-- back what was committed last, those that one left before as well
+abbrev pub rests_with : Stops → Table → List Table
+rests_with stops t = t ∷ (if stops.recovers then tables_left stops.now else [])
+
+-- the same, where a stop leaves an image of one of those, or blocks that opening refuses
 abbrev pub resting_on : SessionState → ℕ → Table → SessionState
-resting_on s moment t = record { state = s.state; stops = record { now = Perhaps (t ∷ []); since = moment; so_far = t ∷ [] }; faults = s.faults }
+resting_on s moment t = record { state = s.state; stops = record { now = Perhaps (rests_with s.stops t); since = moment; so_far = rests_with s.stops t; recovers = s.stops.recovers }; faults = s.faults }
 
 -- the store is sound, and has failed
 abbrev pub HasFailed : {D A : Type 0} {m : _} → Store D A m → Type 0
 HasFailed store = Reaches Represents store (λ s. s.state ≡ Dead)
+
+-- the blocks as they are, or on a device that recovers blocks that begin with them
+abbrev pub IsLeftAlone : Bool → Blocks → Blocks → Type 0
+IsLeftAlone recovers blocks c = (c ≡ blocks) ⊎ ((recovers ≡ true) × Begins blocks c)
 
 -- ---- a command
 

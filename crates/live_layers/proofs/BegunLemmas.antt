@@ -1,7 +1,7 @@
 -- Changes behind the gate: begun, and then made or broken off.
-use Rattle.std.proofs.Common.{◌≡◌, ◌∙◌, true, false, None, sym, ap, subst, arith}
+use Rattle.std.proofs.Common.{◌≡◌, ◌∙◌, ◌⊎◌, true, false, None, sym, ap, subst, arith}
 use Rattle.std.specs.Prelude.{◌↔◌, Result, Ok, Err, OnOk, IfErr, IsErrAnd}
-use Rattle.block_device.specs.Device.{Blocks, LeavesOnly}
+use Rattle.block_device.specs.Device.{Blocks, IsIn, LeavesNoMore, LeavesOnly}
 use Rattle.catalog_page.specs.Layout.{records_of}
 use Rattle.node_page.specs.Broken.{Alters, before, cause_in}
 use Rattle.node_page.specs.declared.broken.Broken.{Broken}
@@ -21,7 +21,7 @@ use Rattle.live_layers.specs.declared.layers.Layers.{Layers}
 use Rattle.live_layers.proofs.KeepLemmas.{nothing_moved, sound_kept, stays_in_turn}
 use Rattle.live_layers.proofs.QuestionLemmas.{IsSameBut}
 use Rattle.live_layers.proofs.Results.{any_err, if_err, on_any_err, the_err}
-use Rattle.live_layers.proofs.StopLemmas.{gate_opened, none_made, pages_written}
+use Rattle.live_layers.proofs.StopLemmas.{gate_opened, kept_rests, none_made, opened_rests, pages_written}
 
 -- since its moment a device leaves nothing but what it may leave now
 abbrev pub OnlyNow : {D A : Type 0} {m : _} → Layers D A m → Type 0
@@ -48,11 +48,11 @@ module _ {D A : Type 0} {m : _} {T : Type 0} where
 
   -- it was opened, was open, or was not opened
   pub gate_begun : (old new : PageCache D A m) (result : Result T Broken) → (IsHonest old → (c : Blocks) → m.left_since (device_of old) (m.moment (device_of old)) c → m.may_leave (device_of old) c)
-      → (gate_of old ≡ Open → IsUnchanged old new) → (IsHonest old → SameButGate (blocks_of new) (blocks_of old)) → (IsHonest old → ¬ (gate_of old ≡ Open) → LeavesOnly m.moment m.left_since (device_of old) (device_of new) (λ c. SameButGate c (blocks_of old)))
-      → (IsHonest old ↔ IsHonest new) → KeepsMap old new → OnOk result (gate_of new ≡ Open) → IfErr result (λ b. b.touched ≡ false) → m.faults (device_of new) ≡ faults_behind (cause_in result) (m.faults (device_of old)) → Begins old new result
-  gate_begun old new result now was_open blocks stops honest map opened untouched faults = record {
+      → (gate_of old ≡ Open → IsUnchanged old new) → (IsHonest old → SameButGate (blocks_of new) (blocks_of old)) → (IsHonest old → ¬ (gate_of old ≡ Open) → LeavesOnly m.moment m.left_since (device_of old) (device_of new) (λ c. SameButGate c (blocks_of old) ⊎ IsIn (m.fallback (device_of old)) c))
+      → (IsHonest old → LeavesNoMore (IsIn (m.fallback (device_of old))) (IsIn (m.fallback (device_of new)))) → (IsHonest old ↔ IsHonest new) → KeepsMap old new → OnOk result (gate_of new ≡ Open) → IfErr result (λ b. b.touched ≡ false) → m.faults (device_of new) ≡ faults_behind (cause_in result) (m.faults (device_of old)) → Begins old new result
+  gate_begun old new result now was_open blocks stops fewer honest map opened untouched faults = record {
     stops = λ ts there rests. gate_opened old new ts there (now there) (λ open'. (was_open open').device) (stops there) rests;
-    rests = λ ts there rests closed c same. rests (λ open'. closed ((was_open open').gate ∙ open')) c (same ∙ blocks there);
+    rests = λ ts there rests. opened_rests old new ts there (λ closed open'. closed ((was_open open').gate ∙ open')) (blocks there) (fewer there) rests;
     opened = opened;
     broke_open = if_err result (λ b quiet touched. absurd (let no : true ≡ false = sym touched ∙ quiet in cc)) untouched;
     honest = honest;
@@ -63,8 +63,8 @@ module _ {D A : Type 0} {m : _} {T : Type 0} where
   -- and pages were changed behind it
   begun_and_made : {S : Type 0} (old mid new : PageCache D A m) (x : S) (y : T) → Begins old mid (Ok x) → ChangesUntil mid new None → Begins old new (Ok y)
   begun_and_made old mid new x y begun changes = record {
-    stops = λ ts honest rests. pages_written old mid new ts (begun.honest.0 honest) begun.opened (begun.stops ts honest rests) changes.gate;
-    rests = λ ts honest rests closed. absurd (closed (changes.gate.gate ∙ begun.opened));
+    stops = λ ts honest rests. pages_written old mid new ts (begun.honest.0 honest) (begun.rests ts honest rests) (begun.stops ts honest rests) changes.gate;
+    rests = λ ts honest rests. kept_rests mid new ts (begun.honest.0 honest) changes.gate (begun.rests ts honest rests);
     opened = changes.gate.gate ∙ begun.opened;
     broke_open = tt;
     honest = (λ h. changes.gate.honest.0 (begun.honest.0 h), λ h. begun.honest.1 (changes.gate.honest.1 h));
@@ -75,8 +75,8 @@ module _ {D A : Type 0} {m : _} {T : Type 0} where
   -- or half changed
   begun_and_broke : {R S : Type 0} (old mid new : PageCache D A m) (x : R) (b : Broken) (result : Result T Broken) → IsErrAnd result (λ e. e ≡ b) → Begins old mid (Ok x) → Alters {T = S} mid new (Err b) → Begins old new result
   begun_and_broke old mid new x b result is begun alters = handed_on old new b result is (record {
-    stops = λ ts honest rests. pages_written old mid new ts (begun.honest.0 honest) begun.opened (begun.stops ts honest rests) alters.changes.gate;
-    rests = λ ts honest rests closed. absurd (closed (alters.changes.gate.gate ∙ begun.opened));
+    stops = λ ts honest rests. pages_written old mid new ts (begun.honest.0 honest) (begun.rests ts honest rests) (begun.stops ts honest rests) alters.changes.gate;
+    rests = λ ts honest rests. kept_rests mid new ts (begun.honest.0 honest) alters.changes.gate (begun.rests ts honest rests);
     opened = tt;
     broke_open = λ touched. alters.changes.gate.gate ∙ begun.opened;
     honest = (λ h. alters.changes.gate.honest.0 (begun.honest.0 h), λ h. begun.honest.1 (alters.changes.gate.honest.1 h));

@@ -1,15 +1,12 @@
 -- What a closing of live layers leaves, and what a reading after it finds.
 use Rattle.std.proofs.Common.{◌≡◌, ◌∙◌, ◌⊎◌, ℕ, List, ◌∷◌, Some, refl, sym, ap, subst, arith, inl, inr, ⊎_elim}
 use Rattle.std.specs.Prelude.{option_and_then}
-use Rattle.block_device.specs.Device.{Blocks, LeavesOnly}
-use Rattle.block_device.specs.Moments.{leaves_weaker}
+use Rattle.block_device.specs.Device.{Blocks, IsIn, LeavesOnly}
 use Rattle.catalog_page.specs.Layout.{Record, records_at, records_of}
 use Rattle.page_cache.specs.Cache.{IsHonest, IsUnchanged, KeepsGate, KeepsMap, LiesIn, blocks_of, device_of, gate_of, next_of, pages}
 use Rattle.page_cache.specs.declared.cache.PageCache.{PageCache}
 use Rattle.page_file.specs.Fault.{IsOfDevice}
-use Rattle.page_file.specs.Laws.{stops_of_a_run_go_on}
 use Rattle.page_file.specs.Pages.{SameBut, pages_in}
-use Rattle.page_file.specs.Stops.{StopSince}
 use Rattle.page_file.specs.declared.fault.Fault.{Fault}
 use Rattle.page_file.specs.declared.fault.Fault.TheVariants as fault
 use Rattle.page_file.specs.declared.gate.Gate.{Gate}
@@ -25,7 +22,7 @@ use Rattle.live_layers.specs.declared.layers.Layers.{Layers}
 use Rattle.live_layers.proofs.HoldLemmas.{apart_from_catalog, counted, few_objects, trees_stay}
 use Rattle.live_layers.proofs.KeepLemmas.{kept_catalog, kept_table}
 use Rattle.live_layers.proofs.ReplaceLemmas.{same_tree_of}
-use Rattle.live_layers.proofs.StopLemmas.{image_aside, or_this, this_one}
+use Rattle.live_layers.proofs.StopLemmas.{kept_after, or_this, rests_on_closed}
 
 -- a fault of the device breaks a closing off
 pub breaks_off : (rose : Type 0) (f : Fault) → IsOfDevice f → (f ≡ fault.Device → rose) → IsFaultOfChange rose f
@@ -53,6 +50,7 @@ module _ {D A : Type 0} {m : _} where
     gate = same.gate;
     honest = (λ h. subst m.honest (sym same.device) h, λ h. subst m.honest same.device h);
     blocks = λ h closed. ap m.shown same.device;
+    falls = λ h c back. inl (subst (λ (d : D). IsIn (m.fallback d) c) same.device back);
     stops = λ h. record {
       later = let e = ap m.moment same.device in omega (arith, e);
       before = λ t c le left. inl (subst (λ (d : D). m.left_since d t c) same.device left);
@@ -66,18 +64,14 @@ module _ {D A : Type 0} {m : _} where
   -- an image that is read behind its shut gate leaves no more
   pub then_read : (old : D) (mid new : PageCache D A m) (ts : List Table) (t : Table) → IsHonest mid → gate_of mid ≡ Shut → IsImage (blocks_of mid) t → LeavesOnly m.moment m.left_since old (device_of mid) (IsRefusedOrImageOf (t ∷ ts)) → KeepsGate mid new
       → LeavesOnly m.moment m.left_since old (device_of new) (IsRefusedOrImageOf (t ∷ ts))
-  then_read old mid new ts t honest shut image closed keeps =
-      leaves_weaker m.moment m.left_since old (device_of new) (λ c. IsRefusedOrImageOf (t ∷ ts) c ⊎ StopSince (gate_of mid) (blocks_of mid) c) (IsRefusedOrImageOf (t ∷ ts))
-      (λ c. ⊎_elim (λ (p : IsRefusedOrImageOf (t ∷ ts) c). p)
-      (λ stop. this_one ts t c (subst (λ (blocks : Blocks). IsImage blocks t) (sym (subst (λ (gate : Gate). StopSince gate (blocks_of mid) c) shut stop)) image)))
-      (stops_of_a_run_go_on old mid.file new.file (IsRefusedOrImageOf (t ∷ ts)) honest closed keeps)
+  then_read old mid new ts t honest shut image closed keeps = kept_after old mid new (t ∷ ts) honest (rests_on_closed mid ts t shut image) closed keeps
 
-  -- a cache whose blocks are an image of the table rests on it, and one that rested on others on these and one more
-  pub rests_on_closed : (cache : PageCache D A m) (ts : List Table) (t : Table) → IsImage (blocks_of cache) t → RestLeavesOneOf cache (t ∷ ts)
-  rests_on_closed cache ts t image = λ closed c same. ⊎_elim (λ refused. inl refused) (λ there. this_one ts t c there) (image_aside (blocks_of cache) c t image same)
-
+  -- a cache that rested on others rests on these and one more
   pub rests_on_more : (cache : PageCache D A m) (ts : List Table) (t : Table) → RestLeavesOneOf cache ts → RestLeavesOneOf cache (t ∷ ts)
-  rests_on_more cache ts t rests = λ closed c same. or_this ts t c (rests closed c same)
+  rests_on_more cache ts t rests = record {
+    aside = λ closed c same. or_this ts t c (rests.aside closed c same);
+    falls = λ honest c back. or_this ts t c (rests.falls honest c back);
+  }
 
   -- the catalog of the same map
   pub catalog_before : (old new : PageCache D A m) (records : List Record) → IsHonest old → KeepsMap old new → catalog_in (pages new) ≡ Some records → catalog_in (pages old) ≡ Some records

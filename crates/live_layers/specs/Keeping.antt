@@ -4,9 +4,9 @@ use Rattle.std.specs.FinMap.{entries}
 use Rattle.std.specs.Ordering.{nat_cmp}
 use Rattle.std.specs.Cmp.Lexicographic.{slice_cmp}
 use Rattle.std.specs.List.{Contains, HoldsAt}
-use Rattle.block_device.specs.Device.{Blocks}
+use Rattle.block_device.specs.Device.{Blocks, IsIn}
 use Rattle.catalog_page.specs.Layout.{Record, records_of}
-use Rattle.page_cache.specs.Cache.{IsPageMap, blocks_of, device_of, gate_of, looks_of, next_of, pages}
+use Rattle.page_cache.specs.Cache.{IsHonest, IsPageMap, blocks_of, device_of, gate_of, looks_of, next_of, pages}
 use Rattle.page_cache.specs.declared.cache.PageCache.{PageCache}
 use Rattle.page_file.specs.Stops.{SameButGate}
 use Rattle.page_file.specs.declared.gate.Gate.TheVariants.{Shut, Open}
@@ -58,23 +58,25 @@ abbrev pub Belongs : Table → List ℕ → ℕ → Type 0
 Belongs t name place = BelongsAt (slice_cmp nat_cmp) (entries t) name place
 
 -- At rest a stop leaves of the cache blocks that opening refuses, or an image of one of these tables: its gate is open, or
--- its blocks are so whatever their gate.
-abbrev pub RestLeavesOneOf : {D A : Type 0} {m : _} → PageCache D A m → List Table → Type 0
-RestLeavesOneOf cache ts = ¬ (gate_of cache ≡ Open) → (c : Blocks) → SameButGate c (blocks_of cache) → IsRefusedOrImageOf ts c
+-- its blocks are so whatever their gate; and so is each fallback.
+pub record RestLeavesOneOf {D A : Type 0} {m : _} (cache : PageCache D A m) (ts : List Table) : Type 0 where
+  pub aside : ¬ (gate_of cache ≡ Open) → (c : Blocks) → SameButGate c (blocks_of cache) → IsRefusedOrImageOf ts c
+  pub falls : IsHonest cache → (c : Blocks) → IsIn (m.fallback (device_of cache)) c → IsRefusedOrImageOf ts c
 
--- What a stop leaves of the cache at rest: behind a shut gate the blocks as they are, an image of the table; or blocks that
--- opening refuses, or an image of one of these tables.
+-- What a stop leaves of the cache at rest: behind a shut gate the blocks as they are, an image of the table, or a fallback
+-- that begins with them; or blocks that opening refuses, or an image of one of these tables.
 abbrev pub LeavesAtRest : {D A : Type 0} {m : _} → PageCache D A m → AfterStop → Type 0
 LeavesAtRest cache (Surely t) = (gate_of cache ≡ Shut) × IsImage (blocks_of cache) t
 LeavesAtRest cache (Perhaps ts) = RestLeavesOneOf cache ts
 
 -- What stops leave of the cache: one now; and of one since the beginning blocks that opening refuses, or an image of one of
--- the tables so far, among which are those that one now may leave.
+-- the tables so far, among which are those that one now may leave. Where there are fallbacks, the device recovers.
 pub record Leaves {D A : Type 0} {m : _} (cache : PageCache D A m) (stops : Stops) : Type 0 where
   pub now : LeavesAtRest cache stops.now
   pub begun : stops.since ≤ m.moment (device_of cache)
   pub so_far : (c : Blocks) → m.left_since (device_of cache) stops.since c → IsRefusedOrImageOf stops.so_far c
   pub among : (t : Table) → Contains (tables_left stops.now) t → Contains stops.so_far t
+  pub recovery : (d : D) (c : Blocks) → IsIn (m.fallback d) c → stops.recovers ≡ true
 
 -- the layer of this name has this tree
 abbrev pub HasTree : {D A : Type 0} {m : _} → Layers D A m → List ℕ → Tree → Type 0

@@ -1,7 +1,7 @@
 //! The closing of a store, and its reopening.
 
 ghost use Rattle.std.specs.Prelude.{◌≡◌, ◌⊎◌, ◌∷◌, Ok, Err, IsOk, IfOk, IfErr, OnErr};
-ghost use Rattle.block_device.specs.Device.{LeavesOnly, Only};
+ghost use Rattle.block_device.specs.Device.{Blocks, IsIn, LeavesOnly, OnlyOr};
 ghost use Rattle.live_layers.specs.Faults.{faults_after_refusal};
 ghost use Rattle.live_layers.specs.Image.{IsImage, IsRefusedOrImageOf};
 ghost use Rattle.live_layers.specs.Staying.{KeepsEachTree, LeavesTreesIn};
@@ -14,8 +14,8 @@ ghost use Rattle.store_law.specs.States.StoreState.{Alive, Dead};
 ghost use Rattle.store_law.specs.Stops.{tables_left};
 ghost use Rattle.layer_store.specs.Commands.{CountsFaults, StaysDead, TakesStep};
 ghost use Rattle.layer_store.specs.Faults.{IsMemoryOrDevice};
-ghost use Rattle.layer_store.specs.Representation.{HasFailed, IsInState, IsSettled, Represents, RepresentsTable};
-ghost use Rattle.layer_store.specs.Representation.{StopsLeave, blocks_in, device_in, layers_in};
+ghost use Rattle.layer_store.specs.Representation.{HasFailed, IsInState, IsLeftAlone, IsSettled, Represents};
+ghost use Rattle.layer_store.specs.Representation.{RepresentsTable, StopsLeave, blocks_in, device_in, layers_in};
 
 use crate::store::changes::tell;
 use crate::store::{FAILED, Store};
@@ -38,16 +38,19 @@ impl<D: BlockDevice, A: Allocator + Copy> Store<D, A> {
             KeepsEachTree (layers_in self.old) (layers_in self.new) }
 
         // A stop leaves what one before the call leaves, or an image of the table; and after a closing that is finished
-        // nothing but what is read.
+        // nothing but what is read, or a fallback, which is an image of the table too.
         ensures stops { (s : SessionState) (t : Table) → Represents self.old s → s.state ≡ Alive t →
             StopsLeave self.old self.new (IsRefusedOrImageOf (t ∷ tables_left s.stops.now)) }
         ensures durable { (t : Table) → RepresentsTable self.old t → IsOk result ⊎ HasFailed self.new →
-            Only (blocks_in self.new) (D.may_leave (device_in self.new)) }
+            OnlyOr (blocks_in self.new) (IsIn (D.fallback (device_in self.new))) (D.may_leave (device_in self.new)) }
+        ensures falls { (t : Table) → RepresentsTable self.old t → IsOk result ⊎ HasFailed self.new →
+            (c : Blocks) → IsIn (D.fallback (device_in self.new)) c → IsImage c t }
 
-        // One that is settled is only read: a stop leaves the blocks as they are.
+        // One that is settled is only read: a stop leaves the blocks as they are, or on a device that recovers blocks
+        // that begin with them.
         ensures now_settled { IsOk result → IsSettled self.new }
         ensures quiet { (t : Table) → RepresentsTable self.old t → IsSettled self.old →
-            StopsLeave self.old self.new (λ c. c ≡ blocks_in self.old) }
+            StopsLeave self.old self.new (IsLeftAlone D.recovers (blocks_in self.old)) }
 
         // One that is refused after its closing has failed; and one that has failed stays so, on any device.
         ensures ends { OnErr result (IsSettled self.new → IsInState self.new Dead) }
@@ -80,7 +83,9 @@ impl<D: BlockDevice, A: Allocator + Copy> Store<D, A> {
             IfErr result (λ e.
             LeavesOnly D.moment D.left_since (device_in self) e.1 (IsRefusedOrImageOf (t ∷ tables_left s.stops.now))) }
         ensures durable { (t : Table) → RepresentsTable self t →
-            IfOk result (λ device. Only (D.shown device) (D.may_leave device)) }
+            IfOk result (λ device. OnlyOr (D.shown device) (IsIn (D.fallback device)) (D.may_leave device)) }
+        ensures falls { (t : Table) → RepresentsTable self t →
+            IfOk result (λ device. (c : Blocks) → IsIn (D.fallback device) c → IsImage c t) }
 
         // Of one that is settled already the device comes back as it is.
         ensures quiet { IsSettled self → IsInState self Dead ⊎ (result ≡ Ok (device_in self)) }

@@ -1,7 +1,7 @@
 //! The records written into the catalog, the gate shut after all pages, and the layers closed.
 
 ghost use Rattle.std.specs.Prelude.{◌≡◌, ◌⊎◌, ◌↔◌, List, ◌∷◌, Ok, IsOk, IfErr, IfOk, OnErr, OnOk};
-ghost use Rattle.block_device.specs.Device.{LeavesOnly, Only};
+ghost use Rattle.block_device.specs.Device.{Blocks, IsIn, LeavesOnly, OnlyOr};
 ghost use Rattle.page_file.specs.Fault.{HasCause, IsDamage, IsOfDevice, faults_after};
 ghost use Rattle.page_file.specs.declared.gate.Gate.TheVariants.{Shut};
 ghost use Rattle.page_cache.specs.Cache.{IsHonest, IsPageMap, IsUnchanged, blocks_of, device_of, gate_of, next_of};
@@ -92,7 +92,9 @@ impl<B: BlockDevice, A: Allocator + Copy> Layers<B, A> {
         ensures closed { (t : Table) → IsSound self t → IfOk result (λ device. IsImage (B.shown device) t) }
         ensures trees { (t : Table) → IsSound self t → IfOk result (λ device. LeavesTreesIn self (B.shown device)) }
         ensures durable { (t : Table) → IsSound self t →
-            IfOk result (λ device. Only (B.shown device) (B.may_leave device)) }
+            IfOk result (λ device. OnlyOr (B.shown device) (IsIn (B.fallback device)) (B.may_leave device)) }
+        ensures falls { (t : Table) → IsSound self t →
+            IfOk result (λ device. (c : Blocks) → IsIn (B.fallback device) c → IsImage c t) }
         ensures stops { (ts : List Table) (t : Table) → IsSound self t → RestLeavesOneOf (cache_of self) ts →
             IfOk result (λ device. LeavesOnly B.moment B.left_since (device_of (cache_of self)) device
             (IsRefusedOrImageOf (t ∷ ts))) }

@@ -1,10 +1,10 @@
 //! Live layers over the pages of a file that was opened.
 
 ghost use Rattle.std.specs.Prelude.{◌≡◌, ◌+◌, ◌≤◌, ◌⊎◌, Some, None, IsTrue, IfOk, IfErr, map as each, option_map};
-ghost use Rattle.block_device.specs.Device.{Blocks};
+ghost use Rattle.block_device.specs.Device.{Blocks, IsIn};
 ghost use Rattle.catalog_page.specs.Layout.{record_of, records_of};
 ghost use Rattle.page_file.specs.Fault.{IsDamage, IsOfDevice, faults_after};
-ghost use Rattle.page_file.specs.Stops.{AddsOnly, StopSince};
+ghost use Rattle.page_file.specs.Stops.{AddsOnly, OrKept, StopSince};
 ghost use Rattle.page_file.specs.declared.fault.Fault.TheVariants as fault;
 ghost use Rattle.page_file.specs.declared.gate.Gate.TheVariants.{Open};
 ghost use Rattle.page_cache.specs.Cache.{IsHonest, LiesIn, blocks_of, device_of, gate_of, looks_of, next_of, pages};
@@ -48,7 +48,8 @@ impl<B: BlockDevice, A: Allocator + Copy> Layers<B, A> {
         ensures written { IfOk result IsWritten }
         ensures asks { IfOk result (λ layers. AsksUntil cache (cache_of layers) None) }
         ensures refused_stops { IfErr result (λ e. IsHonest cache →
-            AddsOnly B.moment B.left_since (device_of cache) e.1 (StopSince (gate_of cache) (blocks_of cache))) }
+            AddsOnly B.moment B.left_since (device_of cache) e.1 (λ c. StopSince (gate_of cache) (blocks_of cache) c ⊎
+            OrKept B.recovers (gate_of cache) (blocks_of cache) (IsIn (B.fallback (device_of cache))) c)) }
         ensures refused_blocks { IfErr result (λ e. IsHonest cache → ¬ (gate_of cache ≡ Open) →
             B.shown e.1 ≡ blocks_of cache) }
         ensures cause { IfErr result (λ e. B.faults e.1 ≡ faults_after e.0 (B.faults (device_of cache))) }

@@ -28,6 +28,9 @@ returns-in-Ok-clause-stops g c = λ s t represents alive. c.in-Ok.ensures.stops 
 pub returns-in-Ok-clause-durable : goal.returns-in-Ok-clause-durable
 returns-in-Ok-clause-durable g c = λ t represents. c.in-Ok.ensures.durable t (alive_with c.args.self t represents).1
 
+pub returns-in-Ok-clause-falls : goal.returns-in-Ok-clause-falls
+returns-in-Ok-clause-falls g c = λ t represents. c.in-Ok.ensures.falls t (alive_with c.args.self t represents).1
+
 pub returns-in-Ok-clause-dead : goal.returns-in-Ok-clause-dead
 returns-in-Ok-clause-dead g c = λ dead. absurd (not_both _ (is_dead c.args.self dead) c.if-failed.false)
 

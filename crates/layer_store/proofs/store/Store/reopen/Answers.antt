@@ -2,7 +2,7 @@
 use Rattle.plain_table.specs.Commands.Command.{Reopen}
 use Rattle.layer_store.specs.Representation.{device_in}
 use Rattle.layer_store.proofs.ChangeLemmas.{cause_told, not_refused, refused_goes_on, step_told}
-use Rattle.layer_store.proofs.ClosingLemmas.{durable_closed, ends_closed, image_closed, quiet_closed, settled_closed, stops_closed}
+use Rattle.layer_store.proofs.ClosingLemmas.{durable_closed, ends_closed, falls_closed, image_closed, quiet_closed, settled_closed, stops_closed}
 use Rattle.layer_store.proofs.StopLemmas.{reopening_leaves}
 use Rattle.layer_store.proofs.StoreLemmas.{alive_in, alive_with, dead_so, is_dead, not_both, takes_nothing}
 use Rattle.layer_store.proofs.store.Store.reopen.Goals as goal
@@ -37,6 +37,12 @@ returns-then-self-clause-durable g c = λ t represents end. absurd (not_both _ c
 pub returns-clause-durable : goal.returns-clause-durable
 returns-clause-durable g c = durable_closed _ _ c.if-self.false c.tell.ensures c.reopen-closed.ensures.leaves c.reopen-closed.ensures.honest.0
 
+pub returns-then-self-clause-falls : goal.returns-then-self-clause-falls
+returns-then-self-clause-falls g c = λ t represents end. absurd (not_both _ c.if-self.true (alive_with c.args.self.now t represents).0)
+
+pub returns-clause-falls : goal.returns-clause-falls
+returns-clause-falls g c = falls_closed _ _ c.if-self.false c.tell.ensures c.reopen-closed.ensures.leaves c.reopen-closed.ensures.honest.0
+
 pub returns-clause-now_settled : goal.returns-clause-now_settled
 returns-clause-now_settled g c = settled_closed c.args.self.now _ c.if-self.false c.tell.ensures c.reopen-closed.ensures.settled
 
@@ -44,7 +50,7 @@ pub returns-then-self-clause-quiet : goal.returns-then-self-clause-quiet
 returns-then-self-clause-quiet g c = λ t represents settled. absurd (not_both _ c.if-self.true (alive_with c.args.self.now t represents).0)
 
 pub returns-clause-quiet : goal.returns-clause-quiet
-returns-clause-quiet g c = quiet_closed c.args.self.now (record c.args.self.now { layers = c.reopen-closed.new.self; failed = c.tell.new.failed }) c.if-self.false c.tell.ensures c.reopen-closed.ensures.leaves (λ honest b left. g.met.D.BlockDevice.only_now (device_in c.args.self.now) b honest left)
+returns-clause-quiet g c = quiet_closed c.args.self.now (record c.args.self.now { layers = c.reopen-closed.new.self; failed = c.tell.new.failed }) c.if-self.false c.tell.ensures c.reopen-closed.ensures.leaves (λ d b back. g.met.D.BlockDevice.fallback_recovers d b back) (λ honest b left. g.met.D.BlockDevice.only_now (device_in c.args.self.now) b honest left)
 
 pub returns-clause-dead : goal.returns-clause-dead
 returns-clause-dead g c = λ dead. absurd (not_both _ (is_dead c.args.self.now dead) c.if-self.false)

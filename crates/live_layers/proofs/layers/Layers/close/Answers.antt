@@ -1,10 +1,10 @@
 -- The device is the one that was settled.
 use Rattle.std.proofs.Common.{◌∷◌, subst, sym}
-use Rattle.block_device.specs.Device.{LeavesOnly, Only}
+use Rattle.block_device.specs.Device.{IsIn, LeavesOnly, OnlyOr}
 use Rattle.page_cache.specs.Cache.{device_of}
 use Rattle.live_layers.specs.Image.{IsImage, IsRefusedOrImageOf}
 use Rattle.live_layers.specs.Staying.{LeavesTreesIn}
-use Rattle.live_layers.proofs.StopLemmas.{shut_is_durable}
+use Rattle.live_layers.proofs.StopLemmas.{fallback_is_image, shut_is_durable}
 use Rattle.live_layers.proofs.layers.Layers.close.Goals as goal
 
 pub returns-in-Ok-clause-closed : goal.returns-in-Ok-clause-closed
@@ -16,8 +16,15 @@ pub returns-in-Ok-clause-durable : goal.returns-in-Ok-clause-durable
 returns-in-Ok-clause-durable g c = λ t sound.
     let d = g.B.BlockDevice in
     let mid = c.settle-settled.new.self in
-    subst (λ (device : g.row.B.Denot). Only (d.shown device) (d.may_leave device)) (sym c.abandon-device.ensures)
+    subst (λ (device : g.row.B.Denot). OnlyOr (d.shown device) (IsIn (d.fallback device)) (d.may_leave device)) (sym c.abandon-device.ensures)
     (shut_is_durable mid.cache (c.in-Ok.ensures.sound t sound).map.honest c.in-Ok.ensures.shut)
+
+pub returns-in-Ok-clause-falls : goal.returns-in-Ok-clause-falls
+returns-in-Ok-clause-falls g c = λ t sound e back.
+    let d = g.B.BlockDevice in
+    let mid = c.settle-settled.new.self in
+    fallback_is_image mid.cache e t (c.in-Ok.ensures.sound t sound).map.honest c.in-Ok.ensures.shut (c.in-Ok.ensures.closed t sound)
+    (subst (λ (device : g.row.B.Denot). IsIn (d.fallback device) e) c.abandon-device.ensures back)
 
 pub returns-in-Ok-clause-stops : goal.returns-in-Ok-clause-stops
 returns-in-Ok-clause-stops g c = λ ts t sound rests.

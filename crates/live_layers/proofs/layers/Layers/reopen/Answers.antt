@@ -1,7 +1,8 @@
 -- A closing that is finished, or refused, and what is read after it.
 use Rattle.std.proofs.Common.{◌∙◌}
 use Rattle.page_cache.specs.Laws.{the_gate_is_kept_in_turn}
-use Rattle.live_layers.proofs.ClosingLemmas.{read_image, rests_on_closed, then_read, unchanged_keeps_gate}
+use Rattle.live_layers.proofs.ClosingLemmas.{read_image, then_read, unchanged_keeps_gate}
+use Rattle.live_layers.proofs.StopLemmas.{rests_on_closed}
 use Rattle.live_layers.proofs.layers.Layers.reopen.Goals as goal
 
 pub returns-in-Err-clause-leaves : goal.returns-in-Err-clause-leaves
@@ -24,7 +25,7 @@ returns-in-Ok-clause-leaves g c = λ t sound.
     let there = read_image mid.cache new.cache t honest settled.shut gate image in
     record {
       stops = λ ts rests. then_read _ mid.cache new.cache ts t honest settled.shut image (settled.stops ts t sound rests) gate;
-      rests = λ ts rests. rests_on_closed new.cache ts t there;
+      rests = λ ts rests. rests_on_closed new.cache ts t (gate.gate ∙ settled.shut) there;
       closed = λ begun. (gate.gate ∙ settled.shut, there);
       quiet = λ was. the_gate_is_kept_in_turn old.cache mid.cache new.cache (unchanged_keeps_gate old.cache mid.cache (settled.was_settled was).0) gate;
     }
@@ -41,7 +42,7 @@ returns-in-Err-read_again-clause-leaves g c = λ t sound.
     let there = read_image mid.cache new.cache t honest settled.shut gate image in
     record {
       stops = λ ts rests. then_read _ mid.cache new.cache ts t honest settled.shut image (settled.stops ts t sound rests) gate;
-      rests = λ ts rests. rests_on_closed new.cache ts t there;
+      rests = λ ts rests. rests_on_closed new.cache ts t (gate.gate ∙ settled.shut) there;
       closed = λ begun. (gate.gate ∙ settled.shut, there);
       quiet = λ was. the_gate_is_kept_in_turn old.cache mid.cache new.cache (unchanged_keeps_gate old.cache mid.cache (settled.was_settled was).0) gate;
     }

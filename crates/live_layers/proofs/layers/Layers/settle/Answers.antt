@@ -1,15 +1,25 @@
 -- The pages hold the table, the catalog names its layers, and the blocks are those pages.
-use Rattle.std.proofs.Common.{◌∷◌, refl}
+use Rattle.std.proofs.Common.{List, ◌∷◌, ◌≡◌, ◌⊎◌, Some, refl, ⊎_elim}
+use Rattle.block_device.specs.Device.{Blocks, IsIn, LeavesNoMore}
 use Rattle.block_device.specs.Moments.{leaves_weaker}
-use Rattle.catalog_page.specs.Layout.{records_of}
-use Rattle.page_cache.specs.Cache.{blocks_of, device_of}
+use Rattle.catalog_page.specs.Layout.{Record, records_of}
+use Rattle.page_cache.specs.Cache.{IsHonest, IsPageMap, LiesAtStart, blocks_of, device_of, next_of, pages}
+use Rattle.page_cache.specs.declared.cache.PageCache.{PageCache}
 use Rattle.page_file.specs.Stops.{SameButGate}
+use Rattle.plain_table.specs.Table.{Table}
 use Rattle.live_layers.specs.Image.{IsRefusedOrImageOf}
+use Rattle.live_layers.specs.Keeping.{RestLeavesOneOf}
+use Rattle.live_layers.specs.Layers.{Holds, catalog_in}
 use Rattle.live_layers.proofs.KeepLemmas.{kept_catalog, kept_table, sound_kept}
 use Rattle.live_layers.proofs.ClosingLemmas.{not_shut, rests_on_more, trees_in_blocks, trees_kept}
-use Rattle.live_layers.proofs.StopLemmas.{image_of, or_this, rests_on_table, table_closed}
+use Rattle.live_layers.proofs.StopLemmas.{image_at_start, image_of, or_this, rests_on_table, table_closed, this_one}
 use Rattle.live_layers.proofs.Results.{on_any_err, on_err, on_ok}
 use Rattle.live_layers.proofs.layers.Layers.settle.Goals as goal
+
+-- a fallback is one of before, or begins with blocks in which the pages lie
+falls_closed : {D A : Type 0} {m : _} (mid new : PageCache D A m) (ts : List Table) (records : List Record) (t : Table) → IsHonest mid → RestLeavesOneOf mid ts → IsPageMap new → catalog_in (pages new) ≡ Some records → Holds (pages new) (next_of new) records t
+    → LeavesNoMore (λ c. IsIn (m.fallback (device_of mid)) c ⊎ LiesAtStart new c) (IsIn (m.fallback (device_of new))) → (c : Blocks) → IsIn (m.fallback (device_of new)) c → IsRefusedOrImageOf (t ∷ ts) c
+falls_closed mid new ts records t honest rests map spelled held more c back = ⊎_elim (λ f. or_this ts t c (rests.falls honest c f)) (λ at. this_one ts t c (image_at_start new c records t map at spelled held)) (more c back)
 
 pub returns-in_err-write-clause-stops : goal.returns-in_err-write-clause-stops
 returns-in_err-write-clause-stops g c = λ ts t sound rests.
@@ -23,8 +33,13 @@ returns-clause-stops g c = λ ts t sound rests.
     let before = c.write.ensures.sound t sound in
     let keeps = c.settle.ensures.map in
     let spelled = kept_catalog mid.cache new (records_of mid.records) before.map.honest keeps (before.catalog c.in_ok-write.ensures.written) in
-    table_closed (device_of c.args.self.now.cache) (device_of mid.cache) (device_of new) new (λ b. SameButGate b (blocks_of new)) ts (records_of mid.records) t (c.write.ensures.stops ts sound.map.honest rests)
-    (c.settle.ensures.stops before.map.honest) (keeps.sound.0 before.map) spelled (kept_table mid.cache new (records_of mid.records) t before.map.honest keeps before.holds)
+    let d = g.B.BlockDevice in
+    let held = kept_table mid.cache new (records_of mid.records) t before.map.honest keeps before.holds in
+    let at_mid = c.write.ensures.rests ts sound.map.honest rests in
+    let falls = falls_closed mid.cache new ts (records_of mid.records) t before.map.honest at_mid (keeps.sound.0 before.map) spelled held (c.settle.ensures.fallback before.map.honest) in
+    table_closed (device_of c.args.self.now.cache) (device_of mid.cache) (device_of new) new (λ b. SameButGate b (blocks_of new)) (λ b. IsIn (d.fallback (device_of mid.cache)) b ⊎ IsIn (d.fallback (device_of new)) b) ts (records_of mid.records) t
+    (c.write.ensures.stops ts sound.map.honest rests) (c.settle.ensures.stops before.map.honest)
+    (λ b. ⊎_elim (λ f. or_this ts t b (at_mid.falls before.map.honest b f)) (λ f. falls b f)) (keeps.sound.0 before.map) spelled held
 
 pub returns-clause-closed : goal.returns-clause-closed
 returns-clause-closed g c = λ t sound.
@@ -49,7 +64,9 @@ returns-clause-rests g c = λ ts t sound rests.
     let before = c.write.ensures.sound t sound in
     let keeps = c.settle.ensures.map in
     let spelled = kept_catalog mid.cache new (records_of mid.records) before.map.honest keeps (before.catalog c.in_ok-write.ensures.written) in
-    rests_on_table new ts (records_of mid.records) t (keeps.sound.0 before.map) spelled (kept_table mid.cache new (records_of mid.records) t before.map.honest keeps before.holds)
+    let held = kept_table mid.cache new (records_of mid.records) t before.map.honest keeps before.holds in
+    rests_on_table new ts (records_of mid.records) t (keeps.sound.0 before.map) spelled held
+    (falls_closed mid.cache new ts (records_of mid.records) t before.map.honest (c.write.ensures.rests ts sound.map.honest rests) (keeps.sound.0 before.map) spelled held (c.settle.ensures.fallback before.map.honest))
 
 pub returns-in_err-write-clause-refused : goal.returns-in_err-write-clause-refused
 returns-in_err-write-clause-refused g c = on_any_err c.from_residual.result _ c.in_err-write.ensures.refused

@@ -1,15 +1,24 @@
 -- The catalog is written behind an open gate, and nothing else.
-use Rattle.std.proofs.Common.{◌≡◌, ◌∙◌, true, false, refl, ap, arith}
+use Rattle.std.proofs.Common.{List, ◌≡◌, ◌∙◌, true, false, refl, ap, arith}
 use Rattle.std.specs.Prelude.{option_and_then}
+use Rattle.block_device.specs.Device.{IsIn, LeavesNoMore}
 use Rattle.catalog_page.specs.Layout.{records_at, records_of}
-use Rattle.page_cache.specs.Cache.{device_of}
+use Rattle.page_cache.specs.Cache.{IsHonest, device_of, gate_of}
+use Rattle.page_cache.specs.declared.cache.PageCache.{PageCache}
+use Rattle.page_file.specs.declared.gate.Gate.TheVariants.{Open}
+use Rattle.plain_table.specs.Table.{Table}
+use Rattle.live_layers.specs.Keeping.{RestLeavesOneOf}
 use Rattle.page_file.specs.Fault.{IsOfDevice}
 use Rattle.page_cache.specs.Laws.{numbers_are_few, the_catalog_is_live}
 use Rattle.live_layers.proofs.KeepLemmas.{sound_kept, sound_written}
 use Rattle.live_layers.proofs.ClosingLemmas.{open_is_not_shut, trees_beside_catalog, trees_kept, unsure_is_not_shut}
-use Rattle.live_layers.proofs.StopLemmas.{gate_opened, none_made, pages_written}
+use Rattle.live_layers.proofs.StopLemmas.{gate_opened, kept_rests, none_made, opened_rests, pages_written}
 use Rattle.live_layers.proofs.Results.{on_any_err, the_err}
 use Rattle.live_layers.proofs.layers.Layers.write.Goals as goal
+
+-- the gate is open
+rests_open : {D A : Type 0} {m : _} (old new : PageCache D A m) (ts : List Table) → IsHonest old → gate_of new ≡ Open → LeavesNoMore (IsIn (m.fallback (device_of old))) (IsIn (m.fallback (device_of new))) → RestLeavesOneOf old ts → RestLeavesOneOf new ts
+rests_open old new ts honest opened fewer rests = record { aside = λ closed. absurd (closed opened); falls = λ _ c back. rests.falls honest c (fewer c back) }
 
 pub returns-then-self-clause-stops : goal.returns-then-self-clause-stops
 returns-then-self-clause-stops g c = λ ts honest rests.
@@ -23,9 +32,9 @@ returns-in_err-begin_change-clause-stops g c = λ ts honest rests.
     gate_opened cache c.begin_change.new.self ts honest (λ b left. g.met.B.BlockDevice.only_now (device_of cache) b honest left) (λ opened. (begun.was_open opened).0.device) (begun.stops honest) rests
 
 pub returns-in_err-begin_change-clause-rests : goal.returns-in_err-begin_change-clause-rests
-returns-in_err-begin_change-clause-rests g c = λ ts honest rests closed b same.
+returns-in_err-begin_change-clause-rests g c = λ ts honest rests.
     let begun = c.in_err-begin_change.ensures in
-    rests (λ opened. let no : false ≡ true = (begun.was_open opened).1 in absurd (cc)) b (same ∙ begun.blocks honest)
+    opened_rests c.args.self.now.cache c.begin_change.new.self ts honest (λ _ opened. let no : false ≡ true = (begun.was_open opened).1 in absurd (cc)) (begun.blocks honest) (begun.fallback honest) rests
 
 pub returns-in_err-begin_change-clause-sound : goal.returns-in_err-begin_change-clause-sound
 returns-in_err-begin_change-clause-sound g c = λ t sound. sound_kept c.args.self.now _ t c.begin_change.ensures.map refl refl (λ w. w) sound
@@ -34,12 +43,15 @@ pub returns-in_err-put-clause-stops : goal.returns-in_err-put-clause-stops
 returns-in_err-put-clause-stops g c = λ ts honest rests.
     let cache = c.args.self.now.cache in
     let begun = c.begin_change.ensures in
-    pages_written cache c.begin_change.new.self c.put.new.self ts (begun.honest.0 honest) c.in_ok-begin_change.ensures.open
+    pages_written cache c.begin_change.new.self c.put.new.self ts (begun.honest.0 honest) (rests_open c.args.self.now.cache c.begin_change.new.self ts honest c.in_ok-begin_change.ensures.open (begun.fallback honest) rests)
     (gate_opened cache c.begin_change.new.self ts honest (λ b left. g.met.B.BlockDevice.only_now (device_of cache) b honest left) (λ opened. (begun.was_open opened).0.device) (begun.stops honest) rests)
     c.put.ensures.changes.gate
 
 pub returns-in_err-put-clause-rests : goal.returns-in_err-put-clause-rests
-returns-in_err-put-clause-rests g c = λ ts honest rests closed. absurd (closed (c.put.ensures.changes.gate.gate ∙ c.in_ok-begin_change.ensures.open))
+returns-in_err-put-clause-rests g c = λ ts honest rests.
+    let begun = c.begin_change.ensures in
+    kept_rests c.begin_change.new.self c.put.new.self ts (begun.honest.0 honest) c.put.ensures.changes.gate
+    (rests_open c.args.self.now.cache c.begin_change.new.self ts honest c.in_ok-begin_change.ensures.open (begun.fallback honest) rests)
 
 pub returns-in_err-put-clause-sound : goal.returns-in_err-put-clause-sound
 returns-in_err-put-clause-sound g c = λ t sound.
@@ -61,12 +73,15 @@ pub returns-clause-stops : goal.returns-clause-stops
 returns-clause-stops g c = λ ts honest rests.
     let cache = c.args.self.now.cache in
     let begun = c.begin_change.ensures in
-    pages_written cache c.begin_change.new.self c.put.new.self ts (begun.honest.0 honest) c.in_ok-begin_change.ensures.open
+    pages_written cache c.begin_change.new.self c.put.new.self ts (begun.honest.0 honest) (rests_open c.args.self.now.cache c.begin_change.new.self ts honest c.in_ok-begin_change.ensures.open (begun.fallback honest) rests)
     (gate_opened cache c.begin_change.new.self ts honest (λ b left. g.met.B.BlockDevice.only_now (device_of cache) b honest left) (λ opened. (begun.was_open opened).0.device) (begun.stops honest) rests)
     c.put.ensures.changes.gate
 
 pub returns-clause-rests : goal.returns-clause-rests
-returns-clause-rests g c = λ ts honest rests closed. absurd (closed (c.put.ensures.changes.gate.gate ∙ c.in_ok-begin_change.ensures.open))
+returns-clause-rests g c = λ ts honest rests.
+    let begun = c.begin_change.ensures in
+    kept_rests c.begin_change.new.self c.put.new.self ts (begun.honest.0 honest) c.put.ensures.changes.gate
+    (rests_open c.args.self.now.cache c.begin_change.new.self ts honest c.in_ok-begin_change.ensures.open (begun.fallback honest) rests)
 
 pub returns-clause-sound : goal.returns-clause-sound
 returns-clause-sound g c = λ t sound.
