@@ -28,3 +28,15 @@ returns-in-Ok-open-clause-settled g c =
 pub returns-in-Ok-open-clause-trees : goal.returns-in-Ok-open-clause-trees
 returns-in-Ok-open-clause-trees g c = λ blocks honest lies.
     let over = c.in-Ok.ensures in c.in-Ok-open.ensures.trees blocks (subst g.D.BlockDevice.honest (sym over.device) honest) ((over.lies blocks).1 lies)
+
+pub returns-in-Ok-open-clause-stops : goal.returns-in-Ok-open-clause-stops
+returns-in-Ok-open-clause-stops g c = λ honest.
+    let over = c.in-Ok.ensures in
+    let inside = subst g.D.BlockDevice.honest (sym over.device) honest in
+    read_over over.device (only_read c.in-Ok.cache _ (λ e b back. g.met.D.BlockDevice.fallback_recovers e b back) inside (over.gate ∙ c.requires.shut) (c.in-Ok-open.ensures.asks.gate.stops inside))
+
+pub returns-in-Err-open-clause-refused_stops : goal.returns-in-Err-open-clause-refused_stops
+returns-in-Err-open-clause-refused_stops g c = λ honest.
+    let over = c.in-Ok.ensures in
+    let inside = subst g.D.BlockDevice.honest (sym over.device) honest in
+    read_over over.device (only_read c.in-Ok.cache _ (λ e b back. g.met.D.BlockDevice.fallback_recovers e b back) inside (over.gate ∙ c.requires.shut) (c.in-Err-open.ensures.refused_stops inside))
