@@ -3,7 +3,11 @@ use Rattle.std.proofs.Common.{◌≡◌, ◌∙◌, ℕ, true, false, refl, sym,
 use Rattle.std.specs.Prelude.{option_and_then}
 use Rattle.catalog_page.specs.Layout.{records_at}
 use Rattle.live_layers.specs.Catalog.{is_good_catalog}
-use Rattle.live_layers.specs.Keeping.{records_in}
+use Rattle.live_layers.specs.Keeping.{cache_of, records_in}
+use Rattle.page_cache.specs.Cache.{device_of}
+use Rattle.page_file.specs.Stops.{AddsOnly}
+use Rattle.layer_store.specs.Representation.{IsLeftAlone}
+use Rattle.layer_store.proofs.StopLemmas.{only_read}
 use Rattle.layer_store.proofs.StoreLemmas.{alive_so, not_both, settled_so}
 use Rattle.layer_store.proofs.store.start.begin.Goals as goal
 
@@ -32,11 +36,17 @@ returns-in-Ok-open-clause-trees g c = λ blocks honest lies.
 pub returns-in-Ok-open-clause-stops : goal.returns-in-Ok-open-clause-stops
 returns-in-Ok-open-clause-stops g c = λ honest.
     let over = c.in-Ok.ensures in
-    let inside = subst g.D.BlockDevice.honest (sym over.device) honest in
-    read_over over.device (only_read c.in-Ok.cache _ (λ e b back. g.met.D.BlockDevice.fallback_recovers e b back) inside (over.gate ∙ c.requires.shut) (c.in-Ok-open.ensures.asks.gate.stops inside))
+    let d = g.D.BlockDevice in
+    let inside = subst d.honest (sym over.device) honest in
+    let new = device_of (cache_of c.in-Ok-open.layers) in
+    subst (λ (e : g.row.D.Denot). AddsOnly d.moment d.left_since e new (IsLeftAlone d.recovers (d.shown e))) over.device
+    (only_read c.in-Ok.cache new (λ e b back. g.met.D.BlockDevice.fallback_recovers e b back) inside (over.gate ∙ c.requires.shut) (c.in-Ok-open.ensures.asks.gate.stops inside))
 
 pub returns-in-Err-open-clause-refused_stops : goal.returns-in-Err-open-clause-refused_stops
 returns-in-Err-open-clause-refused_stops g c = λ honest.
     let over = c.in-Ok.ensures in
-    let inside = subst g.D.BlockDevice.honest (sym over.device) honest in
-    read_over over.device (only_read c.in-Ok.cache _ (λ e b back. g.met.D.BlockDevice.fallback_recovers e b back) inside (over.gate ∙ c.requires.shut) (c.in-Err-open.ensures.refused_stops inside))
+    let d = g.D.BlockDevice in
+    let inside = subst d.honest (sym over.device) honest in
+    let new = c.in-Err-open.field-0.1 in
+    subst (λ (e : g.row.D.Denot). AddsOnly d.moment d.left_since e new (IsLeftAlone d.recovers (d.shown e))) over.device
+    (only_read c.in-Ok.cache new (λ e b back. g.met.D.BlockDevice.fallback_recovers e b back) inside (over.gate ∙ c.requires.shut) (c.in-Err-open.ensures.refused_stops inside))

@@ -6,6 +6,7 @@ use Rattle.block_device.specs.Plain.{never}
 use Rattle.live_layers.specs.Image.{IsImage}
 use Rattle.page_file.specs.File.{blocks_of, device_of}
 use Rattle.page_file.specs.Opening.{IsRefused}
+use Rattle.page_file.specs.Stops.{SameButGate}
 use Rattle.layer_store.specs.Representation.{device_in}
 use Rattle.layer_store.proofs.Results.{at_err, at_ok, err_case, ok_case}
 use Rattle.layer_store.proofs.StartLemmas.{begins_so, falls_begin, longer_left, made_image, new_left, shut_store, then_read}
@@ -20,7 +21,7 @@ returns-in-Ok-clause-begins g c = ok_case c.begin.result (λ store is honest non
     let image = made_image file (made.lies honest) made.next (made.catalog honest) (made.others honest) (made.sound honest) in
     let run = then_read d.moment d.left_since c.args.device (device_of file) (device_in store) d.recovers (blocks_of file) (λ b. (IsRefused b ⊎ IsImage b empty) ⊎ IsIn (d.fallback c.args.device) b) (inl (inr image))
     (longer_left (IsIn (d.fallback c.args.device)) (blocks_of file) empty image d.recovers)
-    (new_left d.moment d.left_since c.args.device (device_of file) _ _ _ (made.fallback honest) (made.stops honest)) (at_ok _ c.begin.result store is c.begin.ensures.stops inside) in
+    (new_left d.moment d.left_since c.args.device (device_of file) (λ b. SameButGate b (blocks_of file)) (IsIn (d.fallback c.args.device)) (IsIn (d.fallback (device_of file))) (made.fallback honest) (made.stops honest)) (at_ok _ c.begin.result store is c.begin.ensures.stops inside) in
     begins_so store (d.moment c.args.device) empty (λ e b back. g.met.D.BlockDevice.fallback_recovers e b back) (at_ok _ c.begin.result store is (c.begin.ensures.image empty (blocks_of file) inside (made.lies honest) image)) (at_ok _ c.begin.result store is c.begin.ensures.settled)
     (subst (λ (b : Blocks). IsImage b empty) (sym (at_ok _ c.begin.result store is c.begin.ensures.blocks inside)) image) run.later
     (λ b left. ⊎_elim (λ p. p) (λ back. absurd (never (d.fallback c.args.device) none b back)) (run.each b left)))
@@ -40,7 +41,7 @@ returns-in-Ok-clause-stops g c = ok_case c.begin.result (λ store is honest.
     let image = made_image file (made.lies honest) made.next (made.catalog honest) (made.others honest) (made.sound honest) in
     then_read d.moment d.left_since c.args.device (device_of file) (device_in store) d.recovers (blocks_of file) (λ b. (IsRefused b ⊎ IsImage b empty) ⊎ IsIn (d.fallback c.args.device) b) (inl (inr image))
     (longer_left (IsIn (d.fallback c.args.device)) (blocks_of file) empty image d.recovers)
-    (new_left d.moment d.left_since c.args.device (device_of file) _ _ _ (made.fallback honest) (made.stops honest)) (at_ok _ c.begin.result store is c.begin.ensures.stops (made.honest.0 honest)))
+    (new_left d.moment d.left_since c.args.device (device_of file) (λ b. SameButGate b (blocks_of file)) (IsIn (d.fallback c.args.device)) (IsIn (d.fallback (device_of file))) (made.fallback honest) (made.stops honest)) (at_ok _ c.begin.result store is c.begin.ensures.stops (made.honest.0 honest)))
 
 pub returns-in-Ok-clause-refused_stops : goal.returns-in-Ok-clause-refused_stops
 returns-in-Ok-clause-refused_stops g c = λ cache. err_case c.begin.result (λ e is honest.
@@ -50,7 +51,7 @@ returns-in-Ok-clause-refused_stops g c = λ cache. err_case c.begin.result (λ e
     let image = made_image file (made.lies honest) made.next (made.catalog honest) (made.others honest) (made.sound honest) in
     then_read d.moment d.left_since c.args.device (device_of file) e.1 d.recovers (blocks_of file) (λ b. (IsRefused b ⊎ IsImage b empty) ⊎ IsIn (d.fallback c.args.device) b) (inl (inr image))
     (longer_left (IsIn (d.fallback c.args.device)) (blocks_of file) empty image d.recovers)
-    (new_left d.moment d.left_since c.args.device (device_of file) _ _ _ (made.fallback honest) (made.stops honest)) (at_err _ c.begin.result e is c.begin.ensures.refused_stops (made.honest.0 honest)))
+    (new_left d.moment d.left_since c.args.device (device_of file) (λ b. SameButGate b (blocks_of file)) (IsIn (d.fallback c.args.device)) (IsIn (d.fallback (device_of file))) (made.fallback honest) (made.stops honest)) (at_err _ c.begin.result e is c.begin.ensures.refused_stops (made.honest.0 honest)))
 
 pub returns-in-Ok-clause-refused : goal.returns-in-Ok-clause-refused
 returns-in-Ok-clause-refused g c = λ cache. err_case c.begin.result (λ e is honest.
@@ -70,4 +71,5 @@ returns-in-Ok-clause-falls g c = ok_case c.begin.result (λ store is honest.
 pub returns-in-Err-clause-refused_stops : goal.returns-in-Err-clause-refused_stops
 returns-in-Err-clause-refused_stops g c = λ cache honest.
     let d = g.D.BlockDevice in
-    new_left d.moment d.left_since c.args.device _ _ _ _ (c.in-Err.ensures.refused_fallback honest) (c.in-Err.ensures.refused_stops honest)
+    let left = c.in-Err.field-0.1 in
+    new_left d.moment d.left_since c.args.device left (λ b. SameButGate b (d.shown left)) (IsIn (d.fallback c.args.device)) (IsIn (d.fallback left)) (c.in-Err.ensures.refused_fallback honest) (c.in-Err.ensures.refused_stops honest)
