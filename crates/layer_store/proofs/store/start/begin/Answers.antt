@@ -47,6 +47,6 @@ returns-in-Err-open-clause-refused_stops g c = λ honest.
     let over = c.in-Ok.ensures in
     let d = g.D.BlockDevice in
     let inside = subst d.honest (sym over.device) honest in
-    let new = c.in-Err-open.field-0.1 in
+    let new = c.in-Err-open.device in
     subst (λ (e : g.row.D.Denot). AddsOnly d.moment d.left_since e new (IsLeftAlone d.recovers (d.shown e))) over.device
     (only_read c.in-Ok.cache new (λ e b back. g.met.D.BlockDevice.fallback_recovers e b back) inside (over.gate ∙ c.requires.shut) (c.in-Err-open.ensures.refused_stops inside))

@@ -71,5 +71,5 @@ returns-in-Ok-clause-falls g c = ok_case c.begin.result (λ store is honest.
 pub returns-in-Err-clause-refused_stops : goal.returns-in-Err-clause-refused_stops
 returns-in-Err-clause-refused_stops g c = λ cache honest.
     let d = g.D.BlockDevice in
-    let left = c.in-Err.field-0.1 in
+    let left = c.in-Err.device in
     new_left d.moment d.left_since c.args.device left (λ b. SameButGate b (d.shown left)) (IsIn (d.fallback c.args.device)) (IsIn (d.fallback left)) (c.in-Err.ensures.refused_fallback honest) (c.in-Err.ensures.refused_stops honest)
