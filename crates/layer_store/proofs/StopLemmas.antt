@@ -18,7 +18,7 @@ use Rattle.page_cache.specs.Cache.{IsHonest, KeepsGate, blocks_of, device_of, ga
 use Rattle.page_cache.specs.declared.cache.PageCache.{PageCache}
 use Rattle.page_file.specs.Laws.{a_fallback_begins_with_the_blocks, stops_of_a_run_go_on}
 use Rattle.page_file.specs.Opening.{IsRefused}
-use Rattle.page_file.specs.Stops.{OrKept, StopSince}
+use Rattle.page_file.specs.Stops.{AddsOnly, OrKept, StopSince}
 use Rattle.page_file.specs.declared.gate.Gate.{Gate}
 use Rattle.page_file.specs.declared.gate.Gate.TheVariants.{Open, Shut}
 use Rattle.plain_table.specs.Answers.{done_answer}
@@ -98,18 +98,29 @@ module _ {D A : Type 0} {m : _} where
       (stops_of_a_run_go_on (device_of old) old.file new.file (MayRemain left) honest
       (started m.moment m.left_since (device_of old) (MayRemain left) (λ c stop. at_rest_leaves old left honest there c (now c stop))) keeps)
 
-  -- where the gate is shut it leaves the blocks as they are
+  -- where the gate is shut it leaves the blocks as they are, or on a device that recovers blocks that begin with them
+  alone : (cache : PageCache D A m) (c : Blocks) → ((d : D) (c : Blocks) → IsIn (m.fallback d) c → m.recovers ≡ true) → IsHonest cache → gate_of cache ≡ Shut
+      → StopSince (gate_of cache) (blocks_of cache) c ⊎ OrKept m.recovers (gate_of cache) (blocks_of cache) (IsIn (m.fallback (device_of cache))) c → IsLeftAlone m.recovers (blocks_of cache) c
+  alone cache c recovers honest shut = ⊎_elim (λ stop. inl (subst (λ (gate : Gate). StopSince gate (blocks_of cache) c) shut stop))
+      (⊎_elim (λ back. inr (recovers (device_of cache) c back, a_fallback_begins_with_the_blocks cache.file c honest shut back)) (λ begun. inr (begun.1, begun.2)))
+
+  pub only_read : (cache : PageCache D A m) (new : D) → ((d : D) (c : Blocks) → IsIn (m.fallback d) c → m.recovers ≡ true) → IsHonest cache → gate_of cache ≡ Shut
+      → AddsOnly m.moment m.left_since (device_of cache) new (λ c. StopSince (gate_of cache) (blocks_of cache) c ⊎ OrKept m.recovers (gate_of cache) (blocks_of cache) (IsIn (m.fallback (device_of cache))) c)
+      → AddsOnly m.moment m.left_since (device_of cache) new (IsLeftAlone m.recovers (blocks_of cache))
+  only_read cache new recovers honest shut adds = record {
+    later = adds.later;
+    before = λ t c le left. ⊎_elim (λ was. inl was) (λ p. inr (alone cache c recovers honest shut p)) (adds.before t c le left);
+  }
+
   pub read_alone : (old new : PageCache D A m) → ((d : D) (c : Blocks) → IsIn (m.fallback d) c → m.recovers ≡ true) → IsHonest old → OnlyNow old → gate_of old ≡ Shut → KeepsGate old new
       → LeavesOnly m.moment m.left_since (device_of old) (device_of new) (IsLeftAlone m.recovers (blocks_of old))
   read_alone old new recovers honest now shut keeps =
       leaves_weaker m.moment m.left_since (device_of old) (device_of new)
       (λ c. IsLeftAlone m.recovers (blocks_of old) c ⊎ (StopSince (gate_of old) (blocks_of old) c ⊎ OrKept m.recovers (gate_of old) (blocks_of old) (IsIn (m.fallback (device_of old))) c)) (IsLeftAlone m.recovers (blocks_of old))
-      (λ c. ⊎_elim (λ alone. alone) (⊎_elim (λ stop. inl (subst (λ (gate : Gate). StopSince gate (blocks_of old) c) shut stop)) (⊎_elim (λ back. longer c back) (λ begun. inr (begun.1, begun.2)))))
+      (λ c. ⊎_elim (λ (p : IsLeftAlone m.recovers (blocks_of old) c). p) (λ p. alone old c recovers honest shut p))
       (stops_of_a_run_go_on (device_of old) old.file new.file (IsLeftAlone m.recovers (blocks_of old)) honest
-      (started m.moment m.left_since (device_of old) (IsLeftAlone m.recovers (blocks_of old)) (λ c stop. ⊎_elim (λ same. inl same) (λ back. longer c back) (shut_is_durable old honest shut c (now c stop)))) keeps)
-    where
-      longer : (c : Blocks) → IsIn (m.fallback (device_of old)) c → IsLeftAlone m.recovers (blocks_of old) c
-      longer c back = inr (recovers (device_of old) c back, a_fallback_begins_with_the_blocks old.file c honest shut back)
+      (started m.moment m.left_since (device_of old) (IsLeftAlone m.recovers (blocks_of old))
+      (λ c stop. ⊎_elim (λ same. inl same) (λ back. inr (recovers (device_of old) c back, a_fallback_begins_with_the_blocks old.file c honest shut back)) (shut_is_durable old honest shut c (now c stop)))) keeps)
 
   -- ---- a change
 
@@ -219,6 +230,11 @@ module _ {D A : Type 0} {m : _} where
   pub left_of_store : (store : Store D A m) (s : SessionState) → Represents store s → (c : Blocks) → m.may_leave (device_in store) c → MayRemain s.stops.now c
   unfolding Represents
   left_of_store store s represents c stop = at_rest_leaves (cache_in store) s.stops.now represents.1 represents.2.now c stop
+
+  -- and what may be brought back
+  pub falls_of_store : (store : Store D A m) (s : SessionState) → Represents store s → (c : Blocks) → IsIn (m.fallback (device_in store)) c → IsRefusedOrImageOf (tables_left s.stops.now) c
+  unfolding Represents
+  falls_of_store store s represents c back = (left_rests (cache_in store) s.stops.now represents.2.now).falls represents.1 c back
 
   pub session_state_is : (store : Store D A m) (s : SessionState) → Represents store s → IsOfStore store s
   unfolding Represents

@@ -1,24 +1,34 @@
 //! What follows from the definitions of images and of what a store represents: each law is the contract of a function
 //! that does nothing.
-ghost use Rattle.std.specs.Prelude.{◌≡◌, ◌∷◌, ℕ};
-ghost use Rattle.block_device.specs.Device.{Blocks, LeavesOnly};
+ghost use Rattle.std.specs.Prelude.{◌≡◌, ◌⊎◌, ◌∷◌, ℕ, false};
+ghost use Rattle.std.specs.FinMap.{empty};
+ghost use Rattle.block_device.specs.Device.{Begins, Blocks, IsIn, LeavesOnly, Only, OnlyOr};
 ghost use Rattle.live_layers.specs.Image.{IsImage, MayRemain, IsRefusedOrImageOf, OpeningRefuses};
+ghost use Rattle.page_file.specs.Opening.{IsRefused};
 ghost use Rattle.page_file.specs.declared.fault.Fault.{Fault};
 ghost use Rattle.plain_table.specs.Table.{Table};
-ghost use Rattle.store_law.specs.Sessions.{SessionState};
+ghost use Rattle.store_law.specs.Sessions.{Reaches, SessionState};
 ghost use Rattle.store_law.specs.States.{StoreState};
+ghost use Rattle.store_law.specs.States.StoreState.{Alive};
 ghost use Rattle.store_law.specs.Stops.{tables_left};
-ghost use Rattle.layer_store.specs.Representation.{IsInState, IsOfStore, Represents};
-ghost use Rattle.layer_store.specs.Representation.{blocks_in, device_in, from_now, resting_on};
+ghost use Rattle.layer_store.specs.Representation.{BeginsWith, IsInState, IsLeftAlone, IsOfStore, Represents};
+ghost use Rattle.layer_store.specs.Representation.{blocks_in, closed_since, device_in, from_now, resting_on};
+ghost use Rattle.layer_store.specs.Starting.{HasNoFallback, LeftInOpening};
 ghost use Rattle.layer_store.specs.declared.store.Store.{Store};
 
-use block_device::BlockDevice;
+use block_device::{BlockDevice, PlainDevice};
 use std::alloc::Allocator;
 
 /// Blocks are an image of at most one table.
 #[tactic(auto, using(live_layers::proofs::OneTable::an_image_is_of_one_table))]
 pub fn an_image_is_of_one_table()
     ensures { (blocks : Blocks) (t u : Table) → IsImage blocks t → IsImage blocks u → t ≡ u }
+{}
+
+/// Blocks that begin with an image of a table are one, whatever is behind it.
+#[tactic(auto, using(live_layers::proofs::StopLemmas::image_longer))]
+pub fn what_begins_with_an_image_is_one()
+    ensures { (blocks c : Blocks) (t : Table) → IsImage blocks t → Begins blocks c → IsImage c t }
 {}
 
 /// No check of opening refuses an image.
@@ -34,12 +44,15 @@ pub fn blocks_are_refused_in_one_way()
 {}
 
 /// A stop between two calls leaves of a store what the state of its session says, and one at any moment since the
-/// beginning left blocks that opening refuses, or an image of one of that state's tables.
+/// beginning left blocks that opening refuses, or an image of one of that state's tables. So does what a device that
+/// recovers may bring back.
 pub fn stops_leave_what_the_session_state_says<D: BlockDevice, A: Allocator>()
     ensures now { (store : Store D A ⟦<D as BlockDevice>⟧) (s : SessionState) → Represents store s →
         (c : Blocks) → D.may_leave (device_in store) c → MayRemain s.stops.now c }
     ensures so_far { (store : Store D A ⟦<D as BlockDevice>⟧) (s : SessionState) → Represents store s →
         (c : Blocks) → D.left_since (device_in store) s.stops.since c → IsRefusedOrImageOf s.stops.so_far c }
+    ensures falls { (store : Store D A ⟦<D as BlockDevice>⟧) (s : SessionState) → Represents store s →
+        (c : Blocks) → IsIn (D.fallback (device_in store)) c → IsRefusedOrImageOf (tables_left s.stops.now) c }
 {}
 
 /// Once a closing has ended, refused or not, a stop at any moment since the beginning left blocks that opening
@@ -69,9 +82,28 @@ pub fn a_session_state_begins_at_each_call<D: BlockDevice, A: Allocator>()
 {}
 
 /// Where the blocks of a store are an image of a table, a stop leaves of them no other table's, whatever closings were
-/// refused before.
+/// refused before; but on a device that recovers also what one before might have left.
 pub fn an_image_rests_on_its_table<D: BlockDevice, A: Allocator>()
     ensures { (store : Store D A ⟦<D as BlockDevice>⟧) (s : SessionState) (t : Table) → Represents store s →
         IsImage (blocks_in store) t →
         Represents store (resting_on s (D.moment (device_in store)) t) }
+{}
+
+/// On a device without commits no stop brings anything back: so what calls say of stops on devices that recover is said
+/// without fallbacks.
+pub fn a_plain_device_brings_nothing_back<D: PlainDevice, A: Allocator>()
+    ensures none { (device : D) → HasNoFallback (D.fallback device) }
+    ensures begins { (store : Store D A ⟦<D as BlockDevice>⟧) (moment : ℕ) (t : Table) → BeginsWith store moment t →
+        Reaches Represents store (λ s. (s.state ≡ Alive t) × (s.stops ≡ closed_since false moment t)) }
+    ensures created { (old new : D) →
+        LeavesOnly D.moment D.left_since old new (λ c. (IsRefused c ⊎ IsImage c empty) ⊎ IsIn (D.fallback old) c) →
+        LeavesOnly D.moment D.left_since old new (λ c. IsRefused c ⊎ IsImage c empty) }
+    ensures opened { (old new : D) → LeavesOnly D.moment D.left_since old new
+        (LeftInOpening D.recovers (D.fallback old) (D.may_leave old) (D.shown old)) →
+        LeavesOnly D.moment D.left_since old new (D.may_leave old) }
+    ensures reopened { (old new : D) (blocks : Blocks) →
+        LeavesOnly D.moment D.left_since old new (IsLeftAlone D.recovers blocks) →
+        LeavesOnly D.moment D.left_since old new (λ c. c ≡ blocks) }
+    ensures only { (device : D) (blocks : Blocks) →
+        OnlyOr blocks (IsIn (D.fallback device)) (D.may_leave device) → Only blocks (D.may_leave device) }
 {}

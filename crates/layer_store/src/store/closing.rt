@@ -75,7 +75,7 @@ impl<D: BlockDevice, A: Allocator + Copy> Store<D, A> {
             IfOk result (λ device. LeavesTreesIn (layers_in self) (D.shown device)) }
 
         // A stop leaves what one before the call leaves, or an image of the table; and after a closing that is finished
-        // nothing but what is read.
+        // nothing but what is read, or a fallback, which is an image of the table too.
         ensures stops { (s : SessionState) (t : Table) → Represents self s → s.state ≡ Alive t → IfOk result (λ device.
             LeavesOnly D.moment D.left_since (device_in self) device
             (IsRefusedOrImageOf (t ∷ tables_left s.stops.now))) }
@@ -111,5 +111,19 @@ impl<D: BlockDevice, A: Allocator + Copy> Store<D, A> {
             Ok(device) => Ok(device),
             Err((fault, device)) => Err((as_refusal(fault), device)),
         }
+    }
+
+    /// Gives up what was changed since the last closing: hands the device back as it is, without a call of it, whether
+    /// the store has failed or not. So a stop leaves of it what one before the call leaves.
+    pub fn abandon(self) -> D
+        ensures { result ≡ device_in self }
+    {
+        let Store {
+            layers,
+            rooms,
+            failed: _,
+        } = self;
+        drop(rooms);
+        layers.abandon()
     }
 }

@@ -2,21 +2,22 @@
 
 ghost use Rattle.std.specs.Prelude.{◌≡◌, ◌⊎◌, Err, IfOk, IfErr, true, false, length};
 ghost use Rattle.std.specs.FinMap.{empty};
-ghost use Rattle.block_device.specs.Device.{Blocks, LeavesOnly, Only};
+ghost use Rattle.block_device.specs.Device.{Begins, Blocks, IsIn, LeavesNoMore, LeavesOnly, OnlyOr};
 ghost use Rattle.live_layers.specs.Faults.{faults_after_refusal};
 ghost use Rattle.live_layers.specs.Image.{HasNoCatalog, IsImage, OpeningRefuses};
 ghost use Rattle.live_layers.specs.Staying.{FindsTreesIn};
 ghost use Rattle.page_file.specs.File.{IsHonest, LiesIn, blocks_of, device_of, gate_of, next_of, pages};
 ghost use Rattle.page_file.specs.Opening.{IsRefused};
-ghost use Rattle.page_file.specs.Stops.{AddsOnly, StopSince};
+ghost use Rattle.page_file.specs.Stops.{AddsOnly};
 ghost use Rattle.page_file.specs.declared.fault.Fault.{Fault};
 ghost use Rattle.page_file.specs.declared.gate.Gate.TheVariants.{Shut};
 ghost use Rattle.plain_table.specs.Table.{Table};
 ghost use Rattle.plain_table.specs.declared.refusal.Refusal.TheVariants as refusal;
 ghost use Rattle.store_law.specs.States.StoreState.{Alive};
 ghost use Rattle.layer_store.specs.Faults.{IsMemoryOrDevice};
-ghost use Rattle.layer_store.specs.Representation.{BeginsWith, IsInState, IsSettled, blocks_in, device_in, layers_in};
-ghost use Rattle.layer_store.specs.Starting.{OpeningRefusesAs, is_cache};
+ghost use Rattle.layer_store.specs.Representation.{BeginsWith, IsInState, IsLeftAlone, IsSettled};
+ghost use Rattle.layer_store.specs.Representation.{blocks_in, device_in, layers_in};
+ghost use Rattle.layer_store.specs.Starting.{HasNoFallback, LeftInOpening, OpeningRefusesAs, is_cache};
 
 use crate::store::Store;
 use block_device::BlockDevice;
@@ -45,17 +46,23 @@ pub fn create_store<D: BlockDevice, A: Allocator + Copy>(
 ) -> Result<Store<D, A>, (Refusal, D)>
     requires { length (D.shown device) ≡ 0 }
     ensures bad_cache { is_cache cache ≡ false → result ≡ Err (refusal.BadCache, device) }
-    ensures begins { IfOk result (λ store. D.honest device → BeginsWith store (D.moment device) empty) }
+    ensures begins { IfOk result (λ store. D.honest device → HasNoFallback (D.fallback device) →
+        BeginsWith store (D.moment device) empty) }
     ensures closed { IfOk result (λ store. D.honest device → IsImage (blocks_in store) empty) }
     ensures now_settled { IfOk result IsSettled }
 
-    // A stop leaves blocks that opening refuses, or an image of the empty table; and once the store is made nothing but
-    // what is read.
+    // A stop leaves blocks that opening refuses, or an image of the empty table, or a fallback of the device; and once
+    // the store is made nothing but what is read, or a fallback that begins with it.
     ensures stops { IfOk result (λ store. D.honest device →
-        LeavesOnly D.moment D.left_since device (device_in store) (λ c. IsRefused c ⊎ IsImage c empty)) }
+        LeavesOnly D.moment D.left_since device (device_in store)
+        (λ c. (IsRefused c ⊎ IsImage c empty) ⊎ IsIn (D.fallback device) c)) }
     ensures refused_stops { is_cache cache ≡ true → IfErr result (λ e. D.honest device →
-        LeavesOnly D.moment D.left_since device e.1 (λ c. IsRefused c ⊎ IsImage c empty)) }
-    ensures durable { IfOk result (λ store. D.honest device → Only (blocks_in store) (D.may_leave (device_in store))) }
+        LeavesOnly D.moment D.left_since device e.1
+        (λ c. (IsRefused c ⊎ IsImage c empty) ⊎ IsIn (D.fallback device) c)) }
+    ensures durable { IfOk result (λ store. D.honest device →
+        OnlyOr (blocks_in store) (IsIn (D.fallback (device_in store))) (D.may_leave (device_in store))) }
+    ensures falls { IfOk result (λ store. D.honest device →
+        LeavesNoMore (Begins (blocks_in store)) (IsIn (D.fallback (device_in store)))) }
 
     ensures refused { is_cache cache ≡ true → IfErr result (λ e. D.honest device → IsMemoryOrDevice e.0) }
     ensures no_fault { IfOk result (λ store. D.faults (device_in store) ≡ D.faults device) }
@@ -94,13 +101,19 @@ pub fn open_store<D: BlockDevice, A: Allocator + Copy>(
     ensures refused { is_cache cache ≡ true →
         IfErr result (λ e. D.honest device → IsMemoryOrDevice e.0 ⊎ OpeningRefusesAs (D.shown device) e.0) }
 
-    // A stop leaves nothing but what one before the call might have left; and once the store is opened nothing but what
-    // is read.
+    // A stop leaves nothing but what one before the call might have left, or on a device that recovers a fallback, or
+    // blocks that begin with those that are read; and once the store is opened nothing but what is read, or a fallback
+    // that begins with it.
     ensures stops { IfOk result (λ store. D.honest device →
-        LeavesOnly D.moment D.left_since device (device_in store) (D.may_leave device)) }
-    ensures refused_stops { is_cache cache ≡ true →
-        IfErr result (λ e. D.honest device → LeavesOnly D.moment D.left_since device e.1 (D.may_leave device)) }
-    ensures durable { IfOk result (λ store. D.honest device → Only (blocks_in store) (D.may_leave (device_in store))) }
+        LeavesOnly D.moment D.left_since device (device_in store)
+        (LeftInOpening D.recovers (D.fallback device) (D.may_leave device) (D.shown device))) }
+    ensures refused_stops { is_cache cache ≡ true → IfErr result (λ e. D.honest device →
+        LeavesOnly D.moment D.left_since device e.1
+        (LeftInOpening D.recovers (D.fallback device) (D.may_leave device) (D.shown device))) }
+    ensures durable { IfOk result (λ store. D.honest device →
+        OnlyOr (blocks_in store) (IsIn (D.fallback (device_in store))) (D.may_leave (device_in store))) }
+    ensures falls { IfOk result (λ store. D.honest device →
+        LeavesNoMore (Begins (blocks_in store)) (IsIn (D.fallback (device_in store)))) }
 
     ensures now_settled { IfOk result IsSettled }
     ensures blocks { IfOk result (λ store. D.honest device → blocks_in store ≡ D.shown device) }
@@ -138,9 +151,10 @@ fn begin<D: BlockDevice, A: Allocator + Copy>(
         ((e.0 ≡ refusal.Damaged 2) × HasNoCatalog (pages file) (next_of file))) }
     ensures settled { IfOk result IsSettled }
     ensures stops { IfOk result (λ store. IsHonest file →
-        AddsOnly D.moment D.left_since (device_of file) (device_in store) (StopSince Shut (blocks_of file))) }
+        AddsOnly D.moment D.left_since (device_of file) (device_in store)
+        (IsLeftAlone D.recovers (blocks_of file))) }
     ensures refused_stops { IfErr result (λ e. IsHonest file →
-        AddsOnly D.moment D.left_since (device_of file) e.1 (StopSince Shut (blocks_of file))) }
+        AddsOnly D.moment D.left_since (device_of file) e.1 (IsLeftAlone D.recovers (blocks_of file))) }
     ensures blocks { IfOk result (λ store. IsHonest file → blocks_in store ≡ blocks_of file) }
     ensures refused_blocks { IfErr result (λ e. IsHonest file → D.shown e.1 ≡ blocks_of file) }
     ensures no_fault { IfOk result (λ store. D.faults (device_in store) ≡ D.faults (device_of file)) }

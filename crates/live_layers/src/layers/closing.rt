@@ -91,10 +91,14 @@ impl<B: BlockDevice, A: Allocator + Copy> Layers<B, A> {
     pub fn close(self) -> Result<B, (Fault, B)>
         ensures closed { (t : Table) → IsSound self t → IfOk result (λ device. IsImage (B.shown device) t) }
         ensures trees { (t : Table) → IsSound self t → IfOk result (λ device. LeavesTreesIn self (B.shown device)) }
+
+        // Once they are closed a stop leaves what is read, or a fallback, which is an image of the table too.
         ensures durable { (t : Table) → IsSound self t →
             IfOk result (λ device. OnlyOr (B.shown device) (IsIn (B.fallback device)) (B.may_leave device)) }
         ensures falls { (t : Table) → IsSound self t →
             IfOk result (λ device. (c : Blocks) → IsIn (B.fallback device) c → IsImage c t) }
+
+        // Before that it leaves what one at rest left, or an image of the table.
         ensures stops { (ts : List Table) (t : Table) → IsSound self t → RestLeavesOneOf (cache_of self) ts →
             IfOk result (λ device. LeavesOnly B.moment B.left_since (device_of (cache_of self)) device
             (IsRefusedOrImageOf (t ∷ ts))) }

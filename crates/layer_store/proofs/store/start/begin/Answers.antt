@@ -3,7 +3,11 @@ use Rattle.std.proofs.Common.{◌≡◌, ◌∙◌, ℕ, true, false, refl, sym,
 use Rattle.std.specs.Prelude.{option_and_then}
 use Rattle.catalog_page.specs.Layout.{records_at}
 use Rattle.live_layers.specs.Catalog.{is_good_catalog}
-use Rattle.live_layers.specs.Keeping.{records_in}
+use Rattle.live_layers.specs.Keeping.{cache_of, records_in}
+use Rattle.page_cache.specs.Cache.{device_of}
+use Rattle.page_file.specs.Stops.{AddsOnly}
+use Rattle.layer_store.specs.Representation.{IsLeftAlone}
+use Rattle.layer_store.proofs.StopLemmas.{only_read}
 use Rattle.layer_store.proofs.StoreLemmas.{alive_so, not_both, settled_so}
 use Rattle.layer_store.proofs.store.start.begin.Goals as goal
 
@@ -28,3 +32,21 @@ returns-in-Ok-open-clause-settled g c =
 pub returns-in-Ok-open-clause-trees : goal.returns-in-Ok-open-clause-trees
 returns-in-Ok-open-clause-trees g c = λ blocks honest lies.
     let over = c.in-Ok.ensures in c.in-Ok-open.ensures.trees blocks (subst g.D.BlockDevice.honest (sym over.device) honest) ((over.lies blocks).1 lies)
+
+pub returns-in-Ok-open-clause-stops : goal.returns-in-Ok-open-clause-stops
+returns-in-Ok-open-clause-stops g c = λ honest.
+    let over = c.in-Ok.ensures in
+    let d = g.D.BlockDevice in
+    let inside = subst d.honest (sym over.device) honest in
+    let new = device_of (cache_of c.in-Ok-open.layers) in
+    subst (λ (e : g.row.D.Denot). AddsOnly d.moment d.left_since e new (IsLeftAlone d.recovers (d.shown e))) over.device
+    (only_read c.in-Ok.cache new (λ e b back. g.met.D.BlockDevice.fallback_recovers e b back) inside (over.gate ∙ c.requires.shut) (c.in-Ok-open.ensures.asks.gate.stops inside))
+
+pub returns-in-Err-open-clause-refused_stops : goal.returns-in-Err-open-clause-refused_stops
+returns-in-Err-open-clause-refused_stops g c = λ honest.
+    let over = c.in-Ok.ensures in
+    let d = g.D.BlockDevice in
+    let inside = subst d.honest (sym over.device) honest in
+    let new = c.in-Err-open.device in
+    subst (λ (e : g.row.D.Denot). AddsOnly d.moment d.left_since e new (IsLeftAlone d.recovers (d.shown e))) over.device
+    (only_read c.in-Ok.cache new (λ e b back. g.met.D.BlockDevice.fallback_recovers e b back) inside (over.gate ∙ c.requires.shut) (c.in-Err-open.ensures.refused_stops inside))

@@ -1,26 +1,30 @@
 -- A new file holds the empty table, and its store is read from it.
-use Rattle.std.proofs.Common.{◌⊎◌, inr, sym, subst}
+use Rattle.std.proofs.Common.{◌⊎◌, inl, inr, sym, subst, ⊎_elim}
 use Rattle.std.specs.FinMap.{empty}
-use Rattle.block_device.specs.Device.{Blocks}
+use Rattle.block_device.specs.Device.{Blocks, IsIn}
+use Rattle.block_device.specs.Plain.{never}
 use Rattle.live_layers.specs.Image.{IsImage}
 use Rattle.page_file.specs.File.{blocks_of, device_of}
 use Rattle.page_file.specs.Opening.{IsRefused}
+use Rattle.page_file.specs.Stops.{SameButGate}
 use Rattle.layer_store.specs.Representation.{device_in}
 use Rattle.layer_store.proofs.Results.{at_err, at_ok, err_case, ok_case}
-use Rattle.layer_store.proofs.StartLemmas.{begins_so, made_image, new_left, shut_store, then_read}
+use Rattle.layer_store.proofs.StartLemmas.{begins_so, falls_begin, longer_left, made_image, new_left, shut_store, then_read}
 use Rattle.layer_store.proofs.store.start.create_store.Goals as goal
 
 pub returns-in-Ok-clause-begins : goal.returns-in-Ok-clause-begins
-returns-in-Ok-clause-begins g c = ok_case c.begin.result (λ store is honest.
+returns-in-Ok-clause-begins g c = ok_case c.begin.result (λ store is honest none.
     let d = g.D.BlockDevice in
     let made = c.in-Ok.ensures in
     let file = c.in-Ok.file in
     let inside = made.honest.0 honest in
     let image = made_image file (made.lies honest) made.next (made.catalog honest) (made.others honest) (made.sound honest) in
-    let run = then_read d.moment d.left_since c.args.device (device_of file) (device_in store) (blocks_of file) (λ b. IsRefused b ⊎ IsImage b empty) (inr image)
-    (new_left d.moment d.left_since c.args.device (device_of file) _ (made.stops honest)) (at_ok _ c.begin.result store is c.begin.ensures.stops inside) in
-    begins_so store (d.moment c.args.device) empty (at_ok _ c.begin.result store is (c.begin.ensures.image empty (blocks_of file) inside (made.lies honest) image)) (at_ok _ c.begin.result store is c.begin.ensures.settled)
-    (subst (λ (b : Blocks). IsImage b empty) (sym (at_ok _ c.begin.result store is c.begin.ensures.blocks inside)) image) run.later run.each)
+    let run = then_read d.moment d.left_since c.args.device (device_of file) (device_in store) d.recovers (blocks_of file) (λ b. (IsRefused b ⊎ IsImage b empty) ⊎ IsIn (d.fallback c.args.device) b) (inl (inr image))
+    (longer_left (IsIn (d.fallback c.args.device)) (blocks_of file) empty image d.recovers)
+    (new_left d.moment d.left_since c.args.device (device_of file) (λ b. SameButGate b (blocks_of file)) (IsIn (d.fallback c.args.device)) (IsIn (d.fallback (device_of file))) (made.fallback honest) (made.stops honest)) (at_ok _ c.begin.result store is c.begin.ensures.stops inside) in
+    begins_so store (d.moment c.args.device) empty (λ e b back. g.met.D.BlockDevice.fallback_recovers e b back) (at_ok _ c.begin.result store is (c.begin.ensures.image empty (blocks_of file) inside (made.lies honest) image)) (at_ok _ c.begin.result store is c.begin.ensures.settled)
+    (subst (λ (b : Blocks). IsImage b empty) (sym (at_ok _ c.begin.result store is c.begin.ensures.blocks inside)) image) run.later
+    (λ b left. ⊎_elim (λ p. p) (λ back. absurd (never (d.fallback c.args.device) none b back)) (run.each b left)))
 
 pub returns-in-Ok-clause-closed : goal.returns-in-Ok-clause-closed
 returns-in-Ok-clause-closed g c = ok_case c.begin.result (λ store is honest.
@@ -35,8 +39,9 @@ returns-in-Ok-clause-stops g c = ok_case c.begin.result (λ store is honest.
     let made = c.in-Ok.ensures in
     let file = c.in-Ok.file in
     let image = made_image file (made.lies honest) made.next (made.catalog honest) (made.others honest) (made.sound honest) in
-    then_read d.moment d.left_since c.args.device (device_of file) (device_in store) (blocks_of file) (λ b. IsRefused b ⊎ IsImage b empty) (inr image)
-    (new_left d.moment d.left_since c.args.device (device_of file) _ (made.stops honest)) (at_ok _ c.begin.result store is c.begin.ensures.stops (made.honest.0 honest)))
+    then_read d.moment d.left_since c.args.device (device_of file) (device_in store) d.recovers (blocks_of file) (λ b. (IsRefused b ⊎ IsImage b empty) ⊎ IsIn (d.fallback c.args.device) b) (inl (inr image))
+    (longer_left (IsIn (d.fallback c.args.device)) (blocks_of file) empty image d.recovers)
+    (new_left d.moment d.left_since c.args.device (device_of file) (λ b. SameButGate b (blocks_of file)) (IsIn (d.fallback c.args.device)) (IsIn (d.fallback (device_of file))) (made.fallback honest) (made.stops honest)) (at_ok _ c.begin.result store is c.begin.ensures.stops (made.honest.0 honest)))
 
 pub returns-in-Ok-clause-refused_stops : goal.returns-in-Ok-clause-refused_stops
 returns-in-Ok-clause-refused_stops g c = λ cache. err_case c.begin.result (λ e is honest.
@@ -44,8 +49,9 @@ returns-in-Ok-clause-refused_stops g c = λ cache. err_case c.begin.result (λ e
     let made = c.in-Ok.ensures in
     let file = c.in-Ok.file in
     let image = made_image file (made.lies honest) made.next (made.catalog honest) (made.others honest) (made.sound honest) in
-    then_read d.moment d.left_since c.args.device (device_of file) e.1 (blocks_of file) (λ b. IsRefused b ⊎ IsImage b empty) (inr image)
-    (new_left d.moment d.left_since c.args.device (device_of file) _ (made.stops honest)) (at_err _ c.begin.result e is c.begin.ensures.refused_stops (made.honest.0 honest)))
+    then_read d.moment d.left_since c.args.device (device_of file) e.1 d.recovers (blocks_of file) (λ b. (IsRefused b ⊎ IsImage b empty) ⊎ IsIn (d.fallback c.args.device) b) (inl (inr image))
+    (longer_left (IsIn (d.fallback c.args.device)) (blocks_of file) empty image d.recovers)
+    (new_left d.moment d.left_since c.args.device (device_of file) (λ b. SameButGate b (blocks_of file)) (IsIn (d.fallback c.args.device)) (IsIn (d.fallback (device_of file))) (made.fallback honest) (made.stops honest)) (at_err _ c.begin.result e is c.begin.ensures.refused_stops (made.honest.0 honest)))
 
 pub returns-in-Ok-clause-refused : goal.returns-in-Ok-clause-refused
 returns-in-Ok-clause-refused g c = λ cache. err_case c.begin.result (λ e is honest.
@@ -58,5 +64,12 @@ pub returns-in-Ok-clause-durable : goal.returns-in-Ok-clause-durable
 returns-in-Ok-clause-durable g c = ok_case c.begin.result (λ store is honest.
     shut_store store (at_ok _ c.begin.result store is c.begin.ensures.settled) (at_ok _ c.begin.result store is c.begin.ensures.honest (c.in-Ok.ensures.honest.0 honest)))
 
+pub returns-in-Ok-clause-falls : goal.returns-in-Ok-clause-falls
+returns-in-Ok-clause-falls g c = ok_case c.begin.result (λ store is honest.
+    falls_begin store (at_ok _ c.begin.result store is c.begin.ensures.settled) (at_ok _ c.begin.result store is c.begin.ensures.honest (c.in-Ok.ensures.honest.0 honest)))
+
 pub returns-in-Err-clause-refused_stops : goal.returns-in-Err-clause-refused_stops
-returns-in-Err-clause-refused_stops g c = λ cache honest. new_left _ _ _ _ _ (c.in-Err.ensures.refused_stops honest)
+returns-in-Err-clause-refused_stops g c = λ cache honest.
+    let d = g.D.BlockDevice in
+    let left = c.in-Err.device in
+    new_left d.moment d.left_since c.args.device left (λ b. SameButGate b (d.shown left)) (IsIn (d.fallback c.args.device)) (IsIn (d.fallback left)) (c.in-Err.ensures.refused_fallback honest) (c.in-Err.ensures.refused_stops honest)

@@ -1,13 +1,14 @@
 -- The map of the file is that of the blocks that were opened.
 use Rattle.std.proofs.Common.{◌∙◌, arith, refl, sym, subst, inl, inr, ⊎_elim}
-use Rattle.block_device.specs.Device.{Blocks}
+use Rattle.block_device.specs.Device.{Begins, Blocks}
 use Rattle.live_layers.specs.Image.{IsImage}
 use Rattle.page_file.specs.File.{blocks_of, device_of, next_of, pages}
 use Rattle.page_file.specs.Pages.{next_in, pages_in}
 use Rattle.page_file.specs.declared.fault.Fault.TheVariants as fault
 use Rattle.layer_store.specs.Representation.{device_in}
+use Rattle.layer_store.specs.Starting.{LeftInOpening}
 use Rattle.layer_store.proofs.Results.{at_err, at_ok, err_case, ok_case}
-use Rattle.layer_store.proofs.StartLemmas.{begins_so, same_catalog, shut_store, some_is_not_none, then_read}
+use Rattle.layer_store.proofs.StartLemmas.{begins_so, falls_begin, opened_left, same_catalog, settled_leaves, shown_left, shut_store, some_is_not_none, then_read}
 use Rattle.layer_store.proofs.store.start.open_store.Goals as goal
 
 pub returns-in-Ok-clause-image : goal.returns-in-Ok-clause-image
@@ -18,8 +19,8 @@ returns-in-Ok-clause-image g c = λ t honest image. ok_case c.begin.result (λ s
     let settled = at_ok _ c.begin.result store is c.begin.ensures.settled in
     let there = subst (λ (b : Blocks). IsImage b t) (sym (at_ok _ c.begin.result store is c.begin.ensures.blocks inside ∙ opened.blocks honest)) image in
     let kept = at_ok _ c.begin.result store is c.begin.ensures.honest inside in
-    begins_so store (d.moment (device_in store)) t (at_ok _ c.begin.result store is (c.begin.ensures.image t (d.shown c.args.device) inside (opened.lies honest) image)) settled there (omega arith)
-    (λ b left. inr (subst (λ (x : Blocks). IsImage x t) (sym (shut_store store settled kept b (g.met.D.BlockDevice.only_now (device_in store) b kept left))) there)))
+    begins_so store (d.moment (device_in store)) t (λ e b back. g.met.D.BlockDevice.fallback_recovers e b back) (at_ok _ c.begin.result store is (c.begin.ensures.image t (d.shown c.args.device) inside (opened.lies honest) image)) settled there (omega arith)
+    (λ b left. inr (settled_leaves store t settled kept there b (g.met.D.BlockDevice.only_now (device_in store) b kept left))))
 
 pub returns-in-Ok-clause-opened : goal.returns-in-Ok-clause-opened
 returns-in-Ok-clause-opened g c = ok_case c.begin.result (λ store is honest f refuses.
@@ -42,16 +43,24 @@ pub returns-in-Ok-clause-stops : goal.returns-in-Ok-clause-stops
 returns-in-Ok-clause-stops g c = ok_case c.begin.result (λ store is honest.
     let d = g.D.BlockDevice in
     let opened = c.in-Ok.ensures in
-    then_read d.moment d.left_since c.args.device (device_of c.in-Ok.file) (device_in store) (blocks_of c.in-Ok.file) (d.may_leave c.args.device)
-    (subst (d.may_leave c.args.device) (sym (opened.blocks honest)) (g.met.D.BlockDevice.shown_counts c.args.device honest)) (opened.stops honest)
+    let P = LeftInOpening d.recovers (d.fallback c.args.device) (d.may_leave c.args.device) (d.shown c.args.device) in
+    then_read d.moment d.left_since c.args.device (device_of c.in-Ok.file) (device_in store) d.recovers (blocks_of c.in-Ok.file) P
+    (subst P (sym (opened.blocks honest)) (shown_left d.recovers (d.fallback c.args.device) (d.may_leave c.args.device) (d.shown c.args.device) (λ b back. g.met.D.BlockDevice.fallback_recovers c.args.device b back)
+    (λ none. g.met.D.BlockDevice.shown_counts c.args.device honest none)))
+    (λ b is begun. inr (inr (is, subst (λ (x : Blocks). Begins x b) (opened.blocks honest) begun)))
+    (opened_left d.moment d.left_since d.recovers d.fallback d.may_leave c.args.device (device_of c.in-Ok.file) (d.shown c.args.device) (λ e b back. g.met.D.BlockDevice.fallback_recovers e b back) (opened.fallback honest) (opened.stops honest))
     (at_ok _ c.begin.result store is c.begin.ensures.stops (opened.honest.0 honest)))
 
 pub returns-in-Ok-clause-refused_stops : goal.returns-in-Ok-clause-refused_stops
 returns-in-Ok-clause-refused_stops g c = λ cache. err_case c.begin.result (λ e is honest.
     let d = g.D.BlockDevice in
     let opened = c.in-Ok.ensures in
-    then_read d.moment d.left_since c.args.device (device_of c.in-Ok.file) e.1 (blocks_of c.in-Ok.file) (d.may_leave c.args.device)
-    (subst (d.may_leave c.args.device) (sym (opened.blocks honest)) (g.met.D.BlockDevice.shown_counts c.args.device honest)) (opened.stops honest)
+    let P = LeftInOpening d.recovers (d.fallback c.args.device) (d.may_leave c.args.device) (d.shown c.args.device) in
+    then_read d.moment d.left_since c.args.device (device_of c.in-Ok.file) e.1 d.recovers (blocks_of c.in-Ok.file) P
+    (subst P (sym (opened.blocks honest)) (shown_left d.recovers (d.fallback c.args.device) (d.may_leave c.args.device) (d.shown c.args.device) (λ b back. g.met.D.BlockDevice.fallback_recovers c.args.device b back)
+    (λ none. g.met.D.BlockDevice.shown_counts c.args.device honest none)))
+    (λ b is begun. inr (inr (is, subst (λ (x : Blocks). Begins x b) (opened.blocks honest) begun)))
+    (opened_left d.moment d.left_since d.recovers d.fallback d.may_leave c.args.device (device_of c.in-Ok.file) (d.shown c.args.device) (λ e b back. g.met.D.BlockDevice.fallback_recovers e b back) (opened.fallback honest) (opened.stops honest))
     (at_err _ c.begin.result e is c.begin.ensures.refused_stops (opened.honest.0 honest)))
 
 pub returns-in-Ok-clause-durable : goal.returns-in-Ok-clause-durable
@@ -61,3 +70,12 @@ returns-in-Ok-clause-durable g c = ok_case c.begin.result (λ store is honest.
 pub returns-in-Ok-clause-trees : goal.returns-in-Ok-clause-trees
 returns-in-Ok-clause-trees g c = ok_case c.begin.result (λ store is honest.
     let opened = c.in-Ok.ensures in at_ok _ c.begin.result store is (c.begin.ensures.trees (g.D.BlockDevice.shown c.args.device) (opened.honest.0 honest) (opened.lies honest)))
+
+pub returns-in-Ok-clause-falls : goal.returns-in-Ok-clause-falls
+returns-in-Ok-clause-falls g c = ok_case c.begin.result (λ store is honest.
+    falls_begin store (at_ok _ c.begin.result store is c.begin.ensures.settled) (at_ok _ c.begin.result store is c.begin.ensures.honest (c.in-Ok.ensures.honest.0 honest)))
+
+pub returns-in-Err-clause-refused_stops : goal.returns-in-Err-clause-refused_stops
+returns-in-Err-clause-refused_stops g c = λ cache honest.
+    let d = g.D.BlockDevice in
+    opened_left d.moment d.left_since d.recovers d.fallback d.may_leave c.args.device _ (d.shown c.args.device) (λ e b back. g.met.D.BlockDevice.fallback_recovers e b back) (c.in-Err.ensures.refused_fallback honest) (c.in-Err.ensures.refused_stops honest)
