@@ -2,13 +2,14 @@
 use Rattle.std.proofs.Common.{◌≡◌, ◌∙◌, ◌⊎◌, ◌≤◌, ℕ, Bool, true, false, List, Result, Ok, Err, OnOk, OnErr, refl, sym, ap, subst, arith, inl, inr, ⊎_elim}
 use Rattle.block_device.specs.Device.{AsksCommit, Begins, Blocks, Elapses, IsIn, LeavesNoMore, OrFalls, Torn, written}
 use Rattle.device_pair.specs.Pairs.{BaseFollows, PairElapses, PairLeaves, PairsNoMore}
-use Rattle.journaled_device.specs.Calls.{IsStill, Syncs, TimePasses, Writes}
+use Rattle.journaled_device.specs.Calls.{GivesUp, IsStill, Syncs, TimePasses, Writes}
 use Rattle.journaled_device.specs.CommitLaws.{begins}
 use Rattle.journaled_device.specs.Commits.{BeginsOne, CommitsNoMore, Either, OrNew}
 use Rattle.journaled_device.specs.DeviceLaws.{plain_recovered, plain_shown}
-use Rattle.journaled_device.specs.Fallback.{begins_commit, commit_from, commit_to}
+use Rattle.journaled_device.specs.Fallback.{begins_commit, commit_from, commit_itself, commit_to}
 use Rattle.journaled_device.specs.Journal.{overlaid, recovered}
 use Rattle.journaled_device.specs.Journaled.{falls_if}
+use Rattle.journaled_device.specs.OpeningLaws.{begins_one_then}
 use Rattle.journaled_device.specs.Stages.{CommitsIn}
 use Rattle.journaled_device.specs.Standing.{base_of, commits_of, homes_of, journal_of, kept_of, left_since_of, may_leave_of, shown_of, stage_of, IsHonest, IsPlain, IsSettled, KeepsTo, SameSlots}
 use Rattle.journaled_device.specs.declared.pair.JournaledPair.{JournaledPair}
@@ -206,3 +207,36 @@ falls_any false d c is = absurd (never is)
 
 pub base_on : (r : Answer) (ml : Blocks → Blocks → Type 0) (x y : Blocks) → x ≡ y → OnOk r ((a b : Blocks) → ml a b → a ≡ x) → OnOk r ((a b : Blocks) → ml a b → a ≡ y)
 base_on r ml x y e all = on_ok r _ _ (λ f a b left. f a b left ∙ e) all
+
+pub falls_longer : {P A : Type 0} {m : _} (begun : Bool) (d : JournaledPair P A m) (c more : Blocks) → falls_if begun d c ≡ true → Begins c more → falls_if begun d more ≡ true
+falls_longer true d c more is longer = falls_to d more (begins_one_then (commits_of d) c more (falls_from d c is) longer)
+falls_longer false d c more is longer = is
+
+-- a change that is given up
+pub falls_rolled : {P A : Type 0} {m : _} (d : JournaledPair P A m) (c : Blocks) → ((kept : Blocks) → commits_of d kept → Begins kept c) → falls_if true d c ≡ true
+falls_rolled d c all =
+    let some = commit_itself (stage_of d) (kept_of d) (homes_of d) (base_of d) (journal_of d) in
+    let one = falls_from d some.0 some.1 in
+    falls_to d c (one.0, one.1, all one.0 one.1)
+
+pub given_up : {P A : Type 0} {m : _} (old new : JournaledPair P A m) (r : Answer) → IsHonest new → OnOk r ((kept : Blocks) → commits_of new kept → Begins kept (shown_of new)) → OnErr r (shown_of new ≡ shown_of old) → KeepsTo (commits_of old) old new → GivesUp true old r true new
+given_up old new r h begins refused k = record {
+  begins = on_ok r _ _ (λ all begun. falls_rolled new (shown_of new) all) begins;
+  refused = refused;
+  stops = λ c left. inr (falls_now new h c left);
+  fallback = falls_more old new k.now;
+  time = time_kept old new (keeps_old old new k);
+}
+
+pub gives_at : {P A : Type 0} {m : _} (was now was' now' : Bool) (old new : JournaledPair P A m) (r : Answer) → was' ≡ was → now' ≡ now → GivesUp was old r now new → GivesUp was' old r now' new
+gives_at was now was' now' old new r ew en w = subst (λ (t : Bool). GivesUp t old r now' new) (sym ew) (subst (λ (t : Bool). GivesUp was old r t new) (sym en) w)
+
+-- and none, before the first commit
+pub nothing_given : {P A : Type 0} {m : _} (d : JournaledPair P A m) → GivesUp false d (Ok tt) false d
+nothing_given d = record {
+  begins = λ begun. absurd (never begun);
+  refused = tt;
+  stops = λ c left. inl (c, left, refl, λ back. absurd (never back));
+  fallback = λ c is. is;
+  time = record { later = omega arith; nothing_else = λ t c le left. inl left; keeps = λ t c le left. left };
+}

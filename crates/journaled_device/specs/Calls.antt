@@ -1,5 +1,5 @@
 -- What the calls of a journaled device do.
-use Rattle.std.specs.Prelude.{◌≡◌, ℕ, Bool, List, Result, OnOk, OnErr}
+use Rattle.std.specs.Prelude.{◌≡◌, ℕ, Bool, true, List, Result, OnOk, OnErr}
 use Rattle.block_device.specs.declared.device.DeviceError.{DeviceError}
 use Rattle.block_device.specs.Device.{AsksCommit, Begins, Blocks, Elapses, FollowsOr, IsIn, LeavesNoMore, Only, OnlyOr, OrCommit, OrFalls, Stays, Torn, written}
 use Rattle.device_pair.specs.Pairs.{PairElapses, PairsNoMore}
@@ -42,3 +42,14 @@ pub record Syncs {P A : Type 0} {m : _} (was : Bool) (old : JournaledPair P A m)
 
 abbrev pub HasSynced : {P A : Type 0} {m : _} → JournaledDevice P A m → Result (Unit {0}) DeviceError → JournaledDevice P A m → Type 0
 HasSynced old result new = Syncs (begun_of old) (inner_of old) result (begun_of new) (inner_of new)
+
+-- what was written since the last commit was given up, or the call was refused
+pub record GivesUp {P A : Type 0} {m : _} (was : Bool) (old : JournaledPair P A m) (result : Result (Unit {0}) DeviceError) (now : Bool) (new : JournaledPair P A m) : Type 0 where
+  pub begins : OnOk result (now ≡ true → falls_if now new (shown_of new) ≡ true)
+  pub refused : OnErr result (shown_of new ≡ shown_of old)
+  pub stops : FollowsOr Stays (IsIn (falls_if was old)) (may_leave_of old) (IsIn (falls_if now new)) (may_leave_of new)
+  pub fallback : LeavesNoMore (IsIn (falls_if was old)) (IsIn (falls_if now new))
+  pub time : TimePasses was old now new
+
+abbrev pub HasGivenUp : {P A : Type 0} {m : _} → JournaledDevice P A m → Result (Unit {0}) DeviceError → JournaledDevice P A m → Type 0
+HasGivenUp old result new = GivesUp (begun_of old) (inner_of old) result (begun_of new) (inner_of new)

@@ -5,6 +5,7 @@ ghost use Rattle.journaled_device.specs.Standing.{shown_of, IsHonest, IsPlain};
 
 mod calls;
 mod open;
+mod rollback;
 mod sync;
 mod write;
 
