@@ -1,0 +1,7 @@
+//! Tests of the journaled device over a pair in memory, stopped at each call.
+#![tactic(auto)]
+
+#[cfg(test)]
+mod session;
+#[cfg(test)]
+mod stops;
