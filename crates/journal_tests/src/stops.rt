@@ -19,7 +19,7 @@ fn opened(alloc: Global, left: MemoryPair, passes: u64) -> (MemoryPair, bool, bo
 }
 
 // Whether opening gives what was committed last, or by the commit in progress.
-fn gives_a_commit(alloc: Global, left: MemoryPair, begun: u32, ended: u32) -> bool {
+pub fn gives_a_commit(alloc: Global, left: MemoryPair, begun: u32, ended: u32) -> bool {
     match JournaledDevice::open(left, alloc) {
         Ok(device) => {
             let mut device = device;
@@ -39,10 +39,11 @@ fn a_session_gives_what_was_written(rt: HostRuntime) {
     assert!(rt; gives_a_commit(alloc, pair, 3, 3));
 }
 
-// A session stopped after so many calls, of which each kind of stop leaves a commit, also within the recovery after it.
-fn leaves_a_commit(alloc: Global, passes: u64, one: Left, other: Left) -> (bool, bool) {
-    // the recovery is stopped too, at each of its calls
-    for again in 0..60u64 {
+// Whether a session that is stopped after so many calls leaves a commit, and whether it was at its end. The recovery is
+// stopped too: at each of its calls, or after the last one alone.
+fn leaves_a_commit(alloc: Global, passes: u64, one: Left, other: Left, each: bool) -> (bool, bool) {
+    let first = if each { 0 } else { 59 };
+    for again in first..60u64 {
         let (pair, begun, ended, done) = stopped(alloc, passes);
         let (left, malformed, whole) = opened(alloc, pair.after_stop(one, other), again);
         if malformed {
@@ -65,7 +66,7 @@ fn a_stop_at_any_call_leaves_a_commit(rt: HostRuntime) {
     for passes in 0..400u64 {
         for one in KINDS {
             for other in KINDS {
-                let (fits, done) = leaves_a_commit(alloc, passes, one, other);
+                let (fits, done) = leaves_a_commit(alloc, passes, one, other, one == other);
                 assert!(rt; fits, "a stop after {passes} calls");
                 all = done;
             }

@@ -5,8 +5,8 @@ ghost use Rattle.device_pair.specs.Memory.{base_history_of, journal_history_of, 
 ghost use Rattle.device_pair.specs.JointLaws.{joint_now, joint_only, joint_earlier};
 ghost use Rattle.block_device.specs.Outcomes.{shown_left, no_longer_left, none_fits};
 
-use crate::memory::MemoryPair;
 use crate::DevicePair;
+use crate::memory::MemoryPair;
 use block_device::{BlockDevice, DeviceError, MemoryDevice, Past};
 use std::alloc::Allocator;
 
@@ -85,11 +85,15 @@ impl<A: Allocator + Copy> DevicePair for MemoryPair<A> {
 
     ghost few_blocks = { λ d. (d.base.few, d.journal.few) };
 
-    ghost shown_counts = { λ d _. (shown_left (base_of d) (base_history_of d) d.base.kept.whole d.base.kept.leads,
-        shown_left (journal_of d) (journal_history_of d) d.journal.kept.whole d.journal.kept.leads) };
+    ghost shown_counts = { λ d _. (
+      shown_left (base_of d) (base_history_of d) d.base.kept.whole d.base.kept.leads,
+      shown_left (journal_of d) (journal_history_of d) d.journal.kept.whole d.journal.kept.leads,
+    ) };
 
-    ghost no_longer = { λ d a b _ left. (no_longer_left (base_of d) (base_history_of d) a left.0,
-        no_longer_left (journal_of d) (journal_history_of d) b left.1) };
+    ghost no_longer = { λ d a b _ left. (
+      no_longer_left (base_of d) (base_history_of d) a left.0,
+      no_longer_left (journal_of d) (journal_history_of d) b left.1,
+    ) };
 
     ghost whole = { λ d a b _ left. (left.0.whole, left.1.whole) };
 

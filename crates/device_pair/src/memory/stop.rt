@@ -2,8 +2,8 @@
 ghost use Rattle.std.specs.Prelude.{◌≡◌, ℕ};
 ghost use Rattle.device_pair.specs.Memory.{base_of, journal_of, may_leave_of, AreLeft};
 
-use crate::memory::MemoryPair;
 use crate::DevicePair;
+use crate::memory::MemoryPair;
 use block_device::{Left, Past};
 use std::alloc::Allocator;
 

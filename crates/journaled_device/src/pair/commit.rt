@@ -9,9 +9,9 @@ ghost use Rattle.journaled_device.specs.Standing.{commits_of, IsHonest, IsSettle
 ghost use Rattle.journaled_device.specs.Stages.{IsRecorded, SameBehind};
 ghost use Rattle.journaled_device.specs.declared.stage.Stage.TheVariants.{Filling, Deciding, Copying, Clearing};
 
+use crate::Stage;
 use crate::gate::gate_page;
 use crate::pair::JournaledPair;
-use crate::Stage;
 use block_bytes::zero_block;
 use block_device::DeviceError;
 use device_pair::DevicePair;

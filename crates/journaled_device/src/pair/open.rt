@@ -14,10 +14,10 @@ ghost use Rattle.journaled_device.specs.declared.stage.Stage.TheVariants.{Fillin
 ghost use Rattle.std.specs.Prelude.{IsErrOf};
 ghost use Rattle.device_pair.specs.Pairs.{PairLeaves, PairsNoMore};
 
+use crate::Stage;
 use crate::gate::{gate_page, says_complete};
 use crate::pair::JournaledPair;
 use crate::pair::record::HOMES;
-use crate::Stage;
 use block_bytes::{read_u32, zero_block};
 use block_device::DeviceError;
 use device_pair::DevicePair;
