@@ -7,6 +7,7 @@ use Rattle.std.proofs.lemmas.Bool.{cases_lt, cases_eq, cases_Bool, eq-eqb, ne_eq
 use Rattle.block_device.specs.Logged.{Write}
 use Rattle.block_device.specs.Device.{Blocks, IsBlock, Follows, Torn, Elapses, block_at, written}
 use Rattle.block_device.specs.History.{Event, Wrote, undone, IsThere, IsHistory, MayLeave, LeftSince, at_sync, unsynced}
+use Rattle.block_device.specs.Memory.{WritesMore}
 use Rattle.block_device.specs.Kept.{IsKept, IsOld, Keeps, is_in, is_logged}
 use Rattle.block_device.specs.Outcomes.{sync_le, sync_same, set_blocks}
 use Rattle.block_device.specs.Stop.{IsOutcome}
@@ -21,6 +22,7 @@ pub record Adds (blocks after : Blocks) (es es' : List Event) (i : ℕ) (bytes :
   pub numbers : unsynced es' ≡ i ∷ unsynced es
   pub stops : Follows (Torn i) (MayLeave blocks es) (MayLeave after es')
   pub time : Elapses (length es) (length es') (LeftSince blocks es) (LeftSince after es') (MayLeave after es')
+  pub event : WritesMore i blocks es after es'
 
 -- a write of block i, which held `old` or was not there
 module _ (blocks after : Blocks) (es es' : List Event) (i : ℕ) (old : Option (List ℕ)) (bytes : List ℕ)
@@ -39,6 +41,7 @@ module _ (blocks after : Blocks) (es es' : List Event) (i : ℕ) (old : Option (
         (subst (λ (ns : List ℕ). IsOutcome after (at_sync after es') ns c) (ap unsynced e) now))
         );
     time = subst (λ (l : List Event). Elapses (length es) (length l) (LeftSince blocks es) (LeftSince after l) (MayLeave after l)) (sym e) (elapses_more blocks after es (Wrote i old) back);
+    event = (old, e, back);
   }
 
   pub leads : IsThere i old after → IsHistory after es'

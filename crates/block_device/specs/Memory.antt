@@ -1,5 +1,5 @@
 -- A device in memory as its contracts see it: its blocks, its history, and what its calls answer.
-use Rattle.std.specs.Prelude.{◌≡◌, ◌<◌, ℕ, List, [], ◌∷◌, length, replicate, Result, IsOk, OnOk, OnErr, IsErrOf}
+use Rattle.std.specs.Prelude.{◌≡◌, ◌<◌, ℕ, List, [], ◌∷◌, length, replicate, Option, Result, IsOk, OnOk, OnErr, IsErrOf}
 use Rattle.std.specs.List.{Contains}
 use Rattle.block_device.specs.declared.device.DeviceError.{DeviceError}
 use Rattle.block_device.specs.declared.device.DeviceError.TheVariants.{Failed}
@@ -7,7 +7,7 @@ use Rattle.block_device.specs.declared.left.Left.{Left}
 use Rattle.block_device.specs.declared.left.Left.TheVariants as left
 use Rattle.block_device.specs.declared.memory.MemoryDevice.{MemoryDevice}
 use Rattle.block_device.specs.Device.{Blocks, block_at, written, one_more}
-use Rattle.block_device.specs.History.{Event, history, at_sync, unsynced, MayLeave, LeftSince}
+use Rattle.block_device.specs.History.{Event, Wrote, Synced, undone, history, at_sync, unsynced, MayLeave, LeftSince}
 use Rattle.block_device.specs.Stop.{IsFilled}
 
 -- the blocks, as a read returns them
@@ -48,12 +48,17 @@ pub record AnswersRead {X : Type 0} (old : MemoryDevice X) (i : ℕ) (result : R
   pub bytes : into ≡ block_at i (shown_of old)
   pub same : new ≡ old
 
+-- one write of block i more, before which the blocks were those
+abbrev pub WritesMore : ℕ → Blocks → List Event → Blocks → List Event → Type 0
+WritesMore i blocks es after es' = (old : Option (List ℕ)) × (es' ≡ Wrote i old ∷ es) × (undone i old after ≡ blocks)
+
 -- the device after a write of block i
 pub record HasWritten {X : Type 0} (old : MemoryDevice X) (i : ℕ) (bytes : List ℕ) (new : MemoryDevice X) : Type 0 where
   pub shown : shown_of new ≡ written i bytes (shown_of old)
   pub synced : synced_of new ≡ synced_of old
   pub unsynced : unsynced_of new ≡ i ∷ unsynced_of old
   pub counted : writes_of new ≡ one_more (writes_of old)
+  pub history : WritesMore i (shown_of old) (history_of old) (shown_of new) (history_of new)
 
 -- the device after a write that was refused
 pub record IsUnchanged {X : Type 0} (old new : MemoryDevice X) : Type 0 where
@@ -76,6 +81,7 @@ pub record AnswersSync {X : Type 0} (old : MemoryDevice X) (result : Result (Uni
   pub synced : synced_of new ≡ shown_of old
   pub unsynced : unsynced_of new ≡ []
   pub writes : writes_of new ≡ writes_of old
+  pub history : history_of new ≡ Synced ∷ history_of old
 
 -- what a stop of this kind leaves of blocks that are read so now and were so at the last sync, where
 -- those of these numbers were written since

@@ -1,5 +1,5 @@
 -- After a sync a stop leaves what is read.
-use Rattle.std.proofs.Common.{false, true, refl, ◌≡◌, ap, inl, sym, subst, List}
+use Rattle.std.proofs.Common.{rules, false, true, refl, ◌≡◌, ap, inl, sym, subst, List}
 use Rattle.block_device.specs.Device.{Blocks}
 use Rattle.block_device.specs.History.{Event, history, MayLeave}
 use Rattle.block_device.specs.Outcomes.{shown_left}
@@ -26,3 +26,13 @@ returns-clause-commits g c = λ _ _. (
       only_shown bs (history c.args.self.now.past.notes) d (subst (λ (l : List Event). MayLeave bs l d) (ap history c.syncs.ensures) now)),
   (λ d back. let e : false ≡ true = back in absurd (cc)),
 )
+
+pub returns-clause-gives : goal.returns-clause-gives
+returns-clause-gives g c = record {
+  ok = search rules;
+  shown = search rules;
+  synced = search rules;
+  unsynced = search rules;
+  writes = search rules;
+  history = ap history c.syncs.ensures;
+}
