@@ -6,7 +6,9 @@ use Rattle.live_layers.specs.Catalog.{is_good_catalog}
 use Rattle.live_layers.specs.Keeping.{cache_of, records_in}
 use Rattle.page_cache.specs.Cache.{device_of}
 use Rattle.page_file.specs.Stops.{AddsOnly}
+use Rattle.layer_store.specs.Faults.{IsMemoryOrDevice}
 use Rattle.layer_store.specs.Representation.{IsLeftAlone}
+use Rattle.layer_store.proofs.ClosingLemmas.{memory_or_device}
 use Rattle.layer_store.proofs.StopLemmas.{only_read}
 use Rattle.layer_store.proofs.StoreLemmas.{alive_so, not_both, settled_so}
 use Rattle.layer_store.proofs.store.start.begin.Goals as goal
@@ -50,3 +52,9 @@ returns-in-Err-open-clause-refused_stops g c = λ honest.
     let new = c.in-Err-open.device in
     subst (λ (e : g.row.D.Denot). AddsOnly d.moment d.left_since e new (IsLeftAlone d.recovers (d.shown e))) over.device
     (only_read c.in-Ok.cache new (λ e b back. g.met.D.BlockDevice.fallback_recovers e b back) inside (over.gate ∙ c.requires.shut) (c.in-Err-open.ensures.refused_stops inside))
+
+pub returns-in-Err-open-clause-not_refused : goal.returns-in-Err-open-clause-not_refused
+returns-in-Err-open-clause-not_refused g c = λ t blocks honest lies image.
+    let over = c.in-Ok.ensures in
+    subst IsMemoryOrDevice (sym c.as_refusal-in-Err-open.ensures)
+    (memory_or_device _ (c.in-Err-open.ensures.not_refused t blocks (subst g.D.BlockDevice.honest (sym over.device) honest) ((over.lies blocks).1 lies) image))
