@@ -1,16 +1,26 @@
 //! Files of format 1, which has no tags: they are read as they are, and become files of format 2 page by page as they
 //! are changed.
 
-use crate::blocks::{block_of, patch};
+use crate::blocks::{block_of, patch, put, set};
 use crate::files::file;
 use block_device::{BlockDevice, MemoryDevice};
-use layer_store::{RawBox, Refusal};
+use layer_store::{RawBox, RawQuery, Refusal, Store};
+use list_table::ListTable;
 use std::alloc::{AllocError, Global};
+use std::process::Abort;
 use std::test::Fail;
-use store_commands::{Command, Dice, Object, PLANE, answer, device_of, new_store, opened};
+use store_commands::{
+    Command, Dice, Object, PLANE, answer, device_of, listed, new_store, opened, represents,
+};
 
-// The kind of a node page of format 2.
+// The kinds of node and bucket pages of the two formats.
+const OLD_NODE: u64 = 2;
+
 const NEW_NODE: u8 = 6;
+
+const OLD_BUCKET: u64 = 4;
+
+const NEW_BUCKET: u8 = 7;
 
 // The first six blocks of the file written by hand, of which the catalog has the layer `a` alone. The bytes where
 // format 2 has the tags of the leaf are no tags.
@@ -59,6 +69,55 @@ fn a_file_of_format_1_becomes_one_of_format_2_where_it_is_changed(
     Ok(())
 }
 
+// A node page of two axes of format 1 from one of format 2. The bytes in the tags' places are no tags.
+fn old_node(page: &mut [u8; 4096]) {
+    set(page, 0, 1, OLD_NODE);
+    for place in 0..100 {
+        set(page, 2416 + 4 * place, 4, 0x0102_0304);
+    }
+}
+
+// A bucket page of two axes of format 1 from one of format 2: its entries without their tags.
+fn old_bucket(page: &mut [u8; 4096]) {
+    let new = *page;
+    set(page, 0, 1, OLD_BUCKET);
+    for place in 0..100usize {
+        for byte in 0..24usize {
+            page[16 + 24 * place + byte] = new[16 + 28 * place + byte];
+        }
+    }
+}
+
+// The closed file of objects without tags as one of format 1.
+fn as_format_1(device: &mut MemoryDevice) -> Result<(), Fail> {
+    patch(device, 1, 8, 2, 1)?;
+    for block in 3..device.blocks() {
+        let mut page = block_of(device, block)?;
+        match page[0] {
+            NEW_NODE => old_node(&mut page),
+            NEW_BUCKET => old_bucket(&mut page),
+            _ => continue,
+        }
+        put(device, block, &page)?;
+    }
+    Ok(())
+}
+
+// How many pages have the kinds of node and bucket pages of format 1, and how many those of format 2.
+fn kinds(device: &mut MemoryDevice) -> Result<[u32; 4], Fail> {
+    let mut counts = [0u32; 4];
+    for block in 3..device.blocks() {
+        match block_of(device, block)?[0] {
+            2 => counts[0] = counts[0].saturating_add(1),
+            4 => counts[1] = counts[1].saturating_add(1),
+            6 => counts[2] = counts[2].saturating_add(1),
+            7 => counts[3] = counts[3].saturating_add(1),
+            _ => {}
+        }
+    }
+    Ok(counts)
+}
+
 // A box of the plane, some hundred wide.
 fn any_box(dice: &mut Dice) -> RawBox {
     let (x, y) = (dice.below(100_000) as i32, dice.below(100_000) as i32);
@@ -72,6 +131,67 @@ fn any_objects(dice: &mut Dice, alloc: Global, count: u32) -> Result<Vec<Object>
         objects.push((u64::from(id), any_box(dice), 0))?;
     }
     Ok(objects)
+}
+
+// A change of an object, or a question. Some identifiers are of no object.
+fn any_command(dice: &mut Dice) -> Command<'static> {
+    let bounds = any_box(dice);
+    let id = u64::from(dice.below(20_400));
+    match dice.below(8) {
+        0 | 1 => Command::InsertTagged(b"a", id, bounds, dice.below(3)),
+        2 | 3 => Command::Move(b"a", id, bounds),
+        4 | 5 => Command::Delete(b"a", id),
+        6 => Command::Get(b"a", id),
+        _ => Command::Tagged(b"a", RawQuery::Window(bounds), dice.below(3)),
+    }
+}
+
+// Puts a hundred commands to both, which answer the same and stay the same.
+fn put_hundred(
+    rt: &impl Abort,
+    alloc: Global,
+    store: &mut Store<MemoryDevice>,
+    table: &mut ListTable<Global>,
+    dice: &mut Dice,
+) {
+    for _ in 0..100 {
+        let command = any_command(dice);
+        let given = answer(alloc, store, command);
+        assert!(rt; given == listed(alloc, table, command), "{command:?}");
+    }
+    assert!(rt; represents(alloc, store, table, &[b"a"], 1));
+}
+
+#[test]
+fn a_great_file_of_format_1_is_changed_beside_the_plain_list(rt: HostRuntime) -> Result<(), Fail> {
+    let alloc = rt.alloc();
+    let mut dice = Dice { state: 44 };
+    let mut store = new_store(alloc, 64)?;
+    let mut table = ListTable::new(alloc);
+    let objects = any_objects(&mut dice, alloc, 20_000)?;
+    for command in [Command::Create(b"a", 2, 20), Command::Load(b"a", &objects)] {
+        answer(alloc, &mut store, command)?;
+        listed(alloc, &mut table, command)?;
+    }
+    let mut device = device_of(store)?;
+    as_format_1(&mut device)?;
+    let old = kinds(&mut device)?;
+    assert!(rt; old[0] > 1000 && old[1] == 1000 && old[2] == 0 && old[3] == 0);
+    let mut store = opened(alloc, device, 64)?;
+    assert!(rt; represents(alloc, &mut store, &mut table, &[b"a"], 1));
+    for _ in 0..4 {
+        put_hundred(&rt, alloc, &mut store, &mut table, &mut dice);
+    }
+    // Both kinds stand in one tree, and in the tables of one layer.
+    let mut device = device_of(store)?;
+    let mixed = kinds(&mut device)?;
+    assert!(rt;
+        mixed[0] > 0 && mixed[1] > 0 && mixed[2] > 0 && mixed[3] > 0,
+        "{mixed:?}"
+    );
+    let mut store = opened(alloc, device, 64)?;
+    put_hundred(&rt, alloc, &mut store, &mut table, &mut dice);
+    Ok(())
 }
 
 #[test]
