@@ -3,7 +3,8 @@
 -- than docs/FORMAT.md, "The disk model of a stop", is refused here.
 use Rattle.std.proofs.Common.{◌≡◌, ◌∙◌, ◌⊎◌, ℕ, ◌<◌, List, [], ◌∷◌, true, false, Result, Ok, Err, refl, ap, arith, inl, inr, ⊎_elim, ◌+◌, get_or, length, map, replicate}
 use Rattle.std.proofs.lemmas.List.{length-replicate}
-use Rattle.block_device.specs.Device.{IsBlock, Blocks, block_at, written, Torn, Follows, LeavesNoMore, Only, Elapses, LeavesOnly, one_more, Counts, HasRisen}
+use Rattle.block_device.specs.Device.{IsBlock, Blocks, block_at, written, Torn, Follows, LeavesNoMore, Only, Elapses, Brings, LeavesOnly, Recovery, no_recovery, one_more, Counts, HasRisen}
+use Rattle.block_device.specs.Moments.{brings_nothing}
 use Rattle.block_device.specs.Fuse.{is_blown, fails_next, CallsBelow, faults_with}
 use Rattle.block_device.specs.Laws.{Both}
 use Rattle.block_device.specs.Outcomes.{repeated_block}
@@ -143,20 +144,36 @@ moment d = d
 abbrev left : ℕ → ℕ → Blocks → Type 0
 left d t c = c ≡ (d ∷ []) ∷ []
 
-a_run_leaves_what_is_said : LeavesOnly moment left 1 2 (are ((2 ∷ []) ∷ []))
-a_run_leaves_what_is_said = record { later = omega arith; each = λ c is. is; before = λ t c le is. inr is }
+a_run_leaves_what_is_said : LeavesOnly moment left no_recovery 1 2 (are ((2 ∷ []) ∷ []))
+a_run_leaves_what_is_said = record { later = omega arith; each = λ c is. is; before = λ t c le is. inr is; brings = brings_nothing moment 1 2 (are ((2 ∷ []) ∷ [])) }
 
-a_run_leaves_nothing_else : LeavesOnly moment (λ d t c. t ≡ 1) 1 2 (λ c. ⊥) → ⊥
+a_run_leaves_nothing_else : LeavesOnly moment (λ d t c. t ≡ 1) no_recovery 1 2 (λ c. ⊥) → ⊥
 a_run_leaves_nothing_else h = h.each two refl
 
-a_run_leaves_nothing_else_since_an_earlier_moment : LeavesOnly moment (λ d t c. (d ≡ 2) × (t ≡ 0)) 1 2 (λ c. ⊥) → ⊥
+a_run_leaves_nothing_else_since_an_earlier_moment : LeavesOnly moment (λ d t c. (d ≡ 2) × (t ≡ 0)) no_recovery 1 2 (λ c. ⊥) → ⊥
 a_run_leaves_nothing_else_since_an_earlier_moment h = ⊎_elim (λ was. absurd (omega (arith, was.0))) (λ no. no) (h.before 0 two (omega arith) (refl, refl))
 
-what_was_left_before_may_be_left : LeavesOnly moment (λ d t c. t ≡ 0) 1 2 (λ c. ⊥)
-what_was_left_before_may_be_left = record { later = omega arith; each = λ c is. absurd (omega (arith, is)); before = λ t c le is. inl is }
+what_was_left_before_may_be_left : LeavesOnly moment (λ d t c. t ≡ 0) no_recovery 1 2 (λ c. ⊥)
+what_was_left_before_may_be_left = record { later = omega arith; each = λ c is. absurd (omega (arith, is)); before = λ t c le is. inl is; brings = brings_nothing moment 1 2 (λ c. ⊥) }
 
-a_run_takes_no_time_back : (P : Blocks → Type 0) → LeavesOnly moment left 2 1 P → ⊥
+a_run_takes_no_time_back : (P : Blocks → Type 0) → LeavesOnly moment left no_recovery 2 1 P → ⊥
 a_run_takes_no_time_back P h = absurd (omega (arith, h.later))
+
+-- devices of which a stop brings back a block that says which they are, and which take such blocks alone
+abbrev committing : Recovery ℕ
+committing = record { commits = λ d k. k ≡ (d ∷ []) ∷ []; found_since = λ d t c. c ≡ (d ∷ []) ∷ []; takes = λ k. k ≡ (2 ∷ []) ∷ [] }
+
+a_commit_is_of_what_the_run_leaves : Brings moment committing 1 2 (are ((2 ∷ []) ∷ []))
+a_commit_is_of_what_the_run_leaves = record {
+  commits = λ k is. inr (is, is);
+  found = λ t c le is. inr ((2 ∷ []) ∷ [], inr (refl, refl), record { no_shorter = omega (arith, ap length is); same = λ k lt. ap (block_at k) is });
+}
+
+a_commit_is_of_nothing_else : Brings moment committing 1 2 (are two) → ⊥
+a_commit_is_of_nothing_else h = ⊎_elim (λ was. (cc)) (λ new. (cc)) (h.commits ((2 ∷ []) ∷ []) refl)
+
+a_commit_is_only_of_what_is_taken : (P : Blocks → Type 0) → Brings moment committing 1 3 P → ⊥
+a_commit_is_only_of_what_is_taken P h = ⊎_elim (λ was. (cc)) (λ new. let e = new.0 in (cc)) (h.commits ((3 ∷ []) ∷ []) refl)
 
 -- ---- faults
 

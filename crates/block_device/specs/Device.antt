@@ -46,12 +46,44 @@ pub record Elapses (before now : ℕ) (past since : ℕ → Blocks → Type 0) (
   pub nothing_else : (t : ℕ) (c : Blocks) → t ≤ before → since t c → past t c ⊎ may_leave c
   pub keeps : (t : ℕ) (c : Blocks) → t ≤ before → past t c → since t c
 
+-- the blocks begin with these, and hold anything behind them
+pub record Begins (kept c : Blocks) : Type 0 where
+  pub no_shorter : length kept ≤ length c
+  pub same : (k : ℕ) → k < length kept → block_at k c ≡ block_at k kept
+
+-- the blocks begin with one of these
+abbrev pub BeginsOne : (Blocks → Type 0) → Blocks → Type 0
+BeginsOne commits c = (kept : Blocks) × commits kept × Begins kept c
+
+-- What a stop brings back of a device that commits (our rule, docs/FORMAT.md, "The journal"): the commits of which one
+-- is brought back now, with any blocks behind it; what stops since a moment were found to have left, once that was
+-- done; and which blocks are ever committed.
+pub record Recovery (D : Type 0) : Type 1 where
+  pub commits : D → Blocks → Type 0
+  pub found_since : D → ℕ → Blocks → Type 0
+  pub takes : Blocks → Type 0
+
+-- a device without commits
+abbrev pub no_recovery : {D : Type 0} → Recovery D
+no_recovery = record { commits = λ d k. ⊥; found_since = λ d t c. ⊥; takes = λ k. ⊥ }
+
+-- a commit that was there, or a new one, of blocks that have P
+abbrev pub OrTaken : {D : Type 0} → Recovery D → D → (Blocks → Type 0) → Blocks → Type 0
+OrTaken recovery old P k = recovery.commits old k ⊎ (recovery.takes k × P k)
+
+-- Over a run of calls that began at `old`, each new commit was of blocks that have P, and each stop was found to have left
+-- blocks that begin with a commit that was there, or with a new one.
+pub record Brings {D : Type 0} (moment : D → ℕ) (recovery : Recovery D) (old new : D) (P : Blocks → Type 0) : Type 0 where
+  pub commits : (k : Blocks) → recovery.commits new k → OrTaken recovery old P k
+  pub found : (t : ℕ) (c : Blocks) → t ≤ moment old → recovery.found_since new t c → recovery.found_since old t c ⊎ BeginsOne (OrTaken recovery old P) c
+
 -- Over a run of calls that began at `old`, each stop left blocks that have P. `before` is for a run
 -- that began earlier.
-pub record LeavesOnly {D : Type 0} (moment : D → ℕ) (left_since : D → ℕ → Blocks → Type 0) (old new : D) (P : Blocks → Type 0) : Type 0 where
+pub record LeavesOnly {D : Type 0} (moment : D → ℕ) (left_since : D → ℕ → Blocks → Type 0) (recovery : Recovery D) (old new : D) (P : Blocks → Type 0) : Type 0 where
   pub later : moment old ≤ moment new
   pub each : (c : Blocks) → left_since new (moment old) c → P c
   pub before : (t : ℕ) (c : Blocks) → t ≤ moment old → left_since new t c → left_since old t c ⊎ P c
+  pub brings : Brings moment recovery old new P
 
 -- one more, up to the greatest u64
 abbrev pub one_more : ℕ → ℕ

@@ -4,6 +4,7 @@ ghost use Rattle.block_device.specs.declared.device.DeviceError.{DeviceError};
 ghost use Rattle.block_device.specs.declared.device.DeviceError.TheVariants.{Memory};
 ghost use Rattle.std.specs.List.{All};
 ghost use Rattle.block_device.specs.Device.{Blocks, IsBlock, Only, LeavesNoMore, Follows, Torn, Elapses, Counts};
+ghost use Rattle.block_device.specs.Device.{BeginsOne, Brings, Recovery, no_recovery};
 ghost use Rattle.block_device.specs.Device.{block_at, written};
 
 use std::alloc::{AllocError, AllocFailed};
@@ -59,6 +60,9 @@ pub trait BlockDevice {
     /// What a stop at some moment from that one on might have left, within a call or between two.
     ghost left_since: { Self → ℕ → Blocks → Type 0 };
 
+    /// What a device of this kind commits, and what a stop brings back of it: by default nothing.
+    ghost recovery: { Recovery Self } = { no_recovery };
+
     /// How many calls have answered `Failed`, a u64 that stays at its greatest value.
     ghost faults: { Self → ℕ };
 
@@ -89,6 +93,7 @@ pub trait BlockDevice {
         ensures time { honest self.old →
             Elapses (moment self.old) (moment self.new) (left_since self.old) (left_since self.new)
             (may_leave self.new) }
+        ensures brings { honest self.old → Brings moment recovery self.old self.new (may_leave self.new) }
 
         ensures honest { honest self.old ↔ honest self.new }
         ensures faults { Counts (faults self.old) (faults self.new) result }
@@ -107,6 +112,7 @@ pub trait BlockDevice {
         ensures time { honest self.old →
             Elapses (moment self.old) (moment self.new) (left_since self.old) (left_since self.new)
             (may_leave self.new) }
+        ensures brings { honest self.old → Brings moment recovery self.old self.new (may_leave self.new) }
 
         ensures honest { honest self.old ↔ honest self.new }
         ensures faults { Counts (faults self.old) (faults self.new) result }
@@ -121,6 +127,7 @@ pub trait BlockDevice {
         ensures time { honest self.old →
             Elapses (moment self.old) (moment self.new) (left_since self.old) (left_since self.new)
             (may_leave self.new) }
+        ensures brings { honest self.old → Brings moment recovery self.old self.new (may_leave self.new) }
 
         ensures honest { honest self.old ↔ honest self.new }
         ensures faults { Counts (faults self.old) (faults self.new) result }
@@ -146,6 +153,14 @@ pub trait BlockDevice {
 
     /// The moments since one include those since a later one.
     ghost since_earlier: { (d : Self) (t u : ℕ) (c : Blocks) → honest d → t ≤ u → left_since d u c → left_since d t c };
+
+    /// A stop now brings back blocks that begin with a commit.
+    ghost brought_now: { (d : Self) (c : Blocks) → honest d → recovery.found_since d (moment d) c →
+        BeginsOne (recovery.commits d) c };
+
+    /// Where all is durable, and what is read is committed at all, it is the one commit.
+    ghost committed: { (d : Self) (k : Blocks) → honest d → Only (shown d) (may_leave d) → recovery.takes (shown d) →
+        recovery.commits d k → k ≡ shown d };
 
     /// The count of faults is a u64.
     ghost faults_fit: { (d : Self) → faults d < 2 ^ 64 };

@@ -143,5 +143,9 @@ impl<D: BlockDevice> BlockDevice for FuseDevice<D> {
 
     ghost since_earlier = { λ f. D.since_earlier (inner_of f) };
 
+    ghost brought_now = { λ d c _ found. absurd found };
+
+    ghost committed = { λ d k _ _ _ kept. absurd kept };
+
     ghost faults_fit = { λ f. faults_with-fits (D.faults (inner_of f)) (blown_of f) };
 }

@@ -5,7 +5,7 @@ ghost use Rattle.block_device.specs.Noted.{Note, note_of};
 
 use std::marker::{Model, PhantomData};
 
-/// The writes and syncs so far, as a ghost list.
+/// Events so far, as a ghost list of what each was noted with, the newest first.
 #[derive(Drop)]
 pub struct Past {
     marker: PhantomData<u8>,
@@ -18,7 +18,7 @@ impl Model for Past {
 
 impl Past {
     /// No event yet.
-    pub(crate) fn new() -> Past
+    pub fn new() -> Past
         ensures { result.notes ≡ [] }
     {
         Past {
@@ -27,7 +27,7 @@ impl Past {
     }
 
     /// Adds an event, which costs nothing.
-    pub(crate) fn note(&mut self, _numbers: &[u64], _bytes: &[u8])
+    pub fn note(&mut self, _numbers: &[u64], _bytes: &[u8])
         ensures { self.new.notes ≡ note_of _numbers.now _bytes.now ∷ self.old.notes }
     {}
 

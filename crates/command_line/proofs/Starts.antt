@@ -11,21 +11,21 @@ start (Ok v) G made refused = made v refl
 start (Err e) G made refused = refused e refl
 
 -- what a refused start says of its device is said of what is left
-pub refused_start : {D R W : Type 0} (moment : D → ℕ) (left_since : D → ℕ → Blocks → Type 0) (P : Blocks → Type 0) (device d : D) (r r' : R) (w w' : W) (left : Served D)
-    → (left.status ≡ 1) × (left.device ≡ d) × (r' ≡ r) × (w' ≡ w) → LeavesOnly moment left_since device d P
-    → IsRefusedStart moment left_since P device r r' w w' left
-refused_start moment left_since P device d r r' w w' left so stops = record {
+pub refused_start : {D R W : Type 0} (moment : D → ℕ) (left_since : D → ℕ → Blocks → Type 0) (recovery : Recovery D) (P : Blocks → Type 0) (device d : D) (r r' : R) (w w' : W) (left : Served D)
+    → (left.status ≡ 1) × (left.device ≡ d) × (r' ≡ r) × (w' ≡ w) → LeavesOnly moment left_since recovery device d P
+    → IsRefusedStart moment left_since recovery P device r r' w w' left
+refused_start moment left_since recovery P device d r r' w w' left so stops = record {
   failed = so.0;
   unread = so.2;
   unwritten = so.3;
-  stops = subst (λ x. LeavesOnly moment left_since device x P) (sym so.1) stops;
+  stops = subst (λ x. LeavesOnly moment left_since recovery device x P) (sym so.1) stops;
 }
 
 -- a run to the closing answers what it read, and blames no device where it had no fault
-has_answered : {D : Type 0} (shown : D → Blocks) (moment : D → ℕ) (left_since : D → ℕ → Blocks → Type 0) (may_leave : D → Blocks → Type 0) (faults : D → ℕ) (t : Table) (device : D)
-    (unread unread' written written' : Option (List ℕ)) (left : Served D) → HasServed shown moment left_since may_leave faults t device unread unread' written written' left
+has_answered : {D : Type 0} (shown : D → Blocks) (moment : D → ℕ) (left_since : D → ℕ → Blocks → Type 0) (recovery : Recovery D) (may_leave : D → Blocks → Type 0) (faults : D → ℕ) (t : Table) (device : D)
+    (unread unread' written written' : Option (List ℕ)) (left : Served D) → HasServed shown moment left_since recovery may_leave faults t device unread unread' written written' left
     → faults left.device ≡ 0 → HasAnswered t unread unread' written written' left.status
-has_answered shown moment left_since may_leave faults t device unread unread' written written' left h none = record {
+has_answered shown moment left_since recovery may_leave faults t device unread unread' written written' left h none = record {
   old = h.old;
   new = h.new;
   begins = h.begins;
@@ -36,10 +36,10 @@ has_answered shown moment left_since may_leave faults t device unread unread' wr
 }
 
 -- a start that was refused has not begun, and a run to the closing answers
-pub begun_or_answered : {D R W : Type 0} (shown : D → Blocks) (moment : D → ℕ) (left_since : D → ℕ → Blocks → Type 0) (may_leave : D → Blocks → Type 0) (faults : D → ℕ) (P : Blocks → Type 0) (t : Table) (device : D) (r r' : R) (w w' : W)
-    (unread unread' written written' : Option (List ℕ)) (left : Served D) → IsRefusedStart moment left_since P device r r' w w' left ⊎ HasServed shown moment left_since may_leave faults t device unread unread' written written' left
+pub begun_or_answered : {D R W : Type 0} (shown : D → Blocks) (moment : D → ℕ) (left_since : D → ℕ → Blocks → Type 0) (recovery : Recovery D) (may_leave : D → Blocks → Type 0) (faults : D → ℕ) (P : Blocks → Type 0) (t : Table) (device : D) (r r' : R) (w w' : W)
+    (unread unread' written written' : Option (List ℕ)) (left : Served D) → IsRefusedStart moment left_since recovery P device r r' w w' left ⊎ HasServed shown moment left_since recovery may_leave faults t device unread unread' written written' left
     → faults left.device ≡ 0 → HasNotBegun r r' w w' left.status ⊎ HasAnswered t unread unread' written written' left.status
-begun_or_answered shown moment left_since may_leave faults P t device r r' w w' unread unread' written written' left (inl refused) none =
+begun_or_answered shown moment left_since recovery may_leave faults P t device r r' w w' unread unread' written written' left (inl refused) none =
     inl (record { failed = refused.failed; unread = refused.unread; unwritten = refused.unwritten })
-begun_or_answered shown moment left_since may_leave faults P t device r r' w w' unread unread' written written' left (inr served) none =
-    inr (has_answered shown moment left_since may_leave faults t device unread unread' written written' left served none)
+begun_or_answered shown moment left_since recovery may_leave faults P t device r r' w w' unread unread' written written' left (inr served) none =
+    inr (has_answered shown moment left_since recovery may_leave faults t device unread unread' written written' left served none)

@@ -22,25 +22,25 @@ use Rattle.command_shell.specs.declared.session.RunEnd.TheVariants.{Finished}
 use Rattle.command_line.specs.declared.program.Served.{Served}
 
 -- The store could not be made or opened: nothing was read and no reply written, and a stop left blocks that have P.
-pub record IsRefusedStart {D R W : Type 0} (moment : D → ℕ) (left_since : D → ℕ → Blocks → Type 0) (P : Blocks → Type 0) (device : D) (r r' : R) (w w' : W) (left : Served D) : Type 0 where
+pub record IsRefusedStart {D R W : Type 0} (moment : D → ℕ) (left_since : D → ℕ → Blocks → Type 0) (recovery : Recovery D) (P : Blocks → Type 0) (device : D) (r r' : R) (w w' : W) (left : Served D) : Type 0 where
   pub failed : left.status ≡ 1
   pub unread : r' ≡ r
   pub unwritten : w' ≡ w
-  pub stops : LeavesOnly moment left_since device left.device P
+  pub stops : LeavesOnly moment left_since recovery device left.device P
 
 -- It could not be opened, and the blocks are as they were, also after a stop.
 abbrev pub IsRefusedOpening : {D R W : Type 0} → (D → Blocks) → (D → ℕ) → (D → ℕ → Blocks → Type 0) → (D → Blocks → Type 0) → D → R → R → W → W → Served D → Type 0
-IsRefusedOpening shown moment left_since may_leave device r r' w w' left = IsRefusedStart moment left_since (may_leave device) device r r' w w' left × (shown left.device ≡ shown device)
+IsRefusedOpening shown moment left_since recovery may_leave device r r' w w' left = IsRefusedStart moment left_since recovery (may_leave device) device r r' w w' left × (shown left.device ≡ shown device)
 
 -- Commands were answered by a lawful session that begins with this table. With status 0 all that the reader had was read,
 -- each reply was written, and the blocks are an image of the table at the session's end, also after a stop. With any
 -- status a stop until the store stood left what one before the run might have left, and one since then blocks that opening
 -- refuses, or an image of this table or of one that was closed, or was to be closed, since. The faults that the session
 -- counts are those of the device, from those that it had to those that it has.
-pub record HasServed {D : Type 0} (shown : D → Blocks) (moment : D → ℕ) (left_since : D → ℕ → Blocks → Type 0) (may_leave : D → Blocks → Type 0) (faults : D → ℕ) (t : Table) (device : D)
+pub record HasServed {D : Type 0} (shown : D → Blocks) (moment : D → ℕ) (left_since : D → ℕ → Blocks → Type 0) (recovery : Recovery D) (may_leave : D → Blocks → Type 0) (faults : D → ℕ) (t : Table) (device : D)
     (unread unread' written written' : Option (List ℕ)) (left : Served D) : Type 0 where
   pub opened : D
-  pub opening : LeavesOnly moment left_since device opened (may_leave device)
+  pub opening : LeavesOnly moment left_since recovery device opened (may_leave device)
   pub old : SessionState
   pub new : SessionState
   pub begins : old.state ≡ Alive t
@@ -111,13 +111,13 @@ pub record HasServedOn {D R W : Type 0} (m : device.Ghosts D) (create : Bool) (d
     (unread unread' written written' : Option (List ℕ)) (left : Served D) : Type 0 where
   pub kept : create ≡ true → 0 < length (m.shown device) → HasNotBegun r r' w w' left.status × (left.device ≡ device)
   pub made : create ≡ true → m.honest device → length (m.shown device) ≡ 0 →
-      IsRefusedStart m.moment m.left_since (λ c. IsRefused c ⊎ IsImage c empty) device r r' w w' left
-      ⊎ HasServed m.shown m.moment m.left_since m.may_leave m.faults empty device unread unread' written written' left
+      IsRefusedStart m.moment m.left_since m.recovery (λ c. IsRefused c ⊎ IsImage c empty) device r r' w w' left
+      ⊎ HasServed m.shown m.moment m.left_since m.recovery m.may_leave m.faults empty device unread unread' written written' left
   pub opened : create ≡ false → m.honest device → (t : Table) → IsImage (m.shown device) t →
-      IsRefusedOpening m.shown m.moment m.left_since m.may_leave device r r' w w' left
-      ⊎ HasServed m.shown m.moment m.left_since m.may_leave m.faults t device unread unread' written written' left
+      IsRefusedOpening m.shown m.moment m.left_since m.recovery m.may_leave device r r' w w' left
+      ⊎ HasServed m.shown m.moment m.left_since m.recovery m.may_leave m.faults t device unread unread' written written' left
   pub refused : create ≡ false → m.honest device → (f : Fault) → OpeningRefuses (m.shown device) f →
-      IsRefusedOpening m.shown m.moment m.left_since m.may_leave device r r' w w' left
+      IsRefusedOpening m.shown m.moment m.left_since m.recovery m.may_leave device r r' w w' left
 
 -- A file was opened, of which `opens` tells, and with this status there is left what was done on it; or its opening was
 -- refused, and nothing has begun.

@@ -94,8 +94,8 @@ made_image file lies next catalog others map = new_image (blocks_of file) (recor
 })
 
 -- what is left while a file is made
-pub new_left : {D : Type 0} (moment : D → ℕ) (left_since : D → ℕ → Blocks → Type 0) (old new : D) (Q : Blocks → Type 0) → LeavesOnly moment left_since old new (λ c. IsRefused c ⊎ (Q c × IsNewFile c)) → LeavesOnly moment left_since old new (λ c. IsRefused c ⊎ IsImage c empty)
-new_left moment left_since old new Q = leaves_weaker moment left_since old new (λ c. IsRefused c ⊎ (Q c × IsNewFile c)) (λ c. IsRefused c ⊎ IsImage c empty) (λ c. ⊎_elim (λ refused. inl refused) (λ made. inr (new_image c made.1)))
+pub new_left : {D : Type 0} (moment : D → ℕ) (left_since : D → ℕ → Blocks → Type 0) (recovery : Recovery D) (old new : D) (Q : Blocks → Type 0) → LeavesOnly moment left_since recovery old new (λ c. IsRefused c ⊎ (Q c × IsNewFile c)) → LeavesOnly moment left_since recovery old new (λ c. IsRefused c ⊎ IsImage c empty)
+new_left moment left_since recovery old new Q = leaves_weaker moment left_since recovery old new (λ c. IsRefused c ⊎ (Q c × IsNewFile c)) (λ c. IsRefused c ⊎ IsImage c empty) (λ c. ⊎_elim (λ refused. inl refused) (λ made. inr (new_image c made.1)))
 
 -- ---- a file that is read
 
@@ -103,10 +103,10 @@ pub some_is_not_none : {X : Type 0} {a : X} → None ≡ Some a → ⊥
 some_is_not_none e = absurd (cc)
 
 -- blocks that have P are read behind a shut gate
-pub then_read : {D : Type 0} (moment : D → ℕ) (left_since : D → ℕ → Blocks → Type 0) (old mid new : D) (shown : Blocks) (P : Blocks → Type 0) → P shown → LeavesOnly moment left_since old mid P → AddsOnly moment left_since mid new (StopSince Shut shown) → LeavesOnly moment left_since old new P
-then_read moment left_since old mid new shown P there before more =
-    leaves_weaker moment left_since old new (λ c. P c ⊎ StopSince Shut shown c) P (λ c. ⊎_elim (λ (p : P c). p) (λ stop. subst P (sym stop) there))
-    (a_run_goes_on moment left_since old mid new P (StopSince Shut shown) before more)
+pub then_read : {D : Type 0} (moment : D → ℕ) (left_since : D → ℕ → Blocks → Type 0) (recovery : Recovery D) (old mid new : D) (shown : Blocks) (P : Blocks → Type 0) → P shown → LeavesOnly moment left_since recovery old mid P → AddsOnly moment left_since recovery mid new (StopSince Shut shown) → LeavesOnly moment left_since recovery old new P
+then_read moment left_since recovery old mid new shown P there before more =
+    leaves_weaker moment left_since recovery old new (λ c. P c ⊎ StopSince Shut shown c) P (λ c. ⊎_elim (λ (p : P c). p) (λ stop. subst P (sym stop) there))
+    (a_run_goes_on moment left_since recovery old mid new P (StopSince Shut shown) before more)
 
 -- no catalog of a map is none of the same map
 pub same_catalog : (a b : PageMap) (m n : ℕ) → ((k : ℕ) → b k ≡ a k) → n ≡ m → HasNoCatalog a m → HasNoCatalog b n

@@ -86,25 +86,25 @@ module _ {D A : Type 0} {m : _} where
   since_leaves cache (Perhaps ts) c there stop = by_gate (gate_of cache) (blocks_of cache) c ts (λ closed same. there closed c same) stop
 
   -- a stop within it leaves what one before it leaves
-  pub kept_leaves : (old new : PageCache D A m) (left : AfterStop) → IsHonest old → OnlyNow old → LeavesAtRest old left → KeepsGate old new → LeavesOnly m.moment m.left_since (device_of old) (device_of new) (MayRemain left)
+  pub kept_leaves : (old new : PageCache D A m) (left : AfterStop) → IsHonest old → OnlyNow old → LeavesAtRest old left → KeepsGate old new → LeavesOnly m.moment m.left_since m.recovery (device_of old) (device_of new) (MayRemain left)
   kept_leaves old new left honest now there keeps =
-      leaves_weaker m.moment m.left_since (device_of old) (device_of new) (λ c. MayRemain left c ⊎ StopSince (gate_of old) (blocks_of old) c) (MayRemain left)
+      leaves_weaker m.moment m.left_since m.recovery (device_of old) (device_of new) (λ c. MayRemain left c ⊎ StopSince (gate_of old) (blocks_of old) c) (MayRemain left)
       (λ c. ⊎_elim (λ (p : MayRemain left c). p) (λ stop. since_leaves old left c there stop))
       (stops_of_a_run_go_on (device_of old) old.file new.file (MayRemain left) honest
-      (started m.moment m.left_since (device_of old) (MayRemain left) (λ c stop. at_rest_leaves old left honest there c (now c stop))) keeps)
+      (started m.moment m.left_since m.recovery (device_of old) (MayRemain left) (λ c stop. at_rest_leaves old left honest there c (now c stop))) keeps)
 
   -- where the gate is shut it leaves the blocks as they are
-  pub read_alone : (old new : PageCache D A m) → IsHonest old → OnlyNow old → gate_of old ≡ Shut → KeepsGate old new → LeavesOnly m.moment m.left_since (device_of old) (device_of new) (λ c. c ≡ blocks_of old)
+  pub read_alone : (old new : PageCache D A m) → IsHonest old → OnlyNow old → gate_of old ≡ Shut → KeepsGate old new → LeavesOnly m.moment m.left_since m.recovery (device_of old) (device_of new) (λ c. c ≡ blocks_of old)
   read_alone old new honest now shut keeps =
-      leaves_weaker m.moment m.left_since (device_of old) (device_of new) (λ c. (c ≡ blocks_of old) ⊎ StopSince (gate_of old) (blocks_of old) c) (λ c. c ≡ blocks_of old)
+      leaves_weaker m.moment m.left_since m.recovery (device_of old) (device_of new) (λ c. (c ≡ blocks_of old) ⊎ StopSince (gate_of old) (blocks_of old) c) (λ c. c ≡ blocks_of old)
       (λ c. ⊎_elim (λ same. same) (λ stop. subst (λ (gate : Gate). StopSince gate (blocks_of old) c) shut stop))
       (stops_of_a_run_go_on (device_of old) old.file new.file (λ c. c ≡ blocks_of old) honest
-      (started m.moment m.left_since (device_of old) (λ c. c ≡ blocks_of old) (λ c stop. shut_is_durable old honest shut c (now c stop))) keeps)
+      (started m.moment m.left_since m.recovery (device_of old) (λ c. c ≡ blocks_of old) (λ c stop. shut_is_durable old honest shut c (now c stop))) keeps)
 
   -- ---- a change
 
   -- after a command that leaves no more than what was left at rest, and rests on fewer tables
-  leaves_after : (old new : PageCache D A m) (stops : Stops) (now : AfterStop) → LeavesOnly m.moment m.left_since (device_of old) (device_of new) (IsRefusedOrImageOf (tables_left stops.now)) → Leaves old stops → LeavesAtRest new now
+  leaves_after : (old new : PageCache D A m) (stops : Stops) (now : AfterStop) → LeavesOnly m.moment m.left_since m.recovery (device_of old) (device_of new) (IsRefusedOrImageOf (tables_left stops.now)) → Leaves old stops → LeavesAtRest new now
       → ((u : Table) → Contains (tables_left now) u → Contains (tables_left stops.now) u) → Leaves new (record { now = now; since = stops.since; so_far = stops.so_far })
   leaves_after old new stops now run was rest within = record {
     now = rest;
@@ -114,7 +114,7 @@ module _ {D A : Type 0} {m : _} where
   }
 
   -- one that was begun opened the gate, and leaves nothing that is opened
-  begun_leaves : (old new : PageCache D A m) (stops : Stops) → LeavesOnly m.moment m.left_since (device_of old) (device_of new) (IsRefusedOrImageOf (tables_left stops.now)) → Leaves old stops → gate_of new ≡ Open
+  begun_leaves : (old new : PageCache D A m) (stops : Stops) → LeavesOnly m.moment m.left_since m.recovery (device_of old) (device_of new) (IsRefusedOrImageOf (tables_left stops.now)) → Leaves old stops → gate_of new ≡ Open
       → Leaves new (record { now = Perhaps []; since = stops.since; so_far = stops.so_far })
   begun_leaves old new stops run was opened = leaves_after old new stops (Perhaps []) run was (λ closed. absurd (closed opened)) (λ u there. contains_none u (tables_left stops.now) there)
 
@@ -140,7 +140,7 @@ module _ {D A : Type 0} {m : _} where
   -- ---- a closing
 
   -- after a closing of the table, refused or not
-  closing_leaves : (old new : PageCache D A m) (t : Table) (stops : Stops) (now : AfterStop) → LeavesOnly m.moment m.left_since (device_of old) (device_of new) (IsRefusedOrImageOf (t ∷ tables_left stops.now)) → Leaves old stops → LeavesAtRest new now
+  closing_leaves : (old new : PageCache D A m) (t : Table) (stops : Stops) (now : AfterStop) → LeavesOnly m.moment m.left_since m.recovery (device_of old) (device_of new) (IsRefusedOrImageOf (t ∷ tables_left stops.now)) → Leaves old stops → LeavesAtRest new now
       → ((u : Table) → Contains (tables_left now) u → Contains (t ∷ tables_left stops.now) u) → Leaves new (record { now = now; since = stops.since; so_far = t ∷ stops.so_far })
   closing_leaves old new t stops now closing was rest within = record {
     now = rest;
@@ -199,7 +199,7 @@ module _ {D A : Type 0} {m : _} where
   left_so_far store s represents c stop = represents.2.so_far c stop
 
   -- and what one so far left once its table was closed, or the closing was refused
-  pub left_by_closing : (store : Store D A m) (s : SessionState) (t : Table) (device : D) → Represents store s → LeavesOnly m.moment m.left_since (device_in store) device (IsRefusedOrImageOf (t ∷ tables_left s.stops.now))
+  pub left_by_closing : (store : Store D A m) (s : SessionState) (t : Table) (device : D) → Represents store s → LeavesOnly m.moment m.left_since m.recovery (device_in store) device (IsRefusedOrImageOf (t ∷ tables_left s.stops.now))
       → (c : Blocks) → m.left_since device s.stops.since c → IsRefusedOrImageOf (t ∷ s.stops.so_far) c
   unfolding Represents
   left_by_closing store s t device represents only c left =

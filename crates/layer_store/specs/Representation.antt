@@ -87,7 +87,7 @@ HasFailed store = Reaches Represents store (λ s. s.state ≡ Dead)
 
 -- stops at each moment of a command left blocks that have P
 abbrev pub StopsLeave : {D A : Type 0} {m : _} → Store D A m → Store D A m → (Blocks → Type 0) → Type 0
-StopsLeave {m = m} old new P = LeavesOnly m.moment m.left_since (device_in old) (device_in new) P
+StopsLeave {m = m} old new P = LeavesOnly m.moment m.left_since m.recovery (device_in old) (device_in new) P
 
 -- a question keeps the gate with its moment, and pages and records, so each tree; what was settled is so still
 pub record KeepsStore {D A : Type 0} {m : _} (old new : Store D A m) : Type 0 where

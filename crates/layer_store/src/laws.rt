@@ -46,7 +46,7 @@ pub fn stops_leave_what_the_session_state_says<D: BlockDevice, A: Allocator>()
 /// refuses, or an image of one of the tables so far or of the table that was closed.
 pub fn a_closing_adds_its_table<D: BlockDevice, A: Allocator>()
     ensures { (store : Store D A ⟦<D as BlockDevice>⟧) (s : SessionState) (t : Table) (device : D) →
-        Represents store s → LeavesOnly D.moment D.left_since (device_in store) device
+        Represents store s → LeavesOnly D.moment D.left_since D.recovery (device_in store) device
         (IsRefusedOrImageOf (t ∷ tables_left s.stops.now)) →
         (c : Blocks) → D.left_since device s.stops.since c → IsRefusedOrImageOf (t ∷ s.stops.so_far) c }
 {}

@@ -48,7 +48,7 @@ module _ {D A : Type 0} {m : _} {T : Type 0} where
 
   -- it was opened, was open, or was not opened
   pub gate_begun : (old new : PageCache D A m) (result : Result T Broken) → (IsHonest old → (c : Blocks) → m.left_since (device_of old) (m.moment (device_of old)) c → m.may_leave (device_of old) c)
-      → (gate_of old ≡ Open → IsUnchanged old new) → (IsHonest old → SameButGate (blocks_of new) (blocks_of old)) → (IsHonest old → ¬ (gate_of old ≡ Open) → LeavesOnly m.moment m.left_since (device_of old) (device_of new) (λ c. SameButGate c (blocks_of old)))
+      → (gate_of old ≡ Open → IsUnchanged old new) → (IsHonest old → SameButGate (blocks_of new) (blocks_of old)) → (IsHonest old → ¬ (gate_of old ≡ Open) → LeavesOnly m.moment m.left_since m.recovery (device_of old) (device_of new) (λ c. SameButGate c (blocks_of old)))
       → (IsHonest old ↔ IsHonest new) → KeepsMap old new → OnOk result (gate_of new ≡ Open) → IfErr result (λ b. b.touched ≡ false) → m.faults (device_of new) ≡ faults_behind (cause_in result) (m.faults (device_of old)) → Begins old new result
   gate_begun old new result now was_open blocks stops honest map opened untouched faults = record {
     stops = λ ts there rests. gate_opened old new ts there (now there) (λ open'. (was_open open').device) (stops there) rests;

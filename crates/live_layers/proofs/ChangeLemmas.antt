@@ -161,7 +161,7 @@ module _ {D A : Type 0} {m : _} {T : Type 0} (old mid new : Layers D A m) {x : T
     begun_leaves : OnlyNow old → IsSound old t → ChangeLeaves old new t c (change_of made)
     begun_leaves now sound =
         let honest = sound.map.honest in record {
-          stops = λ ts rests. leaves_then m.moment m.left_since (device_of old.cache) (device_of mid.cache) (device_of new.cache) (IsRefusedOrImageOf ts)
+          stops = λ ts rests. leaves_then m.moment m.left_since m.recovery (device_of old.cache) (device_of mid.cache) (device_of new.cache) (IsRefusedOrImageOf ts)
               (kept_run old.cache mid.cache ts honest (λ b left. now (device_of old.cache) b honest left) rests asked.gate)
               (begun.begins.stops ts (asked.gate.honest.0 honest) (kept_rests old.cache mid.cache ts honest asked.gate rests));
           rests = λ ts rests. begun.begins.rests ts (asked.gate.honest.0 honest) (kept_rests old.cache mid.cache ts honest asked.gate rests);

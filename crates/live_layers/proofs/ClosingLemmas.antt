@@ -64,10 +64,10 @@ module _ {D A : Type 0} {m : _} where
   read_image mid new t honest shut keeps image = subst (λ (blocks : Blocks). IsImage blocks t) (sym (keeps.blocks honest (λ opened. shut_is_not_open (gate_of mid) shut opened))) image
 
   -- an image that is read behind its shut gate leaves no more
-  pub then_read : (old : D) (mid new : PageCache D A m) (ts : List Table) (t : Table) → IsHonest mid → gate_of mid ≡ Shut → IsImage (blocks_of mid) t → LeavesOnly m.moment m.left_since old (device_of mid) (IsRefusedOrImageOf (t ∷ ts)) → KeepsGate mid new
-      → LeavesOnly m.moment m.left_since old (device_of new) (IsRefusedOrImageOf (t ∷ ts))
+  pub then_read : (old : D) (mid new : PageCache D A m) (ts : List Table) (t : Table) → IsHonest mid → gate_of mid ≡ Shut → IsImage (blocks_of mid) t → LeavesOnly m.moment m.left_since m.recovery old (device_of mid) (IsRefusedOrImageOf (t ∷ ts)) → KeepsGate mid new
+      → LeavesOnly m.moment m.left_since m.recovery old (device_of new) (IsRefusedOrImageOf (t ∷ ts))
   then_read old mid new ts t honest shut image closed keeps =
-      leaves_weaker m.moment m.left_since old (device_of new) (λ c. IsRefusedOrImageOf (t ∷ ts) c ⊎ StopSince (gate_of mid) (blocks_of mid) c) (IsRefusedOrImageOf (t ∷ ts))
+      leaves_weaker m.moment m.left_since m.recovery old (device_of new) (λ c. IsRefusedOrImageOf (t ∷ ts) c ⊎ StopSince (gate_of mid) (blocks_of mid) c) (IsRefusedOrImageOf (t ∷ ts))
       (λ c. ⊎_elim (λ (p : IsRefusedOrImageOf (t ∷ ts) c). p)
       (λ stop. this_one ts t c (subst (λ (blocks : Blocks). IsImage blocks t) (sym (subst (λ (gate : Gate). StopSince gate (blocks_of mid) c) shut stop)) image)))
       (stops_of_a_run_go_on old mid.file new.file (IsRefusedOrImageOf (t ∷ ts)) honest closed keeps)

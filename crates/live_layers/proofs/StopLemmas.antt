@@ -86,43 +86,43 @@ module _ {D A : Type 0} {m : _} where
 
   -- no call was made
   pub none_made : (cache : PageCache D A m) (ts : List Table) → IsHonest cache → ((c : Blocks) → m.left_since (device_of cache) (m.moment (device_of cache)) c → m.may_leave (device_of cache) c) → RestLeavesOneOf cache ts
-      → LeavesOnly m.moment m.left_since (device_of cache) (device_of cache) (IsRefusedOrImageOf ts)
-  none_made cache ts honest now rests = started m.moment m.left_since (device_of cache) (IsRefusedOrImageOf ts) (λ c left. rest_leaves cache ts honest rests c (now c left))
+      → LeavesOnly m.moment m.left_since m.recovery (device_of cache) (device_of cache) (IsRefusedOrImageOf ts)
+  none_made cache ts honest now rests = started m.moment m.left_since m.recovery (device_of cache) (IsRefusedOrImageOf ts) (λ c left. rest_leaves cache ts honest rests c (now c left))
 
   -- the gate was opened, was open, or was not opened
   pub gate_opened : (old new : PageCache D A m) (ts : List Table) → IsHonest old → ((c : Blocks) → m.left_since (device_of old) (m.moment (device_of old)) c → m.may_leave (device_of old) c) → (gate_of old ≡ Open → device_of new ≡ device_of old)
-      → (¬ (gate_of old ≡ Open) → LeavesOnly m.moment m.left_since (device_of old) (device_of new) (λ c. SameButGate c (blocks_of old))) → RestLeavesOneOf old ts → LeavesOnly m.moment m.left_since (device_of old) (device_of new) (IsRefusedOrImageOf ts)
+      → (¬ (gate_of old ≡ Open) → LeavesOnly m.moment m.left_since m.recovery (device_of old) (device_of new) (λ c. SameButGate c (blocks_of old))) → RestLeavesOneOf old ts → LeavesOnly m.moment m.left_since m.recovery (device_of old) (device_of new) (IsRefusedOrImageOf ts)
   gate_opened old new ts honest now was_open stops rests = ⊎_elim
-      (λ (opened : gate_of old ≡ Open). subst (λ (device : D). LeavesOnly m.moment m.left_since (device_of old) device (IsRefusedOrImageOf ts)) (sym (was_open opened)) (none_made old ts honest now rests))
-      (λ (closed : ¬ (gate_of old ≡ Open)). leaves_weaker m.moment m.left_since (device_of old) (device_of new) (λ c. SameButGate c (blocks_of old)) (IsRefusedOrImageOf ts) (λ c same. rests closed c same) (stops closed))
+      (λ (opened : gate_of old ≡ Open). subst (λ (device : D). LeavesOnly m.moment m.left_since m.recovery (device_of old) device (IsRefusedOrImageOf ts)) (sym (was_open opened)) (none_made old ts honest now rests))
+      (λ (closed : ¬ (gate_of old ≡ Open)). leaves_weaker m.moment m.left_since m.recovery (device_of old) (device_of new) (λ c. SameButGate c (blocks_of old)) (IsRefusedOrImageOf ts) (λ c same. rests closed c same) (stops closed))
       (is_open (gate_of old))
 
   -- and pages were written behind it
-  pub pages_written : (old mid new : PageCache D A m) (ts : List Table) → IsHonest mid → gate_of mid ≡ Open → LeavesOnly m.moment m.left_since (device_of old) (device_of mid) (IsRefusedOrImageOf ts) → KeepsGate mid new
-      → LeavesOnly m.moment m.left_since (device_of old) (device_of new) (IsRefusedOrImageOf ts)
+  pub pages_written : (old mid new : PageCache D A m) (ts : List Table) → IsHonest mid → gate_of mid ≡ Open → LeavesOnly m.moment m.left_since m.recovery (device_of old) (device_of mid) (IsRefusedOrImageOf ts) → KeepsGate mid new
+      → LeavesOnly m.moment m.left_since m.recovery (device_of old) (device_of new) (IsRefusedOrImageOf ts)
   pages_written old mid new ts honest opened before keeps =
-      leaves_weaker m.moment m.left_since (device_of old) (device_of new) (λ c. IsRefusedOrImageOf ts c ⊎ StopSince (gate_of mid) (blocks_of mid) c) (IsRefusedOrImageOf ts)
+      leaves_weaker m.moment m.left_since m.recovery (device_of old) (device_of new) (λ c. IsRefusedOrImageOf ts c ⊎ StopSince (gate_of mid) (blocks_of mid) c) (IsRefusedOrImageOf ts)
       (λ c. ⊎_elim (λ (p : IsRefusedOrImageOf ts c). p) (λ stop. inl (subst (λ (gate : Gate). StopSince gate (blocks_of mid) c) opened stop)))
       (stops_of_a_run_go_on (device_of old) mid.file new.file (IsRefusedOrImageOf ts) honest before keeps)
 
   -- ---- a closing
 
-  pub table_closed : (old mid new : D) (cache : PageCache D A m) (Q : Blocks → Type 0) (ts : List Table) (records : List Record) (t : Table) → LeavesOnly m.moment m.left_since old mid (IsRefusedOrImageOf ts)
-      → LeavesOnly m.moment m.left_since mid new (λ c. IsRefused c ⊎ (Q c × LiesIn cache c)) → IsPageMap cache → catalog_in (pages cache) ≡ Some records → Holds (pages cache) (next_of cache) records t
-      → LeavesOnly m.moment m.left_since old new (IsRefusedOrImageOf (t ∷ ts))
+  pub table_closed : (old mid new : D) (cache : PageCache D A m) (Q : Blocks → Type 0) (ts : List Table) (records : List Record) (t : Table) → LeavesOnly m.moment m.left_since m.recovery old mid (IsRefusedOrImageOf ts)
+      → LeavesOnly m.moment m.left_since m.recovery mid new (λ c. IsRefused c ⊎ (Q c × LiesIn cache c)) → IsPageMap cache → catalog_in (pages cache) ≡ Some records → Holds (pages cache) (next_of cache) records t
+      → LeavesOnly m.moment m.left_since m.recovery old new (IsRefusedOrImageOf (t ∷ ts))
   table_closed old mid new cache Q ts records t written settled map spelled held =
-      leaves_then m.moment m.left_since old mid new (IsRefusedOrImageOf (t ∷ ts))
-      (leaves_weaker m.moment m.left_since old mid (IsRefusedOrImageOf ts) (IsRefusedOrImageOf (t ∷ ts)) (or_this ts t) written)
-      (leaves_weaker m.moment m.left_since mid new (λ c. IsRefused c ⊎ (Q c × LiesIn cache c)) (IsRefusedOrImageOf (t ∷ ts))
+      leaves_then m.moment m.left_since m.recovery old mid new (IsRefusedOrImageOf (t ∷ ts))
+      (leaves_weaker m.moment m.left_since m.recovery old mid (IsRefusedOrImageOf ts) (IsRefusedOrImageOf (t ∷ ts)) (or_this ts t) written)
+      (leaves_weaker m.moment m.left_since m.recovery mid new (λ c. IsRefused c ⊎ (Q c × LiesIn cache c)) (IsRefusedOrImageOf (t ∷ ts))
       (λ c. ⊎_elim (λ refused. inl refused) (λ there. this_one ts t c (image_of cache c records t map there.1 spelled held))) settled)
 
   -- ---- a question
 
   -- a call that keeps the gate leaves no more than what was left at rest
   pub kept_run : (old new : PageCache D A m) (ts : List Table) → IsHonest old → ((c : Blocks) → m.left_since (device_of old) (m.moment (device_of old)) c → m.may_leave (device_of old) c) → RestLeavesOneOf old ts → KeepsGate old new
-      → LeavesOnly m.moment m.left_since (device_of old) (device_of new) (IsRefusedOrImageOf ts)
+      → LeavesOnly m.moment m.left_since m.recovery (device_of old) (device_of new) (IsRefusedOrImageOf ts)
   kept_run old new ts honest now rests keeps =
-      leaves_weaker m.moment m.left_since (device_of old) (device_of new) (λ c. IsRefusedOrImageOf ts c ⊎ StopSince (gate_of old) (blocks_of old) c) (IsRefusedOrImageOf ts)
+      leaves_weaker m.moment m.left_since m.recovery (device_of old) (device_of new) (λ c. IsRefusedOrImageOf ts c ⊎ StopSince (gate_of old) (blocks_of old) c) (IsRefusedOrImageOf ts)
       (λ c. ⊎_elim (λ (p : IsRefusedOrImageOf ts c). p) (λ stop. by_gate (gate_of old) (blocks_of old) c ts (λ closed same. rests closed c same) stop))
       (stops_of_a_run_go_on (device_of old) old.file new.file (IsRefusedOrImageOf ts) honest (none_made old ts honest now rests) keeps)
 

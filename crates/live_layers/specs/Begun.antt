@@ -18,7 +18,7 @@ use Rattle.live_layers.specs.declared.layers.Layers.{Layers}
 -- the cause.
 pub record Begins {D A : Type 0} {m : _} {T : Type 0} (old new : PageCache D A m) (result : Result T Broken) : Type 0 where
   pub stops : (ts : List Table) → IsHonest old → RestLeavesOneOf old ts
-      → LeavesOnly m.moment m.left_since (device_of old) (device_of new) (IsRefusedOrImageOf ts)
+      → LeavesOnly m.moment m.left_since m.recovery (device_of old) (device_of new) (IsRefusedOrImageOf ts)
   pub rests : (ts : List Table) → IsHonest old → RestLeavesOneOf old ts → RestLeavesOneOf new ts
   pub opened : OnOk result (gate_of new ≡ Open)
   pub broke_open : IfErr result (λ b. b.touched ≡ true → gate_of new ≡ Open)

@@ -46,7 +46,7 @@ IsBegun result = Unit {0}
 -- What stops leave of a change: nothing but what one at rest left, so once its gate is open blocks that opening refuses.
 -- The gate is open where a change of the table was begun, and stays as it is where the table would not change.
 pub record ChangeLeaves {D A : Type 0} {m : _} (old new : Layers D A m) (t : Table) (c : Command) (result : Result (Unit {0}) Unmade) : Type 0 where
-  pub stops : (ts : List Table) → RestLeavesOneOf old.cache ts → LeavesOnly m.moment m.left_since (device_of old.cache) (device_of new.cache) (IsRefusedOrImageOf ts)
+  pub stops : (ts : List Table) → RestLeavesOneOf old.cache ts → LeavesOnly m.moment m.left_since m.recovery (device_of old.cache) (device_of new.cache) (IsRefusedOrImageOf ts)
   pub rests : (ts : List Table) → RestLeavesOneOf old.cache ts → RestLeavesOneOf new.cache ts
   pub opened : ¬ (after t c ≡ t) → IsBegun result → gate_of new.cache ≡ Open
   pub quiet : after t c ≡ t → KeepsGate old.cache new.cache

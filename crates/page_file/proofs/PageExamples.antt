@@ -1,11 +1,12 @@
 -- Worked examples of the pages of a file: which are live, which chains of free pages are sound, what a stop may leave,
 -- and what calls keep. No other proof rests on them. A definition that says another thing than docs/FORMAT.md is
 -- refused here.
+use Rattle.block_device.specs.Moments.{brings_nothing}
 use Rattle.std.proofs.Common.{◌≡◌, ◌∙◌, ℕ, zero, suc, List, [], ◌∷◌, Option, Some, None, true, false, eqb, if◌then◌else◌, refl, sym, ap, subst, arith, inl, inr, lit<, ⊎_elim, drop, map}
 use Rattle.std.specs.List.{IsDistinct}
 use Rattle.std.proofs.lemmas.Bool.Decides.{nat_tests}
 use Rattle.block_bytes.specs.Numbers.{zeros, number_at}
-use Rattle.block_device.specs.Device.{Blocks, block_at, written}
+use Rattle.block_device.specs.Device.{Blocks, block_at, written, no_recovery}
 use Rattle.block_device.specs.Outcomes.{repeated_block}
 use Rattle.page_file.specs.Chains.{a_chain_is_distinct}
 use Rattle.page_file.specs.File.{IsHonest, IsPageMap, KeepsGate, KeepsMap, LiesIn, blocks_of, gate_of, next_of, pages}
@@ -199,16 +200,16 @@ moment d = d
 abbrev left : ℕ → ℕ → Blocks → Type 0
 left d t c = c ≡ (d ∷ []) ∷ []
 
-what_is_added_is_named : AddsOnly moment left 1 2 (λ c. c ≡ (2 ∷ []) ∷ [])
-what_is_added_is_named = record { later = omega arith; before = λ t c le left. inr left }
+what_is_added_is_named : AddsOnly moment left no_recovery 1 2 (λ c. c ≡ (2 ∷ []) ∷ [])
+what_is_added_is_named = record { later = omega arith; before = λ t c le left. inr left; brings = brings_nothing moment 1 2 (λ c. c ≡ (2 ∷ []) ∷ []) }
 
-nothing_else_is_added : AddsOnly moment left 1 2 (λ c. c ≡ (3 ∷ []) ∷ []) → ⊥
+nothing_else_is_added : AddsOnly moment left no_recovery 1 2 (λ c. c ≡ (3 ∷ []) ∷ []) → ⊥
 nothing_else_is_added h = ⊎_elim (λ was. absurd (cc)) (λ p. absurd (cc)) (h.before 1 ((2 ∷ []) ∷ []) (omega arith) refl)
 
-a_later_moment_is_not_asked : AddsOnly moment (λ d t c. (d ≡ 2) × (t ≡ 2)) 1 2 (λ c. ⊥)
-a_later_moment_is_not_asked = record { later = omega arith; before = λ t c le left. absurd (omega (arith, le, left.1)) }
+a_later_moment_is_not_asked : AddsOnly moment (λ d t c. (d ≡ 2) × (t ≡ 2)) no_recovery 1 2 (λ c. ⊥)
+a_later_moment_is_not_asked = record { later = omega arith; before = λ t c le left. absurd (omega (arith, le, left.1)); brings = brings_nothing moment 1 2 (λ c. ⊥) }
 
-time_does_not_go_back : (P : Blocks → Type 0) → AddsOnly moment left 2 1 P → ⊥
+time_does_not_go_back : (P : Blocks → Type 0) → AddsOnly moment left no_recovery 2 1 P → ⊥
 time_does_not_go_back P h = absurd (omega (arith, h.later))
 
 -- ---- what calls keep

@@ -73,7 +73,7 @@ pub record KeepsGate {D : Type 0} {m : _} (old new : PageFile D m) : Type 0 wher
   pub gate : gate_of new ≡ gate_of old
   pub honest : IsHonest old ↔ IsHonest new
   pub blocks : IsHonest old → ¬ (gate_of old ≡ Open) → blocks_of new ≡ blocks_of old
-  pub stops : IsHonest old → AddsOnly m.moment m.left_since old.device new.device (StopSince (gate_of old) (blocks_of old))
+  pub stops : IsHonest old → AddsOnly m.moment m.left_since m.recovery old.device new.device (StopSince (gate_of old) (blocks_of old))
 
 -- The map stays, and is as sound as it was; so do the pages given out that are not live, and the count of the free ones.
 pub record KeepsMap {D : Type 0} {m : _} (old new : PageFile D m) : Type 0 where

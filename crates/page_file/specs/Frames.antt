@@ -2,7 +2,7 @@
 -- blocks of pages stay, and what lies in the blocks of a shut file.
 use Rattle.std.proofs.Common.{◌≡◌, ◌∙◌, ℕ, zero, suc, ◌<◌, ◌≤◌, [], ◌∷◌, get_or, refl, sym, ap, arith, subst}
 use Rattle.std.specs.Prelude.{◌↔◌}
-use Rattle.block_device.specs.Device.{Blocks, Follows, LeavesOnly, Torn, block_at}
+use Rattle.block_device.specs.Device.{Blocks, Follows, LeavesOnly, Torn, block_at, Recovery}
 use Rattle.block_device.specs.Moments.{leaves_weaker}
 use Rattle.page_file.specs.declared.file.PageFile.{PageFile}
 use Rattle.page_file.specs.declared.gate.Gate.{Gate}
@@ -33,13 +33,13 @@ pub stop_behind : (gate : Gate) (was now : Blocks) (old new : Blocks → Type 0)
 stop_behind gate was now old new n opened gt before torn c left =
     let from = torn c left in open_stop gate now c opened (still_open n from.0 c gt (stop_open gate was from.0 opened (before from.0 from.1)) from.2)
 
-pub adds_behind : {D : Type 0} (moment : D → ℕ) (left_since : D → ℕ → Blocks → Type 0) (old new : D) (gate : Gate) (was : Blocks) (outcomes : Blocks → Type 0) (n : ℕ)
-    → gate ≡ Open → 0 < n → ((c : Blocks) → outcomes c → StopNow gate was c) → LeavesOnly moment left_since old new (TornFrom n outcomes)
-    → AddsOnly moment left_since old new (StopSince gate was)
-adds_behind moment left_since old new gate was outcomes n opened gt before leaves =
-    let l = leaves_weaker moment left_since old new (TornFrom n outcomes) (StopSince gate was)
+pub adds_behind : {D : Type 0} (moment : D → ℕ) (left_since : D → ℕ → Blocks → Type 0) (recovery : Recovery D) (old new : D) (gate : Gate) (was : Blocks) (outcomes : Blocks → Type 0) (n : ℕ)
+    → gate ≡ Open → 0 < n → ((c : Blocks) → outcomes c → StopNow gate was c) → LeavesOnly moment left_since recovery old new (TornFrom n outcomes)
+    → AddsOnly moment left_since recovery old new (StopSince gate was)
+adds_behind moment left_since recovery old new gate was outcomes n opened gt before leaves =
+    let l = leaves_weaker moment left_since recovery old new (TornFrom n outcomes) (StopSince gate was)
     (λ c from. subst (λ (x : Gate). StopSince x was c) (sym opened) (fails c (still_open n from.0 c gt (stop_open gate was from.0 opened (before from.0 from.1)) from.2))) leaves in
-    record { later = l.later; before = l.before }
+    record { later = l.later; before = l.before; brings = l.brings }
 
 -- the map stays, where the header and the blocks of pages do
 pub map_kept : {D : Type 0} {m : _} (old new : PageFile D m) → new.header ≡ old.header → (IsHonest old ↔ IsHonest new)

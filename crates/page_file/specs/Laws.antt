@@ -1,9 +1,10 @@
 -- What follows from the facts that the calls on a file promise, for the crates that stand on them.
+use Rattle.block_device.specs.Moments.{brings_started, brings_then, brings_weaker}
 use Rattle.std.specs.Prelude.{◌≡◌, ◌⊎◌, ◌↔◌, ◌≤◌, ◌<◌, ◌^◌, ℕ, List, [], length, Some, None, refl}
 use Rattle.std.specs.List.{All}
 use Rattle.std.proofs.Common.{drop, ap, inl, inr, ⊎_elim, sym, ◌∙◌, subst, arith}
 use Rattle.block_bytes.specs.Kinds.{free_kind}
-use Rattle.block_device.specs.Device.{Blocks, IsBlock, LeavesOnly}
+use Rattle.block_device.specs.Device.{Blocks, IsBlock, LeavesOnly, Recovery}
 use Rattle.page_file.specs.declared.file.PageFile.{PageFile}
 use Rattle.page_file.specs.declared.gate.Gate.{Gate}
 use Rattle.page_file.specs.declared.gate.Gate.TheVariants.{Shut, Open, Unsure}
@@ -90,7 +91,12 @@ a_kept_map_lies_there old new blocks h keeps = (
 
 -- no call keeps gate and map, and two calls in turn do where each does
 pub no_call_keeps_the_gate : {D : Type 0} {m : _} (file : PageFile D m) → KeepsGate file file
-no_call_keeps_the_gate file = record { gate = refl; honest = (λ h. h, λ h. h); blocks = λ h shut. refl; stops = λ h. record { later = omega arith; before = λ t c le left. inl left } }
+no_call_keeps_the_gate {m = m} file = record {
+  gate = refl;
+  honest = (λ h. h, λ h. h);
+  blocks = λ h shut. refl;
+  stops = λ h. record { later = omega arith; before = λ t c le left. inl left; brings = brings_started m.moment m.recovery file.device (StopSince file.gate (m.shown file.device)) };
+}
 
 -- by an open gate a stop is no matter of the blocks
 of_open_any : (gate : Gate) (a b c : Blocks) → (gate ≡ Open) ⊎ (a ≡ b) → StopSince gate a c → StopSince gate b c
@@ -117,6 +123,8 @@ the_gate_is_kept_in_turn {m = m} old mid new a b = record {
       record {
         later = omega (arith, first.later, second.later);
         before = λ t c le left. ⊎_elim (first.before t c le) (λ p. inr (into c p)) (second.before t c (omega (arith, le, first.later)) left);
+        brings = brings_then m.moment m.recovery old.device mid.device new.device (StopSince old.gate (m.shown old.device)) first.later first.brings
+            (brings_weaker m.moment m.recovery mid.device new.device (StopSince mid.gate (m.shown mid.device)) (StopSince old.gate (m.shown old.device)) into second.brings);
       };
 }
 
@@ -133,21 +141,24 @@ the_map_is_kept_in_turn old mid new honest a b = record {
 }
 
 -- a run of calls, and then calls that add nothing but what has Q
-pub a_run_goes_on : {D : Type 0} (moment : D → ℕ) (left_since : D → ℕ → Blocks → Type 0) (old mid new : D) (P Q : Blocks → Type 0) → LeavesOnly moment left_since old mid P → AddsOnly moment left_since mid new Q
-    → LeavesOnly moment left_since old new (λ c. P c ⊎ Q c)
-a_run_goes_on moment left_since old mid new P Q a more = record {
+pub a_run_goes_on : {D : Type 0} (moment : D → ℕ) (left_since : D → ℕ → Blocks → Type 0) (recovery : Recovery D) (old mid new : D) (P Q : Blocks → Type 0) → LeavesOnly moment left_since recovery old mid P → AddsOnly moment left_since recovery mid new Q
+    → LeavesOnly moment left_since recovery old new (λ c. P c ⊎ Q c)
+a_run_goes_on moment left_since recovery old mid new P Q a more = record {
   later = omega (arith, a.later, more.later);
   each = λ c left. ⊎_elim (λ was. inl (a.each c was)) (λ p. inr p) (more.before (moment old) c a.later left);
   before = λ t c le left. ⊎_elim
       (λ was. ⊎_elim (λ earlier. inl earlier) (λ p. inr (inl p)) (a.before t c le was))
       (λ p. inr (inr p))
       (more.before t c (omega (arith, le, a.later)) left);
+  brings = brings_then moment recovery old mid new (λ c. P c ⊎ Q c) a.later
+      (brings_weaker moment recovery old mid P (λ c. P c ⊎ Q c) (λ c p. inl p) a.brings)
+      (brings_weaker moment recovery mid new Q (λ c. P c ⊎ Q c) (λ c q. inr q) more.brings);
 }
 
 -- a run of calls, and then calls that keep the gate
-pub stops_of_a_run_go_on : {D : Type 0} {m : _} (old : D) (mid new : PageFile D m) (P : Blocks → Type 0) → IsHonest mid → LeavesOnly m.moment m.left_since old mid.device P → KeepsGate mid new
-    → LeavesOnly m.moment m.left_since old new.device (λ c. P c ⊎ StopSince (gate_of mid) (blocks_of mid) c)
-stops_of_a_run_go_on {m = m} old mid new P h a b = a_run_goes_on m.moment m.left_since old mid.device new.device P (StopSince (gate_of mid) (blocks_of mid)) a (b.stops h)
+pub stops_of_a_run_go_on : {D : Type 0} {m : _} (old : D) (mid new : PageFile D m) (P : Blocks → Type 0) → IsHonest mid → LeavesOnly m.moment m.left_since m.recovery old mid.device P → KeepsGate mid new
+    → LeavesOnly m.moment m.left_since m.recovery old new.device (λ c. P c ⊎ StopSince (gate_of mid) (blocks_of mid) c)
+stops_of_a_run_go_on {m = m} old mid new P h a b = a_run_goes_on m.moment m.left_since m.recovery old mid.device new.device P (StopSince (gate_of mid) (blocks_of mid)) a (b.stops h)
 
 -- opening refuses a file whose gate is shut by no check
 pub a_shut_file_passes : {D : Type 0} {m : _} (file : PageFile D m) → IsHonest file → gate_of file ≡ Shut → failed_check (blocks_of file) ≡ None

@@ -1,7 +1,7 @@
 -- What a stop may leave, by the gate (our rule, docs/FORMAT.md, "The gate").
 use Rattle.std.specs.Prelude.{◌≡◌, ◌⊎◌, ◌≤◌, ℕ, List, drop}
 use Rattle.std.specs.Coded.{Coded-set, coded_list, coded_ℕ}
-use Rattle.block_device.specs.Device.{Blocks, Torn, block_at}
+use Rattle.block_device.specs.Device.{Blocks, Torn, block_at, Brings, Recovery}
 use Rattle.page_file.specs.Layout.{gate_block}
 use Rattle.page_file.specs.Opening.{IsRefused}
 use Rattle.page_file.specs.declared.gate.Gate.{Gate}
@@ -25,9 +25,10 @@ StopNow Open shown c = block_at 0 c ≡ gate_block 0
 StopNow Unsure shown c = SameButGate c shown
 
 -- whatever a stop since some earlier moment leaves, it left before, or it has P
-pub record AddsOnly {D : Type 0} (moment : D → ℕ) (left_since : D → ℕ → Blocks → Type 0) (old new : D) (P : Blocks → Type 0) : Type 0 where
+pub record AddsOnly {D : Type 0} (moment : D → ℕ) (left_since : D → ℕ → Blocks → Type 0) (recovery : Recovery D) (old new : D) (P : Blocks → Type 0) : Type 0 where
   pub later : moment old ≤ moment new
   pub before : (t : ℕ) (c : Blocks) → t ≤ moment old → left_since new t c → left_since old t c ⊎ P c
+  pub brings : Brings moment recovery old new P
 
 -- one of those outcomes, with another gate
 abbrev pub GateAside : (Blocks → Type 0) → Blocks → Type 0

@@ -23,7 +23,7 @@ pub fn write_gate<D: BlockDevice>(device: &mut D, shut: u8) -> Result<(), Fault>
     ensures durable { D.honest device.old → OnOk result (Only (D.shown device.new) (D.may_leave device.new)) }
     ensures now { D.honest device.old → (c : Blocks) → D.may_leave device.new c → GateAside (D.may_leave device.old) c }
     ensures stops { D.honest device.old →
-        LeavesOnly D.moment D.left_since device.old device.new (GateAside (D.may_leave device.old)) }
+        LeavesOnly D.moment D.left_since D.recovery device.old device.new (GateAside (D.may_leave device.old)) }
     ensures only { IfErr result IsOfDevice }
     ensures honest { D.honest device.old ↔ D.honest device.new }
     ensures cause { HasCause (D.faults device.old) (D.faults device.new) result }
@@ -46,7 +46,7 @@ pub fn write_header<D: BlockDevice>(device: &mut D, header: &Header) -> Result<(
     ensures durable { D.honest device.old → OnOk result (Only (D.shown device.new) (D.may_leave device.new)) }
     ensures now { D.honest device.old → Follows (Torn 1) (D.may_leave device.old) (D.may_leave device.new) }
     ensures stops { D.honest device.old →
-        LeavesOnly D.moment D.left_since device.old device.new (TornFrom 1 (D.may_leave device.old)) }
+        LeavesOnly D.moment D.left_since D.recovery device.old device.new (TornFrom 1 (D.may_leave device.old)) }
     ensures only { IfErr result IsOfDevice }
     ensures honest { D.honest device.old ↔ D.honest device.new }
     ensures cause { HasCause (D.faults device.old) (D.faults device.new) result }
@@ -65,7 +65,7 @@ pub fn write_block<D: BlockDevice>(device: &mut D, n: u32, bytes: &[u8; 4096]) -
     ensures torn { D.honest device.old → Torn n (D.shown device.old) (D.shown device.new) }
     ensures now { D.honest device.old → Follows (Torn n) (D.may_leave device.old) (D.may_leave device.new) }
     ensures stops { D.honest device.old →
-        LeavesOnly D.moment D.left_since device.old device.new (TornFrom n (D.may_leave device.old)) }
+        LeavesOnly D.moment D.left_since D.recovery device.old device.new (TornFrom n (D.may_leave device.old)) }
     ensures only { IfErr result (λ f. IsOfDevice f ⊎ (f ≡ fault.Damaged n)) }
     ensures below { n ≤ length (D.shown device.old) → IfErr result IsOfDevice }
     ensures honest { D.honest device.old ↔ D.honest device.new }
@@ -88,7 +88,7 @@ pub fn read_block<D: BlockDevice>(
     ensures shown { D.honest device.old → D.shown device.new ≡ D.shown device.old }
     ensures now { D.honest device.old → LeavesNoMore (D.may_leave device.old) (D.may_leave device.new) }
     ensures stops { D.honest device.old →
-        LeavesOnly D.moment D.left_since device.old device.new (D.may_leave device.old) }
+        LeavesOnly D.moment D.left_since D.recovery device.old device.new (D.may_leave device.old) }
     ensures only { IfErr result (λ f. IsOfDevice f ⊎ (f ≡ fault.Damaged n)) }
     ensures below { n < length (D.shown device.old) → IfErr result IsOfDevice }
     ensures honest { D.honest device.old ↔ D.honest device.new }

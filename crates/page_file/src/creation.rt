@@ -29,7 +29,7 @@ fn write_behind<D: BlockDevice>(device: &mut D, n: u32, bytes: &[u8; 4096]) -> R
     ensures open { D.honest device.old → AllLeave (D.may_leave device.old) IsOpen →
         AllLeave (D.may_leave device.new) IsOpen }
     ensures stops { D.honest device.old → AllLeave (D.may_leave device.old) IsOpen →
-        LeavesOnly D.moment D.left_since device.old device.new IsRefused }
+        LeavesOnly D.moment D.left_since D.recovery device.old device.new IsRefused }
     ensures below { n ≤ length (D.shown device.old) → IfErr result IsOfDevice }
     ensures only { IfErr result (λ f. IsOfDevice f ⊎ IsDamage f) }
     ensures honest { D.honest device.old ↔ D.honest device.new }
@@ -44,7 +44,7 @@ fn write_first<D: BlockDevice>(device: &mut D) -> Result<(), Fault>
     ensures shown { D.honest device.old →
         OnOk result (D.shown device.new ≡ written 0 (gate_block 0) (D.shown device.old)) }
     ensures open { D.honest device.old → OnOk result (AllLeave (D.may_leave device.new) IsOpen) }
-    ensures stops { D.honest device.old → LeavesOnly D.moment D.left_since device.old device.new IsRefused }
+    ensures stops { D.honest device.old → LeavesOnly D.moment D.left_since D.recovery device.old device.new IsRefused }
     ensures only { IfErr result IsOfDevice }
     ensures honest { D.honest device.old ↔ D.honest device.new }
     ensures cause { HasCause (D.faults device.old) (D.faults device.new) result }
@@ -60,7 +60,7 @@ fn lay_out<D: BlockDevice>(device: &mut D) -> Result<(), Fault>
     ensures version { D.honest device.old → OnOk result (version_in (D.shown device.new) ≡ 2) }
     ensures catalog { D.honest device.old → OnOk result (block_at 2 (D.shown device.new) ≡ catalog_block) }
     ensures durable { D.honest device.old → OnOk result (Only (D.shown device.new) (D.may_leave device.new)) }
-    ensures stops { D.honest device.old → LeavesOnly D.moment D.left_since device.old device.new IsRefused }
+    ensures stops { D.honest device.old → LeavesOnly D.moment D.left_since D.recovery device.old device.new IsRefused }
     ensures below { D.honest device.old → IfErr result IsOfDevice }
     ensures only { IfErr result (λ f. IsOfDevice f ⊎ IsDamage f) }
     ensures honest { D.honest device.old ↔ D.honest device.new }
@@ -85,7 +85,7 @@ pub fn create<D: BlockDevice>(device: &mut D) -> Result<(), Fault>
     ensures catalog { D.honest device.old → OnOk result (block_at 2 (D.shown device.new) ≡ catalog_block) }
     ensures durable { D.honest device.old → OnOk result (Only (D.shown device.new) (D.may_leave device.new)) }
     ensures stops { D.honest device.old →
-        LeavesOnly D.moment D.left_since device.old device.new (λ c. IsRefused c ⊎
+        LeavesOnly D.moment D.left_since D.recovery device.old device.new (λ c. IsRefused c ⊎
         (SameButGate c (D.shown device.new) × IsNewFile c)) }
     ensures below { D.honest device.old → IfErr result IsOfDevice }
     ensures only { IfErr result (λ f. IsOfDevice f ⊎ IsDamage f) }

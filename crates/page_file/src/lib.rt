@@ -13,3 +13,4 @@ mod opening;
 
 pub use fault::Fault;
 pub use file::{PageFile, create_pages, open_pages};
+pub use opening::opening_fault;

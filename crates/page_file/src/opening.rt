@@ -55,6 +55,22 @@ fn check_header(page: &[u8; 4096], blocks: u32) -> Result<Header, Fault>
     }
 }
 
+/// The fault of the first check of opening that fails, None where none does, of blocks of which these are the first two:
+/// so many of them there are.
+#[tactic(auto, unfolding(crate::specs::Opening::failed_check))]
+pub fn opening_fault(gate: &[u8; 4096], header: &[u8; 4096], blocks: u32) -> Option<Fault>
+    ensures { (shown : Blocks) → block_at 0 shown ≡ gate.now → block_at 1 shown ≡ header.now →
+        length shown ≡ blocks → failed_check shown ≡ result }
+{
+    if blocks < 3 {
+        return Some(Fault::NotAStore);
+    }
+    if let Err(fault) = check_gate(gate) {
+        return Some(fault);
+    }
+    check_header(header, blocks).err()
+}
+
 /// Syncs the device, and then reads and checks gate and header.
 #[tactic(auto, unfolding(crate::specs::Opening::failed_check))]
 pub fn check_opening<D: BlockDevice>(device: &mut D) -> Result<Header, Fault>
@@ -69,7 +85,7 @@ pub fn check_opening<D: BlockDevice>(device: &mut D) -> Result<Header, Fault>
     ensures refused_durable { D.honest device.old →
         IfErr result (λ f. IsOfDevice f ⊎ Only (D.shown device.new) (D.may_leave device.new)) }
     ensures stops { D.honest device.old →
-        LeavesOnly D.moment D.left_since device.old device.new (D.may_leave device.old) }
+        LeavesOnly D.moment D.left_since D.recovery device.old device.new (D.may_leave device.old) }
     ensures honest { D.honest device.old ↔ D.honest device.new }
     ensures cause { HasCause (D.faults device.old) (D.faults device.new) result }
 {

@@ -105,6 +105,10 @@ impl<A: Allocator + Copy> BlockDevice for MemoryDevice<A> {
 
     ghost since_earlier = { λ d t u c _ le left. since_earlier_left (shown_of d) (history_of d) t u c le left };
 
+    ghost brought_now = { λ d c _ found. absurd found };
+
+    ghost committed = { λ d k _ _ _ kept. absurd kept };
+
     ghost faults_fit = { λ d. none_fits };
 }
 

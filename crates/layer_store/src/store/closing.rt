@@ -74,11 +74,11 @@ impl<D: BlockDevice, A: Allocator + Copy> Store<D, A> {
         // A stop leaves what one before the call leaves, or an image of the table; and after a closing that is finished
         // nothing but what is read.
         ensures stops { (s : SessionState) (t : Table) → Represents self s → s.state ≡ Alive t → IfOk result (λ device.
-            LeavesOnly D.moment D.left_since (device_in self) device
+            LeavesOnly D.moment D.left_since D.recovery (device_in self) device
             (IsRefusedOrImageOf (t ∷ tables_left s.stops.now))) }
         ensures refused_stops { (s : SessionState) (t : Table) → Represents self s → s.state ≡ Alive t →
             IfErr result (λ e.
-            LeavesOnly D.moment D.left_since (device_in self) e.1 (IsRefusedOrImageOf (t ∷ tables_left s.stops.now))) }
+            LeavesOnly D.moment D.left_since D.recovery (device_in self) e.1 (IsRefusedOrImageOf (t ∷ tables_left s.stops.now))) }
         ensures durable { (t : Table) → RepresentsTable self t →
             IfOk result (λ device. Only (D.shown device) (D.may_leave device)) }
 

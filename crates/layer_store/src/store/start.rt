@@ -52,9 +52,9 @@ pub fn create_store<D: BlockDevice, A: Allocator + Copy>(
     // A stop leaves blocks that opening refuses, or an image of the empty table; and once the store is made nothing but
     // what is read.
     ensures stops { IfOk result (λ store. D.honest device →
-        LeavesOnly D.moment D.left_since device (device_in store) (λ c. IsRefused c ⊎ IsImage c empty)) }
+        LeavesOnly D.moment D.left_since D.recovery device (device_in store) (λ c. IsRefused c ⊎ IsImage c empty)) }
     ensures refused_stops { is_cache cache ≡ true → IfErr result (λ e. D.honest device →
-        LeavesOnly D.moment D.left_since device e.1 (λ c. IsRefused c ⊎ IsImage c empty)) }
+        LeavesOnly D.moment D.left_since D.recovery device e.1 (λ c. IsRefused c ⊎ IsImage c empty)) }
     ensures durable { IfOk result (λ store. D.honest device → Only (blocks_in store) (D.may_leave (device_in store))) }
 
     ensures refused { is_cache cache ≡ true → IfErr result (λ e. D.honest device → IsMemoryOrDevice e.0) }
@@ -97,9 +97,9 @@ pub fn open_store<D: BlockDevice, A: Allocator + Copy>(
     // A stop leaves nothing but what one before the call might have left; and once the store is opened nothing but what
     // is read.
     ensures stops { IfOk result (λ store. D.honest device →
-        LeavesOnly D.moment D.left_since device (device_in store) (D.may_leave device)) }
+        LeavesOnly D.moment D.left_since D.recovery device (device_in store) (D.may_leave device)) }
     ensures refused_stops { is_cache cache ≡ true →
-        IfErr result (λ e. D.honest device → LeavesOnly D.moment D.left_since device e.1 (D.may_leave device)) }
+        IfErr result (λ e. D.honest device → LeavesOnly D.moment D.left_since D.recovery device e.1 (D.may_leave device)) }
     ensures durable { IfOk result (λ store. D.honest device → Only (blocks_in store) (D.may_leave (device_in store))) }
 
     ensures now_settled { IfOk result IsSettled }
@@ -138,9 +138,9 @@ fn begin<D: BlockDevice, A: Allocator + Copy>(
         ((e.0 ≡ refusal.Damaged 2) × HasNoCatalog (pages file) (next_of file))) }
     ensures settled { IfOk result IsSettled }
     ensures stops { IfOk result (λ store. IsHonest file →
-        AddsOnly D.moment D.left_since (device_of file) (device_in store) (StopSince Shut (blocks_of file))) }
+        AddsOnly D.moment D.left_since D.recovery (device_of file) (device_in store) (StopSince Shut (blocks_of file))) }
     ensures refused_stops { IfErr result (λ e. IsHonest file →
-        AddsOnly D.moment D.left_since (device_of file) e.1 (StopSince Shut (blocks_of file))) }
+        AddsOnly D.moment D.left_since D.recovery (device_of file) e.1 (StopSince Shut (blocks_of file))) }
     ensures blocks { IfOk result (λ store. IsHonest file → blocks_in store ≡ blocks_of file) }
     ensures refused_blocks { IfErr result (λ e. IsHonest file → D.shown e.1 ≡ blocks_of file) }
     ensures no_fault { IfOk result (λ store. D.faults (device_in store) ≡ D.faults (device_of file)) }

@@ -22,7 +22,7 @@ impl<B: BlockDevice, A: Allocator + Copy> Layers<B, A> {
     fn write(&mut self) -> Result<(), Fault>
         // A stop leaves what one at rest leaves.
         ensures stops { (ts : List Table) → IsHonest (cache_of self.old) → RestLeavesOneOf (cache_of self.old) ts →
-            LeavesOnly B.moment B.left_since (device_of (cache_of self.old)) (device_of (cache_of self.new))
+            LeavesOnly B.moment B.left_since B.recovery (device_of (cache_of self.old)) (device_of (cache_of self.new))
             (IsRefusedOrImageOf ts) }
         ensures rests { (ts : List Table) → IsHonest (cache_of self.old) → RestLeavesOneOf (cache_of self.old) ts →
             RestLeavesOneOf (cache_of self.new) ts }
@@ -57,7 +57,7 @@ impl<B: BlockDevice, A: Allocator + Copy> Layers<B, A> {
     pub fn settle(&mut self) -> Result<(), Fault>
         // A stop leaves what one at rest leaves, or an image of the table.
         ensures stops { (ts : List Table) (t : Table) → IsSound self.old t → RestLeavesOneOf (cache_of self.old) ts →
-            LeavesOnly B.moment B.left_since (device_of (cache_of self.old)) (device_of (cache_of self.new))
+            LeavesOnly B.moment B.left_since B.recovery (device_of (cache_of self.old)) (device_of (cache_of self.new))
             (IsRefusedOrImageOf (t ∷ ts)) }
         ensures closed { (t : Table) → IsSound self.old t → OnOk result (IsImage (blocks_of (cache_of self.new)) t) }
         ensures rests { (ts : List Table) (t : Table) → IsSound self.old t → RestLeavesOneOf (cache_of self.old) ts →
@@ -94,10 +94,10 @@ impl<B: BlockDevice, A: Allocator + Copy> Layers<B, A> {
         ensures durable { (t : Table) → IsSound self t →
             IfOk result (λ device. Only (B.shown device) (B.may_leave device)) }
         ensures stops { (ts : List Table) (t : Table) → IsSound self t → RestLeavesOneOf (cache_of self) ts →
-            IfOk result (λ device. LeavesOnly B.moment B.left_since (device_of (cache_of self)) device
+            IfOk result (λ device. LeavesOnly B.moment B.left_since B.recovery (device_of (cache_of self)) device
             (IsRefusedOrImageOf (t ∷ ts))) }
         ensures refused_stops { (ts : List Table) (t : Table) → IsSound self t → RestLeavesOneOf (cache_of self) ts →
-            IfErr result (λ e. LeavesOnly B.moment B.left_since (device_of (cache_of self)) e.1
+            IfErr result (λ e. LeavesOnly B.moment B.left_since B.recovery (device_of (cache_of self)) e.1
             (IsRefusedOrImageOf (t ∷ ts))) }
         ensures was_settled { IsSettled self → result ≡ Ok (device_of (cache_of self)) }
 

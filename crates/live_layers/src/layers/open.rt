@@ -48,7 +48,7 @@ impl<B: BlockDevice, A: Allocator + Copy> Layers<B, A> {
         ensures written { IfOk result IsWritten }
         ensures asks { IfOk result (λ layers. AsksUntil cache (cache_of layers) None) }
         ensures refused_stops { IfErr result (λ e. IsHonest cache →
-            AddsOnly B.moment B.left_since (device_of cache) e.1 (StopSince (gate_of cache) (blocks_of cache))) }
+            AddsOnly B.moment B.left_since B.recovery (device_of cache) e.1 (StopSince (gate_of cache) (blocks_of cache))) }
         ensures refused_blocks { IfErr result (λ e. IsHonest cache → ¬ (gate_of cache ≡ Open) →
             B.shown e.1 ≡ blocks_of cache) }
         ensures cause { IfErr result (λ e. B.faults e.1 ≡ faults_after e.0 (B.faults (device_of cache))) }

@@ -26,7 +26,7 @@ impl<D: BlockDevice, A: Allocator + Copy> PageCache<D, A> {
 
         // A stop leaves the blocks as they were, the gate aside.
         ensures stops { IsHonest self.old → ¬ (gate_of self.old ≡ Open) →
-            LeavesOnly D.moment D.left_since (device_of self.old) (device_of self.new)
+            LeavesOnly D.moment D.left_since D.recovery (device_of self.old) (device_of self.new)
             (λ c. SameButGate c (blocks_of self.old)) }
 
         ensures looks { looks_of self.new ≡ looks_of self.old }

@@ -33,7 +33,7 @@ impl<D: BlockDevice, A: Allocator + Copy> PageCache<D, A> {
         // A stop leaves blocks that opening refuses, or those that are read afterwards, the gate aside, in which the
         // map lies.
         ensures stops { IsHonest self.old →
-            LeavesOnly D.moment D.left_since (device_of self.old) (device_of self.new) (λ c. IsRefused c ⊎
+            LeavesOnly D.moment D.left_since D.recovery (device_of self.old) (device_of self.new) (λ c. IsRefused c ⊎
             (SameButGate c (blocks_of self.new) × LiesIn self.new c)) }
 
         ensures looks { looks_of self.new ≡ looks_of self.old }
@@ -59,10 +59,10 @@ impl<D: BlockDevice, A: Allocator + Copy> PageCache<D, A> {
         // A stop leaves blocks that opening refuses, or those that are read afterwards, the gate aside, in which the
         // map lies.
         ensures stops { IfOk result (λ device. IsHonest self →
-            LeavesOnly D.moment D.left_since (device_of self) device (λ c. IsRefused c ⊎
+            LeavesOnly D.moment D.left_since D.recovery (device_of self) device (λ c. IsRefused c ⊎
             (SameButGate c (D.shown device) × LiesIn self c))) }
         ensures refused_stops { IfErr result (λ e. IsHonest self →
-            LeavesOnly D.moment D.left_since (device_of self) e.1 (λ c. IsRefused c ⊎
+            LeavesOnly D.moment D.left_since D.recovery (device_of self) e.1 (λ c. IsRefused c ⊎
             (SameButGate c (D.shown e.1) × LiesIn self c))) }
 
         ensures honest { IfOk result (λ device. IsHonest self ↔ D.honest device) }

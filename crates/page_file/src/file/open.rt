@@ -31,10 +31,10 @@ pub fn open_pages<D: BlockDevice>(device: D) -> Result<PageFile<D>, (Fault, D)>
     // A stop leaves nothing but what one before the call might have left.
     ensures blocks { IfOk result (λ file. D.honest device → blocks_of file ≡ D.shown device) }
     ensures stops { IfOk result (λ file. D.honest device →
-        LeavesOnly D.moment D.left_since device (device_of file) (D.may_leave device)) }
+        LeavesOnly D.moment D.left_since D.recovery device (device_of file) (D.may_leave device)) }
     ensures refused_blocks { IfErr result (λ e. D.honest device → D.shown e.1 ≡ D.shown device) }
     ensures refused_stops { IfErr result (λ e. D.honest device →
-        LeavesOnly D.moment D.left_since device e.1 (D.may_leave device)) }
+        LeavesOnly D.moment D.left_since D.recovery device e.1 (D.may_leave device)) }
 
     // What a check refuses is durable: no stop brings back other blocks.
     ensures refused_durable { IfErr result (λ e. D.honest device →
@@ -94,10 +94,10 @@ pub fn create_pages<D: BlockDevice>(device: D) -> Result<PageFile<D>, (Fault, D)
 
     // A stop leaves blocks that opening refuses, or a new file: what is read afterwards, the gate aside.
     ensures stops { IfOk result (λ file. D.honest device →
-        LeavesOnly D.moment D.left_since device (device_of file) (λ c. IsRefused c ⊎
+        LeavesOnly D.moment D.left_since D.recovery device (device_of file) (λ c. IsRefused c ⊎
         (SameButGate c (blocks_of file) × IsNewFile c))) }
     ensures refused_stops { IfErr result (λ e. D.honest device →
-        LeavesOnly D.moment D.left_since device e.1 (λ c. IsRefused c ⊎ (SameButGate c (D.shown e.1) × IsNewFile c))) }
+        LeavesOnly D.moment D.left_since D.recovery device e.1 (λ c. IsRefused c ⊎ (SameButGate c (D.shown e.1) × IsNewFile c))) }
 
     ensures honest { IfOk result (λ file. D.honest device ↔ D.honest (device_of file)) }
     ensures refused_honest { IfErr result (λ e. D.honest device ↔ D.honest e.1) }

@@ -38,7 +38,7 @@ impl<D: BlockDevice> PageFile<D> {
         // A stop leaves blocks that opening refuses, or those that are read afterwards, the gate aside, in which
         // the file lies.
         ensures stops { IsHonest self.old →
-            LeavesOnly D.moment D.left_since (device_of self.old) (device_of self.new) (λ c. IsRefused c ⊎
+            LeavesOnly D.moment D.left_since D.recovery (device_of self.old) (device_of self.new) (λ c. IsRefused c ⊎
             (SameButGate c (blocks_of self.new) × LiesIn self.new c)) }
 
         ensures honest { IsHonest self.old ↔ IsHonest self.new }
@@ -64,10 +64,10 @@ impl<D: BlockDevice> PageFile<D> {
         // A stop leaves blocks that opening refuses, or those that are read afterwards, the gate aside, in which
         // the file lies.
         ensures stops { IfOk result (λ device. IsHonest self →
-            LeavesOnly D.moment D.left_since (device_of self) device (λ c. IsRefused c ⊎
+            LeavesOnly D.moment D.left_since D.recovery (device_of self) device (λ c. IsRefused c ⊎
             (SameButGate c (D.shown device) × LiesIn self c))) }
         ensures refused_stops { IfErr result (λ e. IsHonest self →
-            LeavesOnly D.moment D.left_since (device_of self) e.1 (λ c. IsRefused c ⊎
+            LeavesOnly D.moment D.left_since D.recovery (device_of self) e.1 (λ c. IsRefused c ⊎
             (SameButGate c (D.shown e.1) × LiesIn self c))) }
 
         ensures honest { IfOk result (λ device. IsHonest self ↔ D.honest device) }
@@ -98,7 +98,7 @@ impl<D: BlockDevice> PageFile<D> {
         ensures refused { OnErr result (gate_of self.new ≡ Open) }
         ensures map { KeepsMap self.old self.new }
         ensures stops { IsHonest self.old →
-            LeavesOnly D.moment D.left_since (device_of self.old) (device_of self.new) IsRefused }
+            LeavesOnly D.moment D.left_since D.recovery (device_of self.old) (device_of self.new) IsRefused }
         ensures honest { IsHonest self.old ↔ IsHonest self.new }
         ensures faults { IsHonest self.old → IfErr result IsOfDevice }
         ensures other_faults { IfErr result (λ f. IsOfDevice f ⊎ (f ≡ fault.Damaged 1)) }
@@ -124,7 +124,7 @@ impl<D: BlockDevice> PageFile<D> {
         ensures same { IsHonest self.old → SameButGate (blocks_of self.new) (blocks_of self.old) }
         ensures map { KeepsMap self.old self.new }
         ensures stops { IsHonest self.old →
-            LeavesOnly D.moment D.left_since (device_of self.old) (device_of self.new)
+            LeavesOnly D.moment D.left_since D.recovery (device_of self.old) (device_of self.new)
             (λ c. SameButGate c (blocks_of self.old)) }
         ensures honest { IsHonest self.old ↔ IsHonest self.new }
         ensures faults { IfErr result IsOfDevice }

@@ -73,5 +73,9 @@ impl<'a, R: BlockReader> BlockDevice for ReadOnlyDevice<'a, R> {
 
     ghost since_earlier = { λ _ _ _ _ _ _ left. left };
 
+    ghost brought_now = { λ d c _ found. absurd found };
+
+    ghost committed = { λ d k _ _ _ kept. absurd kept };
+
     ghost faults_fit = { λ d. d.fit };
 }

@@ -52,7 +52,7 @@ refused_device a b r q d e is so same = ap (device_in_refusal d) (sym is ∙ (sa
 
 -- what a closing that was refused left, of a store in either state
 left_when_refused : {D A : Type 0} {m : _} (store : Store D A m) (s : SessionState) (device : D) → Represents store s
-    → ((t : Table) → s.state ≡ Alive t → LeavesOnly m.moment m.left_since (device_in store) device (IsRefusedOrImageOf (t ∷ tables_left s.stops.now)))
+    → ((t : Table) → s.state ≡ Alive t → LeavesOnly m.moment m.left_since m.recovery (device_in store) device (IsRefusedOrImageOf (t ∷ tables_left s.stops.now)))
     → (HasFailed store → device ≡ device_in store) → (state : StoreState) → s.state ≡ state
     → (c : Blocks) → m.left_since device s.stops.since c → IsRefusedOrImageOf (with_last s.state s.stops.so_far) c
 left_when_refused {m = m} store s device represents refused failed (Alive t) is c left =

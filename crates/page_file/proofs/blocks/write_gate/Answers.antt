@@ -15,8 +15,8 @@ returns-in_err-sync-clause-size g c = λ h some. ap length (c.sync.ensures.shown
 pub returns-in_err-sync-clause-stops : goal.returns-in_err-sync-clause-stops
 returns-in_err-sync-clause-stops g c = λ h.
     let d = g.D.BlockDevice in let h2 = c.write.ensures.honest.0 h in
-    gate_aside_leaves d.moment d.left_since d.may_leave c.args.device.now c.write.new.self c.sync.new.self (λ e left. g.met.D.BlockDevice.only_now c.args.device.now e h left)
-    (c.write.ensures.stops h) (c.write.ensures.time h) (c.sync.ensures.stops h2) (c.sync.ensures.time h2)
+    gate_aside_leaves d.moment d.left_since d.recovery d.may_leave c.args.device.now c.write.new.self c.sync.new.self (λ e left. g.met.D.BlockDevice.only_now c.args.device.now e h left)
+    (c.write.ensures.stops h) (c.write.ensures.time h) (c.write.ensures.brings h) (c.sync.ensures.stops h2) (c.sync.ensures.time h2) (c.sync.ensures.brings h2)
 
 pub returns-clause-size : goal.returns-clause-size
 returns-clause-size g c = λ h some. ap length (c.sync.ensures.shown (c.write.ensures.honest.0 h)) ∙ ap length (c.in_ok-write.ensures.written h) ∙ length-written_within 0 _ _ some
@@ -27,5 +27,5 @@ returns-clause-gate g c = λ h. ap (block_at 0) (c.sync.ensures.shown (c.write.e
 pub returns-clause-stops : goal.returns-clause-stops
 returns-clause-stops g c = λ h.
     let d = g.D.BlockDevice in let h2 = c.write.ensures.honest.0 h in
-    gate_aside_leaves d.moment d.left_since d.may_leave c.args.device.now c.write.new.self c.sync.new.self (λ e left. g.met.D.BlockDevice.only_now c.args.device.now e h left)
-    (c.write.ensures.stops h) (c.write.ensures.time h) (c.sync.ensures.stops h2) (c.sync.ensures.time h2)
+    gate_aside_leaves d.moment d.left_since d.recovery d.may_leave c.args.device.now c.write.new.self c.sync.new.self (λ e left. g.met.D.BlockDevice.only_now c.args.device.now e h left)
+    (c.write.ensures.stops h) (c.write.ensures.time h) (c.write.ensures.brings h) (c.sync.ensures.stops h2) (c.sync.ensures.time h2) (c.sync.ensures.brings h2)

@@ -2,6 +2,7 @@
 use Rattle.std.proofs.Common.{ap, ◌∙◌, length, subst, sym}
 use Rattle.block_device.specs.Device.{block_at}
 use Rattle.block_device.specs.Written.{block_at-written, block_at-written_other, length-written_within, torn_other}
+use Rattle.page_file.proofs.Moments.{torn_leaves}
 use Rattle.page_file.specs.Layout.{version_of, IsHeader}
 use Rattle.page_file.specs.Written.{torn_size}
 use Rattle.page_file.proofs.blocks.write_header.Goals as goal
@@ -32,3 +33,15 @@ returns-clause-header g c = λ h. subst (IsHeader c.args.header.now)
 pub returns-clause-version : goal.returns-clause-version
 returns-clause-version g c = λ h. ap version_of (ap (block_at 1) (c.sync.ensures.shown (c.write.ensures.honest.0 h)) ∙ ap (block_at 1) (c.in_ok-write.ensures.written h) ∙ block_at-written 1 _ _ c.requires.room)
     ∙ c.header_page-page.ensures.version
+
+pub returns-in_err-sync-clause-stops : goal.returns-in_err-sync-clause-stops
+returns-in_err-sync-clause-stops g c = λ h.
+    let d = g.D.BlockDevice in let h2 = c.write.ensures.honest.0 h in
+    torn_leaves d.moment d.left_since d.recovery d.may_leave 1 c.args.device.now c.write.new.self c.sync.new.self (λ e left. g.met.D.BlockDevice.only_now c.args.device.now e h left)
+    (c.write.ensures.stops h) (c.write.ensures.time h) (c.write.ensures.brings h) (c.sync.ensures.stops h2) (c.sync.ensures.time h2) (c.sync.ensures.brings h2)
+
+pub returns-clause-stops : goal.returns-clause-stops
+returns-clause-stops g c = λ h.
+    let d = g.D.BlockDevice in let h2 = c.write.ensures.honest.0 h in
+    torn_leaves d.moment d.left_since d.recovery d.may_leave 1 c.args.device.now c.write.new.self c.sync.new.self (λ e left. g.met.D.BlockDevice.only_now c.args.device.now e h left)
+    (c.write.ensures.stops h) (c.write.ensures.time h) (c.write.ensures.brings h) (c.sync.ensures.stops h2) (c.sync.ensures.time h2) (c.sync.ensures.brings h2)

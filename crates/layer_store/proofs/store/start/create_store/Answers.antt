@@ -17,8 +17,8 @@ returns-in-Ok-clause-begins g c = ok_case c.begin.result (λ store is honest.
     let file = c.in-Ok.file in
     let inside = made.honest.0 honest in
     let image = made_image file (made.lies honest) made.next (made.catalog honest) (made.others honest) (made.sound honest) in
-    let run = then_read d.moment d.left_since c.args.device (device_of file) (device_in store) (blocks_of file) (λ b. IsRefused b ⊎ IsImage b empty) (inr image)
-    (new_left d.moment d.left_since c.args.device (device_of file) _ (made.stops honest)) (at_ok _ c.begin.result store is c.begin.ensures.stops inside) in
+    let run = then_read d.moment d.left_since d.recovery c.args.device (device_of file) (device_in store) (blocks_of file) (λ b. IsRefused b ⊎ IsImage b empty) (inr image)
+    (new_left d.moment d.left_since d.recovery c.args.device (device_of file) _ (made.stops honest)) (at_ok _ c.begin.result store is c.begin.ensures.stops inside) in
     begins_so store (d.moment c.args.device) empty (at_ok _ c.begin.result store is (c.begin.ensures.image empty (blocks_of file) inside (made.lies honest) image)) (at_ok _ c.begin.result store is c.begin.ensures.settled)
     (subst (λ (b : Blocks). IsImage b empty) (sym (at_ok _ c.begin.result store is c.begin.ensures.blocks inside)) image) run.later run.each)
 
@@ -35,8 +35,8 @@ returns-in-Ok-clause-stops g c = ok_case c.begin.result (λ store is honest.
     let made = c.in-Ok.ensures in
     let file = c.in-Ok.file in
     let image = made_image file (made.lies honest) made.next (made.catalog honest) (made.others honest) (made.sound honest) in
-    then_read d.moment d.left_since c.args.device (device_of file) (device_in store) (blocks_of file) (λ b. IsRefused b ⊎ IsImage b empty) (inr image)
-    (new_left d.moment d.left_since c.args.device (device_of file) _ (made.stops honest)) (at_ok _ c.begin.result store is c.begin.ensures.stops (made.honest.0 honest)))
+    then_read d.moment d.left_since d.recovery c.args.device (device_of file) (device_in store) (blocks_of file) (λ b. IsRefused b ⊎ IsImage b empty) (inr image)
+    (new_left d.moment d.left_since d.recovery c.args.device (device_of file) _ (made.stops honest)) (at_ok _ c.begin.result store is c.begin.ensures.stops (made.honest.0 honest)))
 
 pub returns-in-Ok-clause-refused_stops : goal.returns-in-Ok-clause-refused_stops
 returns-in-Ok-clause-refused_stops g c = λ cache. err_case c.begin.result (λ e is honest.
@@ -44,8 +44,8 @@ returns-in-Ok-clause-refused_stops g c = λ cache. err_case c.begin.result (λ e
     let made = c.in-Ok.ensures in
     let file = c.in-Ok.file in
     let image = made_image file (made.lies honest) made.next (made.catalog honest) (made.others honest) (made.sound honest) in
-    then_read d.moment d.left_since c.args.device (device_of file) e.1 (blocks_of file) (λ b. IsRefused b ⊎ IsImage b empty) (inr image)
-    (new_left d.moment d.left_since c.args.device (device_of file) _ (made.stops honest)) (at_err _ c.begin.result e is c.begin.ensures.refused_stops (made.honest.0 honest)))
+    then_read d.moment d.left_since d.recovery c.args.device (device_of file) e.1 (blocks_of file) (λ b. IsRefused b ⊎ IsImage b empty) (inr image)
+    (new_left d.moment d.left_since d.recovery c.args.device (device_of file) _ (made.stops honest)) (at_err _ c.begin.result e is c.begin.ensures.refused_stops (made.honest.0 honest)))
 
 pub returns-in-Ok-clause-refused : goal.returns-in-Ok-clause-refused
 returns-in-Ok-clause-refused g c = λ cache. err_case c.begin.result (λ e is honest.

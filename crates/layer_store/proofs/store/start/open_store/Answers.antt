@@ -42,7 +42,7 @@ pub returns-in-Ok-clause-stops : goal.returns-in-Ok-clause-stops
 returns-in-Ok-clause-stops g c = ok_case c.begin.result (λ store is honest.
     let d = g.D.BlockDevice in
     let opened = c.in-Ok.ensures in
-    then_read d.moment d.left_since c.args.device (device_of c.in-Ok.file) (device_in store) (blocks_of c.in-Ok.file) (d.may_leave c.args.device)
+    then_read d.moment d.left_since d.recovery c.args.device (device_of c.in-Ok.file) (device_in store) (blocks_of c.in-Ok.file) (d.may_leave c.args.device)
     (subst (d.may_leave c.args.device) (sym (opened.blocks honest)) (g.met.D.BlockDevice.shown_counts c.args.device honest)) (opened.stops honest)
     (at_ok _ c.begin.result store is c.begin.ensures.stops (opened.honest.0 honest)))
 
@@ -50,7 +50,7 @@ pub returns-in-Ok-clause-refused_stops : goal.returns-in-Ok-clause-refused_stops
 returns-in-Ok-clause-refused_stops g c = λ cache. err_case c.begin.result (λ e is honest.
     let d = g.D.BlockDevice in
     let opened = c.in-Ok.ensures in
-    then_read d.moment d.left_since c.args.device (device_of c.in-Ok.file) e.1 (blocks_of c.in-Ok.file) (d.may_leave c.args.device)
+    then_read d.moment d.left_since d.recovery c.args.device (device_of c.in-Ok.file) e.1 (blocks_of c.in-Ok.file) (d.may_leave c.args.device)
     (subst (d.may_leave c.args.device) (sym (opened.blocks honest)) (g.met.D.BlockDevice.shown_counts c.args.device honest)) (opened.stops honest)
     (at_err _ c.begin.result e is c.begin.ensures.refused_stops (opened.honest.0 honest)))
 

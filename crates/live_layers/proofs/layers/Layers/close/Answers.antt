@@ -22,12 +22,12 @@ returns-in-Ok-clause-durable g c = λ t sound.
 pub returns-in-Ok-clause-stops : goal.returns-in-Ok-clause-stops
 returns-in-Ok-clause-stops g c = λ ts t sound rests.
     let d = g.B.BlockDevice in
-    subst (λ (device : g.row.B.Denot). LeavesOnly d.moment d.left_since (device_of c.args.self.cache) device (IsRefusedOrImageOf (t ∷ ts))) (sym c.abandon-device.ensures) (c.in-Ok.ensures.stops ts t sound rests)
+    subst (λ (device : g.row.B.Denot). LeavesOnly d.moment d.left_since d.recovery (device_of c.args.self.cache) device (IsRefusedOrImageOf (t ∷ ts))) (sym c.abandon-device.ensures) (c.in-Ok.ensures.stops ts t sound rests)
 
 pub returns-in-Err-clause-refused_stops : goal.returns-in-Err-clause-refused_stops
 returns-in-Err-clause-refused_stops g c = λ ts t sound rests.
     let d = g.B.BlockDevice in
-    subst (λ (device : g.row.B.Denot). LeavesOnly d.moment d.left_since (device_of c.args.self.cache) device (IsRefusedOrImageOf (t ∷ ts))) (sym c.abandon-device.ensures) (c.in-Err.ensures.stops ts t sound rests)
+    subst (λ (device : g.row.B.Denot). LeavesOnly d.moment d.left_since d.recovery (device_of c.args.self.cache) device (IsRefusedOrImageOf (t ∷ ts))) (sym c.abandon-device.ensures) (c.in-Err.ensures.stops ts t sound rests)
 
 pub returns-in-Ok-clause-trees : goal.returns-in-Ok-clause-trees
 returns-in-Ok-clause-trees g c = λ t sound.

@@ -14,7 +14,7 @@ use Rattle.live_layers.proofs.layers.Layers.settle.Goals as goal
 pub returns-in_err-write-clause-stops : goal.returns-in_err-write-clause-stops
 returns-in_err-write-clause-stops g c = λ ts t sound rests.
     let d = g.B.BlockDevice in
-    leaves_weaker d.moment d.left_since (device_of c.args.self.now.cache) (device_of c.write.new.self.cache) (IsRefusedOrImageOf ts) (IsRefusedOrImageOf (t ∷ ts)) (or_this ts t) (c.write.ensures.stops ts sound.map.honest rests)
+    leaves_weaker d.moment d.left_since d.recovery (device_of c.args.self.now.cache) (device_of c.write.new.self.cache) (IsRefusedOrImageOf ts) (IsRefusedOrImageOf (t ∷ ts)) (or_this ts t) (c.write.ensures.stops ts sound.map.honest rests)
 
 pub returns-clause-stops : goal.returns-clause-stops
 returns-clause-stops g c = λ ts t sound rests.

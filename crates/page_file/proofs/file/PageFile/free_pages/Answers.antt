@@ -3,6 +3,7 @@ use Rattle.std.proofs.Common.{arith, ⊎_elim}
 use Rattle.page_file.specs.Fault.{IsOfDevice}
 use Rattle.page_file.proofs.Results.{is_handed_on}
 use Rattle.page_file.proofs.Walk.{not_broken, not_walked, walked_all, walked_on}
+use Rattle.page_file.specs.Laws.{the_gate_is_kept_in_turn}
 use Rattle.page_file.proofs.file.PageFile.free_pages.Goals as goal
 
 pub loop-left-init : goal.loop-left-init
@@ -25,3 +26,6 @@ returns-in_err-link-clause-faults g c = λ map.
     (⊎_elim (λ (device : IsOfDevice f). device)
     (λ broken. absurd (not_broken here map.honest map.free (omega (arith, c.loop-left-test.true)) broken.1))
     (c.in_err-link.ensures.damaged (here.gate.honest.0 map.honest)))
+
+pub returns-in_err-push-clause-gate : goal.returns-in_err-push-clause-gate
+returns-in_err-push-clause-gate g c = the_gate_is_kept_in_turn c.args.self.now c.loop-left.self c.read_link.new.self c.loop-left.invariant.gate c.read_link.ensures.gate

@@ -24,7 +24,7 @@ returns-in_err-write_block-clause-gate g c = let file = c.args.self.now in let d
   gate = refl;
   honest = c.write_block.ensures.honest;
   blocks = λ h ne. absurd (ne c.requires);
-  stops = λ h. adds_behind d.moment d.left_since file.device c.write_block.new.device file.gate (d.shown file.device) (d.may_leave file.device) file.header.next c.requires (omega (arith, (sound_says file.header file.sound).start)) (file.stop_now h) (c.write_block.ensures.stops h);
+  stops = λ h. adds_behind d.moment d.left_since d.recovery file.device c.write_block.new.device file.gate (d.shown file.device) (d.may_leave file.device) file.header.next c.requires (omega (arith, (sound_says file.header file.sound).start)) (file.stop_now h) (c.write_block.ensures.stops h);
 }
 
 pub invariant_of-self-2 : goal.invariant_of-self-2
@@ -45,5 +45,5 @@ returns-clause-gate g c = let file = c.args.self.now in let d = g.D.BlockDevice 
   gate = refl;
   honest = c.write_block.ensures.honest;
   blocks = λ h ne. absurd (ne c.requires);
-  stops = λ h. adds_behind d.moment d.left_since file.device c.write_block.new.device file.gate (d.shown file.device) (d.may_leave file.device) file.header.next c.requires (omega (arith, (sound_says file.header file.sound).start)) (file.stop_now h) (c.write_block.ensures.stops h);
+  stops = λ h. adds_behind d.moment d.left_since d.recovery file.device c.write_block.new.device file.gate (d.shown file.device) (d.may_leave file.device) file.header.next c.requires (omega (arith, (sound_says file.header file.sound).start)) (file.stop_now h) (c.write_block.ensures.stops h);
 }

@@ -25,7 +25,7 @@ returns-in_err-write_header-clause-map g c = map_kept _ _ refl c.write_header.en
 
 pub returns-in_err-write_header-clause-stops : goal.returns-in_err-write_header-clause-stops
 returns-in_err-write_header-clause-stops g c = λ h. let file = c.args.self.now in let d = g.D.BlockDevice in
-    leaves_weaker d.moment d.left_since file.device c.write_header.new.device _ IsRefused
+    leaves_weaker d.moment d.left_since d.recovery file.device c.write_header.new.device _ IsRefused
     (λ e from. fails e (still_open 1 from.0 e (omega arith) (stop_open file.gate (d.shown file.device) from.0 c.requires (file.stop_now h from.0 from.1)) from.2)) (c.write_header.ensures.stops h)
 
 pub returns-clause-map : goal.returns-clause-map
@@ -33,5 +33,5 @@ returns-clause-map g c = map_kept _ _ refl c.write_header.ensures.honest (λ h k
 
 pub returns-clause-stops : goal.returns-clause-stops
 returns-clause-stops g c = λ h. let file = c.args.self.now in let d = g.D.BlockDevice in
-    leaves_weaker d.moment d.left_since file.device c.write_header.new.device _ IsRefused
+    leaves_weaker d.moment d.left_since d.recovery file.device c.write_header.new.device _ IsRefused
     (λ e from. fails e (still_open 1 from.0 e (omega arith) (stop_open file.gate (d.shown file.device) from.0 c.requires (file.stop_now h from.0 from.1)) from.2)) (c.write_header.ensures.stops h)

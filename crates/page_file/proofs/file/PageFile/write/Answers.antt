@@ -28,7 +28,7 @@ returns-clause-gate g c = let file = c.args.self.now in let d = g.D.BlockDevice 
   gate = refl;
   honest = c.write_block.ensures.honest;
   blocks = λ h ne. absurd (ne c.requires);
-  stops = λ h. adds_behind d.moment d.left_since file.device c.write_block.new.device file.gate (d.shown file.device) (d.may_leave file.device) c.args.n c.requires (omega (arith, c.if-n-lt2.false)) (file.stop_now h) (c.write_block.ensures.stops h);
+  stops = λ h. adds_behind d.moment d.left_since d.recovery file.device c.write_block.new.device file.gate (d.shown file.device) (d.may_leave file.device) c.args.n c.requires (omega (arith, c.if-n-lt2.false)) (file.stop_now h) (c.write_block.ensures.stops h);
 }
 
 pub returns-clause-live : goal.returns-clause-live
