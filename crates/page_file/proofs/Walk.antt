@@ -1,12 +1,12 @@
 -- A walk along the free pages: what is known after some of them.
-use Rattle.std.proofs.Common.{◌≡◌, ◌∙◌, ℕ, zero, suc, ◌<◌, ◌≤◌, ◌-◌, Bool, true, false, ◌==◌, ◌&&◌, nat_le, nat_lt, List, [], ◌∷◌, ◌++◌, length, None, Some, refl, sym, ap, arith, subst}
+use Rattle.std.proofs.Common.{◌≡◌, ◌∙◌, ℕ, suc, ◌<◌, ◌≤◌, ◌-◌, true, List, [], ◌∷◌, ◌++◌, None, Some, refl, sym, ap, arith, subst}
 use Rattle.block_bytes.specs.Kinds.{free_kind}
 use Rattle.std.proofs.lemmas.Bool.Decides.{nat_tests}
 use Rattle.std.proofs.lemmas.List.{append_assoc, append-nil}
 use Rattle.block_device.specs.Device.{Blocks, block_at}
 use Rattle.page_file.specs.Chains.{chain_opened}
 use Rattle.page_file.specs.Laws.{no_call_keeps_the_gate, no_call_keeps_the_map, the_gate_is_kept_in_turn, the_map_is_kept_in_turn}
-use Rattle.page_file.specs.File.{IsHonest, IsPageMap, KeepsGate, KeepsMap, blocks_of, device_of, free_of, header_of, next_of}
+use Rattle.page_file.specs.File.{IsHonest, KeepsGate, KeepsMap, blocks_of, device_of, free_of, header_of, next_of}
 use Rattle.page_file.specs.Layout.{kind_of, link_of}
 use Rattle.page_file.specs.Opening.{is_sound}
 use Rattle.page_file.specs.Pages.{HasFreeChain, IsChain, chain, free_page_link, may_link}

@@ -1,5 +1,5 @@
 -- Pages given out: the first free one, or a new one.
-use Rattle.std.proofs.Common.{inl, inr, ◌≡◌, ◌⊎◌, ◌∙◌, ℕ, zero, suc, ◌<◌, ◌≤◌, ◌+◌, ◌-◌, Bool, true, false, ◌&&◌, ◌||◌, not, nat_le, nat_lt, ◌==◌, eqb, List, [], ◌∷◌, length, Some, None, refl, sym, ap, arith, ⊎_elim, subst, cond}
+use Rattle.std.proofs.Common.{inl, ◌≡◌, ◌⊎◌, ◌∙◌, ℕ, zero, suc, ◌<◌, ◌≤◌, ◌-◌, Bool, true, false, ◌&&◌, ◌||◌, not, nat_le, nat_lt, ◌==◌, eqb, List, ◌∷◌, length, Some, None, refl, sym, ap, arith, ⊎_elim, subst, cond}
 use Rattle.std.specs.Prelude.{IsSome}
 use Rattle.std.specs.Set.{is_member}
 use Rattle.std.proofs.lemmas.Bool.Decides.{nat_tests}
@@ -8,7 +8,7 @@ use Rattle.block_bytes.specs.Numbers.{zeros}
 use Rattle.block_bytes.specs.Kinds.{free_kind}
 use Rattle.block_device.specs.Device.{Blocks, Torn, block_at, written}
 use Rattle.block_device.specs.Written.{block_at-written, torn_other}
-use Rattle.page_file.specs.Chains.{chain_opened, chain_same, comes_once, eq_other, eq_self}
+use Rattle.page_file.specs.Chains.{chain_opened, comes_once, eq_other, eq_self}
 use Rattle.page_file.specs.Given.{given_more, given_torn}
 use Rattle.page_file.specs.Layout.{kind_of, link_of}
 use Rattle.page_file.specs.Live.{chain_torn, free_torn, fresh_free, fresh_lives, fresh_none, fresh_others, lives_some, others_same, page_live, refused_free, refused_others, torn_lives}

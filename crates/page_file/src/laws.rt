@@ -1,13 +1,14 @@
 //! What follows from the promises of the calls, each law the contract of a function that does nothing.
-ghost use Rattle.std.specs.Prelude.{◌≡◌, ◌⊎◌, ◌↔◌, ◌≤◌, ◌<◌, ◌^◌, ℕ, List, Some, length};
+ghost use Rattle.std.specs.Prelude.{◌≡◌, ◌⊎◌, ◌↔◌, ◌≤◌, ◌<◌, ◌^◌, ℕ, List, None, Some, length};
 ghost use Rattle.block_bytes.specs.Kinds.{free_kind};
-ghost use Rattle.block_device.specs.Device.{Blocks, IsBlock};
+ghost use Rattle.block_device.specs.Device.{Begins, Blocks, IsBlock};
 ghost use Rattle.page_file.specs.declared.file.PageFile.{PageFile};
 ghost use Rattle.page_file.specs.declared.gate.Gate.TheVariants.{Shut, Open};
-ghost use Rattle.page_file.specs.File.{IsHonest, IsLive, IsPageMap, KeepsGate, KeepsMap, LiesIn, blocks_of};
+ghost use Rattle.page_file.specs.File.{IsHonest, IsLive, IsNewFile, IsPageMap, KeepsGate, KeepsMap};
+ghost use Rattle.page_file.specs.File.{LiesIn, blocks_of};
 ghost use Rattle.page_file.specs.File.{device_of, gate_of, given, next_of, pages};
 ghost use Rattle.page_file.specs.Layout.{kind_of};
-ghost use Rattle.page_file.specs.Opening.{IsRefused};
+ghost use Rattle.page_file.specs.Opening.{IsRefused, failed_check};
 ghost use Rattle.page_file.specs.Stops.{SameButGate, StopSince};
 
 use block_device::BlockDevice;
@@ -88,4 +89,12 @@ pub fn gate_and_map_are_kept_in_turn<D: BlockDevice>()
 #[tactic(auto, using(crate::specs::Laws::a_number_given_out_has_its_block))]
 pub fn a_number_given_out_has_its_block<D: BlockDevice>()
     ensures { (file : PageFile D ⟦<D as BlockDevice>⟧) → IsHonest file → next_of file ≤ length (blocks_of file) }
+{}
+
+/// What begins with blocks that opening takes, it takes too, and finds the same: a sound file, and a new one.
+pub fn what_begins_with_a_file_is_the_file<D: BlockDevice>()
+    ensures passes { (blocks c : Blocks) → failed_check blocks ≡ None → Begins blocks c → failed_check c ≡ None }
+    ensures file { (file : PageFile D ⟦<D as BlockDevice>⟧) (blocks c : Blocks) → IsPageMap file →
+        LiesIn file blocks → Begins blocks c → LiesIn file c }
+    ensures new { (blocks c : Blocks) → IsNewFile blocks → Begins blocks c → IsNewFile c }
 {}

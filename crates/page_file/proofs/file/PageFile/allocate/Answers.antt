@@ -1,5 +1,5 @@
 -- The goals of `PageFile::allocate` that are proved by hand.
-use Rattle.std.proofs.Common.{inl, inr, ◌≡◌, ◌⊎◌, ℕ, ◌∙◌, Some, None, refl, sym, subst, ⊎_elim}
+use Rattle.std.proofs.Common.{inl, inr, ◌≡◌, ℕ, Some, None, sym, subst, ⊎_elim}
 use Rattle.block_bytes.specs.Numbers.{zeros}
 use Rattle.page_file.specs.Fault.{IsOfDevice}
 use Rattle.page_file.specs.File.{IsBroken}

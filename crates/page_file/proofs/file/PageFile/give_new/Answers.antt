@@ -1,5 +1,5 @@
 -- The goals of `PageFile::give_new` that are proved by hand.
-use Rattle.std.proofs.Common.{◌≡◌, ap, arith, length, refl}
+use Rattle.std.proofs.Common.{ap, arith, length, refl}
 use Rattle.page_file.specs.Gated.{open_is_not_shut}
 use Rattle.page_file.specs.Frames.{adds_behind, stop_behind}
 use Rattle.page_file.specs.Settled.{more_given, sound_says}
