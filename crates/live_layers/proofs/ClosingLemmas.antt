@@ -1,8 +1,8 @@
 -- What a closing of live layers leaves, and what a reading after it finds.
 use Rattle.std.proofs.Common.{◌≡◌, ◌∙◌, ◌⊎◌, ℕ, List, ◌∷◌, Some, refl, sym, ap, subst, arith, inl, inr, ⊎_elim}
 use Rattle.std.specs.Prelude.{option_and_then}
-use Rattle.block_device.specs.Device.{Blocks, LeavesOnly}
-use Rattle.block_device.specs.Moments.{leaves_weaker}
+use Rattle.block_device.specs.Device.{Blocks, LeavesOnly, Brings}
+use Rattle.block_device.specs.Moments.{leaves_weaker, brings_started}
 use Rattle.catalog_page.specs.Layout.{Record, records_at, records_of}
 use Rattle.page_cache.specs.Cache.{IsHonest, IsUnchanged, KeepsGate, KeepsMap, LiesIn, blocks_of, device_of, gate_of, next_of, pages}
 use Rattle.page_cache.specs.declared.cache.PageCache.{PageCache}
@@ -56,6 +56,7 @@ module _ {D A : Type 0} {m : _} where
     stops = λ h. record {
       later = let e = ap m.moment same.device in omega (arith, e);
       before = λ t c le left. inl (subst (λ (d : D). m.left_since d t c) same.device left);
+      brings = subst (λ (d : D). Brings m.moment m.recovery (device_of old) d (StopSince (gate_of old) (blocks_of old))) (sym same.device) (brings_started m.moment m.recovery (device_of old) (StopSince (gate_of old) (blocks_of old)));
     };
   }
 
