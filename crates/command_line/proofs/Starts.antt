@@ -1,6 +1,7 @@
 -- A store that was made or opened, or was refused.
-use Rattle.std.proofs.Common.{◌≡◌, ◌==◌, ◌⊎◌, ap, ℕ, List, Option, Result, Ok, Err, inl, inr, refl, sym, subst, arith}
-use Rattle.block_device.specs.Device.{Blocks, LeavesOnly}
+use Rattle.std.proofs.Common.{◌≡◌, ◌∙◌, ◌==◌, ◌⊎◌, ap, ℕ, List, Option, Result, Ok, Err, inl, inr, refl, sym, subst, arith}
+use Rattle.block_device.specs.Device.{Blocks, LeavesOnly, Recovery}
+use Rattle.block_device.specs.Moments.{leaves_then, leaves_weaker}
 use Rattle.plain_table.specs.Table.{Table}
 use Rattle.command_line.specs.Serving.{HasAnswered, HasNotBegun, HasServed, IsRefusedStart}
 use Rattle.command_line.specs.declared.program.Served.{Served}
@@ -21,11 +22,28 @@ refused_start moment left_since recovery P device d r r' w w' left so stops = re
   stops = subst (λ x. LeavesOnly moment left_since recovery device x P) (sym so.1) stops;
 }
 
+-- a store that was served since it was made was served since its making began
+pub served_since_making : {D : Type 0} (shown : D → Blocks) (moment : D → ℕ) (left_since : D → ℕ → Blocks → Type 0) (recovery : Recovery D) (may_leave : D → Blocks → Type 0) (faults : D → ℕ) (P Q : Blocks → Type 0) (t : Table) (device made : D)
+    (unread unread' written written' : Option (List ℕ)) (left : Served D) → LeavesOnly moment left_since recovery device made P → ((c : Blocks) → Q c → P c) → faults made ≡ faults device
+    → HasServed shown moment left_since recovery may_leave faults Q t made unread unread' written written' left
+    → HasServed shown moment left_since recovery may_leave faults P t device unread unread' written written' left
+served_since_making shown moment left_since recovery may_leave faults P Q t device made unread unread' written written' left making weaker same h = record {
+  opened = h.opened;
+  opening = leaves_then moment left_since recovery device made h.opened P making (leaves_weaker moment left_since recovery made h.opened Q P weaker h.opening);
+  old = h.old;
+  new = h.new;
+  begins = h.begins;
+  stops = h.stops;
+  counted = h.counted ∙ same;
+  runs = h.runs;
+  durable = h.durable;
+}
+
 -- a run to the closing answers what it read, and blames no device where it had no fault
-has_answered : {D : Type 0} (shown : D → Blocks) (moment : D → ℕ) (left_since : D → ℕ → Blocks → Type 0) (recovery : Recovery D) (may_leave : D → Blocks → Type 0) (faults : D → ℕ) (t : Table) (device : D)
-    (unread unread' written written' : Option (List ℕ)) (left : Served D) → HasServed shown moment left_since recovery may_leave faults t device unread unread' written written' left
+has_answered : {D : Type 0} (shown : D → Blocks) (moment : D → ℕ) (left_since : D → ℕ → Blocks → Type 0) (recovery : Recovery D) (may_leave : D → Blocks → Type 0) (faults : D → ℕ) (P : Blocks → Type 0) (t : Table) (device : D)
+    (unread unread' written written' : Option (List ℕ)) (left : Served D) → HasServed shown moment left_since recovery may_leave faults P t device unread unread' written written' left
     → faults left.device ≡ 0 → HasAnswered t unread unread' written written' left.status
-has_answered shown moment left_since recovery may_leave faults t device unread unread' written written' left h none = record {
+has_answered shown moment left_since recovery may_leave faults P t device unread unread' written written' left h none = record {
   old = h.old;
   new = h.new;
   begins = h.begins;
@@ -36,10 +54,10 @@ has_answered shown moment left_since recovery may_leave faults t device unread u
 }
 
 -- a start that was refused has not begun, and a run to the closing answers
-pub begun_or_answered : {D R W : Type 0} (shown : D → Blocks) (moment : D → ℕ) (left_since : D → ℕ → Blocks → Type 0) (recovery : Recovery D) (may_leave : D → Blocks → Type 0) (faults : D → ℕ) (P : Blocks → Type 0) (t : Table) (device : D) (r r' : R) (w w' : W)
-    (unread unread' written written' : Option (List ℕ)) (left : Served D) → IsRefusedStart moment left_since recovery P device r r' w w' left ⊎ HasServed shown moment left_since recovery may_leave faults t device unread unread' written written' left
+pub begun_or_answered : {D R W : Type 0} (shown : D → Blocks) (moment : D → ℕ) (left_since : D → ℕ → Blocks → Type 0) (recovery : Recovery D) (may_leave : D → Blocks → Type 0) (faults : D → ℕ) (P Q : Blocks → Type 0) (t : Table) (device : D) (r r' : R) (w w' : W)
+    (unread unread' written written' : Option (List ℕ)) (left : Served D) → IsRefusedStart moment left_since recovery P device r r' w w' left ⊎ HasServed shown moment left_since recovery may_leave faults Q t device unread unread' written written' left
     → faults left.device ≡ 0 → HasNotBegun r r' w w' left.status ⊎ HasAnswered t unread unread' written written' left.status
-begun_or_answered shown moment left_since recovery may_leave faults P t device r r' w w' unread unread' written written' left (inl refused) none =
+begun_or_answered shown moment left_since recovery may_leave faults P Q t device r r' w w' unread unread' written written' left (inl refused) none =
     inl (record { failed = refused.failed; unread = refused.unread; unwritten = refused.unwritten })
-begun_or_answered shown moment left_since recovery may_leave faults P t device r r' w w' unread unread' written written' left (inr served) none =
-    inr (has_answered shown moment left_since recovery may_leave faults t device unread unread' written written' left served none)
+begun_or_answered shown moment left_since recovery may_leave faults P Q t device r r' w w' unread unread' written written' left (inr served) none =
+    inr (has_answered shown moment left_since recovery may_leave faults Q t device unread unread' written written' left served none)

@@ -1,7 +1,7 @@
 -- What a run of the program over a device leaves.
 use Rattle.std.specs.Prelude.{ℕ, ◌≡◌, ◌<◌, ◌⊎◌, ◌==◌, Bool, true, false, List, length, Option, Result, Ok, Err}
 use Rattle.std.specs.FinMap.{empty}
-use Rattle.block_device.specs.Device.{Blocks, LeavesOnly, Only}
+use Rattle.block_device.specs.Device.{Blocks, LeavesOnly, Only, Recovery}
 use Rattle.block_device.specs.declared.device.BlockDevice as device
 use Rattle.file_device.specs.declared.open.OpenError.{OpenError}
 use Rattle.read_only_device.specs.declared.reader.BlockReader as reader
@@ -13,7 +13,7 @@ use Rattle.store_law.specs.Sessions.{SessionState}
 use Rattle.store_law.specs.States.StoreState.{Alive}
 use Rattle.plain_table.specs.Table.{Table}
 use Rattle.plain_table.specs.declared.refusal.Refusal.TheVariants as refusal
-use Rattle.command_shell.specs.Runs.{Runs, RunsToClose}
+use Rattle.command_shell.specs.Runs.{FoundSince, Runs, RunsToClose}
 use Rattle.command_shell.specs.Serving.{run_state}
 use Rattle.command_shell.specs.Texts.{told_refusal}
 use Rattle.command_shell.specs.Writing.{AppendsSome}
@@ -29,24 +29,25 @@ pub record IsRefusedStart {D R W : Type 0} (moment : D → ℕ) (left_since : D 
   pub stops : LeavesOnly moment left_since recovery device left.device P
 
 -- It could not be opened, and the blocks are as they were, also after a stop.
-abbrev pub IsRefusedOpening : {D R W : Type 0} → (D → Blocks) → (D → ℕ) → (D → ℕ → Blocks → Type 0) → (D → Blocks → Type 0) → D → R → R → W → W → Served D → Type 0
+abbrev pub IsRefusedOpening : {D R W : Type 0} → (D → Blocks) → (D → ℕ) → (D → ℕ → Blocks → Type 0) → Recovery D → (D → Blocks → Type 0) → D → R → R → W → W → Served D → Type 0
 IsRefusedOpening shown moment left_since recovery may_leave device r r' w w' left = IsRefusedStart moment left_since recovery (may_leave device) device r r' w w' left × (shown left.device ≡ shown device)
 
 -- Commands were answered by a lawful session that begins with this table. With status 0 all that the reader had was read,
 -- each reply was written, and the blocks are an image of the table at the session's end, also after a stop. With any
--- status a stop until the store stood left what one before the run might have left, and one since then blocks that opening
--- refuses, or an image of this table or of one that was closed, or was to be closed, since. The faults that the session
--- counts are those of the device, from those that it had to those that it has.
-pub record HasServed {D : Type 0} (shown : D → Blocks) (moment : D → ℕ) (left_since : D → ℕ → Blocks → Type 0) (recovery : Recovery D) (may_leave : D → Blocks → Type 0) (faults : D → ℕ) (t : Table) (device : D)
+-- status a stop until the store stood left blocks that have P, and one since then blocks that opening refuses, or an image
+-- of this table or of one that was closed, or was to be closed, since; over a device that commits what opening takes it is
+-- found to have left such an image, and is never refused. The faults that the session counts are those of the device, from
+-- those that it had to those that it has.
+pub record HasServed {D : Type 0} (shown : D → Blocks) (moment : D → ℕ) (left_since : D → ℕ → Blocks → Type 0) (recovery : Recovery D) (may_leave : D → Blocks → Type 0) (faults : D → ℕ) (P : Blocks → Type 0) (t : Table) (device : D)
     (unread unread' written written' : Option (List ℕ)) (left : Served D) : Type 0 where
   pub opened : D
-  pub opening : LeavesOnly moment left_since recovery device opened (may_leave device)
+  pub opening : LeavesOnly moment left_since recovery device opened P
   pub old : SessionState
   pub new : SessionState
   pub begins : old.state ≡ Alive t
   pub stops : old.stops ≡ closed_since (moment opened) t
   pub counted : old.faults ≡ faults device
-  pub runs : RunsToClose (left.status == 0) (shown left.device) (left_since left.device (moment opened)) (faults left.device)
+  pub runs : RunsToClose (left.status == 0) (shown left.device) (left_since left.device (moment opened)) (FoundSince recovery left.device (moment opened)) (faults left.device)
       (run_state old unread written) (run_state new unread' written')
   pub durable : left.status ≡ 0 → Only (shown left.device) (may_leave left.device)
 
@@ -112,10 +113,10 @@ pub record HasServedOn {D R W : Type 0} (m : device.Ghosts D) (create : Bool) (d
   pub kept : create ≡ true → 0 < length (m.shown device) → HasNotBegun r r' w w' left.status × (left.device ≡ device)
   pub made : create ≡ true → m.honest device → length (m.shown device) ≡ 0 →
       IsRefusedStart m.moment m.left_since m.recovery (λ c. IsRefused c ⊎ IsImage c empty) device r r' w w' left
-      ⊎ HasServed m.shown m.moment m.left_since m.recovery m.may_leave m.faults empty device unread unread' written written' left
+      ⊎ HasServed m.shown m.moment m.left_since m.recovery m.may_leave m.faults (λ c. IsRefused c ⊎ IsImage c empty) empty device unread unread' written written' left
   pub opened : create ≡ false → m.honest device → (t : Table) → IsImage (m.shown device) t →
       IsRefusedOpening m.shown m.moment m.left_since m.recovery m.may_leave device r r' w w' left
-      ⊎ HasServed m.shown m.moment m.left_since m.recovery m.may_leave m.faults t device unread unread' written written' left
+      ⊎ HasServed m.shown m.moment m.left_since m.recovery m.may_leave m.faults (m.may_leave device) t device unread unread' written written' left
   pub refused : create ≡ false → m.honest device → (f : Fault) → OpeningRefuses (m.shown device) f →
       IsRefusedOpening m.shown m.moment m.left_since m.recovery m.may_leave device r r' w w' left
 

@@ -37,7 +37,7 @@ at s unread written = run_state s (Some unread) (Some written)
 
 -- a store with no layer
 abbrev fresh : SessionState
-fresh = record { state = Alive empty; stops = record { now = Surely empty; since = 0; so_far = empty ∷ [] }; faults = 0 }
+fresh = record { state = Alive empty; stops = record { now = Surely empty; since = 0; so_far = empty ∷ []; kept = empty ∷ []; kept_so_far = empty ∷ [] }; faults = 0 }
 
 -- ---- what is a run
 

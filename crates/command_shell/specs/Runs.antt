@@ -1,8 +1,8 @@
 -- What each end of a run says.
 use Rattle.std.specs.Prelude.{ℕ, ◌≡◌, ◌≤◌, ◌⊎◌, Bool, true, false, List, [], ◌∷◌, Option, Some, None}
 use Rattle.std.specs.Io.KnownBytes.{Keeps}
-use Rattle.block_device.specs.Device.{Blocks}
-use Rattle.live_layers.specs.Image.{IsImage, IsRefusedOrImageOf}
+use Rattle.block_device.specs.Device.{Blocks, Recovery}
+use Rattle.live_layers.specs.Image.{CommitsWhatOpens, IsImage, IsImageOfOne, IsRefusedOrImageOf}
 use Rattle.store_law.specs.States.{StoreState}
 use Rattle.store_law.specs.States.StoreState.{Alive, Dead}
 use Rattle.plain_table.specs.Table.{Table}
@@ -39,16 +39,22 @@ abbrev pub with_last : StoreState → List Table → List Table
 with_last (Alive t) so_far = t ∷ so_far
 with_last Dead so_far = so_far
 
+-- over a device that commits what opening takes, a stop since that moment is found to have left these blocks
+abbrev pub FoundSince : {D : Type 0} → Recovery D → D → ℕ → Blocks → Type 0
+FoundSince recovery device moment c = CommitsWhatOpens recovery × recovery.found_since device moment c
+
 -- A run of the program, from its first read to the closing of its store. Where it went well, all that there was is
 -- answered, and the blocks are an image of the table at the session's end. However it ended, stops since the session's
--- beginning, of which `left` tells, left blocks that opening refuses, or an image of one of the tables so far or the last.
+-- beginning, of which `left` tells, left blocks that opening refuses, or an image of one of the tables so far or the last;
+-- and what they are found to have left, of which `found` tells, is an image of one of those that were kept, or of the last.
 -- The session counts no fault that the device does not count in the end.
-pub record RunsToClose (went_well : Bool) (blocks : Blocks) (left : Blocks → Type 0) (faults : ℕ)
+pub record RunsToClose (went_well : Bool) (blocks : Blocks) (left found : Blocks → Type 0) (faults : ℕ)
     (before after : RunState) : Type 0 where
   pub end : RunEnd
   pub runs : Runs end before after
   pub well : went_well ≡ true → (end ≡ Finished) × (t : Table) × (after.session.state ≡ Alive t) × IsImage blocks t
   pub stops : (c : Blocks) → left c → IsRefusedOrImageOf (with_last after.session.state after.session.stops.so_far) c
+  pub found : (c : Blocks) → found c → IsImageOfOne (with_last after.session.state after.session.stops.kept_so_far) c
   pub counted : after.session.faults ≤ faults
 
 -- What the program says of the end of a run: nothing where it went well, else a line that says why, or a front of it.

@@ -5,7 +5,7 @@ ghost use Rattle.std.specs.Prelude.{◌≡◌, IsOk, true};
 ghost use Rattle.block_device.specs.Device.{Only};
 ghost use Rattle.store_law.specs.Sessions.{SessionState};
 ghost use Rattle.layer_store.specs.Representation.{Represents};
-ghost use Rattle.command_shell.specs.Runs.{RunsToClose, TellsEnd};
+ghost use Rattle.command_shell.specs.Runs.{FoundSince, RunsToClose, TellsEnd};
 ghost use Rattle.command_shell.specs.Serving.{run_state};
 ghost use Rattle.command_shell.specs.Texts.{told_refusal};
 ghost use Rattle.command_shell.specs.Writing.{Writes};
@@ -43,6 +43,7 @@ pub fn run_and_close<D: BlockDevice, A: Allocator + Copy, R: Read, W: FlushedWri
 ) -> Ended<D>
     ensures run { (s : SessionState) → Represents store s → (s' : SessionState) ×
         RunsToClose result.went_well (D.shown result.device) (D.left_since result.device s.stops.since)
+        (FoundSince D.recovery result.device s.stops.since)
         (D.faults result.device)
         (run_state s (R.remaining input.old) (W.contents output.old))
         (run_state s' (R.remaining input.new) (W.contents output.new)) }

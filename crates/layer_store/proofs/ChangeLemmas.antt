@@ -20,7 +20,7 @@ use Rattle.plain_table.specs.Table.{Table}
 use Rattle.plain_table.specs.declared.refusal.Refusal.{Refusal}
 use Rattle.plain_table.specs.declared.refusal.Refusal.TheVariants as refusal
 use Rattle.store_law.specs.States.StoreState.{Dead}
-use Rattle.store_law.specs.Stops.{Stops, after_change, after_command, is_end, tables_left}
+use Rattle.store_law.specs.Stops.{Stops, after_change, after_command, is_end, tables_left, with_now}
 use Rattle.layer_store.specs.Commands.{Changes, TakesStep, Tells}
 use Rattle.layer_store.specs.Representation.{IsInState, cache_in, device_in}
 use Rattle.layer_store.specs.declared.store.Store.{Store}
@@ -91,7 +91,7 @@ module _ {D A : Type 0} {m : _} (old new : Store D A m) {made : Result (Unit {0}
       (λ t sound. no_fewer_faults (m.faults (device_in old)) (m.faults (device_in new)) result fits (cause_told tells cause))
 
   -- what the layers keep of a change is what their store does
-  pub told_changes : {c : Command} → MayGiveUp c → ((t : Table) (stops : Stops) (a : Answer) → after_command t stops c a ≡ cond (changes t c) (record { now = after_change stops.now a; since = stops.since; so_far = stops.so_far }) stops)
+  pub told_changes : {c : Command} → MayGiveUp c → ((t : Table) (stops : Stops) (a : Answer) → after_command t stops c a ≡ cond (changes t c) (with_now (after_change stops.now a) stops) stops)
       → m.faults (device_in old) < 2 ^ 64 → (IsHonest (cache_in old) → OnlyNow (cache_in old))
       → IsChangeBy old.layers new.layers c made → ((t : Table) → IsSound old.layers t → changes t c ≡ false → IsWritten old.layers → IsWritten new.layers) → Changes old new c result
   told_changes {c = c} may by_change fits now change written = record {

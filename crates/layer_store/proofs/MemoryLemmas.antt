@@ -11,17 +11,17 @@ use Rattle.plain_table.specs.Step.{changes}
 use Rattle.plain_table.specs.Step.Answer.{Refused}
 use Rattle.plain_table.specs.Table.{Table}
 use Rattle.plain_table.specs.declared.refusal.Refusal.TheVariants as refusal
-use Rattle.store_law.specs.Stops.{Stops, after_command, tables_left}
+use Rattle.store_law.specs.Stops.{Stops, after_command, tables_left, with_now}
 use Rattle.store_law.specs.Stops.AfterStop.{Perhaps}
 use Rattle.layer_store.specs.Commands.{TakesStep}
 use Rattle.layer_store.specs.declared.store.Store.{Store}
-use Rattle.layer_store.proofs.StopLemmas.{either_among, left_rests}
+use Rattle.layer_store.proofs.StopLemmas.{either_among, left_rests, found_more}
 use Rattle.layer_store.proofs.StoreLemmas.{takes_change}
 
 module _ {D A : Type 0} {m : _} (cache : PageCache D A m) (t : Table) (stops : Stops) (was : Leaves cache stops) where
   -- what surely was left may be left
-  of_change : (b : Bool) → Leaves cache (cond b (record { now = Perhaps (tables_left stops.now); since = stops.since; so_far = stops.so_far }) stops)
-  of_change true = record { now = left_rests cache stops.now was.now; begun = was.begun; so_far = was.so_far; among = was.among }
+  of_change : (b : Bool) → Leaves cache (cond b (with_now (Perhaps (tables_left stops.now)) stops) stops)
+  of_change true = record { now = left_rests cache stops.now was.now; begun = was.begun; so_far = was.so_far; among = was.among; kept_among = was.kept_among; kept_before = was.kept_before; found = was.found }
   of_change false = was
 
   -- a stop leaves no more than it left
@@ -31,6 +31,9 @@ module _ {D A : Type 0} {m : _} (cache : PageCache D A m) (t : Table) (stops : S
     begun = was.begun;
     so_far = λ c left. or_this stops.so_far t c (was.so_far c left);
     among = either_among t (tables_left stops.now) stops.so_far was.among;
+    kept_among = either_among t (tables_left stops.now) stops.kept was.kept_among;
+    kept_before = either_among t stops.kept stops.kept_so_far was.kept_before;
+    found = λ opens. found_more cache t stops (was.found opens);
   }
   wanting_leaves (Create name dims fanout) = of_change (changes t (Create name dims fanout))
   wanting_leaves (Insert name id box tag) = of_change (changes t (Insert name id box tag))

@@ -6,13 +6,13 @@ use Rattle.std.specs.Cmp.Lexicographic.{slice_cmp}
 use Rattle.std.specs.Ordering.{nat_cmp}
 use Rattle.std.proofs.lemmas.Bool.{cases_eq}
 use Rattle.std.proofs.lemmas.Bool.Decides.{nat_tests}
-use Rattle.block_device.specs.Device.{Blocks, LeavesOnly}
+use Rattle.block_device.specs.Device.{Blocks, LeavesOnly, Recovery}
 use Rattle.block_device.specs.Moments.{leaves_weaker}
 use Rattle.catalog_page.specs.Layout.{records_at}
 use Rattle.catalog_page.proofs.Named.{begins_empty}
-use Rattle.live_layers.specs.Image.{HasNoCatalog, IsImage}
+use Rattle.live_layers.specs.Image.{HasNoCatalog, IsImage, CommitsWhatOpens}
 use Rattle.live_layers.specs.Layers.{Holds, in_use}
-use Rattle.live_layers.specs.Keeping.{IsSound, records_in}
+use Rattle.live_layers.specs.Keeping.{IsSound, records_in, IsFound}
 use Rattle.live_layers.proofs.StopLemmas.{image_of, shut_is_durable}
 use Rattle.node_page.specs.Standing.{PageMap}
 use Rattle.page_cache.specs.Cache.{IsHonest}
@@ -29,7 +29,7 @@ use Rattle.plain_table.specs.Table.{Layer, Table}
 use Rattle.store_law.specs.States.StoreState.{Alive}
 use Rattle.layer_store.specs.Representation.{BeginsWith, IsInState, IsSettled, blocks_in, cache_in, device_in}
 use Rattle.layer_store.specs.declared.store.Store.{Store}
-use Rattle.layer_store.proofs.StopLemmas.{OnlyNow, closed_leaves}
+use Rattle.layer_store.proofs.StopLemmas.{OnlyNow, closed_leaves, BroughtNow, OneCommit, found_now, settled_kept}
 use Rattle.layer_store.proofs.StoreLemmas.{alive_so, begins, is_alive, is_settled}
 
 -- ---- the empty table
@@ -118,15 +118,21 @@ module _ {D A : Type 0} {m : _} where
 
   -- a store of which stops since that moment left an image of its table, or a refusal
   pub begins_so : (store : Store D A m) (moment : ℕ) (t : Table) → IsInState store (Alive t) → IsSettled store → IsImage (blocks_in store) t → moment ≤ m.moment (device_in store)
-      → ((c : Blocks) → m.left_since (device_in store) moment c → IsRefused c ⊎ IsImage c t) → BeginsWith store moment t
-  begins_so store moment t alive settled image begun stops =
-      begins store moment t alive (is_alive store t alive).1.map.honest (closed_leaves (cache_in store) moment t (is_settled store settled).0 image begun stops)
+      → ((c : Blocks) → m.left_since (device_in store) moment c → IsRefused c ⊎ IsImage c t) → (CommitsWhatOpens m.recovery → IsFound (cache_in store) moment (t ∷ []) (t ∷ [])) → BeginsWith store moment t
+  begins_so store moment t alive settled image begun stops found =
+      begins store moment t alive (is_alive store t alive).1.map.honest (closed_leaves (cache_in store) moment t (is_settled store settled).0 image begun stops found)
+
+  -- of one that is settled a stop now is found to have left its table
+  pub settled_found : (store : Store D A m) (t : Table) → m.honest (device_in store) → OneCommit (cache_in store) → BroughtNow (cache_in store) → IsSettled store → IsImage (blocks_in store) t → CommitsWhatOpens m.recovery
+      → IsFound (cache_in store) (m.moment (device_in store)) (t ∷ []) (t ∷ [])
+  settled_found store t honest one brought settled image opens = found_now (cache_in store) (t ∷ []) brought (settled_kept (cache_in store) t honest one (is_settled store settled).0 image opens)
 
   -- a settled store that is sound begins with its table
-  pub settled_begins : (store : Store D A m) (t : Table) → (IsHonest (cache_in store) → OnlyNow (cache_in store)) → IsSettled store → store.failed ≡ false → IsSound store.layers t → BeginsWith store (m.moment (device_in store)) t
-  settled_begins store t now settled going sound =
+  pub settled_begins : (store : Store D A m) (t : Table) → (IsHonest (cache_in store) → OnlyNow (cache_in store)) → (IsHonest (cache_in store) → OneCommit (cache_in store)) → (IsHonest (cache_in store) → BroughtNow (cache_in store)) → IsSettled store → store.failed ≡ false → IsSound store.layers t → BeginsWith store (m.moment (device_in store)) t
+  settled_begins store t now one brought settled going sound =
       let is = is_settled store settled in
       let honest = sound.map.honest in
       let image = image_of (cache_in store) (blocks_in store) (records_in store.layers) t sound.map (shut_lies (cache_in store) honest is.0) (sound.catalog is.1) sound.holds in
       begins_so store (m.moment (device_in store)) t (alive_so store t going sound) settled image (omega arith)
       (λ c left. inr (subst (λ (blocks : Blocks). IsImage blocks t) (sym (shut_store store settled honest c (now honest c left))) image))
+      (settled_found store t honest (one honest) (brought honest) settled image)

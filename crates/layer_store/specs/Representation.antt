@@ -57,7 +57,7 @@ RepresentsTable store t = Reaches Represents store (λ s. s.state ≡ Alive t)
 
 -- a table was closed, and since that moment no other
 abbrev pub closed_since : ℕ → Table → Stops
-closed_since moment t = record { now = Surely t; since = moment; so_far = t ∷ [] }
+closed_since moment t = record { now = Surely t; since = moment; so_far = t ∷ []; kept = t ∷ []; kept_so_far = t ∷ [] }
 
 -- The store is sound and alive, and represents the table: a stop now leaves an image of it and nothing else, and one since
 -- that moment left that, or blocks that opening refuses.
@@ -71,13 +71,21 @@ IsAliveWithSome store = (t : Table) × IsInState store (Alive t)
 abbrev pub BeginsWithSome : {D A : Type 0} {m : _} → Store D A m → ℕ → Type 0
 BeginsWithSome store moment = (t : Table) × BeginsWith store moment t
 
+-- what stops leave, seen from this moment on
+abbrev pub stops_from_now : Stops → ℕ → Stops
+stops_from_now stops moment = record { now = stops.now; since = moment; so_far = tables_left stops.now; kept = stops.kept; kept_so_far = stops.kept }
+
 -- the same state of a session, seen from this moment on
 abbrev pub from_now : SessionState → ℕ → SessionState
-from_now s moment = record { state = s.state; stops = record { now = s.stops.now; since = moment; so_far = tables_left s.stops.now }; faults = s.faults }
+from_now s moment = record { state = s.state; stops = stops_from_now s.stops moment; faults = s.faults }
 
 -- the same, where a stop leaves an image of this table, or blocks that opening refuses
 abbrev pub resting_on : SessionState → ℕ → Table → SessionState
-resting_on s moment t = record { state = s.state; stops = record { now = Perhaps (t ∷ []); since = moment; so_far = t ∷ [] }; faults = s.faults }
+resting_on s moment t = record {
+  state = s.state;
+  stops = record { now = Perhaps (t ∷ []); since = moment; so_far = t ∷ []; kept = t ∷ s.stops.kept; kept_so_far = t ∷ s.stops.kept };
+  faults = s.faults;
+}
 
 -- the store is sound, and has failed
 abbrev pub HasFailed : {D A : Type 0} {m : _} → Store D A m → Type 0

@@ -1,8 +1,9 @@
 //! What follows from the definitions of images and of what a store represents: each law is the contract of a function
 //! that does nothing.
 ghost use Rattle.std.specs.Prelude.{◌≡◌, ◌∷◌, ℕ};
-ghost use Rattle.block_device.specs.Device.{Blocks, LeavesOnly};
-ghost use Rattle.live_layers.specs.Image.{IsImage, MayRemain, IsRefusedOrImageOf, OpeningRefuses};
+ghost use Rattle.block_device.specs.Device.{Begins, BeginsOne, Blocks, LeavesOnly};
+ghost use Rattle.live_layers.specs.Image.{CommitsWhatOpens, IsImage, IsImageOfOne, IsRefusedOrImageOf, MayRemain};
+ghost use Rattle.live_layers.specs.Image.{OpeningRefuses};
 ghost use Rattle.page_file.specs.declared.fault.Fault.{Fault};
 ghost use Rattle.plain_table.specs.Table.{Table};
 ghost use Rattle.store_law.specs.Sessions.{SessionState};
@@ -40,6 +41,25 @@ pub fn stops_leave_what_the_session_state_says<D: BlockDevice, A: Allocator>()
         (c : Blocks) → D.may_leave (device_in store) c → MayRemain s.stops.now c }
     ensures so_far { (store : Store D A ⟦<D as BlockDevice>⟧) (s : SessionState) → Represents store s →
         (c : Blocks) → D.left_since (device_in store) s.stops.since c → IsRefusedOrImageOf s.stops.so_far c }
+{}
+
+/// Blocks that begin with an image of a table are one, whatever is behind it.
+#[tactic(auto, using(live_layers::proofs::FoundLemmas::image_longer))]
+pub fn what_begins_with_an_image_is_one()
+    ensures { (blocks c : Blocks) (t : Table) → IsImage blocks t → Begins blocks c → IsImage c t }
+{}
+
+/// **Over a device that commits what opening takes, no stop is refused: what one is found to have left is an image of a
+/// table.** Between two calls it is one of the tables that the state of the session keeps, which are the last one
+/// that was closed and those whose closing was tried since; and one at any moment since the beginning left an image of
+/// one of those that were kept since.
+pub fn a_stop_is_found_to_have_left_a_closed_table<D: BlockDevice, A: Allocator>()
+    ensures now { (store : Store D A ⟦<D as BlockDevice>⟧) (s : SessionState) → Represents store s →
+        CommitsWhatOpens D.recovery → (c : Blocks) → BeginsOne (D.recovery.commits (device_in store)) c →
+        IsImageOfOne s.stops.kept c }
+    ensures so_far { (store : Store D A ⟦<D as BlockDevice>⟧) (s : SessionState) → Represents store s →
+        CommitsWhatOpens D.recovery → (c : Blocks) → D.recovery.found_since (device_in store) s.stops.since c →
+        IsImageOfOne s.stops.kept_so_far c }
 {}
 
 /// Once a closing has ended, refused or not, a stop at any moment since the beginning left blocks that opening

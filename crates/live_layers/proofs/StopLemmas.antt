@@ -137,6 +137,15 @@ module _ {D A : Type 0} {m : _} where
     begun = omega (arith, leaves.begun, (keeps.stops honest).later);
     so_far = λ c left. ⊎_elim (leaves.so_far c) (λ stop. images_among (tables_left stops.now) stops.so_far c leaves.among (left_now stops.now c leaves.now stop)) ((keeps.stops honest).before stops.since c leaves.begun left);
     among = leaves.among;
+    kept_among = leaves.kept_among;
+    kept_before = leaves.kept_before;
+    found = λ opens.
+        let was = leaves.found opens in
+        let brings = brings_weaker m.moment m.recovery (device_of old) (device_of new) (StopSince (gate_of old) (blocks_of old)) (IsRefusedOrImageOf (tables_left stops.now)) (λ c stop. left_now stops.now c leaves.now stop) (keeps.stops honest).brings in
+        record {
+          now = kept_after m.moment m.recovery (device_of old) (device_of new) (tables_left stops.now) stops.kept stops.kept opens brings was.now (λ t there. there) leaves.kept_among;
+          so_far = found_after m.moment m.recovery (device_of old) (device_of new) (tables_left stops.now) stops.kept stops.kept opens brings was.now (λ t there. there) leaves.kept_among stops.since stops.kept_so_far leaves.begun was.so_far leaves.kept_before;
+        };
   }
     where
       closed : gate_of old ≡ Shut → ¬ (gate_of old ≡ Open)

@@ -1,7 +1,7 @@
 -- Which blocks are an image of a table, and why opening refuses others (our rule, docs/FORMAT.md, "Opening").
-use Rattle.std.specs.Prelude.{ℕ, ◌≡◌, ◌⊎◌, false, List, Some, None}
+use Rattle.std.specs.Prelude.{ℕ, ◌≡◌, ◌⊎◌, ◌↔◌, false, List, Some, None}
 use Rattle.std.specs.List.{Contains}
-use Rattle.block_device.specs.Device.{Blocks}
+use Rattle.block_device.specs.Device.{Blocks, Recovery}
 use Rattle.catalog_page.specs.Layout.{Record}
 use Rattle.node_page.specs.Standing.{PageMap}
 use Rattle.page_file.specs.Opening.{IsRefused, failed_check}
@@ -32,14 +32,22 @@ pub record IsTreeIn (blocks : Blocks) (name : List ℕ) (t : Tree) : Type 0 wher
 
 -- ---- what a stop may leave
 
+-- an image of one of these tables
+abbrev pub IsImageOfOne : List Table → Blocks → Type 0
+IsImageOfOne ts c = (u : Table) × Contains ts u × IsImage c u
+
 -- blocks that opening refuses, or an image of one of these tables
 abbrev pub IsRefusedOrImageOf : List Table → Blocks → Type 0
-IsRefusedOrImageOf ts c = IsRefused c ⊎ ((u : Table) × Contains ts u × IsImage c u)
+IsRefusedOrImageOf ts c = IsRefused c ⊎ IsImageOfOne ts c
 
 -- what a stop between two requests leaves, as it is told of a store
 abbrev pub MayRemain : AfterStop → Blocks → Type 0
 MayRemain (Surely t) c = IsImage c t
 MayRemain (Perhaps ts) c = IsRefusedOrImageOf ts c
+
+-- a device that commits just what opening does not refuse by a check
+abbrev pub CommitsWhatOpens : {D : Type 0} → Recovery D → Type 0
+CommitsWhatOpens recovery = (k : Blocks) → recovery.takes k ↔ (failed_check k ≡ None)
 
 -- ---- what is no image
 

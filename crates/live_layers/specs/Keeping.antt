@@ -16,7 +16,7 @@ use Rattle.store_law.specs.Stops.AfterStop.{Surely, Perhaps}
 use Rattle.tree_node.specs.Searches.{counted}
 use Rattle.tree_node.specs.Trees.{Tree}
 use Rattle.plain_table.specs.Entries.{BelongsAt, IsEntryAt}
-use Rattle.live_layers.specs.Image.{IsImage, IsRefusedOrImageOf}
+use Rattle.live_layers.specs.Image.{CommitsWhatOpens, IsImage, IsImageOfOne, IsRefusedOrImageOf}
 use Rattle.live_layers.specs.Layers.{Holds, IsTreeOf, catalog_in}
 use Rattle.live_layers.specs.declared.layers.Layers.{Layers}
 
@@ -68,13 +68,22 @@ abbrev pub LeavesAtRest : {D A : Type 0} {m : _} → PageCache D A m → AfterSt
 LeavesAtRest cache (Surely t) = (gate_of cache ≡ Shut) × IsImage (blocks_of cache) t
 LeavesAtRest cache (Perhaps ts) = RestLeavesOneOf cache ts
 
+-- What stops are found to have left of the cache over a device that commits what opening takes: now, and since the
+-- beginning, an image of one of these tables.
+pub record IsFound {D A : Type 0} {m : _} (cache : PageCache D A m) (since : ℕ) (kept kept_so_far : List Table) : Type 0 where
+  pub now : (k : Blocks) → m.recovery.commits (device_of cache) k → IsImageOfOne kept k
+  pub so_far : (c : Blocks) → m.recovery.found_since (device_of cache) since c → IsImageOfOne kept_so_far c
+
 -- What stops leave of the cache: one now; and of one since the beginning blocks that opening refuses, or an image of one of
--- the tables so far, among which are those that one now may leave.
+-- the tables so far, among which are those that one now may leave; and what stops are found to have left.
 pub record Leaves {D A : Type 0} {m : _} (cache : PageCache D A m) (stops : Stops) : Type 0 where
   pub now : LeavesAtRest cache stops.now
   pub begun : stops.since ≤ m.moment (device_of cache)
   pub so_far : (c : Blocks) → m.left_since (device_of cache) stops.since c → IsRefusedOrImageOf stops.so_far c
   pub among : (t : Table) → Contains (tables_left stops.now) t → Contains stops.so_far t
+  pub kept_among : (t : Table) → Contains (tables_left stops.now) t → Contains stops.kept t
+  pub kept_before : (t : Table) → Contains stops.kept t → Contains stops.kept_so_far t
+  pub found : CommitsWhatOpens m.recovery → IsFound cache stops.since stops.kept stops.kept_so_far
 
 -- the layer of this name has this tree
 abbrev pub HasTree : {D A : Type 0} {m : _} → Layers D A m → List ℕ → Tree → Type 0

@@ -18,11 +18,18 @@ pub data AfterStop : Type 0 where
   Perhaps : List Table → AfterStop
 
 -- What stops leave of a store: one now, between two requests; and of one at any moment since that of a beginning an image
--- of one of these tables, and else nothing that is opened.
+-- of one of these tables, and else nothing that is opened. Over a device that commits a stop now is found to have left an
+-- image of one of the tables that are kept, and one at any moment since that of the beginning of one of those that were.
 pub record Stops : Type 0 where
   pub now : AfterStop
   pub since : ℕ
   pub so_far : List Table
+  pub kept : List Table
+  pub kept_so_far : List Table
+
+-- the same, but for what a stop now leaves
+abbrev pub with_now : AfterStop → Stops → Stops
+with_now now stops = record { now = now; since = stops.since; so_far = stops.so_far; kept = stops.kept; kept_so_far = stops.kept_so_far }
 
 -- the tables of which a stop may leave an image
 abbrev pub tables_left : AfterStop → List Table
@@ -40,6 +47,11 @@ abbrev pub after_closing : Table → AfterStop → Answer → AfterStop
 after_closing t old (Refused r) = if is_end r then Surely t else Perhaps (t ∷ tables_left old)
 after_closing t old a = Surely t
 
+-- A finished closing keeps its table alone; after another perhaps it is kept, too.
+abbrev pub kept_after_closing : Table → List Table → Answer → List Table
+kept_after_closing t old (Refused r) = if is_end r then t ∷ [] else t ∷ old
+kept_after_closing t old a = t ∷ []
+
 -- A change of the table is made behind an open gate, so a stop after it leaves nothing that is opened. One that gave up may
 -- or may not have opened the gate.
 abbrev pub after_change : AfterStop → Answer → AfterStop
@@ -48,8 +60,14 @@ after_change old a = Perhaps []
 
 -- only a closing, and a change of the table, changes what stops leave
 abbrev pub after_command : Table → Stops → Command → Answer → Stops
-after_command t old Reopen a = record { now = after_closing t old.now a; since = old.since; so_far = t ∷ old.so_far }
-after_command t old c a = if changes t c then record { now = after_change old.now a; since = old.since; so_far = old.so_far } else old
+after_command t old Reopen a = record {
+  now = after_closing t old.now a;
+  since = old.since;
+  so_far = t ∷ old.so_far;
+  kept = kept_after_closing t old.kept a;
+  kept_so_far = t ∷ old.kept_so_far;
+}
+after_command t old c a = if changes t c then with_now (after_change old.now a) old else old
 
 -- what stops leave after a request
 abbrev pub after_request : StoreState → Stops → Request → Answer → Stops

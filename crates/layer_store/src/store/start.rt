@@ -45,7 +45,8 @@ pub fn create_store<D: BlockDevice, A: Allocator + Copy>(
 ) -> Result<Store<D, A>, (Refusal, D)>
     requires { length (D.shown device) ≡ 0 }
     ensures bad_cache { is_cache cache ≡ false → result ≡ Err (refusal.BadCache, device) }
-    ensures begins { IfOk result (λ store. D.honest device → BeginsWith store (D.moment device) empty) }
+    ensures begins { IfOk result (λ store. D.honest device →
+        BeginsWith store (D.moment (device_in store)) empty) }
     ensures closed { IfOk result (λ store. D.honest device → IsImage (blocks_in store) empty) }
     ensures now_settled { IfOk result IsSettled }
 

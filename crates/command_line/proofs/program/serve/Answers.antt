@@ -12,7 +12,7 @@ or_else (inr b) = inr (inl b)
 
 pub returns-in_default-clause-in_memory : goal.returns-in_default-clause-in_memory
 returns-in_default-clause-in_memory g c = λ taken none.
-    or_else (begun_or_answered _ _ _ _ _ _ _ _ _ _ _ _ _ _ _ _ c.serve_new.result (c.serve_new.ensures.serves c.new-device.ensures.honest) refl)
+    or_else (begun_or_answered _ _ _ _ _ _ _ _ _ _ _ _ _ _ _ _ _ _ c.serve_new.result (c.serve_new.ensures.serves c.new-device.ensures.honest) refl)
 
 same_path : (a b : List ℕ) → Some a ≡ Some b → a ≡ b
 same_path a b e = cc

@@ -9,11 +9,11 @@ use Rattle.block_device.specs.Device.{Blocks, LeavesOnly}
 use Rattle.layer_store.specs.Representation.{HasFailed, Represents, RepresentsTable, device_in}
 use Rattle.store_law.specs.Stops.{tables_left}
 use Rattle.layer_store.specs.declared.store.Store.{Store}
-use Rattle.layer_store.proofs.StopLemmas.{left_by_closing, left_so_far, session_state_is}
+use Rattle.layer_store.proofs.StopLemmas.{found_by_closing, found_of_store, left_by_closing, left_so_far, session_state_is}
 use Rattle.layer_store.proofs.StoreLemmas.{no_fewer_faults}
-use Rattle.live_layers.specs.Image.{IsRefusedOrImageOf}
+use Rattle.live_layers.specs.Image.{IsRefusedOrImageOf, IsImageOfOne}
 use Rattle.store_law.specs.Laws.{a_session_keeps_its_beginning}
-use Rattle.command_shell.specs.Runs.{Runs, TellsEnd, with_last}
+use Rattle.command_shell.specs.Runs.{Runs, TellsEnd, with_last, FoundSince}
 use Rattle.command_shell.specs.declared.session.RunEnd.{RunEnd}
 use Rattle.command_shell.specs.declared.session.RunEnd.TheVariants.{Finished, ReadFault, WriteFault}
 use Rattle.command_shell.specs.Serving.{RunState, run_state}
@@ -62,6 +62,18 @@ left_when_refused {m = m} store s device represents refused failed Dead is c lef
     subst (λ (state : StoreState). IsRefusedOrImageOf (with_last state s.stops.so_far) c) (sym is)
     (left_so_far store s represents c (subst (λ d. m.left_since d s.stops.since c) same left))
 
+-- and what such stops are found to have left
+found_when_refused : {D A : Type 0} {m : _} (store : Store D A m) (s : SessionState) (device : D) → Represents store s
+    → ((t : Table) → s.state ≡ Alive t → LeavesOnly m.moment m.left_since m.recovery (device_in store) device (IsRefusedOrImageOf (t ∷ tables_left s.stops.now)))
+    → (HasFailed store → device ≡ device_in store) → (state : StoreState) → s.state ≡ state
+    → (c : Blocks) → FoundSince m.recovery device s.stops.since c → IsImageOfOne (with_last s.state s.stops.kept_so_far) c
+found_when_refused {m = m} store s device represents refused failed (Alive t) is c found =
+    subst (λ (state : StoreState). IsImageOfOne (with_last state s.stops.kept_so_far) c) (sym is) (found_by_closing store s t device represents (refused t is) found.0 c found.1)
+found_when_refused {m = m} store s device represents refused failed Dead is c found =
+    let same = failed (record { next = s; represents = represents; so = is }) in
+    subst (λ (state : StoreState). IsImageOfOne (with_last state s.stops.kept_so_far) c) (sym is)
+    ((found_of_store store s represents found.0).so_far c (subst (λ d. m.recovery.found_since d s.stops.since c) same found.1))
+
 -- stops are told from the same moment on through a run
 same_beginning : (end : RunEnd) (before after : RunState) → Runs end before after → after.session.stops.since ≡ before.session.stops.since
 same_beginning Finished before after h = a_session_keeps_its_beginning before.session after.session h.requests h.answers h.lawful
@@ -85,6 +97,12 @@ returns-after-not-went_well-clause-run g c = λ s represents.
             subst (λ (state : StoreState). IsRefusedOrImageOf (with_last state tables) b) (sym of_table.alive)
             (left_by_closing c.run-end.new.store left.next of_table.table c.in-Ok.device left.represents (closed.stops left.next of_table.table left.represents of_table.alive) b
             (subst (λ k. g.D.BlockDevice.left_since c.in-Ok.device k b) (sym since) stop));
+        found = λ b found.
+            let since = same_beginning c.run-end.result _ _ left.so in
+            let tables = left.next.stops.kept_so_far in
+            subst (λ (state : StoreState). IsImageOfOne (with_last state tables) b) (sym of_table.alive)
+            (found_by_closing c.run-end.new.store left.next of_table.table c.in-Ok.device left.represents (closed.stops left.next of_table.table left.represents of_table.alive) found.0 b
+            (subst (λ k. g.D.BlockDevice.recovery.found_since c.in-Ok.device k b) (sym since) found.1));
         counted = let of_store = (session_state_is c.run-end.new.store left.next left.represents).faults in let kept = closed.no_fault in omega (arith, of_store, kept);
       },
     )
@@ -110,6 +128,12 @@ returns-in-Err-clause-run g c = λ s represents.
             left_when_refused c.run-end.new.store left.next c.in-Err.device left.represents
             (λ t alive. c.in-Err.ensures.refused_stops left.next t left.represents alive)
             (λ failed. refused_device _ _ _ _ _ _ refl refl (c.in-Err.ensures.failed failed)) left.next.state refl b told;
+        found = λ b found.
+            let since = same_beginning c.run-end.result _ _ left.so in
+            found_when_refused c.run-end.new.store left.next c.in-Err.device left.represents
+            (λ t alive. c.in-Err.ensures.refused_stops left.next t left.represents alive)
+            (λ failed. refused_device _ _ _ _ _ _ refl refl (c.in-Err.ensures.failed failed)) left.next.state refl b
+            (found.0, subst (λ k. g.D.BlockDevice.recovery.found_since c.in-Err.device k b) (sym since) found.1);
         counted =
             let of_store = (session_state_is c.run-end.new.store left.next left.represents).faults in
             let fits = g.met.D.BlockDevice.faults_fit (device_in c.run-end.new.store) in

@@ -16,7 +16,8 @@ returns-clause-step g c =
     let made = c.reopen-closed in
     step_told _ _ c.if-self.false c.tell.ensures tt made.ensures.changed
     (λ t stops sound was. reopening_leaves old.layers made.new.self t stops made.result (made.ensures.leaves t sound)
-    (λ r is. refused_goes_on old.layers made.new.self t Reopen made.result r (λ as_table same. not_refused r as_table) (made.ensures.changed t sound) is) was)
+    (λ r is. refused_goes_on old.layers made.new.self t Reopen made.result r (λ as_table same. not_refused r as_table) (made.ensures.changed t sound) is)
+    (made.ensures.honest.0 sound.map.honest) (λ k only takes. g.met.D.BlockDevice.committed _ k (made.ensures.honest.0 sound.map.honest) only takes) was)
     (g.met.D.BlockDevice.faults_fit (device_in old)) made.ensures.cause
 
 pub returns-then-self-clause-closed : goal.returns-then-self-clause-closed

@@ -1,5 +1,5 @@
 -- A new file holds the empty table, and its store is read from it.
-use Rattle.std.proofs.Common.{◌⊎◌, inr, sym, subst}
+use Rattle.std.proofs.Common.{◌⊎◌, arith, inr, sym, subst}
 use Rattle.std.specs.FinMap.{empty}
 use Rattle.block_device.specs.Device.{Blocks}
 use Rattle.live_layers.specs.Image.{IsImage}
@@ -7,7 +7,7 @@ use Rattle.page_file.specs.File.{blocks_of, device_of}
 use Rattle.page_file.specs.Opening.{IsRefused}
 use Rattle.layer_store.specs.Representation.{device_in}
 use Rattle.layer_store.proofs.Results.{at_err, at_ok, err_case, ok_case}
-use Rattle.layer_store.proofs.StartLemmas.{begins_so, made_image, new_left, shut_store, then_read}
+use Rattle.layer_store.proofs.StartLemmas.{begins_so, made_image, new_left, settled_found, shut_store, then_read}
 use Rattle.layer_store.proofs.store.start.create_store.Goals as goal
 
 pub returns-in-Ok-clause-begins : goal.returns-in-Ok-clause-begins
@@ -17,10 +17,12 @@ returns-in-Ok-clause-begins g c = ok_case c.begin.result (λ store is honest.
     let file = c.in-Ok.file in
     let inside = made.honest.0 honest in
     let image = made_image file (made.lies honest) made.next (made.catalog honest) (made.others honest) (made.sound honest) in
-    let run = then_read d.moment d.left_since d.recovery c.args.device (device_of file) (device_in store) (blocks_of file) (λ b. IsRefused b ⊎ IsImage b empty) (inr image)
-    (new_left d.moment d.left_since d.recovery c.args.device (device_of file) _ (made.stops honest)) (at_ok _ c.begin.result store is c.begin.ensures.stops inside) in
-    begins_so store (d.moment c.args.device) empty (at_ok _ c.begin.result store is (c.begin.ensures.image empty (blocks_of file) inside (made.lies honest) image)) (at_ok _ c.begin.result store is c.begin.ensures.settled)
-    (subst (λ (b : Blocks). IsImage b empty) (sym (at_ok _ c.begin.result store is c.begin.ensures.blocks inside)) image) run.later run.each)
+    let settled = at_ok _ c.begin.result store is c.begin.ensures.settled in
+    let there = subst (λ (b : Blocks). IsImage b empty) (sym (at_ok _ c.begin.result store is c.begin.ensures.blocks inside)) image in
+    let kept = at_ok _ c.begin.result store is c.begin.ensures.honest inside in
+    begins_so store (d.moment (device_in store)) empty (at_ok _ c.begin.result store is (c.begin.ensures.image empty (blocks_of file) inside (made.lies honest) image)) settled there (omega arith)
+    (λ b left. inr (subst (λ (x : Blocks). IsImage x empty) (sym (shut_store store settled kept b (g.met.D.BlockDevice.only_now (device_in store) b kept left))) there))
+    (settled_found store empty kept (λ k only takes. g.met.D.BlockDevice.committed (device_in store) k kept only takes) (λ b found. g.met.D.BlockDevice.brought_now (device_in store) b kept found) settled there))
 
 pub returns-in-Ok-clause-closed : goal.returns-in-Ok-clause-closed
 returns-in-Ok-clause-closed g c = ok_case c.begin.result (λ store is honest.

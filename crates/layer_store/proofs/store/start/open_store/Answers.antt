@@ -7,7 +7,7 @@ use Rattle.page_file.specs.Pages.{next_in, pages_in}
 use Rattle.page_file.specs.declared.fault.Fault.TheVariants as fault
 use Rattle.layer_store.specs.Representation.{device_in}
 use Rattle.layer_store.proofs.Results.{at_err, at_ok, err_case, ok_case}
-use Rattle.layer_store.proofs.StartLemmas.{begins_so, same_catalog, shut_store, some_is_not_none, then_read}
+use Rattle.layer_store.proofs.StartLemmas.{begins_so, same_catalog, settled_found, shut_store, some_is_not_none, then_read}
 use Rattle.layer_store.proofs.store.start.open_store.Goals as goal
 
 pub returns-in-Ok-clause-image : goal.returns-in-Ok-clause-image
@@ -19,7 +19,8 @@ returns-in-Ok-clause-image g c = λ t honest image. ok_case c.begin.result (λ s
     let there = subst (λ (b : Blocks). IsImage b t) (sym (at_ok _ c.begin.result store is c.begin.ensures.blocks inside ∙ opened.blocks honest)) image in
     let kept = at_ok _ c.begin.result store is c.begin.ensures.honest inside in
     begins_so store (d.moment (device_in store)) t (at_ok _ c.begin.result store is (c.begin.ensures.image t (d.shown c.args.device) inside (opened.lies honest) image)) settled there (omega arith)
-    (λ b left. inr (subst (λ (x : Blocks). IsImage x t) (sym (shut_store store settled kept b (g.met.D.BlockDevice.only_now (device_in store) b kept left))) there)))
+    (λ b left. inr (subst (λ (x : Blocks). IsImage x t) (sym (shut_store store settled kept b (g.met.D.BlockDevice.only_now (device_in store) b kept left))) there))
+    (settled_found store t kept (λ k only takes. g.met.D.BlockDevice.committed (device_in store) k kept only takes) (λ b found. g.met.D.BlockDevice.brought_now (device_in store) b kept found) settled there))
 
 pub returns-in-Ok-clause-opened : goal.returns-in-Ok-clause-opened
 returns-in-Ok-clause-opened g c = ok_case c.begin.result (λ store is honest f refuses.
