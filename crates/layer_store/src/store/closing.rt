@@ -107,4 +107,19 @@ impl<D: BlockDevice, A: Allocator + Copy> Store<D, A> {
             Err((fault, device)) => Err((as_refusal(fault), device)),
         }
     }
+
+    /// Gives up what was changed since the last closing: hands the device back as it is, of a store that is alive or
+    /// has failed, and makes no call of it. Opening refuses such a device where a change was begun; one that commits
+    /// brings back what was closed last.
+    pub fn abandon(self) -> D
+        ensures { result ≡ device_in self }
+    {
+        let Store {
+            layers,
+            rooms,
+            failed: _,
+        } = self;
+        drop(rooms);
+        layers.abandon()
+    }
 }
