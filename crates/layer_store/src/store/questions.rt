@@ -1,6 +1,6 @@
 //! The commands that only ask.
 
-ghost use Rattle.std.specs.Prelude.{◌≡◌, ◌*◌, OnOk};
+ghost use Rattle.std.specs.Prelude.{◌≡◌, ◌⊎◌, ◌*◌, IfErr, OnOk};
 ghost use Rattle.live_layers.specs.Keeping.{LooksAtTree};
 ghost use Rattle.live_layers.specs.Questions.{LooksAtTrees, is_admitted};
 ghost use Rattle.nearest.specs.Nearest.{is_searched};
@@ -10,6 +10,7 @@ ghost use Rattle.plain_table.specs.Boxes.{given_point, point_dims};
 ghost use Rattle.plain_table.specs.Commands.Command.{Count, Get, Join, Nearest, Range};
 ghost use Rattle.plain_table.specs.Step.{nearest_rows};
 ghost use Rattle.plain_table.specs.Table.{Table, layer_at};
+ghost use Rattle.plain_table.specs.declared.refusal.Refusal.TheVariants as refusal;
 ghost use Rattle.tree_node.specs.Joins.{admitted_pairs};
 ghost use Rattle.tree_node.specs.Searches.{admitted};
 ghost use Rattle.layer_store.specs.Commands.{Answers};
@@ -38,6 +39,8 @@ impl<D: BlockDevice, A: Allocator + Copy> Store<D, A> {
     /// Refused, in this order, by BadName and NoLayer.
     pub fn count(&mut self, layer: &[u8]) -> Result<u64, Refusal>
         ensures answers { Answers self.old self.new (Count layer.now) count_answer result }
+        ensures gives_up { IfErr result (λ r. (r ≡ refusal.StoreFailed 19) ⊎ ((r ≡ refusal.BadName)
+            ⊎ (r ≡ refusal.NoLayer))) }
         ensures same { self.new ≡ self.old }
     {
         if self.failed {

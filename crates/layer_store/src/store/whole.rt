@@ -6,6 +6,7 @@ ghost use Rattle.live_layers.specs.Keeping.{records_in};
 ghost use Rattle.page_cache.specs.Cache.{next_of};
 ghost use Rattle.plain_table.specs.Answers.{done_answer, dump_answer, layers_answer};
 ghost use Rattle.plain_table.specs.Commands.Command.{Check, Dump, Layers as ListLayers};
+ghost use Rattle.plain_table.specs.declared.refusal.Refusal.TheVariants as refusal;
 ghost use Rattle.store_law.specs.States.StoreState.{Dead};
 ghost use Rattle.layer_store.specs.Commands.{Answers};
 ghost use Rattle.layer_store.specs.Representation.{BeginsWithSome, IsAliveWithSome, IsInState, IsSettled};
@@ -22,6 +23,7 @@ impl<D: BlockDevice, A: Allocator + Copy> Store<D, A> {
     /// no memory, and makes no call of the device.
     pub fn layers(&mut self) -> Result<ArrayVec<LayerInfo, 60>, Refusal>
         ensures answers { Answers self.old self.new ListLayers layers_answer result }
+        ensures gives_up { IfErr result (λ r. r ≡ refusal.StoreFailed 19) }
         ensures same { self.new ≡ self.old }
     {
         if self.failed {
