@@ -26,6 +26,7 @@ use std::alloc::Allocator;
 /// Frees all pages of the table. The gate has to be open.
 ///
 /// With a sound map, where the pages stand for a table at that directory, a refusal is `Memory` or `Device`.
+#[tactic(auto, using(node_page::specs::Broken::breaks))]
 pub fn free_all<const D: usize, B: BlockDevice, A: Allocator + Copy>(
     cache: &mut PageCache<B, A>,
     directory: u32,

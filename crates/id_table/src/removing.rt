@@ -29,6 +29,7 @@ use std::alloc::Allocator;
 /// place, and a first page that becomes empty is freed. The gate has to be open.
 ///
 /// With a sound map, where the pages stand for a table at that directory, a refusal is `Memory` or `Device`.
+#[tactic(auto, using(node_page::specs::Broken::breaks))]
 pub fn remove<const D: usize, B: BlockDevice, A: Allocator + Copy>(
     cache: &mut PageCache<B, A>,
     directory: u32,

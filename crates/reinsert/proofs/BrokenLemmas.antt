@@ -1,10 +1,12 @@
 -- A change that broke off.
-use Rattle.std.proofs.Common.{Result, Ok, Err, IfErr, IfNone, IsErrAnd, ◌≡◌, ◌∙◌, Option, None, Some, true, refl, sym, subst}
+use Rattle.page_file.specs.declared.fault.Fault.TheVariants.{Damaged}
+use Rattle.page_cache.specs.Laws.{no_call_keeps_the_gate, no_call_keeps_the_map}
+use Rattle.std.proofs.Common.{Result, Ok, Err, IfErr, IfNone, IsErrAnd, ◌≡◌, ◌∙◌, Option, None, Some, true, refl, sym, subst, ℕ, arith}
 use Rattle.std.proofs.lemmas.Bool.{true≢false}
 use Rattle.page_file.specs.declared.fault.Fault.{Fault}
 use Rattle.page_cache.specs.Calls.{ChangesUntil, changes_in_turn, no_call_changes}
 use Rattle.page_cache.specs.declared.cache.PageCache.{PageCache}
-use Rattle.node_page.specs.Broken.{Alters, changes_and_breaks, made_alters, midway}
+use Rattle.node_page.specs.Broken.{Alters, changes_and_breaks, made_alters, midway, before}
 use Rattle.node_page.specs.declared.broken.Broken.{Broken}
 
 pub at_broken : {T : Type 0} (r : Result T Broken) (f : Broken) (P : Broken → Type 0) → IsErrAnd r (λ e. e ≡ f) → P f → IfErr r P
@@ -28,3 +30,10 @@ module _ {D A : Type 0} {m : _} where
     changes = changes_in_turn old mid new (Some e.cause) a b.changes;
     untouched = λ never. absurd (true≢false (sym touched ∙ never));
   }
+
+-- a change that broke off before any call
+pub nothing_altered : {D A : Type 0} {m : _} {T : Type 0} (cache : PageCache D A m) (page : ℕ) (b : Broken) → b ≡ before (Damaged page) → Alters {T = T} cache cache (Err b)
+nothing_altered {T = T} cache page b is = subst (λ (x : Broken). Alters {T = T} cache cache (Err x)) (sym is) (record {
+  changes = record { gate = no_call_keeps_the_gate cache; next = omega arith; capacity = refl; looks = omega arith; faults = refl };
+  untouched = λ untouched. no_call_keeps_the_map cache;
+})

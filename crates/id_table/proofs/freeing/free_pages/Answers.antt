@@ -5,6 +5,7 @@ use Rattle.page_cache.specs.Cache.{pages}
 use Rattle.node_page.proofs.NodeLemmas.{at_error}
 use Rattle.id_table.specs.Table.{ChainStands, chain_at}
 use Rattle.id_table.proofs.FreeLemmas.{all_are_freed, all_begins, chain_left, chain_once, chain_short_now, frees_all_on}
+use Rattle.page_cache.specs.Calls.{changes_and_refuses}
 use Rattle.id_table.proofs.freeing.free_pages.Goals as goal
 
 pub loop-class-init : goal.loop-class-init
@@ -42,3 +43,8 @@ pub returns-clause-freed : goal.returns-clause-freed
 returns-clause-freed g c = λ map t at stands there.
     let all : c.loop-class.class ≡ 1000 = omega (arith, c.loop-class-test.false) in
     all_are_freed g.row.D c.args.directory c.args.cache.now c.loop-class.cache c.args.bytes.now c.loop-class.class all c.loop-class.invariant map t at stands there
+
+pub returns-in_err-free_chain-clause-changes : goal.returns-in_err-free_chain-clause-changes
+returns-in_err-free_chain-clause-changes g c =
+    changes_and_refuses c.args.cache.now c.loop-class.cache c.free_chain.new.cache c.in_err-free_chain.field-0.0 c.from_residual-in_err-free_chain.result c.from_residual-in_err-free_chain.ensures.1
+    c.loop-class.invariant.changes c.in_err-free_chain.ensures.changes

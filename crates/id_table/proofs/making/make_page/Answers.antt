@@ -1,5 +1,6 @@
--- The goal of `make_page` that is proved by hand: a page given out and written is a table of no objects.
-use Rattle.std.proofs.Common.{arith}
+-- The goals of `make_page` that are proved by hand: a page given out and written is a table of no objects.
+use Rattle.std.proofs.Common.{None, arith}
+use Rattle.page_cache.specs.Calls.{changes_and_refuses, changes_in_turn}
 use Rattle.page_cache.specs.Cache.{pages}
 use Rattle.id_table.proofs.BucketLemmas.{is_there}
 use Rattle.id_table.proofs.MakingLemmas.{made}
@@ -11,3 +12,11 @@ returns-clause-made g c = λ sound.
     let now = c.allocate.ensures.sound sound in
     let live = is_there (pages c.allocate.new.self c.in_ok-directory.directory) _ given.1 in
     made g.row.D (pages c.args.cache.now) (pages c.allocate.new.self) (pages c.put.new.self) c.in_ok-directory.directory _ (omega (arith, c.in_ok-directory.ensures.number)) given.0 given.2 (c.put.ensures.others now.honest live) (c.in_ok-put.ensures.written now.honest live) c.write_directory.ensures
+
+pub returns-in_err-put-clause-changes : goal.returns-in_err-put-clause-changes
+returns-in_err-put-clause-changes g c =
+    changes_and_refuses c.args.cache.now c.allocate.new.self c.put.new.self c.in_err-put.field-0.0 c.from_residual-in_err-put.result c.from_residual-in_err-put.ensures.1
+    c.in_ok-directory.ensures.changes c.in_err-put.ensures.changes
+
+pub returns-clause-changes : goal.returns-clause-changes
+returns-clause-changes g c = changes_in_turn c.args.cache.now c.allocate.new.self c.put.new.self None c.in_ok-directory.ensures.changes c.in_ok-put.ensures.changes

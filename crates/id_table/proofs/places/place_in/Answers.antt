@@ -1,7 +1,7 @@
 -- The goals of `place_in` that are proved by hand.
 use Rattle.std.proofs.Common.{None, subst, arith}
 use Rattle.page_file.specs.Fault.{IsOfDevice}
-use Rattle.page_cache.specs.Calls.{asks_in_turn, no_call_asks}
+use Rattle.page_cache.specs.Calls.{asks_and_refuses, asks_in_turn, no_call_asks}
 use Rattle.node_page.proofs.NodeLemmas.{at_error}
 use Rattle.id_table.specs.Pages.{IsFoundAt}
 use Rattle.id_table.proofs.PlaceLemmas.{begins_here, found_place, goes_past, not_ended, not_so_long, searches, there_now}
@@ -32,3 +32,8 @@ loop-walked-preserved g c =
 pub returns-clause-there : goal.returns-clause-there
 returns-clause-there g c = λ h chain stands short has.
     absurd (not_so_long c.loop-walked.invariant h chain stands (omega (arith, short, c.loop-walked-test.false, c.next_number-walked-end.ensures)) has)
+
+pub returns-in_err-found-clause-asks : goal.returns-in_err-found-clause-asks
+returns-in_err-found-clause-asks g c =
+    asks_and_refuses c.args.cache.now c.loop-walked.cache c.place_at.new.cache c.in_err-found.field-0.0 c.from_residual.result c.from_residual.ensures.1
+    c.loop-walked.invariant.asks c.in_err-found.ensures.asks

@@ -16,6 +16,8 @@ use Rattle.id_table.proofs.ReachLemmas.{reached}
 use Rattle.id_table.proofs.Results.{alters_further, broken_err, broken_ok, refused_before}
 use Rattle.id_table.proofs.ShrinkLemmas.{first_now, removes_from}
 use Rattle.id_table.proofs.StartLemmas.{starts}
+use Rattle.page_cache.specs.Calls.{asks_in_turn}
+use Rattle.node_page.specs.Broken.{asks_and_breaks}
 use Rattle.id_table.proofs.removing.remove.Goals as goal
 
 pub returns-in_err-holder-clause-faults : goal.returns-in_err-holder-clause-faults
@@ -118,3 +120,8 @@ returns-clause-faults g c = λ map t at stands has.
     let live = page_of_bucket g.row.D (mid c.in_ok-first.first) f.0 f.1 in
     let links = others c.args.directory r.holder_apart_is ∙ r.links in
     broken_err c.drop_last.result c.midway.result IsOfDevice c.midway.ensures (c.drop_last.ensures.faults sound live (is_there (mid c.args.directory) stands.directory links) r.apart (λ two. omega (arith, two, r.begin.low)))
+
+pub returns-in_err-last-clause-alters : goal.returns-in_err-last-clause-alters
+returns-in_err-last-clause-alters g c =
+    asks_and_breaks c.args.cache.now c.place_in.new.cache c.last_in.new.cache c.in_err-last.field-0.0 c.from_residual-in_err-last.result c.from_residual-in_err-last.ensures.1
+    (asks_in_turn c.args.cache.now c.read_link.new.cache c.place_in.new.cache None c.in_ok-first.ensures.asks c.in_ok-holder.ensures.asks) c.in_err-last.ensures.asks

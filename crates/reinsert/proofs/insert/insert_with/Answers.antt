@@ -11,7 +11,7 @@ use Rattle.node_page.specs.Faults.{IsNoDamage, IsChangeFault}
 use Rattle.reinsert.specs.Inserted.{IsAt}
 use Rattle.reinsert.specs.Insertion.{at_first}
 use Rattle.reinsert.specs.Placing.{State}
-use Rattle.reinsert.proofs.BrokenLemmas.{at_broken}
+use Rattle.reinsert.proofs.BrokenLemmas.{at_broken, nothing_altered}
 use Rattle.reinsert.proofs.InsertLemmas.{begun, inserted_end, reached_first, reached_more}
 use Rattle.reinsert.proofs.StateLemmas.{first_has_shape, low_root, placings_keep_shape}
 use Rattle.reinsert.proofs.insert.insert_with.Goals as goal
@@ -100,3 +100,6 @@ returns-clause-inserted g c = λ h t branch elsewhere can.
 pub returns-in_err-now-clause-other_faults : goal.returns-in_err-now-clause-other_faults
 returns-in_err-now-clause-other_faults g c =
     at_broken c.from_residual.result c.in_err-now.field-0.0 (λ (b : Broken). IsChangeFault b.cause) c.from_residual.ensures.1 c.in_err-now.ensures.other_faults
+
+pub returns-then-root-ge40-clause-alters : goal.returns-then-root-ge40-clause-alters
+returns-then-root-ge40-clause-alters g c = nothing_altered c.args.cache.now c.args.root.page c.from.result c.from.ensures

@@ -6,7 +6,7 @@ use Rattle.node_page.specs.Broken.{changes_and_breaks, made_alters}
 use Rattle.node_page.specs.Standing.{PageMap}
 use Rattle.node_page.specs.declared.broken.Broken.{Broken}
 use Rattle.node_page.specs.Faults.{IsNoDamage, IsChangeFault}
-use Rattle.reinsert.proofs.BrokenLemmas.{at_broken}
+use Rattle.reinsert.proofs.BrokenLemmas.{at_broken, nothing_altered}
 use Rattle.reinsert.proofs.InsertLemmas.{first_alone, first_beside}
 use Rattle.reinsert.proofs.StateLemmas.{first_can, low_root}
 use Rattle.reinsert.proofs.insert.place_one.Goals as goal
@@ -64,3 +64,6 @@ returns-in_err-bounds-clause-other_faults g c =
 
 pub returns-in-Err-clause-other_faults : goal.returns-in-Err-clause-other_faults
 returns-in-Err-clause-other_faults g c = subst (λ (b : Broken). IsChangeFault b.cause) (sym c.midway.ensures) c.in-Err.ensures.other_faults
+
+pub returns-then-first-root-clause-alters : goal.returns-then-first-root-clause-alters
+returns-then-first-root-clause-alters g c = nothing_altered c.args.cache.now c.args.root.page c.from.result c.from.ensures
