@@ -9,7 +9,7 @@ use Rattle.plain_table.specs.Commands.{Command, MayGiveUp}
 use Rattle.plain_table.specs.Commands.Command.{Create, Count, Range, Layers, Reopen}
 use Rattle.store_law.specs.Sessions.{SessionState, LawfulAnswer, LawfulStep, Session}
 use Rattle.store_law.specs.States.{StoreState, Request}
-use Rattle.store_law.specs.Stops.{Stops, after_request}
+use Rattle.store_law.specs.Stops.{Stops, with_now, after_request}
 use Rattle.store_law.specs.Stops.AfterStop.{Surely, Perhaps}
 use Rattle.store_law.specs.States.Request.{BadCommand, Asks}
 use Rattle.store_law.specs.States.StoreState.{Alive, Dead}
@@ -28,7 +28,7 @@ use Rattle.plain_table.proofs.Examples.{a, at, table, touching, empty_layer, cou
 
 -- no table was closed
 abbrev unclosed : Stops
-unclosed = record { now = Perhaps []; since = 0; so_far = [] }
+unclosed = record { now = Perhaps []; since = 0; so_far = []; kept = []; kept_so_far = [] }
 
 -- a store with this table, after so many faults
 abbrev live : Table → ℕ → SessionState
@@ -225,24 +225,24 @@ a_window_ends_no_store s' (inr (inr h)) = elim h.1 [ inl e ↦ absurd (cc) | inr
 
 -- ---- what a stop leaves
 
--- one table was closed last, at moment 7, and another stands now
+-- one table was closed last, at moment 7, and another stands now; a device that commits keeps what was closed
 abbrev closed_before : Stops
-closed_before = record { now = Surely none; since = 7; so_far = none ∷ [] }
+closed_before = record { now = Surely none; since = 7; so_far = none ∷ []; kept = none ∷ []; kept_so_far = none ∷ [] }
 
 -- a closing of it was refused
 abbrev closing_refused : Stops
-closing_refused = record { now = Perhaps (made ∷ none ∷ []); since = 7; so_far = made ∷ none ∷ [] }
+closing_refused = record { now = Perhaps (made ∷ none ∷ []); since = 7; so_far = made ∷ none ∷ []; kept = made ∷ none ∷ []; kept_so_far = made ∷ none ∷ [] }
 
-a_closing_leaves_its_table_alone : after_request (Alive made) closed_before (Asks Reopen) Done ≡ record { now = Surely made; since = 7; so_far = made ∷ none ∷ [] }
+a_closing_leaves_its_table_alone : after_request (Alive made) closed_before (Asks Reopen) Done ≡ record { now = Surely made; since = 7; so_far = made ∷ none ∷ []; kept = made ∷ []; kept_so_far = made ∷ none ∷ [] }
 a_closing_leaves_its_table_alone = refl
 
-a_closing_is_finished_where_the_store_fails_behind_it : after_request (Alive made) closed_before (Asks Reopen) (Refused (refusal.StoreFailed 17)) ≡ record { now = Surely made; since = 7; so_far = made ∷ none ∷ [] }
+a_closing_is_finished_where_the_store_fails_behind_it : after_request (Alive made) closed_before (Asks Reopen) (Refused (refusal.StoreFailed 17)) ≡ record { now = Surely made; since = 7; so_far = made ∷ none ∷ []; kept = made ∷ []; kept_so_far = made ∷ none ∷ [] }
 a_closing_is_finished_where_the_store_fails_behind_it = refl
 
 a_refused_closing_leaves_either_table : after_request (Alive made) closed_before (Asks Reopen) (Refused refusal.Device) ≡ closing_refused
 a_refused_closing_leaves_either_table = refl
 
-the_next_closing_leaves_its_table_alone : after_request (Alive made) closing_refused (Asks Reopen) Done ≡ record { now = Surely made; since = 7; so_far = made ∷ made ∷ none ∷ [] }
+the_next_closing_leaves_its_table_alone : after_request (Alive made) closing_refused (Asks Reopen) Done ≡ record { now = Surely made; since = 7; so_far = made ∷ made ∷ none ∷ []; kept = made ∷ []; kept_so_far = made ∷ made ∷ none ∷ [] }
 the_next_closing_leaves_its_table_alone = refl
 
 a_bad_line_changes_nothing_that_is_left : (t : Table) (answer : Answer) → after_request (Alive t) closed_before BadCommand answer ≡ closed_before
@@ -251,13 +251,13 @@ a_bad_line_changes_nothing_that_is_left t answer = refl
 a_question_changes_nothing_that_is_left : (t : Table) (name : List ℕ) (query : RawQuery) (tag : Option ℕ) (answer : Answer) → after_request (Alive t) closed_before (Asks (Range name query tag)) answer ≡ closed_before
 a_question_changes_nothing_that_is_left t name query tag answer = refl
 
-a_change_leaves_nothing_that_is_opened : after_request (Alive none) closed_before create Done ≡ record { now = Perhaps []; since = 7; so_far = none ∷ [] }
+a_change_leaves_nothing_that_is_opened : after_request (Alive none) closed_before create Done ≡ with_now (Perhaps []) closed_before
 a_change_leaves_nothing_that_is_opened = rw create_changes_the_table refl
 
-a_change_that_gave_up_perhaps_leaves_what_was_left : after_request (Alive none) closed_before create (Refused refusal.Device) ≡ record { now = Perhaps (none ∷ []); since = 7; so_far = none ∷ [] }
+a_change_that_gave_up_perhaps_leaves_what_was_left : after_request (Alive none) closed_before create (Refused refusal.Device) ≡ with_now (Perhaps (none ∷ [])) closed_before
 a_change_that_gave_up_perhaps_leaves_what_was_left = rw create_changes_the_table refl
 
-a_change_that_ended_the_store_leaves_nothing_that_is_opened : after_request (Alive none) closed_before create (Refused (refusal.StoreFailed 17)) ≡ record { now = Perhaps []; since = 7; so_far = none ∷ [] }
+a_change_that_ended_the_store_leaves_nothing_that_is_opened : after_request (Alive none) closed_before create (Refused (refusal.StoreFailed 17)) ≡ with_now (Perhaps []) closed_before
 a_change_that_ended_the_store_leaves_nothing_that_is_opened = rw create_changes_the_table refl
 
 a_refused_change_changes_nothing_that_is_left : (answer : Answer) → after_request (Alive (table touching)) closed_before (Asks (Create a 3 100)) answer ≡ closed_before
