@@ -1,8 +1,8 @@
 -- The goals of `give_way` that are proved by hand.
-use Rattle.std.proofs.Common.{◌≡◌, ◌-◌, ◌<◌, ◌≤◌, ◌^◌, IfSome, None, length, get_or, refl, subst, arith}
+use Rattle.std.proofs.Common.{◌≡◌, ◌-◌, ◌<◌, ◌≤◌, ◌^◌, IfSome, None, Some, length, get_or, refl, subst, arith}
 use Rattle.page_file.specs.Fault.{IsOfDevice}
 use Rattle.page_cache.specs.Cache.{pages}
-use Rattle.page_cache.specs.Calls.{asks_changes, changes_in_turn, no_call_changes}
+use Rattle.page_cache.specs.Calls.{asks_changes, changes_and_refuses, changes_in_turn, no_call_changes}
 use Rattle.tree_node.specs.Nodes.{Item, NodeContent}
 use Rattle.tree_node.specs.Trees.{row_items}
 use Rattle.node_page.specs.Standing.{PageMap}
@@ -74,3 +74,19 @@ pub returns-after-lowering-clause-lowered : goal.returns-after-lowering-clause-l
 returns-after-lowering-clause-lowered g c = λ h t at stands.
     let so_far = c.lowering.invariant.3 h t at stands in
     (so_far.0, lowered_end g.row.D (pages c.args.cache.now) (pages c.lowering.cache) t c.lowering.now so_far.1 (λ high. absurd (omega (arith, high, c.lowering-test.false))))
+
+pub returns-in_err-below-clause-changes : goal.returns-in_err-below-clause-changes
+returns-in_err-below-clause-changes g c =
+    let f = c.in_err-below.field-0.0 in
+    changes_and_refuses c.args.cache.now c.lowering.cache c.only_child.new.cache f c.from_residual.result c.from_residual.ensures.1 c.lowering.invariant.0
+    (asks_changes c.lowering.cache c.only_child.new.cache (Some f) c.in_err-below.ensures.asks)
+
+pub returns-in_err-free-clause-changes : goal.returns-in_err-free-clause-changes
+returns-in_err-free-clause-changes g c =
+    changes_and_refuses c.args.cache.now c.only_child.new.cache c.free.new.self c.in_err-free.field-0.0 c.from_residual-in_err-free.result c.from_residual-in_err-free.ensures.1
+    (changes_in_turn c.args.cache.now c.lowering.cache c.only_child.new.cache None c.lowering.invariant.0 (asks_changes c.lowering.cache c.only_child.new.cache None c.in_ok-below.ensures.asks))
+    c.in_err-free.ensures.changes
+
+pub returns-in_default-clause-changes : goal.returns-in_default-clause-changes
+returns-in_default-clause-changes g c =
+    changes_in_turn c.args.cache.now c.lowering.cache c.only_child.new.cache None c.lowering.invariant.0 (asks_changes c.lowering.cache c.only_child.new.cache None c.in_ok-below.ensures.asks)
