@@ -164,3 +164,6 @@ add_pairs_of_entry-returns-clause-pairs g t c = λ h s r first second e e'.
 pub add_pairs_of_entry-returns-clause-looks : goal.add_pairs_of_entry-returns-clause-looks
 add_pairs_of_entry-returns-clause-looks g t c = λ h s r first second.
     end_looked c.other.from c.args.mask c.other.invariant.0 c.requires.mask (some_before w128 c.args.mask c.other.from c.ranges.mask.fits c.if-mask-eq0.false c.in_default.ensures.none) h s r first second
+
+pub add_pairs_of_entry-returns-then-mask-eq0-clause-asks : goal.add_pairs_of_entry-returns-then-mask-eq0-clause-asks
+add_pairs_of_entry-returns-then-mask-eq0-clause-asks g k c = no_call_asks c.args.cache.now
