@@ -1,7 +1,8 @@
 -- What one call, and runs in turn, keep to.
 use Rattle.std.proofs.Common.{◌≡◌, ◌∙◌, ◌⊎◌, ◌≤◌, ℕ, List, [], length, take, refl, sym, ap, subst, arith, inl, inr, ⊎_elim}
 use Rattle.block_device.specs.Device.{Blocks}
-use Rattle.journaled_device.specs.Commits.{BeginsOne, CommitsNoMore, Either, OrNew}
+use Rattle.block_device.specs.Device.{BeginsOne}
+use Rattle.journaled_device.specs.Commits.{CommitsNoMore, Either, OrNew}
 use Rattle.journaled_device.specs.Journal.{overlaid, recovered}
 use Rattle.journaled_device.specs.Standing.{KeepsTo, IsHonest, base_of, commits_of, homes_of, journal_of, pair_of, shown_of, stage_of}
 use Rattle.journaled_device.specs.Law.{recovery}

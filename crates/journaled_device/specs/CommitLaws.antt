@@ -3,7 +3,7 @@ use Rattle.std.proofs.Common.{◌≡◌, ◌∙◌, ◌⊎◌, ◌^◌, ℕ, zer
 use Rattle.std.specs.List.{All}
 use Rattle.block_device.specs.Device.{Blocks, IsBlock, block_at}
 use Rattle.block_device.specs.Outcomes.{set_blocks}
-use Rattle.journaled_device.specs.Commits.{BeginsOne}
+use Rattle.block_device.specs.Device.{BeginsOne}
 use Rattle.journaled_device.specs.Journal.{slots_from, replayed, overlaid, recovered}
 use Rattle.journaled_device.specs.Standing.{base_of, commits_of, homes_of, journal_of, may_leave_of, shown_of, IsHonest}
 use Rattle.journaled_device.specs.Law.{recovery}

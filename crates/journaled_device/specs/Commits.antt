@@ -1,10 +1,7 @@
--- The words of commits: what a stop leaves begins with the blocks of one.
-use Rattle.std.specs.Prelude.{◌≡◌, ◌⊎◌}
-use Rattle.block_device.specs.Device.{Begins, Blocks}
-
--- c begins with the blocks of one of these commits
-abbrev pub BeginsOne : (Blocks → Type 0) → Blocks → Type 0
-BeginsOne commits c = (kept : Blocks) × commits kept × Begins kept c
+-- The words of commits, as sets of blocks.
+use Rattle.std.specs.Prelude.{◌≡◌, ◌⊎◌, None}
+use Rattle.block_device.specs.Device.{Blocks}
+use Rattle.page_file.specs.Opening.{failed_check}
 
 -- one of these commits, or this one
 abbrev pub OrNew : (Blocks → Type 0) → Blocks → Blocks → Type 0
@@ -17,3 +14,7 @@ Either old new kept = old kept ⊎ new kept
 -- each new commit is an old one
 abbrev pub CommitsNoMore : (Blocks → Type 0) → (Blocks → Type 0) → Type 0
 CommitsNoMore old new = (kept : Blocks) → new kept → old kept
+
+-- one of these commits, or these blocks, where opening takes them
+abbrev pub OrOpened : (Blocks → Type 0) → Blocks → Blocks → Type 0
+OrOpened commits blocks kept = commits kept ⊎ ((failed_check blocks ≡ None) × (kept ≡ blocks))

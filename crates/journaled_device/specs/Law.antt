@@ -7,7 +7,7 @@ use Rattle.std.proofs.lemmas.Bool.{cases_Bool}
 use Rattle.block_device.specs.Device.{Blocks, block_at}
 use Rattle.block_bytes.specs.Numbers.{number_at}
 use Rattle.block_device.specs.Device.{Begins}
-use Rattle.journaled_device.specs.Commits.{BeginsOne}
+use Rattle.block_device.specs.Device.{BeginsOne}
 use Rattle.journaled_device.specs.Journal.{Entry, count_in, entries_from, entries_in, gate_says, has_room, home_in, index_blocks, is_complete, overlaid, recovered, replayed, slots_from}
 use Rattle.journaled_device.specs.Stages.{SameBehind, SameOutside, IsFilling, IsDeciding, IsCopying, IsRecorded, StopIn, ReadsIn, CommitsIn}
 use Rattle.journaled_device.specs.declared.stage.Stage.{Stage}

@@ -6,9 +6,6 @@ pub mod Stages
 pub mod Index
 pub mod Opening
 pub mod Standing
-pub mod Fallback
-pub mod Asked
-pub mod Journaled
 pub mod Calls
 -- Lemmas on them, which laws and callers cite.
 pub mod StandingFact
@@ -20,4 +17,3 @@ pub mod CommitLaws
 pub mod GateLaws
 pub mod OpeningLaws
 pub mod WellFormed
-pub mod DeviceLaws

@@ -2,7 +2,7 @@
 use Rattle.std.proofs.Common.{◌≡◌, ◌∙◌, ◌⊎◌, ℕ, ◌<◌, ◌≤◌, length, arith, inl, inr, ⊎_elim}
 use Rattle.block_device.specs.Device.{Blocks, block_at}
 use Rattle.block_device.specs.Device.{Begins}
-use Rattle.journaled_device.specs.Commits.{BeginsOne}
+use Rattle.block_device.specs.Device.{BeginsOne}
 use Rattle.journaled_device.specs.Journal.{recovered}
 use Rattle.journaled_device.specs.Opening.{LeavesOr}
 use Rattle.device_pair.specs.Pairs.{PairLeaves}

@@ -1,7 +1,8 @@
 -- A journaled pair as its contracts see it.
 use Rattle.std.specs.Prelude.{◌≡◌, ℕ, List}
 use Rattle.block_device.specs.Device.{Blocks}
-use Rattle.journaled_device.specs.Commits.{BeginsOne, CommitsNoMore}
+use Rattle.block_device.specs.Device.{BeginsOne}
+use Rattle.journaled_device.specs.Commits.{CommitsNoMore}
 use Rattle.journaled_device.specs.Journal.{overlaid, recovered}
 use Rattle.device_pair.specs.Pairs.{PairLeaves}
 use Rattle.journaled_device.specs.Stages.{CommitsIn}

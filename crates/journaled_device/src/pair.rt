@@ -8,6 +8,7 @@ mod commit;
 mod filling;
 mod open;
 pub(crate) mod record;
+mod sync;
 
 use crate::Stage;
 use device_pair::DevicePair;

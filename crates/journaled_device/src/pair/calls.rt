@@ -1,6 +1,6 @@
 //! Reads, writes and commits of a base and its journal.
 ghost use Rattle.std.specs.Prelude.{◌≡◌, ◌<◌, ◌≤◌, ◌^◌, ◌↔◌, ℕ, length, OnOk, OnErr};
-ghost use Rattle.block_device.specs.Device.{Begins, Blocks, Counts, Torn, block_at, written};
+ghost use Rattle.block_device.specs.Device.{Blocks, Counts, Torn, block_at, written};
 ghost use Rattle.device_pair.specs.Pairs.{PairElapses, PairsNoMore};
 ghost use Rattle.journaled_device.specs.Calls.{IsStill};
 ghost use Rattle.journaled_device.specs.Commits.{CommitsNoMore, Either, OrNew};
@@ -75,20 +75,6 @@ impl<P: DevicePair, A: Allocator + Copy> JournaledPair<P, A> {
         ensures faults { Counts (P.faults (pair_of self.old)) (P.faults (pair_of self.new)) result }
     {
         self.pair.sync_base()
-    }
-
-    /// Forgets what was written since the last commit, of the blocks that were there at it.
-    pub(crate) fn rollback(&mut self) -> Result<(), DeviceError>
-        ensures begins { IsHonest self.old →
-            OnOk result ((kept : Blocks) → commits_of self.new kept → Begins kept (shown_of self.new)) }
-        ensures refused { IsHonest self.old → OnErr result (shown_of self.new ≡ shown_of self.old) }
-        ensures keeps { IsHonest self.old → KeepsTo (commits_of self.old) self.old self.new }
-        ensures honest { IsHonest self.old ↔ IsHonest self.new }
-        ensures faults { Counts (P.faults (pair_of self.old)) (P.faults (pair_of self.new)) result }
-    {
-        self.finish()?;
-        self.forget();
-        Ok(())
     }
 
     /// Commits what is read: after an `Ok` it is the only commit, after an `Err` it may be one more.

@@ -141,15 +141,4 @@ impl<P: DevicePair, A: Allocator + Copy> JournaledPair<P, A> {
     {
         self.pair.read_base(i, into)
     }
-
-    // Forgets the slots.
-    pub(crate) fn forget(&mut self)
-        requires { stage_of self.old ≡ Filling }
-        ensures begins { IsHonest self.old → (kept : Blocks) → commits_of self.new kept → Begins kept (shown_of self.new) }
-        ensures keeps { IsHonest self.old → KeepsTo (commits_of self.old) self.old self.new }
-        ensures pair { pair_of self.new ≡ pair_of self.old }
-        ensures honest { IsHonest self.old ↔ IsHonest self.new }
-    {
-        self.homes.clear();
-    }
 }

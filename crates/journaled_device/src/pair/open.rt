@@ -4,7 +4,7 @@ ghost use Rattle.std.specs.Prelude.{IfOk, IfErr, OnOk, OnErr, nat_le, slice_inde
 ghost use Rattle.std.specs.List.{All};
 ghost use Rattle.block_device.specs.Device.{Blocks, Counts, block_at};
 ghost use Rattle.block_device.specs.Device.{Begins};
-ghost use Rattle.journaled_device.specs.Commits.{BeginsOne};
+ghost use Rattle.block_device.specs.Device.{BeginsOne};
 ghost use Rattle.journaled_device.specs.Journal.{count_in, gate_says, has_room, home_in, overlaid, recovered};
 ghost use Rattle.journaled_device.specs.Standing.{commits_of, pair_of, shown_of, stage_of, IsHonest, KeepsTo};
 ghost use Rattle.journaled_device.specs.Stages.{CommitsIn, IsStanding};
