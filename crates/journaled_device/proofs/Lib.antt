@@ -12,3 +12,4 @@ mod Making
 mod Opened
 mod Reached
 mod Calling
+mod Noting
