@@ -1,5 +1,5 @@
 -- What a call makes of the notes of a journaled device, and of what a stop leaves of it.
-use Rattle.std.proofs.Common.{◌≡◌, ◌∙◌, ◌⊎◌, ◌-◌, ◌+◌, ◌<◌, ◌≤◌, ℕ, Bool, true, false, nat_lt, if◌then◌else◌, List, [], ◌∷◌, ◌++◌, length, take, set, Option, Some, None, Result, Ok, Err, OnOk, OnErr, refl, sym, ap, subst, arith, inl, inr, ⊎_elim, length-set}
+use Rattle.std.proofs.Common.{◌≡◌, ◌∙◌, ◌⊎◌, ◌-◌, ◌+◌, ◌<◌, ◌≤◌, ℕ, Bool, true, false, nat_lt, if◌then◌else◌, List, [], ◌∷◌, ◌++◌, length, take, set, Option, Some, None, Ok, Err, IsErr, OnOk, OnErr, refl, sym, ap, subst, arith, inl, inr, ⊎_elim, length-set}
 use Rattle.std.specs.List.{All}
 use Rattle.std.proofs.lemmas.Bool.{cases_Bool, ltb-true, ltb-false}
 use Rattle.std.proofs.lemmas.List.{set-get_or, set-set, take_at}
@@ -8,7 +8,6 @@ use Rattle.block_device.specs.Device.{Begins, Blocks, Brings, Elapses, Follows, 
 use Rattle.block_device.specs.History.{Event, Synced, Wrote, IsHistory, IsThere, LeftSince, MayLeave, at_sync, before, undone, unsynced}
 use Rattle.block_device.specs.Outcomes.{set_blocks, shown_left, sync_le}
 use Rattle.block_device.specs.Stop.{IsOutcome}
-use Rattle.block_device.specs.declared.device.DeviceError.{DeviceError}
 use Rattle.block_device.specs.Written.{length-written_behind, push_written, set_written}
 use Rattle.block_device.proofs.Stops.{elapses_more, only_shown, outcome_before}
 use Rattle.page_file.specs.Opening.{failed_check}
@@ -91,7 +90,11 @@ module _ (i : ℕ) (b : List ℕ) (old : Blocks) (at_most : i ≤ length old) (s
       let same : at_sync (written i b old) (event old (Some i) ∷ es) ≡ at_sync old es = ap (λ (x : Blocks). at_sync x es) undoes in
       outcome_before old (at_sync old es) (unsynced es) i b at_most (sync_le old es h) sized c (subst (λ (x : Blocks). IsOutcome (written i b old) x (i ∷ unsynced es) c) same now)
 
--- What stands of the notes.
+-- What stands of no notes.
+pub noted_new : {P A : Type 0} {m : _} (p : JournaledPair P A m) (ns : List (JournaledPair P A m × Option ℕ)) → ns ≡ [] → All IsBlock (shown_of p) → ((k : Blocks) → commits_of p k → k ≡ shown_of p) → IsNoted p ns
+noted_new p ns e whole one = rw e record { whole = whole; leads = tt; falls = tt; durable = λ none taken. one }
+
+-- What stands of the notes after a call.
 module _ {P A : Type 0} {m : _} (p p' : JournaledPair P A m) (ns : List (JournaledPair P A m × Option ℕ)) (n : IsNoted p ns) (later : m.moment p.pair ≤ m.moment p'.pair) where
   pub noted_same : shown_of p' ≡ shown_of p → CommitsNoMore (OrOpened (commits_of p) (shown_of p)) (commits_of p') → IsNoted p' ns
   noted_same e more = record {
@@ -116,6 +119,10 @@ module _ {P A : Type 0} {m : _} (p p' : JournaledPair P A m) (ns : List (Journal
     falls = (later, n.falls);
     durable = λ none taken k is. durable (ap failed_check (sym e) ∙ taken) k is ∙ sym e;
   }
+
+never_ok : (r : Answer) (P : Type 0) → IsErr r → OnOk r P
+never_ok (Ok u) P is = absurd (cc)
+never_ok (Err x) P is = tt
 
 -- What a call brings.
 module _ {P A : Type 0} {m : _} (old new : JournaledDevice P A m) (n : IsNoted (inner_of old) old.past.taken) where
@@ -191,10 +198,10 @@ module _ {P A : Type 0} {m : _} (old new : JournaledDevice P A m) (n : IsNoted (
       one
 
   -- a sync that was refused, and one that was done
-  pub refused_sync : (x : DeviceError) → IsNoted (inner_of new) new.past.taken → new.past.taken ≡ old.past.taken → shown_of (inner_of new) ≡ shown_of (inner_of old)
-      → KeepsTo (OrOpened (commits_of (inner_of old)) (shown_of (inner_of old))) (inner_of old) (inner_of new) → HasSynced old (Err x) new
-  refused_sync x n' e same keeps = record {
-    durable = tt;
+  pub refused_sync : (r : Answer) → IsErr r → IsNoted (inner_of new) new.past.taken → new.past.taken ≡ old.past.taken → shown_of (inner_of new) ≡ shown_of (inner_of old)
+      → KeepsTo (OrOpened (commits_of (inner_of old)) (shown_of (inner_of old))) (inner_of old) (inner_of new) → HasSynced old r new
+  refused_sync r is n' e same keeps = record {
+    durable = never_ok r ((c : Blocks) → may_leave_of new c → c ≡ shown_of (inner_of old)) is;
     shown = same;
     stops = left_same e same;
     time = still_time e same keeps.stops.later;
