@@ -3,7 +3,7 @@
 
 mod device;
 mod gate;
-//pub mod laws;
+pub mod laws;
 mod pair;
 mod slots;
 mod stage;
