@@ -3,7 +3,6 @@ use Rattle.std.proofs.Common.{◌≡◌, ◌∙◌, ◌≤◌, ◌<◌, ℕ, Boo
 use Rattle.std.specs.Prelude.{is_none}
 use Rattle.std.proofs.lemmas.Bool.{lt-ltb}
 use Rattle.block_device.specs.Device.{Blocks, block_at}
-use Rattle.device_pair.specs.Pairs.{PairElapses}
 use Rattle.page_file.specs.Opening.{failed_check, first_fault, gate_checks, header_checks}
 use Rattle.page_file.specs.declared.fault.Fault.{Fault}
 use Rattle.page_file.specs.declared.fault.Fault.TheVariants.{NotAStore}
@@ -11,7 +10,7 @@ use Rattle.journaled_device.specs.Calls.{IsStill}
 use Rattle.journaled_device.specs.Commits.{CommitsNoMore, Either, OrNew, OrOpened}
 use Rattle.journaled_device.specs.Journal.{overlaid}
 use Rattle.journaled_device.specs.Stages.{CommitsIn}
-use Rattle.journaled_device.specs.Standing.{KeepsTo, IsHonest, SameSlots, base_of, commits_of, homes_of, journal_of, kept_of, shown_of, stage_of}
+use Rattle.journaled_device.specs.Standing.{KeepsTo, IsHonest, base_of, commits_of, homes_of, journal_of, kept_of, shown_of, stage_of}
 use Rattle.journaled_device.specs.declared.pair.JournaledPair.{JournaledPair}
 use Rattle.journaled_device.specs.declared.stage.Stage.{Stage}
 use Rattle.journaled_device.proofs.Keeping.{keeps_call, keeps_then, keeps_weaker}
@@ -32,15 +31,6 @@ commits_still old new s kept is =
 
 pub keeps_still : {P A : Type 0} {m : _} (old new : JournaledPair P A m) → IsHonest new → IsStill old new → KeepsTo (commits_of old) old new
 keeps_still old new h s = keeps_call (commits_of old) old new h s.time (commits_still old new s)
-
-pub still_none : {P A : Type 0} {m : _} (d : JournaledPair P A m) → IsStill d d
-still_none d = record {
-  slots = record { stage = refl; kept = refl; homes = refl };
-  base = refl;
-  journal = refl;
-  now = λ a b left. left;
-  time = record { later = omega arith; nothing_else = λ t a b le left. inl left; keeps = λ t a b le left. left };
-}
 
 -- two such calls: what a stop between them left, one before them might have left
 pub still_then : {P A : Type 0} {m : _} (old mid new : JournaledPair P A m) → ((t : ℕ) (a b : Blocks) → t ≤ m.moment old.pair → m.may_leave old.pair a b → m.left_since old.pair t a b) → IsStill old mid → IsStill mid new → IsStill old new

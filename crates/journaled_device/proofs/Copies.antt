@@ -1,10 +1,10 @@
 -- The entries copied into the base, one after the other.
-use Rattle.std.proofs.Common.{◌≡◌, ◌∙◌, ◌↔◌, ℕ, zero, suc, ◌+◌, ◌<◌, ◌≤◌, List, [], ◌∷◌, ◌++◌, length, take, set, get_or, refl, sym, ap, subst, arith}
+use Rattle.std.proofs.Common.{◌≡◌, ◌∙◌, ◌↔◌, ℕ, ◌+◌, ◌<◌, ◌≤◌, List, length, take, set, refl, sym, ap, arith}
 use Rattle.std.specs.Prelude.{slice_index}
 use Rattle.std.proofs.lemmas.List.{take_all, take_more, length-take-le}
 use Rattle.block_device.specs.Device.{Blocks, block_at}
-use Rattle.journaled_device.specs.Journal.{Entry, replayed, slots_from, overlaid}
-use Rattle.journaled_device.specs.Standing.{IsHonest, KeepsTo, SameSlots, base_of, commits_of, homes_of, journal_of, pair_of, shown_of}
+use Rattle.journaled_device.specs.Journal.{Entry, replayed, slots_from}
+use Rattle.journaled_device.specs.Standing.{IsHonest, KeepsTo, SameSlots, base_of, commits_of, homes_of, journal_of, shown_of}
 use Rattle.journaled_device.specs.Overlay.{slots_more, replayed_more}
 use Rattle.journaled_device.specs.declared.pair.JournaledPair.{JournaledPair}
 use Rattle.journaled_device.proofs.Keeping.{keeps_none, keeps_on}

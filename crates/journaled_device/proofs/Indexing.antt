@@ -1,16 +1,16 @@
 -- The index written, block by block, and what is then recorded.
-use Rattle.std.proofs.Common.{◌≡◌, ◌∙◌, ◌⊎◌, ◌↔◌, ◌^◌, ℕ, zero, suc, ◌+◌, ◌*◌, ◌-◌, ◌<◌, ◌≤◌, Bool, true, false, nat_le, min, List, [], ◌∷◌, length, get_or, refl, sym, ap, subst, arith, inl, inr, ⊎_elim}
+use Rattle.std.proofs.Common.{◌≡◌, ◌∙◌, ◌↔◌, ◌^◌, ℕ, suc, ◌+◌, ◌*◌, ◌<◌, ◌≤◌, nat_le, List, [], ◌∷◌, length, refl, sym, ap, subst, arith, inl, ⊎_elim}
 use Rattle.std.specs.Prelude.{◌/◌, ◌%◌, slice_index}
 use Rattle.std.proofs.lemmas.Bool.{cases_lt, cases_eq}
 use Rattle.std.proofs.lemmas.Bool.Decides.{nat_tests}
 use Rattle.block_device.specs.Device.{Blocks, block_at, written}
 use Rattle.block_device.specs.Written.{block_at-written, block_at-written_other}
-use Rattle.block_bytes.specs.Numbers.{number_at, put_number, IsApart}
+use Rattle.block_bytes.specs.Numbers.{number_at, put_number}
 use Rattle.block_bytes.specs.Laws.{length-put, number_at-put, number_at-put_other}
 use Rattle.journaled_device.specs.GateLaws.{count-read}
 use Rattle.journaled_device.specs.Index.{IsIndexed, HasIndex}
-use Rattle.journaled_device.specs.Journal.{Entry, count_block, count_in, entries_from, entries_in, has_room, home_in, index_blocks, slots_from}
-use Rattle.journaled_device.specs.Standing.{IsHonest, KeepsTo, SameSlots, commits_of, homes_of, journal_of, pair_of, shown_of}
+use Rattle.journaled_device.specs.Journal.{Entry, count_block, count_in, entries_from, entries_in, home_in, index_blocks, slots_from}
+use Rattle.journaled_device.specs.Standing.{IsHonest, KeepsTo, SameSlots, commits_of, homes_of, journal_of, shown_of}
 use Rattle.journaled_device.specs.Stages.{IsRecorded}
 use Rattle.journaled_device.specs.Torn.{within_written}
 use Rattle.journaled_device.specs.declared.pair.JournaledPair.{JournaledPair}

@@ -1,16 +1,13 @@
 -- What one call, and runs in turn, keep to.
-use Rattle.std.proofs.Common.{◌≡◌, ◌∙◌, ◌⊎◌, ◌≤◌, ℕ, List, [], length, take, refl, sym, ap, subst, arith, inl, inr, ⊎_elim}
+use Rattle.std.proofs.Common.{◌≡◌, ◌∙◌, sym, subst, inl, inr, ⊎_elim}
 use Rattle.block_device.specs.Device.{Blocks}
 use Rattle.block_device.specs.Device.{BeginsOne}
 use Rattle.journaled_device.specs.Commits.{CommitsNoMore, Either, OrNew}
-use Rattle.journaled_device.specs.Journal.{overlaid, recovered}
-use Rattle.journaled_device.specs.Standing.{KeepsTo, IsHonest, base_of, commits_of, homes_of, journal_of, pair_of, shown_of, stage_of}
+use Rattle.journaled_device.specs.Journal.{recovered}
+use Rattle.journaled_device.specs.Standing.{KeepsTo, IsHonest, base_of, commits_of, journal_of}
 use Rattle.journaled_device.specs.Law.{recovery}
-use Rattle.device_pair.specs.Pairs.{PairElapses, PairLeaves}
-use Rattle.journaled_device.specs.Stages.{CommitsIn, IsStanding}
+use Rattle.device_pair.specs.Pairs.{PairElapses}
 use Rattle.journaled_device.specs.declared.pair.JournaledPair.{JournaledPair}
-use Rattle.journaled_device.specs.declared.stage.Stage.{Stage}
-use Rattle.journaled_device.specs.declared.stage.Stage.TheVariants.{Filling, Deciding, Copying, Clearing}
 use Rattle.device_pair.specs.Runs.{pair_started, pair_call, pair_then, pair_weaker}
 
 -- one call, after which a stop leaves one of these commits
@@ -61,12 +58,3 @@ keeps_old old new k = keeps_weaker (commits_of old) (Either (commits_of old) (co
 
 pub keeps_new : {P A : Type 0} {m : _} (blocks : Blocks) (old new : JournaledPair P A m) → commits_of new blocks → KeepsTo (OrNew (commits_of old) blocks) old new → KeepsTo (Either (commits_of old) (commits_of new)) old new
 keeps_new blocks old new one k = keeps_weaker (OrNew (commits_of old) blocks) (Either (commits_of old) (commits_of new)) old new (λ kept c. ⊎_elim (λ was. inl was) (λ is. inr (subst (commits_of new) (sym is) one)) c) k
-
-pub keeps_either : {P A : Type 0} {m : _} (old mid new : JournaledPair P A m) → KeepsTo (commits_of old) old mid → KeepsTo (Either (commits_of mid) (commits_of new)) mid new → KeepsTo (Either (commits_of old) (commits_of new)) old new
-keeps_either {m = m} old mid new x y =
-    let z = keeps_weaker (Either (commits_of mid) (commits_of new)) (Either (commits_of old) (commits_of new)) mid new (λ kept c. ⊎_elim (λ was. inl (x.now kept was)) (λ is. inr is) c) y in
-    let w = keeps_old old mid x in
-    record {
-      now = z.now;
-      stops = pair_then m.moment m.left_since old.pair mid.pair new.pair _ (pair_weaker m.moment m.left_since old.pair mid.pair _ _ (λ a b. begins_more (commits_of old) (Either (commits_of old) (commits_of new)) (λ kept c. inl c) (recovered a b)) x.stops) z.stops;
-    }

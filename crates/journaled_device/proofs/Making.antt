@@ -1,15 +1,14 @@
 -- An empty journal made: at no moment is there one that is to be copied.
-use Rattle.std.proofs.Common.{◌≡◌, ◌∙◌, ◌⊎◌, ℕ, suc, ◌+◌, ◌<◌, ◌≤◌, Bool, true, false, ◌&&◌, nat_le, min, List, [], ◌∷◌, length, Result, Ok, Err, OnOk, OnErr, refl, sym, ap, subst, arith, inl, inr, ⊎_elim, if◌then◌else◌}
-use Rattle.std.specs.Prelude.{◌/◌, ◌%◌}
+use Rattle.std.proofs.Common.{◌≡◌, ◌∙◌, ℕ, ◌<◌, ◌≤◌, Bool, true, false, ◌&&◌, List, [], length, Ok, Err, OnOk, ap, arith, ⊎_elim, if◌then◌else◌}
 use Rattle.std.proofs.lemmas.Bool.{cases_Bool, cases_lt}
 use Rattle.std.proofs.lemmas.Bool.Decides.{nat_tests}
-use Rattle.block_device.specs.Device.{Blocks, IsBlock, Torn, block_at, written}
+use Rattle.block_device.specs.Device.{Blocks, Torn, block_at, written}
 use Rattle.block_device.specs.Written.{block_at-written, length-written_behind, length-written_within, torn_length}
 use Rattle.journaled_device.specs.GateLaws.{says-empty}
-use Rattle.journaled_device.specs.Journal.{Entry, count_in, entries_from, entries_in, gate_block, gate_says, has_room, index_blocks, is_complete, recovered, replayed}
+use Rattle.journaled_device.specs.Journal.{Entry, count_in, entries_from, entries_in, gate_block, gate_says, has_room, is_complete, recovered, replayed}
 use Rattle.journaled_device.specs.Opening.{AreSynced}
 use Rattle.device_pair.specs.Pairs.{JournalFollows, PairElapses, PairLeaves}
-use Rattle.journaled_device.specs.Torn.{torn_cases, torn_size, written_before}
+use Rattle.journaled_device.specs.Torn.{torn_size, written_before}
 use Rattle.device_pair.specs.Runs.{pair_call, pair_then}
 use Rattle.journaled_device.proofs.Stood.{Answer}
 

@@ -1,11 +1,11 @@
 -- What a call makes of the notes of a journaled device, and of what a stop leaves of it.
-use Rattle.std.proofs.Common.{◌≡◌, ◌∙◌, ◌⊎◌, ◌-◌, ◌+◌, ◌<◌, ◌≤◌, ℕ, Bool, true, false, nat_lt, if◌then◌else◌, List, [], ◌∷◌, ◌++◌, length, take, set, Option, Some, None, Ok, Err, IsErr, OnOk, OnErr, refl, sym, ap, subst, arith, inl, inr, ⊎_elim, length-set}
+use Rattle.std.proofs.Common.{◌≡◌, ◌∙◌, ◌-◌, ◌+◌, ◌<◌, ◌≤◌, ℕ, Bool, true, false, nat_lt, if◌then◌else◌, List, [], ◌∷◌, length, take, set, Option, Some, None, Ok, Err, IsErr, OnOk, OnErr, refl, sym, ap, subst, arith, inl, inr, ⊎_elim}
 use Rattle.std.specs.List.{All}
-use Rattle.std.proofs.lemmas.Bool.{cases_Bool, ltb-true, ltb-false}
+use Rattle.std.proofs.lemmas.Bool.{ltb-true, ltb-false}
 use Rattle.std.proofs.lemmas.List.{set-get_or, set-set, take_at}
 use Rattle.std.proofs.lemmas.List.Elements.{All-push}
 use Rattle.block_device.specs.Device.{Begins, Blocks, Brings, Elapses, Follows, IsBlock, OrTaken, Torn, block_at, written}
-use Rattle.block_device.specs.History.{Event, Synced, Wrote, IsHistory, IsThere, LeftSince, MayLeave, at_sync, before, undone, unsynced}
+use Rattle.block_device.specs.History.{Event, IsHistory, IsThere, LeftSince, MayLeave, at_sync, before, undone, unsynced}
 use Rattle.block_device.specs.Outcomes.{set_blocks, shown_left, sync_le}
 use Rattle.block_device.specs.Stop.{IsOutcome}
 use Rattle.block_device.specs.Written.{length-written_behind, push_written, set_written}
@@ -13,9 +13,9 @@ use Rattle.block_device.proofs.Stops.{elapses_more, only_shown, outcome_before}
 use Rattle.page_file.specs.Opening.{failed_check}
 use Rattle.journaled_device.specs.Commits.{CommitsNoMore, OrOpened}
 use Rattle.journaled_device.specs.EventLaws.{back_le, fall_more, length-moments, until_le, until_new}
-use Rattle.journaled_device.specs.Events.{Fall, IsNoted, event, events, events_until, moments}
+use Rattle.journaled_device.specs.Events.{IsNoted, event, events, events_until, moments}
 use Rattle.journaled_device.specs.Journaled.{HasSynced, HasWritten, events_of, inner_of, left_since_of, may_leave_of, moment_of, pair_moment_of, pair_of, recovery_of}
-use Rattle.journaled_device.specs.Standing.{KeepsTo, IsHonest, commits_of, shown_of}
+use Rattle.journaled_device.specs.Standing.{KeepsTo, commits_of, shown_of}
 use Rattle.journaled_device.specs.Torn.{within_written}
 use Rattle.journaled_device.specs.declared.pair.JournaledPair.{JournaledPair}
 use Rattle.journaled_device.specs.declared.device.JournaledDevice.{JournaledDevice}
@@ -212,7 +212,7 @@ module _ {P A : Type 0} {m : _} (old new : JournaledDevice P A m) (n : IsNoted (
       → KeepsTo (OrOpened (commits_of (inner_of old)) (shown_of (inner_of old))) (inner_of old) (inner_of new) → HasSynced old (Ok tt) new
   noted_sync n' e same keeps =
       let only : (c : Blocks) → may_leave_of new c → c ≡ shown_of (inner_of old) = λ c now.
-          only_shown (shown_of (inner_of new)) (events_of old) c (subst (λ (es : List Event). MayLeave (shown_of (inner_of new)) es c) (ap events e) now) ∙ same in
+      only_shown (shown_of (inner_of new)) (events_of old) c (subst (λ (es : List Event). MayLeave (shown_of (inner_of new)) es c) (ap events e) now) ∙ same in
       record {
         durable = only;
         shown = same;

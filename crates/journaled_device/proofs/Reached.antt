@@ -1,5 +1,5 @@
 -- What is read is one of the commits, once one has begun.
-use Rattle.std.proofs.Common.{◌≡◌, ◌∙◌, ℕ, List, take, Result, Ok, Err, OnOk, OnErr, refl, sym, inr}
+use Rattle.std.proofs.Common.{◌≡◌, ◌∙◌, ℕ, List, take, Ok, Err, OnOk, OnErr, refl, sym, inr}
 use Rattle.block_device.specs.Device.{Blocks}
 use Rattle.journaled_device.specs.Journal.{overlaid}
 use Rattle.journaled_device.specs.Stages.{CommitsIn}

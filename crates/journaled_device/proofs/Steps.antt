@@ -1,20 +1,18 @@
 -- What stands through each call of the pair, by the stage.
-use Rattle.std.proofs.Common.{◌≡◌, ◌∙◌, ◌⊎◌, ℕ, zero, suc, ◌+◌, ◌<◌, ◌≤◌, Bool, true, false, List, [], ◌∷◌, ◌++◌, length, take, set, get_or, refl, sym, ap, subst, arith, inl, inr, ⊎_elim, length-set}
-use Rattle.std.specs.List.{All, Contains}
+use Rattle.std.proofs.Common.{◌≡◌, ◌∙◌, ℕ, suc, ◌+◌, ◌<◌, ◌≤◌, true, false, List, [], ◌∷◌, ◌++◌, length, take, refl, sym, ap, subst, arith}
+use Rattle.std.specs.List.{Contains}
 use Rattle.std.proofs.lemmas.List.{take_all, length_push}
 use Rattle.std.proofs.lemmas.List.Elements.{All-push}
-use Rattle.block_device.specs.Device.{Blocks, IsBlock, Torn, block_at, written}
-use Rattle.block_device.specs.Written.{block_at-written_other, length-written_within, torn_other}
+use Rattle.block_device.specs.Device.{Blocks, Torn, block_at}
+use Rattle.block_device.specs.Written.{torn_other}
 use Rattle.block_device.specs.Device.{Begins}
-use Rattle.journaled_device.specs.Journal.{Entry, entries_in, gate_says, has_room, replayed, slots_from, overlaid}
+use Rattle.journaled_device.specs.Journal.{Entry, gate_says, replayed, slots_from, overlaid}
 use Rattle.device_pair.specs.Pairs.{BaseFollows, JournalFollows, PairsNoMore}
-use Rattle.journaled_device.specs.Stages.{SameBehind, SameOutside, IsFilling, IsDeciding, IsCopying, IsRecorded, StopIn, ReadsIn, CommitsIn, IsStanding}
+use Rattle.journaled_device.specs.Stages.{SameBehind, SameOutside, IsDeciding, IsRecorded, IsStanding}
 use Rattle.journaled_device.specs.declared.stage.Stage.{Stage}
 use Rattle.journaled_device.specs.declared.stage.Stage.TheVariants.{Filling, Deciding, Copying, Clearing}
 use Rattle.journaled_device.specs.Law.{entries_same, room_same}
-use Rattle.journaled_device.specs.Replay.{overlay_same, length-overlaid}
-use Rattle.journaled_device.specs.Overlay.{overlay_elsewhere}
-use Rattle.journaled_device.specs.Torn.{torn_longer, torn_before, torn_size, take_torn, torn_cases}
+use Rattle.journaled_device.specs.Torn.{torn_longer, torn_before, torn_size, take_torn}
 
 abbrev Outcomes : Type 1
 Outcomes = Blocks → Blocks → Type 0

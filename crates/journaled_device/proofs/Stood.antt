@@ -2,24 +2,21 @@
 use Rattle.std.specs.Prelude.{is_ok, if◌then◌else◌, slice_index}
 use Rattle.std.proofs.lemmas.List.{get_or_default}
 use Rattle.block_device.specs.Written.{block_at-written_other, length-written_within}
-use Rattle.std.proofs.Common.{◌≡◌, ◌∙◌, ◌⊎◌, ◌↔◌, ℕ, ◌+◌, ◌<◌, ◌≤◌, Bool, true, false, List, [], ◌∷◌, ◌++◌, length, take, Result, Ok, Err, OnOk, OnErr, refl, sym, ap, subst, arith, inl, inr, ⊎_elim}
+use Rattle.std.proofs.Common.{◌≡◌, ◌∙◌, ◌⊎◌, ℕ, ◌+◌, ◌<◌, ◌≤◌, List, [], ◌∷◌, ◌++◌, length, take, Result, Ok, Err, OnOk, OnErr, refl, sym, ap, subst, arith, inl, inr, ⊎_elim}
 use Rattle.std.specs.List.{All, Contains}
-use Rattle.std.proofs.lemmas.List.{take_all}
 use Rattle.block_device.specs.Device.{Blocks, IsBlock, Torn, block_at, written}
 use Rattle.block_device.specs.declared.device.DeviceError.{DeviceError}
-use Rattle.block_device.specs.Device.{Begins}
-use Rattle.journaled_device.specs.Commits.{CommitsNoMore, OrNew}
-use Rattle.journaled_device.specs.Law.{begins_take}
-use Rattle.journaled_device.specs.Journal.{gate_says, overlaid}
+use Rattle.journaled_device.specs.Commits.{CommitsNoMore}
+use Rattle.journaled_device.specs.Journal.{overlaid}
 use Rattle.journaled_device.specs.Found.{IsSlot}
-use Rattle.journaled_device.specs.Overlay.{overlay_again, overlay_behind, overlay_elsewhere, overlay_more}
-use Rattle.device_pair.specs.Pairs.{BaseFollows, JournalFollows, PairsNoMore}
-use Rattle.journaled_device.specs.Replay.{length-overlaid, overlay_same}
-use Rattle.journaled_device.specs.Stages.{CommitsIn, IsRecorded, IsStanding, SameBehind, SameOutside}
+use Rattle.journaled_device.specs.Overlay.{overlay_again, overlay_behind, overlay_elsewhere}
+use Rattle.device_pair.specs.Pairs.{BaseFollows, JournalFollows}
+use Rattle.journaled_device.specs.Replay.{overlay_same}
+use Rattle.journaled_device.specs.Stages.{CommitsIn, IsStanding, SameBehind, SameOutside}
 use Rattle.journaled_device.specs.Torn.{take_torn, torn_cases}
 use Rattle.journaled_device.specs.declared.stage.Stage.{Stage}
 use Rattle.journaled_device.specs.declared.stage.Stage.TheVariants.{Filling, Deciding, Copying, Clearing}
-use Rattle.journaled_device.proofs.Steps.{base_filled, behind_torn, clearing_stands, copying_stands, deciding_stands, filling_stands, gate_cleared, gate_decided, home_copied, journal_filled, outside_torn, overlay_behind_gate, reads_stand, slot_added}
+use Rattle.journaled_device.proofs.Steps.{base_filled, behind_torn, gate_cleared, gate_decided, home_copied, journal_filled, outside_torn, overlay_behind_gate, slot_added}
 
 abbrev Outcomes : Type 1
 Outcomes = Blocks → Blocks → Type 0
@@ -176,20 +173,3 @@ one_home homes k h lt e = (k, lt, get_or_default homes k h 0 lt ∙ e)
 
 pub below_kept : (homes : List ℕ) (kept k h : ℕ) → All (λ n. n < kept) homes → k < length homes → slice_index homes k ≡ h → h < kept
 below_kept homes kept k h below lt e = subst (λ (n : ℕ). n < kept) e (below k 0 lt)
-
--- the slots forgotten
-pub forget_put : (stage : Stage) (kept : ℕ) (homes homes' : List ℕ) (base journal : Blocks) (ml : Outcomes) → stage ≡ Filling → homes' ≡ [] → IsStanding stage kept homes base journal ml → IsStanding stage kept homes' base journal ml
-forget_put stage kept homes homes' base journal ml e none s =
-    let t : IsStanding Filling kept homes base journal ml = at_stage stage Filling kept homes base journal ml e s in
-    at_stage Filling stage kept homes' base journal ml (sym e) (subst (λ (hs : List ℕ). IsStanding Filling kept hs base journal ml) (sym none) (record {
-      kept_there = t.kept_there;
-      homes_below = λ k d lt. absurd (omega (arith, lt));
-      slots = omega (arith, t.slots);
-      reads = tt;
-      stops = t.stops;
-    }))
-
-pub forget_begins : (stage : Stage) (kept : ℕ) (homes' : List ℕ) (base journal c : Blocks) → stage ≡ Filling → homes' ≡ [] → kept ≤ length base → CommitsIn stage kept homes' base journal c → Begins c (overlaid homes' journal base)
-forget_begins stage kept homes' base journal c e none le is =
-    let first : c ≡ take kept base = subst (λ (s : Stage). CommitsIn s kept homes' base journal c) e is in
-    subst (λ (hs : List ℕ). Begins c (overlaid hs journal base)) (sym none) (subst (λ (k : Blocks). Begins k base) (sym first) (begins_take kept base le))

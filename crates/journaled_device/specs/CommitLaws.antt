@@ -1,14 +1,13 @@
 -- The laws of a journaled device as an atomic one.
-use Rattle.std.proofs.Common.{◌≡◌, ◌∙◌, ◌⊎◌, ◌^◌, ℕ, zero, suc, ◌+◌, ◌<◌, ◌≤◌, List, [], ◌∷◌, length, set, get_or, refl, sym, ap, subst, arith, inl, inr, ⊎_elim, length-set}
+use Rattle.std.proofs.Common.{◌^◌, ℕ, suc, ◌+◌, ◌≤◌, List, [], ◌∷◌, length, set, sym, subst, arith}
 use Rattle.std.specs.List.{All}
 use Rattle.block_device.specs.Device.{Blocks, IsBlock, block_at}
 use Rattle.block_device.specs.Outcomes.{set_blocks}
 use Rattle.block_device.specs.Device.{BeginsOne}
-use Rattle.journaled_device.specs.Journal.{slots_from, replayed, overlaid, recovered}
-use Rattle.journaled_device.specs.Standing.{base_of, commits_of, homes_of, journal_of, may_leave_of, shown_of, IsHonest}
+use Rattle.journaled_device.specs.Journal.{slots_from, replayed, overlaid}
+use Rattle.journaled_device.specs.Standing.{base_of, commits_of, journal_of, may_leave_of, IsHonest}
 use Rattle.journaled_device.specs.Law.{recovery}
 use Rattle.journaled_device.specs.Replay.{length-overlaid}
-use Rattle.journaled_device.specs.Stages.{IsStanding}
 use Rattle.journaled_device.specs.declared.pair.JournaledPair.{JournaledPair}
 
 pub few_shown : (homes : List ℕ) (journal base : Blocks) → length base ≤ 2 ^ 31 → length (overlaid homes journal base) ≤ 2 ^ 31

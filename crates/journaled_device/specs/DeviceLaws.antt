@@ -2,7 +2,7 @@
 use Rattle.std.proofs.Common.{◌≡◌, ◌∙◌, ◌≤◌, ℕ, length, None, subst, arith}
 use Rattle.std.specs.List.{All}
 use Rattle.block_device.specs.Device.{Blocks, IsBlock, Only}
-use Rattle.block_device.specs.History.{LeftSince, MayLeave}
+use Rattle.block_device.specs.History.{LeftSince}
 use Rattle.block_device.specs.Outcomes.{now_since, shown_left, since_earlier_left, since_now}
 use Rattle.page_file.specs.Opening.{failed_check}
 use Rattle.journaled_device.specs.CommitLaws.{shown_whole}

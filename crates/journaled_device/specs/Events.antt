@@ -1,6 +1,6 @@
 -- The writes and syncs of a journaled device, noted by the pair as it was before each of them (our disk model,
 -- docs/FORMAT.md, "The disk model of a stop").
-use Rattle.std.specs.Prelude.{◌≡◌, ◌<◌, ◌≤◌, ◌+◌, ℕ, suc, nat_lt, if◌then◌else◌, List, [], ◌∷◌, length, Option, Some, None}
+use Rattle.std.specs.Prelude.{◌≡◌, ◌≤◌, ◌+◌, ℕ, suc, nat_lt, if◌then◌else◌, List, [], ◌∷◌, length, Option, Some, None}
 use Rattle.std.specs.List.{All}
 use Rattle.block_device.specs.Device.{Blocks, IsBlock, block_at}
 use Rattle.block_device.specs.History.{Event, Synced, Wrote, IsHistory, unsynced}
@@ -38,6 +38,5 @@ pub record IsNoted {P A : Type 0} {m : _} (d : JournaledPair P A m) (ns : List (
   pub whole : All IsBlock (shown_of d)
   pub leads : IsHistory (shown_of d) (events ns)
   pub falls : Fall (m.moment d.pair) (moments ns)
-
   -- where all is synced and opening takes what is read, that is the one commit
   pub durable : unsynced (events ns) ≡ [] → failed_check (shown_of d) ≡ None → (k : Blocks) → commits_of d k → k ≡ shown_of d

@@ -1,6 +1,6 @@
 -- A journaled device as its contracts see it: a plain disk after the same writes and syncs, and beside that what a stop
 -- really brings back.
-use Rattle.std.specs.Prelude.{◌≡◌, ◌+◌, ◌-◌, ℕ, List, length, Option, None, Result, OnOk, OnErr}
+use Rattle.std.specs.Prelude.{◌≡◌, ◌+◌, ◌-◌, ℕ, List, length, None, Result, OnOk, OnErr}
 use Rattle.block_device.specs.Device.{Blocks, Brings, Elapses, Follows, LeavesNoMore, Only, Recovery, Torn, written}
 use Rattle.block_device.specs.History.{Event, LeftSince, MayLeave}
 use Rattle.block_device.specs.declared.device.DeviceError.{DeviceError}

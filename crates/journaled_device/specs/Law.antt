@@ -1,6 +1,5 @@
 -- The core law: recovery of what a stop leaves in a stage gives the last commit, or the one in progress.
-use Rattle.std.proofs.Common.{◌≡◌, ◌∙◌, ◌⊎◌, ℕ, zero, suc, ◌+◌, ◌*◌, ◌<◌, ◌≤◌, Bool, true, false, ◌&&◌, nat_le, List, [], ◌∷◌, length, take, get_or, refl, sym, ap, subst, arith, inl, inr, ⊎_elim, if◌then◌else◌}
-use Rattle.std.specs.List.{All, Contains}
+use Rattle.std.proofs.Common.{◌≡◌, ◌∙◌, ◌⊎◌, ℕ, zero, suc, ◌+◌, ◌*◌, ◌≤◌, Bool, true, false, ◌&&◌, nat_le, List, [], ◌∷◌, length, take, refl, sym, ap, subst, arith, inl, inr, ⊎_elim, if◌then◌else◌}
 use Rattle.std.specs.Prelude.{◌/◌, ◌%◌}
 use Rattle.std.proofs.lemmas.List.{get_or-take, length-take-le}
 use Rattle.std.proofs.lemmas.Bool.{cases_Bool}
@@ -8,11 +7,11 @@ use Rattle.block_device.specs.Device.{Blocks, block_at}
 use Rattle.block_bytes.specs.Numbers.{number_at}
 use Rattle.block_device.specs.Device.{Begins}
 use Rattle.block_device.specs.Device.{BeginsOne}
-use Rattle.journaled_device.specs.Journal.{Entry, count_in, entries_from, entries_in, gate_says, has_room, home_in, index_blocks, is_complete, overlaid, recovered, replayed, slots_from}
-use Rattle.journaled_device.specs.Stages.{SameBehind, SameOutside, IsFilling, IsDeciding, IsCopying, IsRecorded, StopIn, ReadsIn, CommitsIn}
+use Rattle.journaled_device.specs.Journal.{Entry, count_in, entries_from, entries_in, gate_says, has_room, home_in, index_blocks, is_complete, overlaid, recovered, replayed}
+use Rattle.journaled_device.specs.Stages.{SameBehind, IsFilling, IsDeciding, IsCopying, IsRecorded, StopIn, ReadsIn, CommitsIn}
 use Rattle.journaled_device.specs.declared.stage.Stage.{Stage}
 use Rattle.journaled_device.specs.declared.stage.Stage.TheVariants.{Filling, Deciding, Copying, Clearing}
-use Rattle.journaled_device.specs.Replay.{overlay_same, length-overlaid}
+use Rattle.journaled_device.specs.Replay.{overlay_same}
 
 -- the entries stand behind the gate
 pub count_same : (b journal : Blocks) → SameBehind b journal → count_in b ≡ count_in journal

@@ -1,5 +1,5 @@
 -- What opening reads of a journal, and what a stop within it leaves.
-use Rattle.std.specs.Prelude.{◌≡◌, ◌⊎◌, ◌<◌, ◌≤◌, ◌+◌, ℕ, Bool, true, false, List, [], ◌∷◌, Option, Some, None, if◌then◌else◌, length, slice_index}
+use Rattle.std.specs.Prelude.{◌≡◌, ◌⊎◌, ◌<◌, ℕ, true, List, length, slice_index}
 use Rattle.block_device.specs.Device.{Blocks, block_at}
 use Rattle.block_device.specs.Device.{Begins}
 use Rattle.journaled_device.specs.Journal.{count_in, gate_says, has_room, home_in, recovered}

@@ -1,6 +1,6 @@
 -- Laws on recovery, over runs.
-use Rattle.std.proofs.Common.{◌≡◌, ◌∙◌, ◌⊎◌, ℕ, ◌<◌, ◌≤◌, length, arith, inl, inr, ⊎_elim}
-use Rattle.block_device.specs.Device.{Blocks, block_at}
+use Rattle.std.proofs.Common.{◌∙◌, ℕ, arith, inl, inr, ⊎_elim}
+use Rattle.block_device.specs.Device.{Blocks}
 use Rattle.block_device.specs.Device.{Begins}
 use Rattle.block_device.specs.Device.{BeginsOne}
 use Rattle.journaled_device.specs.Journal.{recovered}

@@ -1,11 +1,9 @@
 -- What a stop of both devices leaves, by the stage of the commit.
-use Rattle.std.specs.Prelude.{◌≡◌, ◌<◌, ◌≤◌, ◌⊎◌, ◌+◌, ℕ, Bool, true, false, List, length, take}
+use Rattle.std.specs.Prelude.{◌≡◌, ◌<◌, ◌≤◌, ◌⊎◌, ◌+◌, ℕ, true, false, List, length, take}
 use Rattle.std.specs.List.{All, Contains}
-use Rattle.std.specs.Coded.{Coded-set, coded_list, coded_ℕ}
-use Rattle.std.proofs.Props.{props}
 use Rattle.block_device.specs.Device.{Blocks, block_at}
 use Rattle.block_device.specs.Device.{Begins}
-use Rattle.journaled_device.specs.Journal.{Entry, entries_in, gate_says, has_room, overlaid, slots_from}
+use Rattle.journaled_device.specs.Journal.{entries_in, gate_says, has_room, overlaid, slots_from}
 use Rattle.journaled_device.specs.declared.stage.Stage.{Stage}
 use Rattle.journaled_device.specs.declared.stage.Stage.TheVariants.{Filling, Deciding, Copying, Clearing}
 

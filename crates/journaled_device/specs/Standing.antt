@@ -7,7 +7,6 @@ use Rattle.journaled_device.specs.Journal.{overlaid, recovered}
 use Rattle.device_pair.specs.Pairs.{PairLeaves}
 use Rattle.journaled_device.specs.Stages.{CommitsIn}
 use Rattle.journaled_device.specs.declared.stage.Stage.{Stage}
-use Rattle.journaled_device.specs.declared.stage.Stage.TheVariants.{Filling}
 use Rattle.journaled_device.specs.declared.pair.JournaledPair.{JournaledPair}
 
 -- its pair, and the blocks of base and journal as they are read
@@ -62,7 +61,3 @@ pub record SameSlots {P A : Type 0} {m : _} (old new : JournaledPair P A m) : Ty
 -- what a stop now leaves is, once it is recovered, what is read
 abbrev pub IsSettled : {P A : Type 0} {m : _} → JournaledPair P A m → Type 0
 IsSettled {m = m} d = (a b : Blocks) → m.may_leave d.pair a b → recovered a b ≡ shown_of d
-
--- No commit has begun, and none was made: nothing is in the journal.
-abbrev pub IsPlain : {P A : Type 0} {m : _} → JournaledPair P A m → Type 0
-IsPlain d = (stage_of d ≡ Filling) × (kept_of d ≡ 0)

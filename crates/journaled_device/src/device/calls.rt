@@ -4,7 +4,9 @@ ghost use Rattle.journaled_device.specs.DeviceLaws.{committed_of, counts_now_of,
 ghost use Rattle.journaled_device.specs.DeviceLaws.{since_earlier_of};
 ghost use Rattle.journaled_device.specs.Journaled.{events_of, inner_of, left_since_of, may_leave_of, moment_of, pair_of};
 ghost use Rattle.journaled_device.specs.Journaled.{recovery_of};
-ghost use Rattle.journaled_device.specs.Standing.{base_of, homes_of, journal_of, shown_of, IsHonest};
+ghost use Rattle.journaled_device.specs.Standing.{base_of, homes_of, journal_of, shown_of, IsHonest, IsSettled};
+ghost use Rattle.page_file.specs.Opening.{failed_check};
+ghost use Rattle.std.specs.Prelude.{◌≡◌, None, OnOk};
 ghost use Rattle.block_device.specs.Outcomes.{no_longer_left};
 
 use crate::device::JournaledDevice;
@@ -26,6 +28,10 @@ impl<P: DevicePair, A: Allocator + Copy> BlockDevice for JournaledDevice<P, A> {
     ghost recovery = { recovery_of };
 
     ghost faults = { λ d. P.faults (pair_of d) };
+
+    // After a sync that commits, a stop brings back exactly what is read.
+    ghost sync_gives = { λ d result e. IsHonest (inner_of d) → failed_check (shown_of (inner_of d)) ≡ None →
+        OnOk result (IsSettled (inner_of e)) };
 
     fn blocks(&self) -> u32 {
         self.pair.blocks()
@@ -58,8 +64,12 @@ impl<P: DevicePair, A: Allocator + Copy> BlockDevice for JournaledDevice<P, A> {
 
     ghost since_earlier = { λ d t u c _ le left. since_earlier_of d t u c le left };
 
-    ghost brought_now = { λ d c h found. begins (inner_of d) c h (found.0, found.1,
-        P.only_now (pair_of d) found.0 found.1 h (pair_left d h found.0 found.1 found.2), found.3) };
+    ghost brought_now = { λ d c h found. begins (inner_of d) c h (
+      found.0,
+      found.1,
+      P.only_now (pair_of d) found.0 found.1 h (pair_left d h found.0 found.1 found.2),
+      found.3,
+    ) };
 
     ghost committed = { λ d k h only taken is. committed_of d h k only taken is };
 

@@ -1,8 +1,9 @@
 //! Writes and syncs, which are noted.
-ghost use Rattle.std.specs.Prelude.{◌≤◌, ◌<◌, ◌^◌, ◌↔◌, length};
+ghost use Rattle.std.specs.Prelude.{◌≡◌, ◌≤◌, ◌<◌, ◌^◌, ◌↔◌, None, OnOk, length};
 ghost use Rattle.block_device.specs.Device.{Counts};
 ghost use Rattle.journaled_device.specs.Journaled.{inner_of, pair_of, HasSynced, HasWritten};
-ghost use Rattle.journaled_device.specs.Standing.{shown_of, IsHonest};
+ghost use Rattle.journaled_device.specs.Standing.{shown_of, IsHonest, IsSettled};
+ghost use Rattle.page_file.specs.Opening.{failed_check};
 
 use crate::device::JournaledDevice;
 use block_device::DeviceError;
@@ -30,6 +31,8 @@ impl<P: DevicePair, A: Allocator + Copy> JournaledDevice<P, A> {
     // Commits where opening takes what is read.
     pub(crate) fn make_last(&mut self) -> Result<(), DeviceError>
         ensures done { IsHonest (inner_of self.old) → HasSynced self.old result self.new }
+        ensures settled { IsHonest (inner_of self.old) → failed_check (shown_of (inner_of self.old)) ≡ None →
+            OnOk result (IsSettled (inner_of self.new)) }
         ensures honest { IsHonest (inner_of self.old) ↔ IsHonest (inner_of self.new) }
         ensures faults { Counts (P.faults (pair_of self.old)) (P.faults (pair_of self.new)) result }
     {

@@ -22,13 +22,6 @@ impl<P: DevicePair, A: Allocator + Copy> JournaledPair<P, A> {
         self.pair.base_blocks()
     }
 
-    /// How many blocks there were at the last commit.
-    pub(crate) fn kept(&self) -> u32
-        ensures { result ≡ kept_of self.now }
-    {
-        self.kept
-    }
-
     /// Reads a block from its slot, or from the base.
     pub(crate) fn read(&mut self, i: u32, into: &mut [u8; 4096]) -> Result<(), DeviceError>
         requires { i < length (shown_of self.old) }
@@ -63,18 +56,6 @@ impl<P: DevicePair, A: Allocator + Copy> JournaledPair<P, A> {
     {
         self.finish()?;
         self.write_now(i, bytes)
-    }
-
-    /// Syncs the base, which makes no commit.
-    pub(crate) fn sync_home(&mut self) -> Result<(), DeviceError>
-        ensures durable { IsHonest self.old →
-            OnOk result ((a b : Blocks) → P.may_leave (pair_of self.new) a b → a ≡ base_of self.old) }
-        ensures still { IsHonest self.old → IsStill self.old self.new }
-        ensures slots { SameSlots self.old self.new }
-        ensures honest { IsHonest self.old ↔ IsHonest self.new }
-        ensures faults { Counts (P.faults (pair_of self.old)) (P.faults (pair_of self.new)) result }
-    {
-        self.pair.sync_base()
     }
 
     /// Commits what is read: after an `Ok` it is the only commit, after an `Err` it may be one more.

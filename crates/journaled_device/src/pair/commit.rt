@@ -70,12 +70,6 @@ impl<P: DevicePair, A: Allocator + Copy> JournaledPair<P, A> {
             CommitsNoMore (OrNew (commits_of self.old) (shown_of self.old)) (commits_of self.new) }
         ensures keeps { IsHonest self.old →
             KeepsTo (Either (commits_of self.old) (commits_of self.new)) self.old self.new }
-        ensures stays { OnErr result (SameSlots self.old self.new) }
-        ensures stops { IsHonest self.old →
-            PairsNoMore (P.may_leave (pair_of self.old)) (P.may_leave (pair_of self.new)) }
-        ensures time { IsHonest self.old →
-            PairElapses (P.moment (pair_of self.old)) (P.moment (pair_of self.new)) (P.left_since (pair_of self.old))
-            (P.left_since (pair_of self.new)) (P.may_leave (pair_of self.new)) }
         ensures honest { IsHonest self.old ↔ IsHonest self.new }
         ensures faults { Counts (P.faults (pair_of self.old)) (P.faults (pair_of self.new)) result }
     {

@@ -47,11 +47,6 @@ impl<P: DevicePair, A: Allocator + Copy> JournaledPair<P, A> {
         requires behind { kept_of self.old ≤ i }
         requires small { i < 2 ^ 31 }
         ensures slots { SameSlots self.old self.new }
-        ensures stops { IsHonest self.old →
-            BaseFollows (Torn i) (P.may_leave (pair_of self.old)) (P.may_leave (pair_of self.new)) }
-        ensures time { IsHonest self.old →
-            PairElapses (P.moment (pair_of self.old)) (P.moment (pair_of self.new)) (P.left_since (pair_of self.old))
-            (P.left_since (pair_of self.new)) (P.may_leave (pair_of self.new)) }
         ensures written { IsHonest self.old →
             OnOk result (shown_of self.new ≡ written i bytes.now (shown_of self.old)) }
         ensures torn { IsHonest self.old → OnErr result (Torn i (shown_of self.old) (shown_of self.new)) }

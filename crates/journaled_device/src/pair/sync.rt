@@ -4,7 +4,7 @@ ghost use Rattle.block_device.specs.Device.{Blocks, Counts, block_at};
 ghost use Rattle.page_file.specs.Opening.{failed_check};
 ghost use Rattle.journaled_device.specs.Calls.{IsStill};
 ghost use Rattle.journaled_device.specs.Commits.{OrOpened};
-ghost use Rattle.journaled_device.specs.Standing.{commits_of, pair_of, shown_of, IsHonest, KeepsTo};
+ghost use Rattle.journaled_device.specs.Standing.{commits_of, pair_of, shown_of, IsHonest, IsSettled, KeepsTo};
 
 use crate::pair::JournaledPair;
 use block_bytes::zero_block;
@@ -55,6 +55,8 @@ impl<P: DevicePair, A: Allocator + Copy> JournaledPair<P, A> {
         ensures shown { IsHonest self.old → shown_of self.new ≡ shown_of self.old }
         ensures durable { IsHonest self.old → failed_check (shown_of self.old) ≡ None →
             OnOk result ((kept : Blocks) → commits_of self.new kept → kept ≡ shown_of self.old) }
+        ensures settled { IsHonest self.old → failed_check (shown_of self.old) ≡ None →
+            OnOk result (IsSettled self.new) }
         ensures keeps { IsHonest self.old →
             KeepsTo (OrOpened (commits_of self.old) (shown_of self.old)) self.old self.new }
         ensures honest { IsHonest self.old ↔ IsHonest self.new }

@@ -1,5 +1,5 @@
 -- The pair's moment then is no later.
-use Rattle.std.proofs.Common.{◌≤◌, refl, arith}
+use Rattle.std.proofs.Common.{refl, arith}
 use Rattle.journaled_device.specs.Journaled.{pair_moment_of, pair_of}
 use Rattle.journaled_device.proofs.laws.stops_of_the_pair_are_found.Goals as goal
 

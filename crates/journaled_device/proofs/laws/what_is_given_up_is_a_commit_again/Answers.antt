@@ -1,5 +1,4 @@
 -- What is read is one of the outcomes.
-use Rattle.std.proofs.Common.{refl}
 use Rattle.journaled_device.specs.CommitLaws.{begins}
 use Rattle.journaled_device.specs.Journaled.{inner_of, pair_of}
 use Rattle.journaled_device.specs.Standing.{base_of, journal_of, shown_of}

@@ -1,12 +1,6 @@
 -- A sync that was refused, and one that is noted.
-use Rattle.std.proofs.Common.{◌≡◌, Ok, Err, OnOk, refl}
-use Rattle.page_file.specs.Opening.{failed_check}
-use Rattle.block_device.specs.Device.{Blocks}
-use Rattle.journaled_device.specs.Events.{IsNoted}
-use Rattle.journaled_device.specs.Journaled.{inner_of}
-use Rattle.journaled_device.specs.Standing.{commits_of, shown_of, IsHonest}
+use Rattle.std.proofs.Common.{refl}
 use Rattle.journaled_device.proofs.Noting.{noted_same, noted_sync, noted_synced, refused_sync}
-use Rattle.journaled_device.proofs.device.JournaledDevice.make_last.Given as given
 use Rattle.journaled_device.proofs.device.JournaledDevice.make_last.Goals as goal
 
 pub invariant_of-self : goal.invariant_of-self

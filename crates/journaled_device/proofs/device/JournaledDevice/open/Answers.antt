@@ -1,11 +1,7 @@
 -- What is opened is one commit, and nothing is noted of it.
-use Rattle.std.proofs.Common.{◌≡◌, ◌∙◌, sym, subst, List, [], Option, ℕ}
-use Rattle.block_device.specs.Device.{Blocks}
-use Rattle.block_device.specs.History.{IsHistory}
+use Rattle.std.proofs.Common.{◌∙◌, sym}
 use Rattle.journaled_device.specs.DeviceLaws.{shown_blocks}
-use Rattle.journaled_device.specs.Events.{Fall, IsNoted, events, moments}
-use Rattle.journaled_device.specs.Standing.{base_of, commits_of, journal_of, shown_of}
-use Rattle.journaled_device.specs.declared.pair.JournaledPair.{JournaledPair}
+use Rattle.journaled_device.specs.Standing.{base_of, journal_of}
 use Rattle.journaled_device.proofs.Noting.{noted_new}
 use Rattle.journaled_device.proofs.device.JournaledDevice.open.Goals as goal
 

@@ -1,10 +1,7 @@
 -- A write that is noted, and an append that was refused.
-use Rattle.std.proofs.Common.{◌≡◌, ◌≤◌, ◌<◌, refl, length, arith, inl}
-use Rattle.block_device.specs.Device.{IsBlock}
-use Rattle.journaled_device.specs.Journaled.{inner_of}
+use Rattle.std.proofs.Common.{◌≤◌, ◌<◌, refl, length, arith, inl}
 use Rattle.journaled_device.specs.Standing.{shown_of}
 use Rattle.journaled_device.proofs.Noting.{is_same, is_written, noted_same, noted_write, noted_written, refused_write}
-use Rattle.journaled_device.proofs.device.JournaledDevice.put.Given as given
 use Rattle.journaled_device.proofs.device.JournaledDevice.put.Goals as goal
 
 pub invariant_of-self : goal.invariant_of-self

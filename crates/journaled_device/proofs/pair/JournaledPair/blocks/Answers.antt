@@ -1,5 +1,5 @@
 -- The slots add no block.
-use Rattle.std.proofs.Common.{◌≡◌, ◌∙◌, sym}
+use Rattle.std.proofs.Common.{◌∙◌, sym}
 use Rattle.journaled_device.specs.Standing.{base_of, homes_of, journal_of}
 use Rattle.journaled_device.specs.Replay.{length-overlaid}
 use Rattle.journaled_device.proofs.pair.JournaledPair.blocks.Goals as goal

@@ -1,5 +1,5 @@
 -- The gate says that the journal is empty.
-use Rattle.std.proofs.Common.{◌≡◌, ◌∙◌}
+use Rattle.std.proofs.Common.{◌∙◌}
 use Rattle.journaled_device.proofs.Advanced.{cleared}
 use Rattle.journaled_device.proofs.pair.JournaledPair.clear.Goals as goal
 

@@ -1,5 +1,5 @@
 -- A commit from the record of its entries to the end.
-use Rattle.std.proofs.Common.{◌≡◌, ◌∙◌, refl, sym}
+use Rattle.std.proofs.Common.{◌≡◌, ◌∙◌, refl}
 use Rattle.journaled_device.specs.Commits.{OrNew}
 use Rattle.journaled_device.specs.Standing.{base_of, commits_of, homes_of, journal_of, kept_of, shown_of, stage_of, KeepsTo}
 use Rattle.journaled_device.proofs.Keeping.{keeps_new, keeps_then, keeps_weaker, or_both, or_more}

@@ -1,6 +1,5 @@
 -- One entry more is copied.
-use Rattle.std.proofs.Common.{◌≡◌, ◌∙◌, ◌<◌, ap, arith, length}
-use Rattle.journaled_device.specs.Standing.{homes_of}
+use Rattle.std.proofs.Common.{ap, arith, length}
 use Rattle.journaled_device.proofs.Copies.{copies_step}
 use Rattle.journaled_device.proofs.pair.JournaledPair.copy_entries.Goals as goal
 

@@ -1,5 +1,5 @@
 -- The gate says that the journal is complete.
-use Rattle.std.proofs.Common.{◌≡◌, ◌∙◌}
+use Rattle.std.proofs.Common.{◌∙◌}
 use Rattle.journaled_device.proofs.Advanced.{decided}
 use Rattle.journaled_device.proofs.pair.JournaledPair.decide.Goals as goal
 

@@ -1,12 +1,7 @@
 -- What is read of the first two blocks says it.
-use Rattle.std.proofs.Common.{◌≡◌, ◌∙◌, ◌≤◌, ◌<◌, ℕ, false, true, length, sym, ap, subst, arith, Ok, Err}
-use Rattle.std.specs.Prelude.{is_none}
-use Rattle.block_device.specs.Device.{Blocks, block_at}
-use Rattle.page_file.specs.Opening.{failed_check}
-use Rattle.journaled_device.specs.Calls.{IsStill}
-use Rattle.journaled_device.specs.Standing.{pair_of, shown_of, IsHonest}
-use Rattle.journaled_device.proofs.Calling.{few_refused, shown_still, still_then}
-use Rattle.journaled_device.proofs.pair.JournaledPair.is_taken.Given as given
+use Rattle.std.proofs.Common.{length, ap, arith}
+use Rattle.journaled_device.specs.Standing.{shown_of}
+use Rattle.journaled_device.proofs.Calling.{few_refused, shown_still}
 use Rattle.journaled_device.proofs.pair.JournaledPair.is_taken.Goals as goal
 
 pub returns-then-not-branch-clause-is : goal.returns-then-not-branch-clause-is

@@ -1,6 +1,6 @@
 -- A slot written again.
-use Rattle.std.proofs.Common.{◌≡◌, ◌<◌, ◌≤◌, ◌+◌, arith, length}
-use Rattle.block_device.specs.Device.{Torn, written}
+use Rattle.std.proofs.Common.{◌≡◌, ◌+◌, arith}
+use Rattle.block_device.specs.Device.{written}
 use Rattle.journaled_device.specs.Standing.{base_of, homes_of, journal_of}
 use Rattle.journaled_device.proofs.Stood.{again_is, again_torn, on_ok, on_any}
 use Rattle.journaled_device.proofs.pair.JournaledPair.put_again.Goals as goal

@@ -1,12 +1,11 @@
 -- A block of the base, behind those of the last commit.
-use Rattle.std.proofs.Common.{◌≡◌, ◌∙◌, ap, refl, length, take}
+use Rattle.std.proofs.Common.{◌≡◌, ◌∙◌, ap}
 use Rattle.block_device.specs.Device.{Blocks, Torn, written}
 use Rattle.journaled_device.specs.Journal.{overlaid}
 use Rattle.journaled_device.specs.Overlay.{overlay_behind}
-use Rattle.journaled_device.specs.Standing.{commits_of, base_of, journal_of, IsHonest}
+use Rattle.journaled_device.specs.Standing.{commits_of}
 use Rattle.journaled_device.proofs.Keeping.{keeps_call}
 use Rattle.journaled_device.proofs.Stood.{behind_put, commits_filling, overlay_torn, torn_first, torn_of, on_ok, on_err}
-use Rattle.journaled_device.proofs.pair.JournaledPair.put_behind.Given as given
 use Rattle.journaled_device.proofs.pair.JournaledPair.put_behind.Goals as goal
 
 pub invariant_of-self : goal.invariant_of-self

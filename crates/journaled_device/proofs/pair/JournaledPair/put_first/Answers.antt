@@ -1,14 +1,12 @@
 -- A slot more.
-use Rattle.std.proofs.Common.{◌≡◌, ◌∙◌, ◌<◌, ◌≤◌, ◌+◌, ◌++◌, ◌∷◌, [], List, ℕ, ap, arith, inl, inr, length, rules, sym, subst}
-use Rattle.block_device.specs.Device.{Blocks, Torn, written}
+use Rattle.std.proofs.Common.{◌≡◌, ◌∙◌, ◌≤◌, ◌+◌, ◌++◌, ◌∷◌, [], List, ℕ, ap, arith, inl, inr, length}
+use Rattle.block_device.specs.Device.{Blocks, written}
 use Rattle.journaled_device.specs.Journal.{overlaid}
-use Rattle.journaled_device.specs.Standing.{base_of, homes_of, journal_of, pair_of, shown_of}
+use Rattle.journaled_device.specs.Standing.{base_of, homes_of, journal_of}
 use Rattle.journaled_device.specs.Overlay.{overlay_more}
 use Rattle.journaled_device.specs.Stages.{IsStanding}
 use Rattle.journaled_device.specs.Torn.{within_written}
-use Rattle.journaled_device.specs.declared.stage.Stage.TheVariants.{Filling}
 use Rattle.journaled_device.proofs.Stood.{elsewhere_is, on_any, pushed, slot_put}
-use Rattle.journaled_device.proofs.pair.JournaledPair.put_first.Given as given
 use Rattle.journaled_device.proofs.pair.JournaledPair.put_first.Goals as goal
 
 pub returns-in_err-put_journal-clause-torn : goal.returns-in_err-put_journal-clause-torn

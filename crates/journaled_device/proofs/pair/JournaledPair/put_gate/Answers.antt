@@ -1,12 +1,10 @@
 -- The gate of the journal, written.
-use Rattle.std.proofs.Common.{◌≡◌, ◌∙◌, ◌<◌, ap, arith, length}
-use Rattle.block_device.specs.Device.{Torn, block_at, written}
+use Rattle.std.proofs.Common.{◌≡◌, ◌∙◌, ap, arith}
+use Rattle.block_device.specs.Device.{block_at, written}
 use Rattle.block_device.specs.Written.{block_at-written}
-use Rattle.journaled_device.specs.Standing.{base_of, commits_of, homes_of, journal_of, IsHonest}
-use Rattle.journaled_device.specs.Stages.{SameBehind}
+use Rattle.journaled_device.specs.Standing.{commits_of}
 use Rattle.journaled_device.proofs.Keeping.{keeps_call}
 use Rattle.journaled_device.proofs.Stood.{behind_answer, gate_put, gate_shown, gate_stays, on_ok}
-use Rattle.journaled_device.proofs.pair.JournaledPair.put_gate.Given as given
 use Rattle.journaled_device.proofs.pair.JournaledPair.put_gate.Goals as goal
 
 pub invariant_of-self : goal.invariant_of-self

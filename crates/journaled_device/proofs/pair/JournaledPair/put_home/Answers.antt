@@ -1,10 +1,10 @@
 -- A home, written.
-use Rattle.std.proofs.Common.{◌≡◌, ◌∙◌, ◌<◌, ◌≤◌, ap, arith, length, set, sym}
+use Rattle.std.proofs.Common.{◌≡◌, ◌∙◌, ap, arith, set, sym}
 use Rattle.std.proofs.lemmas.List.{get_or_read}
 use Rattle.std.specs.Prelude.{slice_index}
-use Rattle.block_device.specs.Device.{Torn, block_at, written}
+use Rattle.block_device.specs.Device.{Torn, written}
 use Rattle.journaled_device.specs.Journal.{overlaid}
-use Rattle.journaled_device.specs.Standing.{base_of, commits_of, homes_of, journal_of, IsHonest}
+use Rattle.journaled_device.specs.Standing.{commits_of}
 use Rattle.journaled_device.specs.Torn.{written_set}
 use Rattle.journaled_device.proofs.Keeping.{keeps_call}
 use Rattle.journaled_device.proofs.Stood.{below_kept, home_put, home_shown, home_stays, on_ok, one_home, torn_of}

@@ -1,5 +1,5 @@
 -- One index block more is written.
-use Rattle.std.proofs.Common.{◌≡◌, ◌∙◌, ◌<◌, ◌≤◌, ◌+◌, ◌*◌, ℕ, List, ap, arith, inr, length, subst, sym}
+use Rattle.std.proofs.Common.{◌≡◌, ◌∙◌, ◌<◌, ◌+◌, ◌*◌, ℕ, List, ap, arith, inr, length, subst}
 use Rattle.std.specs.Prelude.{slice_index}
 use Rattle.block_bytes.specs.Numbers.{number_at}
 use Rattle.journaled_device.specs.Standing.{IsHonest, base_of, homes_of, journal_of, shown_of}

@@ -1,6 +1,5 @@
 -- The first j index blocks are written.
 use Rattle.std.proofs.Common.{◌≡◌, length}
-use Rattle.journaled_device.specs.Journal.{index_blocks}
 use Rattle.journaled_device.specs.Standing.{stage_of, homes_of}
 use Rattle.journaled_device.proofs.Indexing.{IndexedTo}
 use Rattle.journaled_device.specs.declared.stage.Stage.TheVariants.{Filling}

@@ -1,5 +1,5 @@
 -- A block of the journal, while it fills.
-use Rattle.std.proofs.Common.{◌≡◌, ap, refl}
+use Rattle.std.proofs.Common.{ap}
 use Rattle.std.specs.Prelude.{take}
 use Rattle.block_device.specs.Device.{Torn}
 use Rattle.journaled_device.proofs.Keeping.{keeps_call}

@@ -1,9 +1,7 @@
 -- Count and index are written.
-use Rattle.std.proofs.Common.{◌≡◌, ◌∙◌, ◌<◌, ◌≤◌, ◌+◌, ℕ, List, ap, arith, inl, length, subst, sym}
+use Rattle.std.proofs.Common.{◌≡◌, ◌∙◌, ℕ, List, ap, arith, inl, length, subst, sym}
 use Rattle.block_device.specs.Device.{written}
-use Rattle.journaled_device.specs.Index.{HasIndex}
-use Rattle.journaled_device.specs.Journal.{count_block}
-use Rattle.journaled_device.specs.Standing.{IsHonest, base_of, homes_of, journal_of, shown_of}
+use Rattle.journaled_device.specs.Standing.{base_of, homes_of, journal_of}
 use Rattle.journaled_device.specs.Stages.{IsRecorded}
 use Rattle.journaled_device.proofs.Indexing.{recorded_now}
 use Rattle.journaled_device.proofs.Stood.{elsewhere_is, on_ok}

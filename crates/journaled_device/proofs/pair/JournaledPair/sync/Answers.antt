@@ -1,6 +1,5 @@
 -- A sync, whether opening takes what is read or not.
-use Rattle.std.proofs.Common.{◌≡◌, ◌∙◌, ℕ, Ok, Err, OnOk, Result}
-use Rattle.block_device.specs.Device.{Blocks}
+use Rattle.std.proofs.Common.{◌∙◌}
 use Rattle.page_file.specs.Opening.{failed_check}
 use Rattle.journaled_device.specs.Standing.{commits_of, shown_of}
 use Rattle.journaled_device.proofs.Calling.{keeps_committed, keeps_opened, none_from, not_none, shown_still}
@@ -37,3 +36,9 @@ returns-clause-keeps g c = λ h.
     let d = c.args.self.now in let e = c.is_taken.new.self in
     let hm = c.is_taken.ensures.honest.0 h in
     keeps_committed d e c.commit.new.self hm (c.is_taken.ensures.still h) (none_from (failed_check (shown_of d)) (c.in_ok-is_taken.ensures.is h ∙ c.if-not-branch.false)) (c.commit.ensures.commits hm) (c.commit.ensures.keeps hm)
+
+pub returns-then-not-branch-clause-settled : goal.returns-then-not-branch-clause-settled
+returns-then-not-branch-clause-settled g c = λ h taken. absurd (not_none (failed_check (shown_of c.args.self.now)) (c.in_ok-is_taken.ensures.is h ∙ c.if-not-branch.true) taken)
+
+pub returns-clause-settled : goal.returns-clause-settled
+returns-clause-settled g c = λ h taken. c.commit.ensures.settled (c.is_taken.ensures.honest.0 h)

@@ -1,5 +1,5 @@
 -- An empty journal is made.
-use Rattle.std.proofs.Common.{◌≡◌, ◌∙◌, ◌<◌, ap, arith, length, sym}
+use Rattle.std.proofs.Common.{◌∙◌, ap, arith, length}
 use Rattle.journaled_device.proofs.Making.{first_now, first_stops, made_empty, on_fine, second_now, second_stops, two_blocks}
 use Rattle.device_pair.specs.Runs.{pair_call, pair_then}
 use Rattle.journaled_device.proofs.pair.open.make_journal.Goals as goal

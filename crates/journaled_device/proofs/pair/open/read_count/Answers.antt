@@ -1,9 +1,9 @@
 -- A complete journal, and its count.
-use Rattle.std.proofs.Common.{◌≡◌, ◌∙◌, ◌+◌, ◌≤◌, ◌<◌, ℕ, Bool, true, false, not, min, Some, ap, arith, length, sym}
+use Rattle.std.proofs.Common.{◌≡◌, ◌∙◌, ◌+◌, ◌≤◌, ◌<◌, min, ap, arith, length, sym}
 use Rattle.std.specs.Prelude.{◌/◌, ◌%◌}
 use Rattle.block_bytes.specs.Numbers.{number_at}
 use Rattle.block_device.specs.Device.{block_at}
-use Rattle.journaled_device.specs.Journal.{count_in, gate_says, has_room}
+use Rattle.journaled_device.specs.Journal.{count_in, gate_says}
 use Rattle.journaled_device.proofs.Counting.{counted, no_room, room_for}
 use Rattle.journaled_device.proofs.pair.open.read_count.Goals as goal
 

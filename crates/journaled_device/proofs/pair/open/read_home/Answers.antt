@@ -1,6 +1,6 @@
 -- The home in its index block.
-use Rattle.std.proofs.Common.{◌≡◌, ◌∙◌, ◌+◌, ◌*◌, ◌≤◌, ap, arith, inr, subst}
-use Rattle.std.specs.Prelude.{◌/◌, ◌%◌}
+use Rattle.std.proofs.Common.{◌≡◌, ◌∙◌, ◌*◌, ◌≤◌, ap, arith, inr, subst}
+use Rattle.std.specs.Prelude.{◌%◌}
 use Rattle.block_bytes.specs.Numbers.{number_at}
 use Rattle.block_device.specs.Device.{block_at}
 use Rattle.journaled_device.specs.Journal.{home_in}

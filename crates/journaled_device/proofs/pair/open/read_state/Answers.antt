@@ -1,8 +1,8 @@
 -- A complete journal, whose homes were read.
-use Rattle.std.proofs.Common.{◌≡◌, ◌∙◌, ◌<◌, ◌≤◌, ℕ, List, ap, arith, length, subst, sym, true}
+use Rattle.std.proofs.Common.{◌≡◌, ◌∙◌, ◌<◌, ℕ, List, ap, length, subst, true}
 use Rattle.std.specs.List.{All}
 use Rattle.block_device.specs.Device.{Blocks, block_at}
-use Rattle.journaled_device.specs.Journal.{count_in, gate_says, has_room, overlaid, recovered}
+use Rattle.journaled_device.specs.Journal.{count_in, gate_says, has_room}
 use Rattle.journaled_device.specs.Opening.{AreHomes}
 use Rattle.journaled_device.proofs.Opened.{found_shown, found_stands}
 use Rattle.journaled_device.proofs.pair.open.read_state.Given as given

@@ -1,5 +1,5 @@
 -- One home more stands in the page.
-use Rattle.std.proofs.Common.{◌≡◌, ◌<◌, ◌+◌, ◌^◌, arith, refl, rules, subst, sym}
+use Rattle.std.proofs.Common.{◌<◌, ◌+◌, ◌^◌, refl, rules, subst, sym}
 use Rattle.std.specs.Prelude.{slice_index}
 use Rattle.journaled_device.proofs.Indexing.{IsPageTo, page_step}
 use Rattle.journaled_device.proofs.pair.record.index_page.Goals as goal

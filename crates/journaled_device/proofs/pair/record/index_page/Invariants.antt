@@ -1,5 +1,4 @@
 -- The first m homes stand in the page.
-use Rattle.std.proofs.Common.{◌≤◌, ◌≡◌, ◌+◌, ◌-◌, min, length}
 use Rattle.journaled_device.proofs.Indexing.{IsPageTo}
 use Rattle.journaled_device.proofs.pair.record.index_page.Given as goal
 

@@ -1,6 +1,6 @@
 -- A read changes nothing.
 use Rattle.std.proofs.Common.{inl, refl}
-use Rattle.journaled_device.specs.Journaled.{inner_of, may_leave_of}
+use Rattle.journaled_device.specs.Journaled.{inner_of}
 use Rattle.journaled_device.specs.Standing.{commits_of, IsHonest}
 use Rattle.journaled_device.specs.Calls.{IsStill}
 use Rattle.journaled_device.proofs.Calling.{keeps_still, shown_still}
