@@ -1,6 +1,7 @@
 //! A session of three commits, and what each of them leaves.
 ghost use Rattle.std.specs.Prelude.{◌≡◌, ◌≤◌, ◌<◌, length};
 
+use block_bytes::{write_u8, write_u16, write_u32, write_u64};
 use block_device::{BlockDevice, DeviceError, FuseMode};
 use device_pair::{FusePair, MemoryPair};
 use journaled_device::JournaledDevice;
@@ -9,10 +10,26 @@ use std::alloc::Global;
 /// More calls than a session makes.
 pub const ALL: u64 = 1 << 40;
 
-// A block full of a byte, whose byte 8 says whether it is a shut gate.
-fn block(byte: u8, shut: bool) -> [u8; 4096] {
+// The ASCII texts RSTARGAT and RSTARHDR.
+const GATE_TEXT: u64 = 0x5253_5441_5247_4154;
+
+const HEADER_TEXT: u64 = 0x5253_5441_5248_4452;
+
+// Block i of a file of at least three blocks: a gate that is shut or not, a header in which nothing but the catalog was
+// given out, or a page. What is left of it is full of a byte.
+fn block(i: u32, byte: u8, shut: bool) -> [u8; 4096] {
     let mut bytes = [byte; 4096];
-    bytes[8] = if shut { 1 } else { 0 };
+    if i == 0 {
+        write_u64(&mut bytes, 0, GATE_TEXT);
+        write_u8(&mut bytes, 8, u8::from(shut));
+    }
+    if i == 1 {
+        write_u64(&mut bytes, 0, HEADER_TEXT);
+        write_u16(&mut bytes, 8, 2);
+        write_u32(&mut bytes, 12, 3);
+        write_u32(&mut bytes, 16, 0);
+        write_u32(&mut bytes, 20, 0);
+    }
     bytes
 }
 
@@ -21,10 +38,10 @@ fn put<D: BlockDevice>(device: &mut D, i: u32, byte: u8, shut: bool) -> Result<(
     if i > device.blocks() || i >= 1 << 31 {
         return Err(DeviceError::Failed);
     }
-    device.write(i, &block(byte, shut))
+    device.write(i, &block(i, byte, shut))
 }
 
-// Whether block i is full of a byte, its byte 8 aside.
+// Whether block i is full of a byte, and the gate shut where it is block 0.
 fn is_full<D: BlockDevice>(device: &mut D, i: u32, byte: u8) -> bool {
     if i >= device.blocks() {
         return false;
@@ -33,7 +50,7 @@ fn is_full<D: BlockDevice>(device: &mut D, i: u32, byte: u8) -> bool {
     if device.read(i, &mut into).is_err() {
         return false;
     }
-    into == block(byte, false) || into == block(byte, true)
+    into == block(i, byte, true)
 }
 
 /// Whether the device's first blocks are full of these bytes.
