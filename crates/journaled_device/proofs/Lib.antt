@@ -1,0 +1,15 @@
+-- The files of lemmas.
+mod Steps
+mod Keeping
+mod Stood
+mod Finding
+mod Advanced
+mod Copies
+mod Indexing
+mod Counting
+mod Homes
+mod Making
+mod Opened
+mod Reached
+mod Calling
+mod Noting

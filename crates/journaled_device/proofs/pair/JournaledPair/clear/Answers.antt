@@ -1,0 +1,16 @@
+-- The gate says that the journal is empty.
+use Rattle.std.proofs.Common.{◌∙◌}
+use Rattle.journaled_device.proofs.Advanced.{cleared}
+use Rattle.journaled_device.proofs.pair.JournaledPair.clear.Goals as goal
+
+pub invariant_of-self-2 : goal.invariant_of-self-2
+invariant_of-self-2 g c =
+    let d = c.args.self.now in let p = g.P.DevicePair in let m = c.put_gate.new.self in let e = c.sync_journal.new.self in
+    record {
+      standing = λ h3.
+          let h2 = c.sync_journal.ensures.honest.1 h3 in
+          let h = c.put_gate.ensures.honest.1 h2 in
+          cleared m.stage m.kept m.homes.items (p.base m.pair) (p.base e) (p.journal m.pair) (p.journal e) (p.may_leave m.pair) (p.may_leave e) (c.sync_journal.ensures.base h2) (c.sync_journal.ensures.journal h2)
+          c.base_blocks-self.result c.clear.new.self.items c.base_blocks-self.ensures.is c.clear.ensures.items
+          (c.put_gate.ensures.slots.stage ∙ c.requires) (c.sync_journal.ensures.stops h2) (c.in_ok-sync_journal.ensures.durable h2) (c.in_ok-put_gate.ensures.gate h) (m.standing h2);
+    }

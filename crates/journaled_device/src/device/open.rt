@@ -1,0 +1,55 @@
+//! A base and its journal opened, after a stop or not.
+ghost use Rattle.std.specs.Prelude.{◌≡◌, ◌↔◌, IfOk, IfErr, []};
+ghost use Rattle.block_device.specs.Device.{Blocks};
+ghost use Rattle.device_pair.specs.Pairs.{PairLeaves};
+ghost use Rattle.journaled_device.specs.Journal.{recovered};
+ghost use Rattle.journaled_device.specs.Journaled.{events_of, inner_of, moment_of, pair_of};
+ghost use Rattle.journaled_device.specs.Opening.{IsMalformed, LeavesOr};
+ghost use Rattle.journaled_device.specs.Standing.{commits_of, shown_of, IsHonest};
+ghost use Rattle.journaled_device.specs.declared.pair.open.OpenFault.TheVariants as fault;
+
+use crate::device::JournaledDevice;
+use crate::pair::{JournaledPair, OpenFault};
+use device_pair::{DevicePair, Snapshots};
+use std::alloc::Allocator;
+
+impl<P: DevicePair, A: Allocator + Copy> JournaledDevice<P, A> {
+    /// Opens a base and its journal, which may be empty, and finishes a commit that was cut short. It may be cut short
+    /// itself, at any moment.
+    ///
+    /// What is then read is what recovery makes of base and journal as they were read. It is the one commit, and as a
+    /// plain disk all of it is synced.
+    pub fn open(pair: P, alloc: A) -> Result<JournaledDevice<P, A>, (OpenFault, P)>
+        ensures shown { IfOk result (λ d. P.honest pair →
+            shown_of (inner_of d) ≡ recovered (P.base pair) (P.journal pair)) }
+        ensures commits { IfOk result (λ d. P.honest pair → (k : Blocks) → commits_of (inner_of d) k →
+            k ≡ shown_of (inner_of d)) }
+        ensures synced { IfOk result (λ d. events_of d ≡ []) }
+        ensures moment { IfOk result (λ d. moment_of d ≡ P.moment (pair_of d)) }
+
+        // A stop leaves what one before the call might have left, or what recovers to blocks that begin with these.
+        ensures stops { IfOk result (λ d. P.honest pair →
+            PairLeaves P.moment P.left_since pair (pair_of d)
+            (LeavesOr (P.may_leave pair) (recovered (P.base pair) (P.journal pair)))) }
+        ensures refused_stops { IfErr result (λ e. P.honest pair →
+            PairLeaves P.moment P.left_since pair e.1
+            (LeavesOr (P.may_leave pair) (recovered (P.base pair) (P.journal pair)))) }
+        ensures malformed { IfErr result (λ e. P.honest pair → e.0 ≡ fault.Malformed →
+            IsMalformed (P.base pair) (P.journal pair)) }
+        ensures honest { IfOk result (λ d. P.honest pair ↔ IsHonest (inner_of d)) }
+        ensures refused_honest { IfErr result (λ e. P.honest pair ↔ P.honest e.1) }
+    {
+        let pair = JournaledPair::open(pair, alloc)?;
+        Ok(JournaledDevice {
+            pair,
+            past: Snapshots::new(),
+        })
+    }
+
+    /// Its pair, as it is. What was written since the last commit is given up where it is then opened again.
+    pub fn into_pair(self) -> P
+        ensures { result ≡ pair_of self }
+    {
+        self.pair.into_pair()
+    }
+}

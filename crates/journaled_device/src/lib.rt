@@ -1,0 +1,13 @@
+//! A device over a base and its journal: a stop leaves the blocks of its last commit, or of the one in progress.
+#![tactic(auto)]
+
+mod device;
+mod gate;
+pub mod laws;
+mod pair;
+mod slots;
+mod stage;
+
+pub use device::JournaledDevice;
+pub use pair::OpenFault;
+pub use stage::Stage;

@@ -1,0 +1,33 @@
+//! A device over a base and its journal, whose sync is atomic.
+ghost use Rattle.std.specs.Prelude.{◌≡◌, ◌≤◌, ◌<◌, ◌+◌, ◌^◌, length};
+ghost use Rattle.journaled_device.specs.Stages.{IsStanding};
+ghost use Rattle.journaled_device.specs.StandingFact.{standing_fact};
+
+mod calls;
+mod commit;
+mod filling;
+mod open;
+pub(crate) mod record;
+mod sync;
+
+use crate::Stage;
+use device_pair::DevicePair;
+pub use open::OpenFault;
+use std::alloc::{Allocator, Global};
+
+/// A device over a base and its journal. A sync commits what was written since the last one, or nothing of it.
+///
+/// A block that was there at the last commit is written into a slot of the journal, and read from there, until a sync
+/// copies it into the base. Blocks behind those go straight into the base.
+#[derive(Drop)]
+pub struct JournaledPair<P: DevicePair, A: Allocator + Copy = Global> {
+    pair: P,
+    // the blocks of the base that the slots hold, in order of the slots
+    homes: Vec<u32, A>,
+    // how many blocks the base had at the last commit
+    kept: u32,
+    stage: Stage,
+    ghost standing: { P.honest pair → IsStanding stage kept homes.items (P.base pair) (P.journal pair)
+        (P.may_leave pair) } by { λ p q i h. standing_fact stage kept homes.items (P.base pair) (P.journal pair)
+            (P.may_leave pair) (p h) (q h) i },
+}
