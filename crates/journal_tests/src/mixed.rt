@@ -1,4 +1,5 @@
 //! Stops that leave block by block: each block that was not synced as it was at the sync, as written, or full of a byte.
+ghost use Rattle.std.specs.Prelude.{◌<◌, ◌-◌, ◌^◌};
 
 use crate::session::{ALL, stopped};
 use crate::stops::gives_a_commit;
@@ -82,11 +83,9 @@ fn mix_journal<P: DevicePair>(
 }
 
 // The pair that a stop leaves after so many calls by these choices, and the commits that were begun and ended.
-fn left_by(
-    alloc: Global,
-    passes: u64,
-    choices: u32,
-) -> Result<(MemoryPair, u32, u32), DeviceError> {
+fn left_by(alloc: Global, passes: u64, choices: u32) -> Result<(MemoryPair, u32, u32), DeviceError>
+    requires { passes < 2 ^ 64 - 1 }
+{
     let (pair, begun, ended, _) = stopped(alloc, passes);
     let mut left = pair.after_stop(Left::Synced, Left::Synced);
     let (pair, _, _, _) = stopped(alloc, passes);

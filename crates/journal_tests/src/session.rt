@@ -1,5 +1,5 @@
 //! A session of three commits, and what each of them leaves.
-ghost use Rattle.std.specs.Prelude.{◌≡◌, ◌≤◌, ◌<◌, length};
+ghost use Rattle.std.specs.Prelude.{◌<◌, ◌-◌, ◌^◌};
 
 use block_bytes::{write_u8, write_u16, write_u32, write_u64};
 use block_device::{BlockDevice, DeviceError, FuseMode};
@@ -126,7 +126,9 @@ pub fn committed(n: u32) -> &'static [u8] {
 }
 
 /// The pair that is left where the calls from number `passes` on fail, and how many commits were begun and ended.
-pub fn stopped(alloc: Global, passes: u64) -> (MemoryPair, u32, u32, bool) {
+pub fn stopped(alloc: Global, passes: u64) -> (MemoryPair, u32, u32, bool)
+    requires { passes < 2 ^ 64 - 1 }
+{
     let mut begun = 0;
     let mut ended = 0;
     let pair = FusePair::new(MemoryPair::new(alloc), passes, FuseMode::Onward);

@@ -1,4 +1,5 @@
 //! A stop at each call of a session, and at each call of the recovery after it.
+ghost use Rattle.std.specs.Prelude.{◌<◌, ◌-◌, ◌^◌};
 
 use crate::session::{ALL, begins, committed, stopped};
 use block_device::{FuseMode, Left};
@@ -9,7 +10,9 @@ use std::alloc::Global;
 const KINDS: [Left; 3] = [Left::Written, Left::Synced, Left::Filled(0xEE)];
 
 // Opens what is left, with so many calls that pass. Says whether it was refused as no journal, and whether it opened.
-fn opened(alloc: Global, left: MemoryPair, passes: u64) -> (MemoryPair, bool, bool) {
+fn opened(alloc: Global, left: MemoryPair, passes: u64) -> (MemoryPair, bool, bool)
+    requires { passes < 2 ^ 64 - 1 }
+{
     let pair = FusePair::new(left, passes, FuseMode::Onward);
     match JournaledDevice::open(pair, alloc) {
         Ok(device) => (device.into_pair().into_inner(), false, true),
@@ -41,7 +44,9 @@ fn a_session_gives_what_was_written(rt: HostRuntime) {
 
 // Whether a session that is stopped after so many calls leaves a commit, and whether it was at its end. The recovery is
 // stopped too: at each of its calls, or after the last one alone.
-fn leaves_a_commit(alloc: Global, passes: u64, one: Left, other: Left, each: bool) -> (bool, bool) {
+fn leaves_a_commit(alloc: Global, passes: u64, one: Left, other: Left, each: bool) -> (bool, bool)
+    requires { passes < 2 ^ 64 - 1 }
+{
     let first = if each { 0 } else { 59 };
     for again in first..60u64 {
         let (pair, begun, ended, done) = stopped(alloc, passes);
