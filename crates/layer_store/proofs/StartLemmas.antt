@@ -6,14 +6,15 @@ use Rattle.std.specs.Cmp.Lexicographic.{slice_cmp}
 use Rattle.std.specs.Ordering.{nat_cmp}
 use Rattle.std.proofs.lemmas.Bool.{cases_eq}
 use Rattle.std.proofs.lemmas.Bool.Decides.{nat_tests}
-use Rattle.block_device.specs.Device.{Blocks, LeavesOnly, Recovery}
-use Rattle.block_device.specs.Moments.{leaves_weaker}
+use Rattle.block_device.specs.Device.{Blocks, LeavesOnly, Recovery, BeginsOne}
+use Rattle.block_device.specs.Moments.{leaves_weaker, brings_weaker}
 use Rattle.catalog_page.specs.Layout.{records_at}
 use Rattle.catalog_page.proofs.Named.{begins_empty}
-use Rattle.live_layers.specs.Image.{HasNoCatalog, IsImage, CommitsWhatOpens}
+use Rattle.live_layers.specs.Image.{HasNoCatalog, IsImage, CommitsWhatOpens, IsImageOfOne, IsRefusedOrImageOf}
 use Rattle.live_layers.specs.Layers.{Holds, in_use}
 use Rattle.live_layers.specs.Keeping.{IsSound, records_in, IsFound}
-use Rattle.live_layers.proofs.StopLemmas.{image_of, shut_is_durable}
+use Rattle.live_layers.proofs.FoundLemmas.{found_after, image_kept, one_longer}
+use Rattle.live_layers.proofs.StopLemmas.{image_of, shut_is_durable, this_one}
 use Rattle.node_page.specs.Standing.{PageMap}
 use Rattle.page_cache.specs.Cache.{IsHonest}
 use Rattle.page_cache.proofs.Behind.{shut_lies}
@@ -126,6 +127,19 @@ module _ {D A : Type 0} {m : _} where
   pub settled_found : (store : Store D A m) (t : Table) → m.honest (device_in store) → OneCommit (cache_in store) → BroughtNow (cache_in store) → IsSettled store → IsImage (blocks_in store) t → CommitsWhatOpens m.recovery
       → IsFound (cache_in store) (m.moment (device_in store)) (t ∷ []) (t ∷ [])
   settled_found store t honest one brought settled image opens = found_now (cache_in store) (t ∷ []) brought (settled_kept (cache_in store) t honest one (is_settled store settled).0 image opens)
+
+  -- and so since the moment of a device of which a stop brings that back, if a run from it left nothing else
+  pub opened_found : (store : Store D A m) (device : D) (t : Table) (P : Blocks → Type 0) → m.honest (device_in store) → OneCommit (cache_in store) → IsSettled store → IsImage (blocks_in store) t
+      → ((k : Blocks) → m.recovery.commits device k → IsImage k t) → ((c : Blocks) → m.recovery.found_since device (m.moment device) c → BeginsOne (m.recovery.commits device) c) → ((c : Blocks) → P c → IsImage c t)
+      → LeavesOnly m.moment m.left_since m.recovery device (device_in store) P → CommitsWhatOpens m.recovery → IsFound (cache_in store) (m.moment device) (t ∷ []) (t ∷ [])
+  opened_found store device t P honest one settled image commits brought images run opens =
+      let brings = brings_weaker m.moment m.recovery device (device_in store) P (IsRefusedOrImageOf (t ∷ [])) (λ c p. this_one [] t c (images c p)) run.brings in
+      let was : (k : Blocks) → m.recovery.commits device k → IsImageOfOne (t ∷ []) k = λ k is. image_kept k t [] k (commits k is) refl in
+      record {
+        now = settled_kept (cache_in store) t honest one (is_settled store settled).0 image opens;
+        so_far = found_after m.moment m.recovery device (device_in store) (t ∷ []) (t ∷ []) (t ∷ []) opens brings was (λ u there. there) (λ u there. there)
+            (m.moment device) (t ∷ []) (omega arith) (λ c is. let begun = brought c is in one_longer (t ∷ []) c (begun.0, was begun.0 begun.1, begun.2)) (λ u there. there);
+      }
 
   -- a settled store that is sound begins with its table
   pub settled_begins : (store : Store D A m) (t : Table) → (IsHonest (cache_in store) → OnlyNow (cache_in store)) → (IsHonest (cache_in store) → OneCommit (cache_in store)) → (IsHonest (cache_in store) → BroughtNow (cache_in store)) → IsSettled store → store.failed ≡ false → IsSound store.layers t → BeginsWith store (m.moment (device_in store)) t

@@ -90,6 +90,12 @@ pub fn open_store<D: BlockDevice, A: Allocator + Copy>(
     ensures bad_cache { is_cache cache ≡ false → result ≡ Err (refusal.BadCache, device) }
     ensures image { (t : Table) → D.honest device → IsImage (D.shown device) t →
         IfOk result (λ store. BeginsWith store (D.moment (device_in store)) t) }
+    // Where it was durable, and all that a stop would bring back, also a stop within the call leaves that table.
+    ensures durable_image { (t : Table) → D.honest device → IsImage (D.shown device) t →
+        Only (D.shown device) (D.may_leave device) →
+        ((k : Blocks) → D.recovery.commits device k → k ≡ D.shown device) →
+        IfOk result (λ store. BeginsWith store (D.moment device) t) }
+
     ensures trees { IfOk result (λ store. D.honest device → FindsTreesIn (layers_in store) (D.shown device)) }
     ensures opened { IfOk result (λ store. D.honest device → (f : Fault) → OpeningRefuses (D.shown device) f → ⊥) }
     ensures refused { is_cache cache ≡ true →

@@ -7,7 +7,7 @@ use Rattle.page_file.specs.Pages.{next_in, pages_in}
 use Rattle.page_file.specs.declared.fault.Fault.TheVariants as fault
 use Rattle.layer_store.specs.Representation.{device_in}
 use Rattle.layer_store.proofs.Results.{at_err, at_ok, err_case, ok_case}
-use Rattle.layer_store.proofs.StartLemmas.{begins_so, same_catalog, settled_found, shut_store, some_is_not_none, then_read}
+use Rattle.layer_store.proofs.StartLemmas.{begins_so, opened_found, same_catalog, settled_found, shut_store, some_is_not_none, then_read}
 use Rattle.layer_store.proofs.store.start.open_store.Goals as goal
 
 pub returns-in-Ok-clause-image : goal.returns-in-Ok-clause-image
@@ -21,6 +21,23 @@ returns-in-Ok-clause-image g c = λ t honest image. ok_case c.begin.result (λ s
     begins_so store (d.moment (device_in store)) t (at_ok _ c.begin.result store is (c.begin.ensures.image t (d.shown c.args.device) inside (opened.lies honest) image)) settled there (omega arith)
     (λ b left. inr (subst (λ (x : Blocks). IsImage x t) (sym (shut_store store settled kept b (g.met.D.BlockDevice.only_now (device_in store) b kept left))) there))
     (settled_found store t kept (λ k only takes. g.met.D.BlockDevice.committed (device_in store) k kept only takes) (λ b found. g.met.D.BlockDevice.brought_now (device_in store) b kept found) settled there))
+
+pub returns-in-Ok-clause-durable_image : goal.returns-in-Ok-clause-durable_image
+returns-in-Ok-clause-durable_image g c = λ t honest image only commits. ok_case c.begin.result (λ store is.
+    let d = g.D.BlockDevice in
+    let device = c.args.device in
+    let opened = c.in-Ok.ensures in
+    let inside = opened.honest.0 honest in
+    let settled = at_ok _ c.begin.result store is c.begin.ensures.settled in
+    let there = subst (λ (b : Blocks). IsImage b t) (sym (at_ok _ c.begin.result store is c.begin.ensures.blocks inside ∙ opened.blocks honest)) image in
+    let kept = at_ok _ c.begin.result store is c.begin.ensures.honest inside in
+    let run = then_read d.moment d.left_since d.recovery device (device_of c.in-Ok.file) (device_in store) (blocks_of c.in-Ok.file) (d.may_leave device)
+    (subst (d.may_leave device) (sym (opened.blocks honest)) (g.met.D.BlockDevice.shown_counts device honest)) (opened.stops honest) (at_ok _ c.begin.result store is c.begin.ensures.stops inside) in
+    let left : (b : Blocks) → d.may_leave device b → IsImage b t = λ b may. subst (λ (x : Blocks). IsImage x t) (sym (only b may)) image in
+    begins_so store (d.moment device) t (at_ok _ c.begin.result store is (c.begin.ensures.image t (d.shown device) inside (opened.lies honest) image)) settled there run.later
+    (λ b since. inr (left b (run.each b since)))
+    (opened_found store device t (d.may_leave device) kept (λ k durable takes. g.met.D.BlockDevice.committed (device_in store) k kept durable takes) settled there
+    (λ k is. subst (λ (x : Blocks). IsImage x t) (sym (commits k is)) image) (λ b found. g.met.D.BlockDevice.brought_now device b honest found) left run))
 
 pub returns-in-Ok-clause-opened : goal.returns-in-Ok-clause-opened
 returns-in-Ok-clause-opened g c = ok_case c.begin.result (λ store is honest f refuses.
