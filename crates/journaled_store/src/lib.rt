@@ -1,28 +1,46 @@
-//! The laws of a store over a base and its journal: nothing that was closed is lost by a stop, and no stop is refused.
-//! Each is the contract of a function that does nothing.
+//! The laws of a store over a base and its journal: no stop loses what was closed, and none is refused.
 #![tactic(auto)]
 
-ghost use Rattle.std.specs.Prelude.{◌≡◌, ◌≤◌, ℕ};
+ghost use Rattle.std.specs.Prelude.{⊥};
 ghost use Rattle.block_device.specs.Device.{Blocks};
 ghost use Rattle.journaled_device.specs.Journal.{recovered};
-ghost use Rattle.journaled_device.specs.Journaled.{inner_of, pair_of};
-ghost use Rattle.journaled_device.specs.Standing.{shown_of};
+ghost use Rattle.journaled_device.specs.Journaled.{pair_of};
 ghost use Rattle.journaled_device.specs.declared.device.JournaledDevice.{JournaledDevice as Journaled};
 ghost use Rattle.layer_store.specs.Representation.{Represents, device_in};
 ghost use Rattle.layer_store.specs.declared.store.Store.{Store};
-ghost use Rattle.live_layers.specs.Image.{IsImage, IsImageOfOne};
+ghost use Rattle.live_layers.specs.Image.{IsImageOfOne};
 ghost use Rattle.page_file.specs.Opening.{IsRefused};
-ghost use Rattle.plain_table.specs.Table.{Table};
 ghost use Rattle.store_law.specs.Sessions.{SessionState};
 
+use block_device::BlockDevice;
 use device_pair::DevicePair;
 use journaled_device::JournaledDevice;
+use journaled_device::laws::{recovery_gives_a_commit, stops_of_the_pair_are_found};
+use layer_store::laws::a_stop_is_found_to_have_left_a_closed_table;
 use std::alloc::Allocator;
 
-/// **Whatever a stop leaves of base and journal at one moment between two calls of a store, recovery makes of it an image of
-/// a table that the session's state keeps: of the one that was closed last, or of one whose closing was tried since.**
-pub fn a_stop_leaves_what_was_closed<P: DevicePair, A: Allocator + Copy, S: Allocator>()
+/// **Whatever a stop leaves of base and journal, recovery makes of it an image of a table that was closed, which opening
+/// does not refuse.**
+///
+/// Of a stop now, between two calls of a store, it is the table that the state of the session keeps: the one that was
+/// closed last, or one whose closing was tried since. Of one at any moment since the beginning, also within a call, it
+/// is one of those that were kept since. So it is, too, where the store is given up and its pair opened again.
+pub fn a_stop_leaves_a_table_that_was_closed<P: DevicePair, A: Allocator + Copy, S: Allocator>()
     ensures now { (store : Store (Journaled P A ⟦<P as DevicePair>⟧) S ⟦<JournaledDevice<P, A> as BlockDevice>⟧)
         (s : SessionState) (a b : Blocks) → Represents store s → P.may_leave (pair_of (device_in store)) a b →
         IsImageOfOne s.stops.kept (recovered a b) }
-{}
+    ensures so_far { (store : Store (Journaled P A ⟦<P as DevicePair>⟧) S ⟦<JournaledDevice<P, A> as BlockDevice>⟧)
+        (s : SessionState) (a b : Blocks) → Represents store s →
+        P.left_since (pair_of (device_in store)) s.stops.since a b →
+        IsImageOfOne s.stops.kept_so_far (recovered a b) }
+    ensures given_up { (store : Store (Journaled P A ⟦<P as DevicePair>⟧) S ⟦<JournaledDevice<P, A> as BlockDevice>⟧)
+        (s : SessionState) → Represents store s → IsImageOfOne s.stops.kept
+        (recovered (P.base (pair_of (device_in store))) (P.journal (pair_of (device_in store)))) }
+    ensures never_refused { (store : Store (Journaled P A ⟦<P as DevicePair>⟧) S
+        ⟦<JournaledDevice<P, A> as BlockDevice>⟧) (s : SessionState) (a b : Blocks) → Represents store s →
+        P.left_since (pair_of (device_in store)) s.stops.since a b → IsRefused (recovered a b) → ⊥ }
+{
+    recovery_gives_a_commit::<P, A>();
+    stops_of_the_pair_are_found::<P, A>();
+    a_stop_is_found_to_have_left_a_closed_table::<JournaledDevice<P, A>, S>();
+}
