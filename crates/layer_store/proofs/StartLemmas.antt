@@ -13,7 +13,7 @@ use Rattle.catalog_page.proofs.Named.{begins_empty}
 use Rattle.live_layers.specs.Image.{HasNoCatalog, IsImage, CommitsWhatOpens, IsImageOfOne, IsRefusedOrImageOf}
 use Rattle.live_layers.specs.Layers.{Holds, in_use}
 use Rattle.live_layers.specs.Keeping.{IsSound, records_in, IsFound}
-use Rattle.live_layers.proofs.FoundLemmas.{found_after, image_kept, one_longer}
+use Rattle.live_layers.proofs.RecoveryLemmas.{found_after, image_kept, one_longer}
 use Rattle.live_layers.proofs.StopLemmas.{image_of, shut_is_durable, this_one}
 use Rattle.node_page.specs.Standing.{PageMap}
 use Rattle.page_cache.specs.Cache.{IsHonest}

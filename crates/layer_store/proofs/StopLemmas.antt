@@ -12,7 +12,7 @@ use Rattle.live_layers.specs.Unmade.{told}
 use Rattle.live_layers.specs.declared.layers.Layers.{Layers}
 use Rattle.live_layers.specs.declared.unmade.Unmade.{Unmade}
 use Rattle.live_layers.specs.declared.unmade.Unmade.TheVariants as unmade
-use Rattle.live_layers.proofs.FoundLemmas.{found_after, image_kept, kept_after, one_among, one_longer}
+use Rattle.live_layers.proofs.RecoveryLemmas.{found_after, image_kept, kept_after, one_among, one_longer}
 use Rattle.live_layers.proofs.StopLemmas.{by_gate, leaves_kept, or_this, rest_leaves, rests_on_image, shut_is_durable, this_one}
 use Rattle.page_cache.specs.Cache.{IsHonest, KeepsGate, blocks_of, device_of, gate_of}
 use Rattle.page_cache.specs.declared.cache.PageCache.{PageCache}

@@ -44,7 +44,7 @@ pub fn stops_leave_what_the_session_state_says<D: BlockDevice, A: Allocator>()
 {}
 
 /// Blocks that begin with an image of a table are one, whatever is behind it.
-#[tactic(auto, using(live_layers::proofs::FoundLemmas::image_longer))]
+#[tactic(auto, using(live_layers::proofs::RecoveryLemmas::image_longer))]
 pub fn what_begins_with_an_image_is_one()
     ensures { (blocks c : Blocks) (t : Table) → IsImage blocks t → Begins blocks c → IsImage c t }
 {}

@@ -1,55 +1,75 @@
--- What stops are found to have left over a device that commits: images of tables that were closed.
-use Rattle.std.proofs.Common.{◌≡◌, ◌∙◌, ◌⊎◌, ◌≤◌, ℕ, List, [], ◌∷◌, None, refl, sym, ap, subst, arith, inl, inr, ⊎_elim}
-use Rattle.std.specs.List.{Contains}
-use Rattle.std.specs.Prelude.{is_some, option_and_then}
-use Rattle.block_device.specs.Device.{Begins, BeginsOne, Blocks, Brings, Only, OrTaken, Recovery}
-use Rattle.catalog_page.specs.Layout.{records_at}
-use Rattle.page_file.specs.Opening.{IsRefused, failed_check}
-use Rattle.page_file.specs.Pages.{next_in, pages_in}
-use Rattle.page_file.specs.Prefix.{next_more, pages_more, passes_more, sound_more}
-use Rattle.plain_table.specs.Table.{Table}
-use Rattle.live_layers.specs.Image.{CommitsWhatOpens, IsImage, IsImageOfOne, IsRefusedOrImageOf}
-use Rattle.live_layers.proofs.KeepLemmas.{same_pages_hold}
+-- The table that layers hold which were found by a check.
+use Rattle.std.proofs.Common.{◌≡◌, ◌∙◌, ℕ, List, [], ◌∷◌, map, true, T, Some, refl, sym, ap, subst, arith}
+use Rattle.std.specs.Cmp.Lexicographic.{slice_cmp}
+use Rattle.std.specs.FinMap.{entries-from_sorted, from_sorted, is_sorted}
+use Rattle.std.specs.Ordering.{nat_cmp}
+use Rattle.catalog_page.specs.Layout.{Record, record_of, records_of}
+use Rattle.catalog_page.specs.declared.layer_record.LayerRecord.{LayerRecord}
+use Rattle.node_page.specs.Standing.{PageMap}
+use Rattle.page_cache.specs.Cache.{IsHonest, IsPageMap, KeepsMap, next_of, pages}
+use Rattle.page_cache.specs.declared.cache.PageCache.{PageCache}
+use Rattle.plain_table.specs.Table.{Layer, Table}
+use Rattle.live_layers.specs.Catalog.{by_name, is_good_catalog, names_ascend, objects_named}
+use Rattle.live_layers.specs.Checked.{FindsLayers, IsFoundSound}
+use Rattle.live_layers.specs.Keeping.{IsSound, IsWritten}
+use Rattle.live_layers.specs.Layers.{Holds, Reading, catalog_in, entry_of, row_of}
+use Rattle.live_layers.specs.declared.layers.Layers.{Layers}
+use Rattle.live_layers.proofs.CatalogGood.{few_good, names_good}
+use Rattle.live_layers.proofs.HoldLemmas.{counted}
+use Rattle.live_layers.proofs.TableLemmas.{same_order}
 
--- blocks that begin with an image are one
-pub image_longer : (kept c : Blocks) (t : Table) → IsImage kept t → Begins kept c → IsImage c t
-image_longer kept c t image begins = record {
-  passes = passes_more kept c begins image.passes;
-  free = sound_more kept c begins image.passes image.free;
-  records = image.records;
-  spelled = ap (option_and_then records_at) (pages_more kept c begins image.passes image.free 2) ∙ image.spelled;
-  holds = same_pages_hold (pages_in kept) (pages_in c) (next_in kept) (next_in c) image.records t (pages_more kept c begins image.passes image.free) (next_more kept c begins image.passes image.free) image.holds;
-}
+names_of_layers : (hs : List Reading) → map (λ (e : List ℕ × Record). e.0) (by_name (map row_of hs)) ≡ map (λ (e : List ℕ × Layer). e.0) (map entry_of hs)
+names_of_layers [] = refl
+names_of_layers (h ∷ hs) = ap (λ (ns : List (List ℕ)). h.row.name ∷ ns) (names_of_layers hs)
 
--- blocks that pass the checks are not refused
-passes_none : (ts : List Table) (k : Blocks) → failed_check k ≡ None → IsRefusedOrImageOf ts k → IsImageOfOne ts k
-passes_none ts k passes (inl refused) = let no = ap is_some (sym passes) ∙ refused in absurd (cc)
-passes_none ts k passes (inr image) = image
+module _ (pages : PageMap) (next : ℕ) (records : List Record) (found : FindsLayers pages records) (good : is_good_catalog next records ≡ true) where
+  in_order : T (is_sorted (slice_cmp nat_cmp) (map entry_of found.layers))
+  in_order =
+      let names : names_ascend (map row_of found.layers) ≡ true = ap names_ascend found.rows ∙ names_good next records good in
+      let same = same_order (slice_cmp nat_cmp) (by_name (map row_of found.layers)) (map entry_of found.layers) (names_of_layers found.layers) in
+      subst T (sym names ∙ same) tt
 
-pub one_among : (ts us : List Table) (c : Blocks) → ((t : Table) → Contains ts t → Contains us t) → IsImageOfOne ts c → IsImageOfOne us c
-one_among ts us c among (u, there, image) = (u, among u there, image)
+  -- the table of the layers, which the pages hold
+  pub table_found : Table
+  table_found = from_sorted {R = slice_cmp nat_cmp} (map entry_of found.layers)
 
-pub one_longer : (ts : List Table) (c : Blocks) → BeginsOne (IsImageOfOne ts) c → IsImageOfOne ts c
-one_longer ts c (k, (u, there, image), begins) = (u, there, image_longer k c u image begins)
+  pub holds_found : Holds pages next records table_found
+  unfolding table_found
+  holds_found = record {
+    layers = found.layers;
+    rows = found.rows;
+    table = sym (entries-from_sorted (slice_cmp nat_cmp) (map entry_of found.layers) in_order);
+    stand = found.stand;
+    used = found.used;
+    good = good;
+  }
 
--- Over a run of calls that leaves refusals and images of the tables ts: a commit is then of those that were kept, or of
--- these; and so is what a stop within the run is found to have left.
-module _ {D : Type 0} (moment : D → ℕ) (recovery : Recovery D) (old new : D) (ts kept us : List Table) (opens : CommitsWhatOpens recovery) (brings : Brings moment recovery old new (IsRefusedOrImageOf ts))
-    (was : (k : Blocks) → recovery.commits old k → IsImageOfOne kept k) (within : (t : Table) → Contains kept t → Contains us t) (new_within : (t : Table) → Contains ts t → Contains us t) where
-  taken : (k : Blocks) → OrTaken recovery old (IsRefusedOrImageOf ts) k → IsImageOfOne us k
-  taken k = ⊎_elim
-      (λ before. one_among kept us k within (was k before))
-      (λ new. one_among ts us k new_within (passes_none ts k ((opens k).0 new.0) new.1))
+module _ {D A : Type 0} {m : _} where
+  -- layers that were found so are sound
+  pub sound_found : (kept : Layers D A m) → IsPageMap kept.cache → is_good_catalog (next_of kept.cache) (records_of kept.records) ≡ true → kept.object_count ≡ objects_named (records_of kept.records)
+      → (IsWritten kept → catalog_in (pages kept.cache) ≡ Some (records_of kept.records)) → FindsLayers (pages kept.cache) (records_of kept.records) → IsFoundSound kept
+  sound_found kept sound good count spelled found =
+      let records = records_of kept.records in
+      let t = table_found (pages kept.cache) (next_of kept.cache) records found good in
+      let holds = holds_found (pages kept.cache) (next_of kept.cache) records found good in (
+        t,
+        record {
+          map = sound;
+          holds = holds;
+          counted = count ∙ counted (pages kept.cache) (next_of kept.cache) records t holds;
+          within = omega (arith, count, few_good (next_of kept.cache) records good);
+          catalog = spelled;
+        },
+      )
 
-  pub kept_after : (k : Blocks) → recovery.commits new k → IsImageOfOne us k
-  kept_after k is = taken k (brings.commits k is)
+  -- what was found in equal pages
+  pub found_in : (old new : PageCache D A m) (records : List Record) → IsHonest old → KeepsMap old new → FindsLayers (pages new) records → FindsLayers (pages old) records
+  found_in old new records honest keeps found = subst (λ (p : PageMap). FindsLayers p records) (λ i n. keeps.pages_stay honest n i) found
 
-  pub found_after : (since : ℕ) (so_far : List Table) → since ≤ moment old → ((c : Blocks) → recovery.found_since old since c → IsImageOfOne so_far c) → ((t : Table) → Contains us t → Contains so_far t)
-      → (c : Blocks) → recovery.found_since new since c → IsImageOfOne so_far c
-  found_after since so_far begun before among c is = ⊎_elim (before c)
-      (λ one. one_among us so_far c among (one_longer us c (one.0, taken one.0 one.1, one.2)))
-      (brings.found since c begun is)
-
--- where an image is all that is committed, it is what is found
-pub image_kept : (blocks : Blocks) (t : Table) (ts : List Table) (k : Blocks) → IsImage blocks t → k ≡ blocks → IsImageOfOne (t ∷ ts) k
-image_kept blocks t ts k image same = (t, (0, omega arith, refl), subst (λ (b : Blocks). IsImage b t) (sym same) image)
+  -- what sound layers pass, with their records as a slice
+  pub records_pass : (kept : Layers D A m) (t : Table) (next : ℕ) (items : List LayerRecord) → IsSound kept t → next ≡ next_of kept.cache → items ≡ kept.records.items
+      → (is_good_catalog next (map record_of items) ≡ true) × (kept.object_count ≡ objects_named (map record_of items))
+  records_pass kept t next items sound number same = (
+    (λ i. is_good_catalog (number i) (map record_of (same i))) ∙ sound.holds.good,
+    sound.counted ∙ sym (counted (pages kept.cache) (next_of kept.cache) (records_of kept.records) t sound.holds) ∙ sym (λ i. objects_named (map record_of (same i))),
+  )

@@ -1,9 +1,10 @@
 -- What a stop leaves of the blocks under a cache: a refusal, or an image.
+use Rattle.live_layers.proofs.RecoveryLemmas.{found_after, kept_after}
 use Rattle.std.proofs.Common.{◌≡◌, ◌∙◌, ◌⊎◌, suc, List, [], ◌∷◌, drop, Some, refl, sym, ap, subst, arith, inl, inr, ⊎_elim}
 use Rattle.std.specs.List.{Contains}
 use Rattle.std.specs.Prelude.{option_and_then}
 use Rattle.block_device.specs.Device.{Blocks, LeavesOnly, Only}
-use Rattle.block_device.specs.Moments.{leaves_then, leaves_weaker, started}
+use Rattle.block_device.specs.Moments.{leaves_then, leaves_weaker, started, brings_weaker}
 use Rattle.catalog_page.specs.Layout.{Record, records_at}
 use Rattle.page_cache.specs.Cache.{IsHonest, IsPageMap, KeepsGate, LiesIn, blocks_of, device_of, gate_of, next_of, pages}
 use Rattle.page_cache.specs.declared.cache.PageCache.{PageCache}

@@ -1,5 +1,5 @@
 -- A stop brings back a commit, which is of a table that was closed.
-use Rattle.live_layers.proofs.FoundLemmas.{one_longer}
+use Rattle.live_layers.proofs.RecoveryLemmas.{one_longer}
 use Rattle.layer_store.proofs.StopLemmas.{found_of_store}
 use Rattle.layer_store.proofs.laws.a_stop_is_found_to_have_left_a_closed_table.Goals as goal
 

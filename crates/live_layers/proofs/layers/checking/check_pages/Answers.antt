@@ -3,7 +3,7 @@ use Rattle.std.proofs.Common.{◌≡◌, ◌∙◌, ℕ, List, [], ◌∷◌, �
 use Rattle.catalog_page.specs.Layout.{record_of}
 use Rattle.layer_pages.proofs.CheckLemmas.{quiet_asks}
 use Rattle.page_cache.specs.Cache.{free_of, pages}
-use Rattle.page_cache.specs.Calls.{asks_in_turn}
+use Rattle.page_cache.specs.Calls.{asks_and_refuses, asks_in_turn}
 use Rattle.page_file.specs.Fault.{IsOfDevice}
 use Rattle.live_layers.proofs.CheckLemmas.{all_in, stand_in}
 use Rattle.live_layers.proofs.Results.{if_err, no_err, on_ok, the_err}
@@ -46,3 +46,8 @@ returns-clause-stands g c = λ sound hs rows stand used.
     let number = c.next_number.ensures ∙ c.in_ok-list_layers.ensures.asks.map.next ∙ asked.map.next in
     no_err c.each_once.result IsOfDevice
     (c.each_once.ensures.passes (pages_listed old sound records before c.list_layers.new.found.items c.as_mut_slice.result.now c.next_number.result begun adds c.as_mut_slice.ensures.value number hs rows stand used))
+
+pub returns-in_err-list_layers-clause-asks : goal.returns-in_err-list_layers-clause-asks
+returns-in_err-list_layers-clause-asks g c =
+    asks_and_refuses c.args.cache.now c.free_pages.new.self c.list_layers.new.cache c.in_err-list_layers.field-0.0 c.from_residual-in_err-list_layers.result c.from_residual-in_err-list_layers.ensures.1
+    c.in_ok-found.ensures.asks c.in_err-list_layers.ensures.asks
