@@ -1,5 +1,5 @@
 -- A new file holds the empty table, and what is read of a file behind its shut gate.
-use Rattle.std.proofs.Common.{◌≡◌, ◌∙◌, ◌⊎◌, ◌<◌, ◌≤◌, ℕ, List, [], length, false, Option, Some, None, refl, sym, ap, subst, arith, inl, inr, ⊎_elim}
+use Rattle.std.proofs.Common.{◌≡◌, ◌∙◌, ◌⊎◌, ◌<◌, ◌≤◌, ℕ, List, [], ◌∷◌, length, false, Option, Some, None, refl, sym, ap, subst, arith, inl, inr, ⊎_elim}
 use Rattle.std.specs.Prelude.{IsSome, option_and_then}
 use Rattle.std.specs.FinMap.{empty, empty_of_len, entries, entries-from_sorted, from_sorted, len-entries}
 use Rattle.std.specs.Cmp.Lexicographic.{slice_cmp}

@@ -26,8 +26,11 @@ pub returns-clause-begins : goal.returns-clause-begins
 returns-clause-begins g c = λ honest settled.
     let new : Store _ _ _ = record c.args.self.now { layers = c.check.new.self } in
     let kept = keeps_asked c.args.self.now c.check.new.self c.check.ensures.keeps in
-    on_ok c.check.result (λ found. (found.0, settled_begins new found.0 (λ honest b left. g.met.D.BlockDevice.only_now (device_in new) b honest left)
-    (λ honest k only takes. g.met.D.BlockDevice.committed (device_in new) k honest only takes) (λ honest b found. g.met.D.BlockDevice.brought_now (device_in new) b honest found) (kept.settled settled) c.if-self.false found.1)) (c.check.ensures.sound honest)
+    on_ok c.check.result (λ found. (
+      found.0,
+      settled_begins new found.0 (λ honest b left. g.met.D.BlockDevice.only_now (device_in new) b honest left)
+          (λ honest k only takes. g.met.D.BlockDevice.committed (device_in new) k honest only takes) (λ honest b found. g.met.D.BlockDevice.brought_now (device_in new) b honest found) (kept.settled settled) c.if-self.false found.1,
+    )) (c.check.ensures.sound honest)
 
 pub returns-then-self-clause-refused : goal.returns-then-self-clause-refused
 returns-then-self-clause-refused g c = inl (dead_so c.args.self.now c.if-self.true)

@@ -61,4 +61,4 @@ returns-in-Ok-clause-durable g c = ok_case c.begin.result (λ store is honest.
     shut_store store (at_ok _ c.begin.result store is c.begin.ensures.settled) (at_ok _ c.begin.result store is c.begin.ensures.honest (c.in-Ok.ensures.honest.0 honest)))
 
 pub returns-in-Err-clause-refused_stops : goal.returns-in-Err-clause-refused_stops
-returns-in-Err-clause-refused_stops g c = λ cache honest. new_left _ _ _ _ _ (c.in-Err.ensures.refused_stops honest)
+returns-in-Err-clause-refused_stops g c = λ cache honest. new_left _ _ _ _ _ _ (c.in-Err.ensures.refused_stops honest)
