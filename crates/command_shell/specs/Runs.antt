@@ -54,7 +54,7 @@ pub record RunsToClose (went_well : Bool) (blocks : Blocks) (left found : Blocks
   pub runs : Runs end before after
   pub well : went_well ≡ true → (end ≡ Finished) × (t : Table) × (after.session.state ≡ Alive t) × IsImage blocks t
   pub stops : (c : Blocks) → left c → IsRefusedOrImageOf (with_last after.session.state after.session.stops.so_far) c
-  pub found : (c : Blocks) → found c → IsImageOfOne (with_last after.session.state after.session.stops.kept_so_far) c
+  pub kept : (c : Blocks) → found c → IsImageOfOne (with_last after.session.state after.session.stops.kept_so_far) c
   pub counted : after.session.faults ≤ faults
 
 -- What the program says of the end of a run: nothing where it went well, else a line that says why, or a front of it.

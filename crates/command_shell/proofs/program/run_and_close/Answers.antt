@@ -97,7 +97,7 @@ returns-after-not-went_well-clause-run g c = λ s represents.
             subst (λ (state : StoreState). IsRefusedOrImageOf (with_last state tables) b) (sym of_table.alive)
             (left_by_closing c.run-end.new.store left.next of_table.table c.in-Ok.device left.represents (closed.stops left.next of_table.table left.represents of_table.alive) b
             (subst (λ k. g.D.BlockDevice.left_since c.in-Ok.device k b) (sym since) stop));
-        found = λ b found.
+        kept = λ b found.
             let since = same_beginning c.run-end.result _ _ left.so in
             let tables = left.next.stops.kept_so_far in
             subst (λ (state : StoreState). IsImageOfOne (with_last state tables) b) (sym of_table.alive)
@@ -128,7 +128,7 @@ returns-in-Err-clause-run g c = λ s represents.
             left_when_refused c.run-end.new.store left.next c.in-Err.device left.represents
             (λ t alive. c.in-Err.ensures.refused_stops left.next t left.represents alive)
             (λ failed. refused_device _ _ _ _ _ _ refl refl (c.in-Err.ensures.failed failed)) left.next.state refl b told;
-        found = λ b found.
+        kept = λ b found.
             let since = same_beginning c.run-end.result _ _ left.so in
             found_when_refused c.run-end.new.store left.next c.in-Err.device left.represents
             (λ t alive. c.in-Err.ensures.refused_stops left.next t left.represents alive)
