@@ -1,7 +1,6 @@
 //! The laws of a store over a base and its journal: no stop loses what was closed, and none is refused.
 #![tactic(auto)]
 
-ghost use Rattle.std.specs.Prelude.{⊥};
 ghost use Rattle.block_device.specs.Device.{Blocks};
 ghost use Rattle.journaled_device.specs.Journal.{recovered};
 ghost use Rattle.journaled_device.specs.Journaled.{pair_of};

@@ -29,7 +29,7 @@ use Rattle.plain_table.specs.Step.Answer.{Refused, Done}
 use Rattle.plain_table.specs.Table.{Table}
 use Rattle.plain_table.specs.declared.refusal.Refusal.{Refusal}
 use Rattle.store_law.specs.Sessions.{SessionState}
-use Rattle.store_law.specs.Stops.{AfterStop, Stops, after_change, after_closing, after_command, is_end, tables_left, with_now}
+use Rattle.store_law.specs.Stops.{AfterStop, Stops, after_change, after_command, is_end, tables_left, with_now}
 use Rattle.store_law.specs.Stops.AfterStop.{Surely, Perhaps}
 use Rattle.layer_store.specs.Representation.{IsOfStore, Represents, blocks_in, cache_in, closed_since, device_in, from_now, resting_on, stops_from_now}
 use Rattle.layer_store.specs.declared.store.Store.{Store}
