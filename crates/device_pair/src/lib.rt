@@ -1,0 +1,10 @@
+//! Two devices of one disk, of which a stop leaves both as they are at one moment, and such a pair in memory.
+#![tactic(auto)]
+
+mod fuse;
+mod memory;
+mod pair;
+
+pub use fuse::FusePair;
+pub use memory::MemoryPair;
+pub use pair::DevicePair;
