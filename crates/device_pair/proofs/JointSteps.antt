@@ -1,69 +1,44 @@
 -- What one more call of a pair in memory makes of what a stop may leave, and might have left.
-use Rattle.std.proofs.Common.{◌≡◌, ◌∙◌, ℕ, ◌≤◌, ◌⊎◌, List, [], ◌∷◌, length, Bool, false, Result, Ok, Err, OnOk, OnErr, refl, sym, ap, subst, inl, inr, ⊎_elim, arith}
-use Rattle.block_device.specs.declared.device.DeviceError.{DeviceError}
-use Rattle.block_device.specs.Device.{Blocks, Torn, Follows, FollowsOr, IsIn, OnlyOr, Stays}
-use Rattle.block_device.specs.History.{Event, MayLeave, before}
-use Rattle.block_device.specs.Plain.{never, plain_follows}
-use Rattle.device_pair.specs.Joint.{Turn, OfBase, OfJournal, Joint, JointSince}
-use Rattle.device_pair.specs.Pairs.{BaseFollows, JournalFollows, PairElapses, PairsNoMore}
+use Rattle.std.proofs.Common.{◌≡◌, ℕ, ◌⊎◌, List, [], ◌∷◌, length, sym, subst, inl, inr, ⊎_elim, arith}
+use Rattle.block_device.specs.Device.{Blocks, Torn, Follows}
+use Rattle.block_device.specs.History.{Event, MayLeave}
+use Rattle.block_device.specs.Memory.{IsUnchanged, history_of, may_leave_of, shown_of}
+use Rattle.block_device.specs.declared.memory.MemoryDevice.{MemoryDevice}
+use Rattle.device_pair.specs.Joint.{Joint, JointSince}
+use Rattle.device_pair.specs.Pairs.{BaseFollows, JournalFollows, PairElapses}
 
--- a call that notes nothing
-pub joint_still : (ts : List Turn) (x x' : Blocks) (es es' : List Event) (y y' : Blocks) (fs fs' : List Event) → x' ≡ x → es' ≡ es → y' ≡ y → fs' ≡ fs
-    → PairElapses (length ts) (length ts) (JointSince ts x es y fs) (JointSince ts x' es' y' fs') (Joint x' es' y' fs')
-joint_still ts x x' es es' y y' fs fs' xs ess ys fss =
-    rw (xs, ess, ys, fss) record { later = omega arith; nothing_else = λ t a b le left. inl left; keeps = λ t a b le left. left }
-
--- a write or a sync of the base
-pub joint_of_base : (ts ts' : List Turn) (x x' : Blocks) (es es' : List Event) (y : Blocks) (fs : List Event) (e : Event) → ts' ≡ OfBase ∷ ts → es' ≡ e ∷ es → before e x' ≡ x
-    → PairElapses (length ts) (length ts') (JointSince ts x es y fs) (JointSince ts' x' es' y fs) (Joint x' es' y fs)
-joint_of_base ts ts' x x' es es' y fs e tss ess back =
-    rw (tss, ess) record {
+-- a call of either
+pub joint_more : {X : Type 0} (x y x' y' : MemoryDevice X) (ps ps' : List (MemoryDevice X × MemoryDevice X)) → ps' ≡ (x, y) ∷ ps → PairElapses (length ps) (length ps') (JointSince x y ps) (JointSince x' y' ps') (Joint x' y')
+joint_more x y x' y' ps ps' e =
+    rw e record {
       later = omega arith;
-      nothing_else = λ t a b le left. ⊎_elim (λ now. inr now) (λ past. inl (subst (λ (z : Blocks). JointSince ts z es y fs t a b) back past.1)) left;
-      keeps = λ t a b le left. inr (le, subst (λ (z : Blocks). JointSince ts z es y fs t a b) (sym back) left);
+      nothing_else = λ t a b le left. ⊎_elim (λ now. inr now) (λ past. inl past.1) left;
+      keeps = λ t a b le left. inr (le, left);
     }
-
--- and of the journal
-pub joint_of_journal : (ts ts' : List Turn) (x : Blocks) (es : List Event) (y y' : Blocks) (fs fs' : List Event) (f : Event) → ts' ≡ OfJournal ∷ ts → fs' ≡ f ∷ fs → before f y' ≡ y
-    → PairElapses (length ts) (length ts') (JointSince ts x es y fs) (JointSince ts' x es y' fs') (Joint x es y' fs')
-joint_of_journal ts ts' x es y y' fs fs' f tss fss back =
-    rw (tss, fss) record {
-      later = omega arith;
-      nothing_else = λ t a b le left. ⊎_elim (λ now. inr now) (λ past. inl (subst (λ (z : Blocks). JointSince ts x es z fs t a b) back past.1)) left;
-      keeps = λ t a b le left. inr (le, subst (λ (z : Blocks). JointSince ts x es z fs t a b) (sym back) left);
-    }
-
-abbrev none : Blocks → Bool
-none c = false
 
 -- what a write of one side leaves
-pub base_follows : (i : ℕ) (x x' y : Blocks) (es es' fs : List Event) → FollowsOr (Torn i) (IsIn none) (MayLeave x es) (IsIn none) (MayLeave x' es') → BaseFollows (Torn i) (Joint x es y fs) (Joint x' es' y fs)
-base_follows i x x' y es es' fs follows = λ a b left.
-    let from = plain_follows (Torn i) (IsIn none) none (MayLeave x es) (MayLeave x' es') (λ c. refl) follows a left.0 in
+pub base_follows : {X : Type 0} (i : ℕ) (x x' y : MemoryDevice X) → Follows (Torn i) (may_leave_of x) (may_leave_of x') → BaseFollows (Torn i) (Joint x y) (Joint x' y)
+base_follows i x x' y follows = λ a b left.
+    let from = follows a left.0 in
     (from.0, (from.1, left.1), from.2)
 
-pub journal_follows : (i : ℕ) (x y y' : Blocks) (es fs fs' : List Event) → FollowsOr (Torn i) (IsIn none) (MayLeave y fs) (IsIn none) (MayLeave y' fs') → JournalFollows (Torn i) (Joint x es y fs) (Joint x es y' fs')
-journal_follows i x y y' es fs fs' follows = λ a b left.
-    let from = plain_follows (Torn i) (IsIn none) none (MayLeave y fs) (MayLeave y' fs') (λ c. refl) follows b left.1 in
+pub journal_follows : {X : Type 0} (i : ℕ) (x y y' : MemoryDevice X) → Follows (Torn i) (may_leave_of y) (may_leave_of y') → JournalFollows (Torn i) (Joint x y) (Joint x y')
+journal_follows i x y y' follows = λ a b left.
+    let from = follows b left.1 in
     (from.0, (left.0, from.1), from.2)
 
--- and a sync
-stays : (old new : Blocks → Type 0) (c : Blocks) → FollowsOr Stays (IsIn none) old (IsIn none) new → new c → old c
-stays old new c follows now =
-    let from = plain_follows Stays (IsIn none) none old new (λ d. refl) follows c now in
-    subst old (sym from.2) from.1
+-- a write that was refused
+module _ {X : Type 0} (x y x' y' : MemoryDevice X) (same : (a b : Blocks) → Joint x y a b → Joint x' y' a b) where
+  was_or_is : (ps : List (MemoryDevice X × MemoryDevice X)) (t : ℕ) (a b : Blocks) → JointSince x' y' ps t a b → JointSince x y ps t a b ⊎ Joint x' y' a b
+  was_or_is [] t a b left = inr left
+  was_or_is (p ∷ ps) t a b left = ⊎_elim (λ now. inr now) (λ past. inl (inr past)) left
 
-pub base_stays : (x x' y : Blocks) (es es' fs : List Event) → FollowsOr Stays (IsIn none) (MayLeave x es) (IsIn none) (MayLeave x' es') → PairsNoMore (Joint x es y fs) (Joint x' es' y fs)
-base_stays x x' y es es' fs follows = λ a b left. (stays (MayLeave x es) (MayLeave x' es') a follows left.0, left.1)
+  is_still : (ps : List (MemoryDevice X × MemoryDevice X)) (t : ℕ) (a b : Blocks) → JointSince x y ps t a b → JointSince x' y' ps t a b
+  is_still [] t a b left = same a b left
+  is_still (p ∷ ps) t a b left = ⊎_elim (λ now. inl (same a b now)) (λ past. inr past) left
 
-pub journal_stays : (x y y' : Blocks) (es fs fs' : List Event) → FollowsOr Stays (IsIn none) (MayLeave y fs) (IsIn none) (MayLeave y' fs') → PairsNoMore (Joint x es y fs) (Joint x es y' fs')
-journal_stays x y y' es fs fs' follows = λ a b left. (left.0, stays (MayLeave y fs) (MayLeave y' fs') b follows left.1)
+  pub joint_still : (ps : List (MemoryDevice X × MemoryDevice X)) → PairElapses (length ps) (length ps) (JointSince x y ps) (JointSince x' y' ps) (Joint x' y')
+  joint_still ps = record { later = omega arith; nothing_else = λ t a b le left. was_or_is ps t a b left; keeps = λ t a b le left. is_still ps t a b left }
 
-only : (blocks c : Blocks) (outcomes : Blocks → Type 0) → OnlyOr blocks (IsIn none) outcomes → outcomes c → c ≡ blocks
-only blocks c outcomes durable now = ⊎_elim (λ is. is) (λ back. absurd (never none (λ d. refl) c back)) (durable c now)
-
-pub base_durable : (x x' y : Blocks) (es' fs : List Event) → OnlyOr x (IsIn none) (MayLeave x' es') → (a b : Blocks) → Joint x' es' y fs a b → a ≡ x
-base_durable x x' y es' fs durable a b left = only x a (MayLeave x' es') durable left.0
-
-pub journal_durable : (x y y' : Blocks) (es fs' : List Event) → OnlyOr y (IsIn none) (MayLeave y' fs') → (a b : Blocks) → Joint x es y' fs' a b → b ≡ y
-journal_durable x y y' es fs' durable a b left = only y b (MayLeave y' fs') durable left.1
+pub left_unchanged : {X : Type 0} (x x' : MemoryDevice X) → IsUnchanged x x' → (a : Blocks) → may_leave_of x a → may_leave_of x' a
+left_unchanged x x' u a left = subst (λ (b : Blocks). MayLeave b (history_of x') a) (sym u.shown) (subst (λ (es : List Event). MayLeave (shown_of x) es a) (sym u.history) left)

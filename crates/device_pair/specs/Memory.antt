@@ -3,8 +3,9 @@ use Rattle.std.specs.Prelude.{◌≡◌, ℕ, List, length}
 use Rattle.block_device.specs.Device.{Blocks}
 use Rattle.block_device.specs.History.{Event}
 use Rattle.block_device.specs.Memory.{shown_of, history_of}
+use Rattle.block_device.specs.declared.memory.MemoryDevice.{MemoryDevice}
 use Rattle.device_pair.specs.declared.memory.MemoryPair.{MemoryPair}
-use Rattle.device_pair.specs.Joint.{Joint, JointSince, Turn, turns}
+use Rattle.device_pair.specs.Joint.{Joint, JointSince}
 
 -- the blocks of base and journal, as reads return them
 abbrev pub base_of : {X : Type 0} → MemoryPair X → Blocks
@@ -20,21 +21,21 @@ base_history_of d = history_of d.base
 abbrev pub journal_history_of : {X : Type 0} → MemoryPair X → List Event
 journal_history_of d = history_of d.journal
 
--- whose they were, in turn
-abbrev pub turns_of : {X : Type 0} → MemoryPair X → List Turn
-turns_of d = turns d.past.notes
+-- both as they were before each call, the newest first
+abbrev pub earlier_of : {X : Type 0} → MemoryPair X → List (MemoryDevice X × MemoryDevice X)
+earlier_of d = d.past.taken
 
 -- what a stop now may leave
 abbrev pub may_leave_of : {X : Type 0} → MemoryPair X → Blocks → Blocks → Type 0
-may_leave_of d a b = Joint (base_of d) (base_history_of d) (journal_of d) (journal_history_of d) a b
+may_leave_of d a b = Joint d.base d.journal a b
 
 -- how many writes and syncs there were
 abbrev pub moment_of : {X : Type 0} → MemoryPair X → ℕ
-moment_of d = length (turns_of d)
+moment_of d = length (earlier_of d)
 
 -- what a stop at some moment from t on might have left
 abbrev pub left_since_of : {X : Type 0} → MemoryPair X → ℕ → Blocks → Blocks → Type 0
-left_since_of d t a b = JointSince (turns_of d) (base_of d) (base_history_of d) (journal_of d) (journal_history_of d) t a b
+left_since_of d t a b = JointSince d.base d.journal (earlier_of d) t a b
 
 -- a stop leaves both as they are read, and nothing else
 abbrev pub AreLeft : Blocks → Blocks → (Blocks → Blocks → Type 0) → Type 0

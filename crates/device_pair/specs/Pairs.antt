@@ -1,6 +1,6 @@
 -- The words of a pair of devices: what a call of one of them makes of what a stop of both may leave
 -- (our disk model, docs/FORMAT.md, "The disk model of a stop", for two devices at one moment).
-use Rattle.std.specs.Prelude.{◌≡◌, ◌≤◌, ◌⊎◌, ℕ}
+use Rattle.std.specs.Prelude.{◌≤◌, ◌⊎◌, ℕ}
 use Rattle.block_device.specs.Device.{Blocks}
 
 -- each new outcome is an old one, after such a step of the base

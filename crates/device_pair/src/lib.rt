@@ -4,7 +4,9 @@
 mod fuse;
 mod memory;
 mod pair;
+mod snapshots;
 
 pub use fuse::FusePair;
 pub use memory::MemoryPair;
 pub use pair::DevicePair;
+pub use snapshots::Snapshots;

@@ -3,7 +3,8 @@
 mod calls;
 mod stop;
 
-use block_device::{MemoryDevice, Past};
+use crate::snapshots::Snapshots;
+use block_device::MemoryDevice;
 use std::alloc::{Allocator, Global};
 
 /// A pair of devices in memory, which is honest and never fails, and of which a stop can be tried.
@@ -11,6 +12,6 @@ use std::alloc::{Allocator, Global};
 pub struct MemoryPair<A: Allocator + Copy = Global> {
     base: MemoryDevice<A>,
     journal: MemoryDevice<A>,
-    // whose writes and syncs there were, in turn
-    past: Past,
+    // both before each write and sync that answered Ok
+    past: Snapshots<MemoryDevice<A>, MemoryDevice<A>>,
 }

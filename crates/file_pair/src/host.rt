@@ -1,5 +1,5 @@
 //! Two files of the operating system.
-ghost use Rattle.std.specs.Prelude.{[]};
+ghost use Rattle.std.specs.Prelude.{◌≡◌, []};
 
 use crate::DiskFiles;
 use file_device::{DiskFile, HostFile};
@@ -16,7 +16,10 @@ pub struct HostFiles<F> {
 
 impl<F> HostFiles<F> {
     /// Two open files of the system.
-    pub fn of(base: F, journal: F) -> HostFiles<F> {
+    pub fn of(base: F, journal: F) -> HostFiles<F>
+        ensures base { result.base.file ≡ base }
+        ensures journal { result.journal.file ≡ journal }
+    {
         HostFiles {
             base: HostFile::of(base),
             journal: HostFile::of(journal),

@@ -7,9 +7,13 @@
 mod blocks_files;
 mod disk_files;
 mod host;
+mod journal;
 mod pair;
+#[cfg(test)]
+mod tests;
 
 pub use blocks_files::BlocksFiles;
 pub use disk_files::DiskFiles;
 pub use host::HostFiles;
+pub use journal::{journal_path, open_journal, remove_journal};
 pub use pair::FilePair;

@@ -1,13 +1,14 @@
 //! The calls of a pair in memory.
 ghost use Rattle.std.specs.Prelude.{◌≡◌, ◌<◌, ℕ, []};
 ghost use Rattle.device_pair.specs.Memory.{base_of, journal_of, may_leave_of, moment_of, left_since_of};
-ghost use Rattle.device_pair.specs.Memory.{base_history_of, journal_history_of, turns_of};
+ghost use Rattle.device_pair.specs.Memory.{base_history_of, earlier_of, journal_history_of};
 ghost use Rattle.device_pair.specs.JointLaws.{joint_now, joint_only, joint_earlier};
 ghost use Rattle.block_device.specs.Outcomes.{shown_left, no_longer_left, none_fits};
 
 use crate::DevicePair;
 use crate::memory::MemoryPair;
-use block_device::{BlockDevice, DeviceError, MemoryDevice, Past};
+use crate::snapshots::Snapshots;
+use block_device::{BlockDevice, DeviceError, MemoryDevice};
 use std::alloc::Allocator;
 
 impl<A: Allocator + Copy> MemoryPair<A> {
@@ -17,13 +18,13 @@ impl<A: Allocator + Copy> MemoryPair<A> {
         ensures journal { journal_of result ≡ [] }
         ensures base_history { base_history_of result ≡ [] }
         ensures journal_history { journal_history_of result ≡ [] }
-        ensures turns { turns_of result ≡ [] }
+        ensures earlier { earlier_of result ≡ [] }
         ensures honest { ⟦<MemoryPair<A> as DevicePair>⟧.honest result }
     {
         MemoryPair {
             base: MemoryDevice::new(alloc),
             journal: MemoryDevice::new(alloc),
-            past: Past::new(),
+            past: Snapshots::new(),
         }
     }
 }
@@ -60,26 +61,30 @@ impl<A: Allocator + Copy> DevicePair for MemoryPair<A> {
     }
 
     fn write_base(&mut self, i: u32, bytes: &[u8; 4096]) -> Result<(), DeviceError> {
+        let past = self.past.with(&self.base, &self.journal);
         self.base.write(i, bytes)?;
-        self.past.note(&[], &[]);
+        self.past = past;
         Ok(())
     }
 
     fn write_journal(&mut self, i: u32, bytes: &[u8; 4096]) -> Result<(), DeviceError> {
+        let past = self.past.with(&self.base, &self.journal);
         self.journal.write(i, bytes)?;
-        self.past.note(&[0], &[]);
+        self.past = past;
         Ok(())
     }
 
     fn sync_base(&mut self) -> Result<(), DeviceError> {
+        let past = self.past.with(&self.base, &self.journal);
         self.base.sync()?;
-        self.past.note(&[], &[]);
+        self.past = past;
         Ok(())
     }
 
     fn sync_journal(&mut self) -> Result<(), DeviceError> {
+        let past = self.past.with(&self.base, &self.journal);
         self.journal.sync()?;
-        self.past.note(&[0], &[]);
+        self.past = past;
         Ok(())
     }
 
@@ -97,14 +102,11 @@ impl<A: Allocator + Copy> DevicePair for MemoryPair<A> {
 
     ghost whole = { λ d a b _ left. (left.0.whole, left.1.whole) };
 
-    ghost counts_now = { λ d t a b _ le left. joint_now (turns_of d) (base_of d) (base_history_of d) (journal_of d)
-        (journal_history_of d) t a b left };
+    ghost counts_now = { λ d t a b _ le left. joint_now d.base d.journal (earlier_of d) t a b left };
 
-    ghost only_now = { λ d a b _ left. joint_only (turns_of d) (base_of d) (base_history_of d) (journal_of d)
-        (journal_history_of d) a b left };
+    ghost only_now = { λ d a b _ left. joint_only d.base d.journal (earlier_of d) a b left };
 
-    ghost since_earlier = { λ d t u a b _ le left. joint_earlier (turns_of d) (base_of d) (base_history_of d)
-        (journal_of d) (journal_history_of d) t u a b le left };
+    ghost since_earlier = { λ d t u a b _ le left. joint_earlier d.base d.journal (earlier_of d) t u a b le left };
 
     ghost faults_fit = { λ d. none_fits };
 }

@@ -4,7 +4,8 @@ ghost use Rattle.device_pair.specs.Memory.{base_of, journal_of, may_leave_of, Ar
 
 use crate::DevicePair;
 use crate::memory::MemoryPair;
-use block_device::{Left, Past};
+use crate::snapshots::Snapshots;
+use block_device::Left;
 use std::alloc::Allocator;
 
 impl<A: Allocator + Copy> MemoryPair<A> {
@@ -17,7 +18,7 @@ impl<A: Allocator + Copy> MemoryPair<A> {
         MemoryPair {
             base: self.base.after_stop(base),
             journal: self.journal.after_stop(journal),
-            past: Past::new(),
+            past: Snapshots::new(),
         }
     }
 }
