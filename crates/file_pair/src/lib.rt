@@ -11,9 +11,11 @@ mod journal;
 mod pair;
 #[cfg(test)]
 mod tests;
+mod two_devices;
 
 pub use blocks_files::BlocksFiles;
 pub use disk_files::DiskFiles;
 pub use host::HostFiles;
 pub use journal::{journal_path, open_journal, remove_journal};
 pub use pair::FilePair;
+pub use two_devices::TwoDevices;

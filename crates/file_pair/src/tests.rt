@@ -1,9 +1,11 @@
-//! A pair in two real files, and over a pair in memory.
+//! A pair in two real files, over a pair in memory, and of two devices.
 
-use crate::{BlocksFiles, FilePair, HostFiles, journal_path, open_journal, remove_journal};
-use block_device::DeviceError;
+use crate::{
+    BlocksFiles, FilePair, HostFiles, TwoDevices, journal_path, open_journal, remove_journal,
+};
+use block_device::{DeviceError, MemoryDevice};
 use device_pair::{DevicePair, MemoryPair};
-use file_device::{OpenError, made};
+use file_device::{OpenError, made, open_file};
 use std::fs::{self, File};
 use std::test::Fail;
 
@@ -101,5 +103,23 @@ fn a_journal_is_removed(rt: HostRuntime) -> Result<(), Fail> {
 fn a_pair_over_files_over_a_pair(rt: HostRuntime) -> Result<(), Fail> {
     let mut pair = FilePair::over(BlocksFiles::over(MemoryPair::new(rt.alloc())))?;
     assert!(rt; are_written(&mut pair)?);
+    Ok(())
+}
+
+#[test]
+fn two_devices_are_a_pair(rt: HostRuntime) -> Result<(), Fail> {
+    let mut pair = TwoDevices::of(MemoryDevice::new(rt.alloc()), MemoryDevice::new(rt.alloc()));
+    assert!(rt; are_written(&mut pair)?);
+    let path = "file_pair_c";
+    let name = journal_path(rt.alloc(), path)?;
+    let _ = fs::remove_file(&rt, path);
+    let _ = fs::remove_file(&rt, &name);
+    let base = open_file(&rt, path, true)?;
+    let mut pair = TwoDevices::of(base, open_file(&rt, name.as_str(), true)?);
+    assert!(rt; are_written(&mut pair)?);
+    assert_eq!(rt; fs::metadata(&rt, path)?.len(), 4096);
+    assert_eq!(rt; fs::metadata(&rt, &name)?.len(), 8192);
+    fs::remove_file(&rt, path)?;
+    fs::remove_file(&rt, &name)?;
     Ok(())
 }
