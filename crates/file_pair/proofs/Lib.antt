@@ -1,2 +1,0 @@
--- The files of lemmas.
-mod BothSteps
