@@ -1,0 +1,1 @@
+//! The calls of a pair behind a mark.

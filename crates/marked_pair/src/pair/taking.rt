@@ -1,0 +1,47 @@
+//! How a pair is taken over, and given back.
+ghost use Rattle.std.specs.Prelude.{◌≡◌, ◌∷◌, [], length};
+ghost use Rattle.marked_pair.specs.Pair.{pair_of, mark_of, kept_of, past_of, refusals_of};
+ghost use Rattle.marked_pair.specs.declared.mark.Mark.TheVariants.{Unknown};
+
+use crate::Mark;
+use crate::pair::MarkedPair;
+use device_pair::{DevicePair, Snapshots};
+
+impl<P: DevicePair + Drop> MarkedPair<P> {
+    /// Takes a pair. No mark is known.
+    pub fn over(pair: P) -> MarkedPair<P>
+        ensures pair { pair_of result ≡ pair }
+        ensures mark { mark_of result ≡ Unknown }
+        ensures kept { kept_of result ≡ length (P.base pair) }
+        ensures past { past_of result ≡ (pair, length (P.base pair)) ∷ [] }
+        ensures refusals { refusals_of result ≡ 0 }
+    {
+        let kept = pair.base_blocks();
+        let past = Snapshots::new().with(&pair, &kept);
+        MarkedPair {
+            pair,
+            mark: Mark::Unknown,
+            ending: false,
+            kept,
+            refusals: 0,
+            past,
+        }
+    }
+
+    /// Begins a clean end: the next write of block 0 is made as it is told, and leaves no mark.
+    pub fn begin_end(&mut self)
+        ensures pair { pair_of self.new ≡ pair_of self.old }
+        ensures mark { mark_of self.new ≡ mark_of self.old }
+        ensures past { past_of self.new ≡ past_of self.old }
+        ensures refusals { refusals_of self.new ≡ refusals_of self.old }
+    {
+        self.ending = true;
+    }
+
+    /// The pair, as it is.
+    pub fn into_pair(self) -> P
+        ensures { result ≡ pair_of self }
+    {
+        self.pair
+    }
+}
