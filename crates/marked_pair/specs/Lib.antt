@@ -4,6 +4,8 @@ pub mod Shown
 pub mod Behind
 -- Lemmas on them, which ghost laws and laws cite.
 pub mod MarkLaws
+pub mod Refused
 pub mod ShownLaws
 pub mod BehindLaws
 pub mod Pair
+pub mod PairLaws

@@ -4,6 +4,7 @@
 //! a mark on disk from a session's first commit to its clean end, and is shown as a shut gate.
 #![tactic(auto)]
 
+pub mod laws;
 mod mark;
 mod pair;
 

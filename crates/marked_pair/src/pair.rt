@@ -2,6 +2,7 @@
 ghost use Rattle.marked_pair.specs.Behind.{IsBehind, StaysAs};
 ghost use Rattle.marked_pair.specs.BehindLaws.{behind_is_fact, stays_is_fact};
 
+mod blocks;
 mod calls;
 mod quiet;
 mod taking;

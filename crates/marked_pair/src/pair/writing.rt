@@ -3,19 +3,19 @@ ghost use Rattle.std.specs.Prelude.{◌≡◌, ◌<◌, ◌≤◌, ◌^◌, ◌�
 ghost use Rattle.block_device.specs.Device.{Counts, Torn, block_at, one_more, written};
 ghost use Rattle.block_device.specs.declared.device.DeviceError.TheVariants.{Failed};
 ghost use Rattle.marked_pair.specs.Mark.{marked, reads_as};
-ghost use Rattle.marked_pair.specs.Pair.{base_of, disk_of, faults_of, kept_of, mark_of, pair_of, past_of, refusals_of};
+ghost use Rattle.marked_pair.specs.Pair.{disk_of, faults_of, kept_of, mark_of, pair_of, past_of, refusals_of};
 ghost use Rattle.marked_pair.specs.Pair.{IsHonest, IsSameHere, IsTorn};
 ghost use Rattle.marked_pair.specs.declared.mark.Mark.TheVariants.{Unknown, Written, Synced};
 
 use crate::Mark;
-use crate::mark::{MARKED, SHUT, reads_as, with_mark};
+use crate::mark::with_mark;
 use crate::pair::MarkedPair;
 use block_device::DeviceError;
 use device_pair::DevicePair;
 
 impl<P: DevicePair + Drop> MarkedPair<P> {
     // Refuses a write. Nothing is written.
-    fn refuse(&mut self) -> Result<(), DeviceError>
+    pub(crate) fn refuse(&mut self) -> Result<(), DeviceError>
         ensures refused { result ≡ Err Failed }
         ensures pair { pair_of self.new ≡ pair_of self.old }
         ensures kept { kept_of self.new ≡ kept_of self.old }
@@ -28,7 +28,7 @@ impl<P: DevicePair + Drop> MarkedPair<P> {
     }
 
     // Writes block 0 as it is told, after which no mark is known.
-    fn put_gate(&mut self, bytes: &[u8; 4096]) -> Result<(), DeviceError>
+    pub(crate) fn put_gate(&mut self, bytes: &[u8; 4096]) -> Result<(), DeviceError>
         ensures written { IsHonest self.old → OnOk result (disk_of self.new ≡ written 0 bytes.now (disk_of self.old)) }
         ensures torn { IsHonest self.old → OnErr result (Torn 0 (disk_of self.old) (disk_of self.new)) }
         ensures tears { IsHonest self.old → IsTorn 0 self.old self.new }
@@ -73,7 +73,7 @@ impl<P: DevicePair + Drop> MarkedPair<P> {
     }
 
     // Has a shut gate be there with the mark. One that is there is not written again, so that no stop tears it.
-    fn put_mark(&mut self, gate: &[u8; 4096]) -> Result<(), DeviceError>
+    pub(crate) fn put_mark(&mut self, gate: &[u8; 4096]) -> Result<(), DeviceError>
         requires shut { reads_as 1 gate.now ≡ true }
         ensures written { IsHonest self.old →
             OnOk result (disk_of self.new ≡ written 0 (marked gate.now) (disk_of self.old)) }
@@ -94,7 +94,7 @@ impl<P: DevicePair + Drop> MarkedPair<P> {
     }
 
     // Writes a block that was not there when the pair was taken over.
-    fn put_behind(&mut self, i: u32, bytes: &[u8; 4096]) -> Result<(), DeviceError>
+    pub(crate) fn put_behind(&mut self, i: u32, bytes: &[u8; 4096]) -> Result<(), DeviceError>
         requires within { i ≤ length (disk_of self.old) }
         requires small { i < 2 ^ 31 }
         requires second { 0 < i }
@@ -112,7 +112,7 @@ impl<P: DevicePair + Drop> MarkedPair<P> {
     }
 
     // Writes a block that was there, behind a mark that is synced.
-    fn put_there(&mut self, i: u32, bytes: &[u8; 4096]) -> Result<(), DeviceError>
+    pub(crate) fn put_there(&mut self, i: u32, bytes: &[u8; 4096]) -> Result<(), DeviceError>
         requires within { i ≤ length (disk_of self.old) }
         requires small { i < 2 ^ 31 }
         requires second { 0 < i }
@@ -133,7 +133,7 @@ impl<P: DevicePair + Drop> MarkedPair<P> {
 
     // Writes a block that was there, behind a mark that a sync has made last. Where there is no such block by then, the
     // pair is not honest.
-    fn put_after_sync(&mut self, i: u32, bytes: &[u8; 4096]) -> Result<(), DeviceError>
+    pub(crate) fn put_after_sync(&mut self, i: u32, bytes: &[u8; 4096]) -> Result<(), DeviceError>
         requires within { i ≤ length (disk_of self.old) }
         requires small { i < 2 ^ 31 }
         requires second { 0 < i }
