@@ -9,3 +9,4 @@ pub mod ShownLaws
 pub mod BehindLaws
 pub mod Pair
 pub mod PairLaws
+pub mod Ended

@@ -1,5 +1,5 @@
 -- A pair behind a mark as its contracts see it.
-use Rattle.std.specs.Prelude.{◌≡◌, ℕ, List}
+use Rattle.std.specs.Prelude.{◌≡◌, ℕ, Bool, List}
 use Rattle.block_device.specs.Device.{Blocks, Torn}
 use Rattle.block_device.specs.Fuse.{faults_with}
 use Rattle.device_pair.specs.Pairs.{BaseFollows, PairElapses, PairsNoMore}
@@ -26,6 +26,10 @@ base_of d = unmarked (disk_of d)
 -- what is known of the mark
 abbrev pub mark_of : {P : Type 0} {m : _} → MarkedPair P m → Mark
 mark_of d = d.mark
+
+-- whether the gate is written next by a clean end
+abbrev pub ending_of : {P : Type 0} {m : _} → MarkedPair P m → Bool
+ending_of d = d.ending
 
 -- how many blocks there were when the pair was taken over
 abbrev pub kept_of : {P : Type 0} {m : _} → MarkedPair P m → ℕ

@@ -7,6 +7,8 @@
 pub mod laws;
 mod mark;
 mod pair;
+#[cfg(test)]
+mod tests;
 
 pub use mark::Mark;
 pub use pair::MarkedPair;

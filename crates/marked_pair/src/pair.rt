@@ -4,6 +4,7 @@ ghost use Rattle.marked_pair.specs.BehindLaws.{behind_is_fact, stays_is_fact};
 
 mod blocks;
 mod calls;
+mod ending;
 mod quiet;
 mod taking;
 mod writing;

@@ -76,8 +76,11 @@ impl<P: DevicePair + Drop> DevicePair for MarkedPair<P> {
 
     ghost only_now = { λ d a b honest left. (left.0, P.only_now (pair_of d) left.0 b honest left.1, left.2) };
 
-    ghost since_earlier = { λ d t u a b honest le left. (left.0, P.since_earlier (pair_of d) t u left.0 b honest le left.1,
-        left.2) };
+    ghost since_earlier = { λ d t u a b honest le left. (
+      left.0,
+      P.since_earlier (pair_of d) t u left.0 b honest le left.1,
+      left.2,
+    ) };
 
     ghost faults_fit = { λ d. faults_with-fits (P.faults (pair_of d)) (refusals_of d) };
 }

@@ -1,5 +1,5 @@
 //! Calls that write no block.
-ghost use Rattle.std.specs.Prelude.{◌≡◌, ◌<◌, ◌↔◌, true, length, IfOk, OnErr, OnOk};
+ghost use Rattle.std.specs.Prelude.{◌≡◌, ◌<◌, ◌↔◌, true, false, length, IfOk, OnErr, OnOk};
 ghost use Rattle.block_device.specs.Device.{Counts, block_at};
 ghost use Rattle.marked_pair.specs.Behind.{LeavesBase};
 ghost use Rattle.marked_pair.specs.Pair.{disk_of, mark_of, pair_of, past_of, IsHonest, IsQuiet, IsSameHere};
@@ -31,6 +31,8 @@ impl<P: DevicePair + Drop> MarkedPair<P> {
         ensures there { IsHonest self.old → IfOk result (λ found. found ≡ true → 0 < length (disk_of self.old)) }
         ensures found { IsHonest self.old →
             IfOk result (λ found. found ≡ true → block_at 0 (disk_of self.old) ≡ gate.now) }
+        ensures missing { IsHonest self.old → IfOk result (λ found. found ≡ false → 0 < length (disk_of self.old) →
+            ¬ (block_at 0 (disk_of self.old) ≡ gate.now)) }
         ensures quiet { IsHonest self.old → IsQuiet self.old self.new }
         ensures here { IsSameHere self.old self.new }
         ensures past { past_of self.new ≡ past_of self.old }

@@ -1,6 +1,6 @@
 //! How a pair is taken over, and given back.
-ghost use Rattle.std.specs.Prelude.{◌≡◌, ◌∷◌, [], length};
-ghost use Rattle.marked_pair.specs.Pair.{pair_of, mark_of, kept_of, past_of, refusals_of};
+ghost use Rattle.std.specs.Prelude.{◌≡◌, ◌∷◌, [], true, false, length};
+ghost use Rattle.marked_pair.specs.Pair.{ending_of, kept_of, mark_of, pair_of, past_of, refusals_of};
 ghost use Rattle.marked_pair.specs.declared.mark.Mark.TheVariants.{Unknown};
 
 use crate::Mark;
@@ -12,6 +12,7 @@ impl<P: DevicePair + Drop> MarkedPair<P> {
     pub fn over(pair: P) -> MarkedPair<P>
         ensures pair { pair_of result ≡ pair }
         ensures mark { mark_of result ≡ Unknown }
+        ensures ending { ending_of result ≡ false }
         ensures kept { kept_of result ≡ length (P.base pair) }
         ensures past { past_of result ≡ (pair, length (P.base pair)) ∷ [] }
         ensures refusals { refusals_of result ≡ 0 }
@@ -30,6 +31,7 @@ impl<P: DevicePair + Drop> MarkedPair<P> {
 
     /// Begins a clean end: the next write of block 0 is made as it is told, and leaves no mark.
     pub fn begin_end(&mut self)
+        ensures ending { ending_of self.new ≡ true }
         ensures pair { pair_of self.new ≡ pair_of self.old }
         ensures mark { mark_of self.new ≡ mark_of self.old }
         ensures past { past_of self.new ≡ past_of self.old }

@@ -2,6 +2,7 @@
 ghost use Rattle.std.specs.Prelude.{◌≡◌, ◌<◌, ◌≤◌, ◌^◌, ◌↔◌, ◌∷◌, true, length, Err, OnErr, OnOk};
 ghost use Rattle.block_device.specs.Device.{Counts, Torn, block_at, one_more, written};
 ghost use Rattle.block_device.specs.declared.device.DeviceError.TheVariants.{Failed};
+ghost use Rattle.device_pair.specs.Pairs.{PairsNoMore};
 ghost use Rattle.marked_pair.specs.Mark.{marked, reads_as};
 ghost use Rattle.marked_pair.specs.Pair.{disk_of, faults_of, kept_of, mark_of, pair_of, past_of, refusals_of};
 ghost use Rattle.marked_pair.specs.Pair.{IsHonest, IsSameHere, IsTorn};
@@ -79,6 +80,9 @@ impl<P: DevicePair + Drop> MarkedPair<P> {
             OnOk result (disk_of self.new ≡ written 0 (marked gate.now) (disk_of self.old)) }
         ensures torn { IsHonest self.old → OnErr result (Torn 0 (disk_of self.old) (disk_of self.new)) }
         ensures tears { IsHonest self.old → IsTorn 0 self.old self.new }
+        ensures still { IsHonest self.old → 0 < length (disk_of self.old) →
+            block_at 0 (disk_of self.old) ≡ marked gate.now →
+            PairsNoMore (P.may_leave (pair_of self.old)) (P.may_leave (pair_of self.new)) }
         ensures mark { OnOk result (¬ (mark_of self.new ≡ Unknown)) }
         ensures here { IsSameHere self.old self.new }
         ensures past { past_of self.new ≡ past_of self.old }
@@ -142,6 +146,7 @@ impl<P: DevicePair + Drop> MarkedPair<P> {
         ensures written { IsHonest self.old → OnOk result (disk_of self.new ≡ written i bytes.now (disk_of self.old)) }
         ensures torn { IsHonest self.old → OnErr result (Torn i (disk_of self.old) (disk_of self.new)) }
         ensures tears { IsHonest self.old → IsTorn i self.old self.new }
+        ensures allowed { IsHonest self.old → refusals_of self.new ≡ refusals_of self.old }
         ensures kept { kept_of self.new ≡ kept_of self.old }
         ensures honest { IsHonest self.old ↔ IsHonest self.new }
         ensures faults { Counts (faults_of self.old) (faults_of self.new) result }
