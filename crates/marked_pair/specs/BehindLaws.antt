@@ -1,14 +1,14 @@
--- What stands of the base after each call, and that it is a fact.
-use Rattle.std.proofs.Common.{◌≡◌, ◌∙◌, ℕ, zero, suc, ◌<◌, ◌≤◌, List, [], ◌∷◌, length, refl, sym, ap, subst, arith, inl, inr, ⊎_elim}
+-- That what stands of the base is a fact, and that it does so after a write.
+use Rattle.std.proofs.Common.{◌≡◌, ◌∙◌, ℕ, zero, suc, ◌<◌, ◌≤◌, List, [], ◌∷◌, length, refl, ap, arith, ⊎_elim}
 use Rattle.std.proofs.Props.{props}
 use Rattle.block_device.specs.Device.{Blocks, IsBlock, Torn, block_at, written}
 use Rattle.block_device.specs.Written.{torn_length}
-use Rattle.device_pair.specs.Pairs.{BaseFollows, JournalFollows, PairsNoMore}
-use Rattle.marked_pair.specs.Behind.{IsBehind, KeepsFirst, LeavesBase, StaysAs}
+use Rattle.device_pair.specs.Pairs.{BaseFollows}
+use Rattle.marked_pair.specs.Behind.{IsBehind, KeepsFirst, StaysAs}
 use Rattle.marked_pair.specs.Mark.{IsMarked}
 use Rattle.marked_pair.specs.MarkLaws.{marked_torn}
 use Rattle.marked_pair.specs.declared.mark.Mark.{Mark}
-use Rattle.marked_pair.specs.declared.mark.Mark.TheVariants.{Unknown, Written, Synced}
+use Rattle.marked_pair.specs.declared.mark.Mark.TheVariants.{Unknown}
 
 -- facts, which a ghost field may hold
 marked_is_fact : (a : Blocks) → IsProp (IsMarked a)
@@ -28,31 +28,7 @@ stays_is_fact base may_leave kept past now = hlevel (props, first_is_fact)
 pub behind_none : (base : Blocks) (may_leave : Blocks → Blocks → Type 0) → IsBehind Unknown base may_leave
 behind_none base may_leave = record { written = λ no. absurd (no refl); synced = λ e. cc }
 
--- where it was written
-pub behind_written : (base : Blocks) (may_leave : Blocks → Blocks → Type 0) → IsMarked base → IsBehind Written base may_leave
-behind_written base may_leave m = record { written = λ _. m; synced = λ e. cc }
-
--- where a sync has made it last
-pub behind_synced : (mark : Mark) (base base' : Blocks) (old new : Blocks → Blocks → Type 0) → ¬ (mark ≡ Unknown) → base' ≡ base → LeavesBase base new → IsBehind mark base old → IsBehind Synced base' new
-behind_synced mark base base' old new known e lasts s = record {
-  written = λ _. subst IsMarked (sym e) (s.written known);
-  synced = λ _ a b left. subst IsMarked (sym (lasts a b left)) (s.written known);
-}
-
--- where a call leaves the base
-pub behind_still : (mark : Mark) (base base' : Blocks) (old new : Blocks → Blocks → Type 0) → base' ≡ base → PairsNoMore old new → IsBehind mark base old → IsBehind mark base' new
-behind_still mark base base' old new e less s = record {
-  written = λ known. subst IsMarked (sym e) (s.written known);
-  synced = λ is a b left. s.synced is a b (less a b left);
-}
-
-pub behind_journal : (mark : Mark) (i : ℕ) (base base' : Blocks) (old new : Blocks → Blocks → Type 0) → base' ≡ base → JournalFollows (Torn i) old new → IsBehind mark base old → IsBehind mark base' new
-behind_journal mark i base base' old new e follows s = record {
-  written = λ known. subst IsMarked (sym e) (s.written known);
-  synced = λ is a b left. let from = follows a b left in s.synced is a from.0 from.1;
-}
-
--- where it tears another block
+-- where a call tears another block
 pub behind_torn : (mark : Mark) (i : ℕ) (base base' : Blocks) (old new : Blocks → Blocks → Type 0) → 0 < i → (IsMarked base → IsMarked base') → BaseFollows (Torn i) old new → IsBehind mark base old → IsBehind mark base' new
 behind_torn mark i base base' old new some stays follows s = record {
   written = λ known. stays (s.written known);
@@ -80,14 +56,7 @@ first_torn n i base old new apart torn keeps = record {
 }
 
 module _ {P : Type 0} (base : P → Blocks) (may_leave : P → Blocks → Blocks → Type 0) (kept : ℕ) (past : List (P × ℕ)) where
-  -- where a call leaves the base
-  pub stays_still : (old new : Blocks → Blocks → Type 0) → PairsNoMore old new → StaysAs base may_leave kept past old → StaysAs base may_leave kept past new
-  stays_still old new less s p e lasts a b left = s p e lasts a b (less a b left)
-
-  pub stays_journal : (i : ℕ) (old new : Blocks → Blocks → Type 0) → JournalFollows (Torn i) old new → StaysAs base may_leave kept past old → StaysAs base may_leave kept past new
-  stays_journal i old new follows s p e lasts a b left = let from = follows a b left in s p e lasts a from.0 from.1
-
-  -- where it tears the gate, or a block that was not there
+  -- a call that tears the gate, or a block that was not there
   pub stays_gate : (old new : Blocks → Blocks → Type 0) → BaseFollows (Torn 0) old new → StaysAs base may_leave kept past old → StaysAs base may_leave kept past new
   stays_gate old new follows s p e lasts a b left =
       let from = follows a b left in
@@ -97,13 +66,3 @@ module _ {P : Type 0} (base : P → Blocks) (may_leave : P → Blocks → Blocks
   stays_behind i old new behind follows s p e lasts a b left =
       let from = follows a b left in
       first_torn kept i (base p) from.0 a (λ k some lt is. omega (arith, lt, is, behind)) from.2 (s p e lasts from.0 b from.1)
-
--- where the pair was just taken over
-pub stays_first : {P : Type 0} (base : P → Blocks) (may_leave : P → Blocks → Blocks → Type 0) (kept : ℕ) (past : List (P × ℕ)) (pair : P) → past ≡ (pair, kept) ∷ [] → kept ≡ length (base pair)
-    → StaysAs base may_leave kept past (may_leave pair)
-stays_first {P = P} base may_leave kept past pair is size p e lasts a b left =
-    let both : ◌≡◌ {A = P × ℕ} (pair, kept) (p, kept) = cc in
-    let same : pair ≡ p = ap (λ (x : P × ℕ). x.0) both in
-    let left' = subst (λ q. may_leave q a b) same left in
-    let is_base = lasts a b left' in
-    record { there = omega (arith, size, ap (λ q. length (base q)) same, ap length is_base); same = λ k some lt. ap (block_at k) is_base }

@@ -9,4 +9,3 @@ pub mod ShownLaws
 pub mod BehindLaws
 pub mod Pair
 pub mod PairLaws
-pub mod Ended

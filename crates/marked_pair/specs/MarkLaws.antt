@@ -1,5 +1,5 @@
 -- Laws of the mark: what is shown of blocks, and of blocks that are written or torn.
-use Rattle.std.proofs.Common.{◌≡◌, ◌∙◌, ℕ, zero, suc, ◌+◌, ◌<◌, ◌≤◌, ◌^◌, Bool, true, false, ◌&&◌, ◌==◌, cond, List, [], ◌∷◌, length, get_or, refl, sym, ap, subst, arith, inl, inr, ⊎_elim, lit<}
+use Rattle.std.proofs.Common.{◌≡◌, ◌∙◌, ℕ, zero, suc, ◌<◌, ◌≤◌, Bool, true, false, ◌&&◌, ◌==◌, cond, List, [], ◌∷◌, length, refl, sym, ap, subst, arith, inl, inr, ⊎_elim, lit<}
 use Rattle.std.specs.List.{All}
 use Rattle.std.proofs.lemmas.Bool.{cases_eq, cases_lt}
 use Rattle.std.proofs.lemmas.Bool.Decides.{nat_tests}
@@ -99,15 +99,6 @@ pub length-unmarked : (c : Blocks) → length (unmarked c) ≡ length c
 length-unmarked [] = refl
 length-unmarked (b ∷ bs) = refl
 
-pub unmarked_first : (c : Blocks) → 0 < length c → block_at 0 (unmarked c) ≡ unmarked_gate (block_at 0 c)
-unmarked_first [] some = absurd (omega arith)
-unmarked_first (b ∷ bs) some = refl
-
-pub unmarked_other : (i : ℕ) (c : Blocks) → 0 < i → block_at i (unmarked c) ≡ block_at i c
-unmarked_other zero c some = absurd (omega arith)
-unmarked_other (suc i) [] some = refl
-unmarked_other (suc i) (b ∷ bs) some = refl
-
 pub unmarked_whole : (c : Blocks) → All IsBlock c → All IsBlock (unmarked c)
 unmarked_whole [] all k d lt = absurd (omega arith)
 unmarked_whole (b ∷ bs) all zero d lt = unmarked_block b (all 0 d (omega arith))
@@ -123,11 +114,6 @@ pub unmarked_put : (b : List ℕ) (c : Blocks) → unmarked (written 0 b c) ≡ 
 unmarked_put b [] = refl
 unmarked_put b (x ∷ bs) = refl
 
-pub unmarked_written : (i : ℕ) (b : List ℕ) (c : Blocks) → 0 < i → i ≤ length c → unmarked (written i b c) ≡ written i b (unmarked c)
-unmarked_written zero b c some le = absurd (omega arith)
-unmarked_written (suc i) b [] some le = absurd (omega arith)
-unmarked_written (suc i) b (x ∷ bs) some le = refl
-
 -- and torn
 torn_by : (i : ℕ) (b : List ℕ) (c : Blocks) → IsBlock b → Torn i (unmarked c) (unmarked (written i b c))
 torn_by i b [] is = inr (unmarked_gate b, unmarked_block b is, refl)
@@ -139,11 +125,6 @@ unmarked_torn i old new torn = ⊎_elim
     (λ (e : new ≡ old). inl (ap unmarked e))
     (λ (w : (b : List ℕ) × IsBlock b × (new ≡ written i b old)). subst (λ (c : Blocks). Torn i (unmarked old) (unmarked c)) (sym w.2) (torn_by i w.0 old w.1))
     torn
-
--- a block that is there, written as it is
-pub written_same : (b : List ℕ) (c : Blocks) → 0 < length c → block_at 0 c ≡ b → written 0 b c ≡ c
-written_same b [] some e = absurd (omega arith)
-written_same b (x ∷ bs) some e = ap (λ (y : List ℕ). y ∷ bs) (sym e)
 
 -- the mark stays where another block is torn, and is there where a gate with it was written
 length_written : (i : ℕ) (b : List ℕ) (c : Blocks) → 0 < length c → 0 < length (written i b c)
@@ -170,7 +151,3 @@ other_first (suc i) b (x ∷ bs) some there = refl
 
 pub marked_stays : (i : ℕ) (b : List ℕ) (c : Blocks) → 0 < i → IsMarked c → IsMarked (written i b c)
 marked_stays i b c some m = record { there = length_written i b c m.there; mark = ap (reads_as 2) (other_first i b c some m.there) ∙ m.mark }
-
-pub marked_written : (b : List ℕ) (c : Blocks) → reads_as 2 b ≡ true → IsMarked (written 0 b c)
-marked_written b [] e = record { there = omega arith; mark = e }
-marked_written b (x ∷ bs) e = record { there = omega arith; mark = e }

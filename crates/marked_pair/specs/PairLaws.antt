@@ -1,5 +1,5 @@
 -- How many blocks are shown.
-use Rattle.std.proofs.Common.{◌≡◌, ◌≤◌, ◌+◌, ◌^◌, ℕ, length, ap, arith}
+use Rattle.std.proofs.Common.{◌≡◌, ◌≤◌, ◌+◌, ◌^◌, length, ap, arith}
 use Rattle.block_device.specs.Device.{Blocks}
 use Rattle.marked_pair.specs.Mark.{unmarked}
 use Rattle.marked_pair.specs.MarkLaws.{length-unmarked}

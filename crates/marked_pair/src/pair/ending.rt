@@ -3,7 +3,7 @@ ghost use Rattle.std.specs.Prelude.{◌≡◌, ◌<◌, ◌↔◌, length, OnErr
 ghost use Rattle.block_device.specs.Device.{Blocks, Counts, Torn, block_at, written};
 ghost use Rattle.device_pair.specs.Pairs.{PairLeaves};
 ghost use Rattle.marked_pair.specs.Behind.{LeavesBase};
-ghost use Rattle.marked_pair.specs.Ended.{GateTorn};
+ghost use Rattle.marked_pair.specs.Shown.{GateTorn};
 ghost use Rattle.marked_pair.specs.Mark.{unmarked_gate};
 ghost use Rattle.marked_pair.specs.Pair.{base_of, disk_of, pair_of, past_of, IsHonest, IsQuiet, IsSameHere};
 

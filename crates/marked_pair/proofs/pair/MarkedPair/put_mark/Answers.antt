@@ -1,5 +1,5 @@
 -- The gate, with the mark.
-use Rattle.std.proofs.Common.{◌≡◌, ◌∙◌, true, ap}
+use Rattle.std.proofs.Common.{◌∙◌, ap}
 use Rattle.block_device.specs.Device.{block_at}
 use Rattle.marked_pair.specs.Mark.{reads_as}
 use Rattle.marked_pair.specs.MarkLaws.{marked_reads}
