@@ -1,11 +1,11 @@
 -- That what stands of the base is a fact, and that it does so after a write.
-use Rattle.std.proofs.Common.{◌≡◌, ◌∙◌, ℕ, zero, suc, ◌<◌, ◌≤◌, List, [], ◌∷◌, length, refl, ap, arith, ⊎_elim}
+use Rattle.std.proofs.Common.{◌≡◌, ◌∙◌, ℕ, zero, suc, ◌<◌, ◌≤◌, List, [], ◌∷◌, length, refl, sym, ap, subst, arith, inl, inr, ⊎_elim}
 use Rattle.std.proofs.Props.{props}
 use Rattle.block_device.specs.Device.{Blocks, IsBlock, Torn, block_at, written}
 use Rattle.block_device.specs.Written.{torn_length}
 use Rattle.device_pair.specs.Pairs.{BaseFollows}
-use Rattle.marked_pair.specs.Behind.{IsBehind, KeepsFirst, StaysAs}
-use Rattle.marked_pair.specs.Mark.{IsMarked}
+use Rattle.marked_pair.specs.Behind.{IsBehind, KeepsUnwritten, StaysAs, WasWritten}
+use Rattle.marked_pair.specs.Mark.{reads_as, IsMarked}
 use Rattle.marked_pair.specs.MarkLaws.{marked_torn}
 use Rattle.marked_pair.specs.declared.mark.Mark.{Mark}
 use Rattle.marked_pair.specs.declared.mark.Mark.TheVariants.{Unknown}
@@ -17,12 +17,12 @@ marked_is_fact a = hlevel props
 pub behind_is_fact : (mark : Mark) (base : Blocks) (may_leave : Blocks → Blocks → Type 0) → IsProp (IsBehind mark base may_leave)
 behind_is_fact mark base may_leave = hlevel (props, marked_is_fact)
 
-first_is_fact : (n : ℕ) (base a : Blocks) → IsProp (KeepsFirst n base a)
-first_is_fact n base a = hlevel props
+unwritten_is_fact : {P : Type 0} (writes : List (P × ℕ)) (n : ℕ) (base a : Blocks) → IsProp (KeepsUnwritten writes n base a)
+unwritten_is_fact writes n base a = hlevel props
 
-pub stays_is_fact : {P : Type 0} (base : P → Blocks) (may_leave : P → Blocks → Blocks → Type 0) (kept : ℕ) (past : List (P × ℕ)) (now : Blocks → Blocks → Type 0)
-    → IsProp (StaysAs base may_leave kept past now)
-stays_is_fact base may_leave kept past now = hlevel (props, first_is_fact)
+pub stays_is_fact : {P : Type 0} (base : P → Blocks) (may_leave : P → Blocks → Blocks → Type 0) (kept : ℕ) (first writes : List (P × ℕ)) (now : Blocks → Blocks → Type 0)
+    → IsProp (StaysAs base may_leave kept first writes now)
+stays_is_fact base may_leave kept first writes now = hlevel (props, unwritten_is_fact writes kept)
 
 -- where no mark is known
 pub behind_none : (base : Blocks) (may_leave : Blocks → Blocks → Type 0) → IsBehind Unknown base may_leave
@@ -49,20 +49,30 @@ torn_before i k old new torn lt apart = ⊎_elim
     (λ (w : (b : List ℕ) × IsBlock b × (new ≡ written i b old)). ap (block_at k) w.2 ∙ written_before i k w.0 old lt apart)
     torn
 
-first_torn : (n i : ℕ) (base old new : Blocks) → ((k : ℕ) → 0 < k → k < n → ¬ (k ≡ i)) → Torn i old new → KeepsFirst n base old → KeepsFirst n base new
-first_torn n i base old new apart torn keeps = record {
+keeps_torn : {P : Type 0} (writes writes' : List (P × ℕ)) (n i : ℕ) (base old new : Blocks) → ((k : ℕ) → k < n → ¬ WasWritten writes' k → (¬ (k ≡ i)) × (¬ WasWritten writes k)) → Torn i old new
+    → KeepsUnwritten writes n base old → KeepsUnwritten writes' n base new
+keeps_torn writes writes' n i base old new apart torn keeps = record {
   there = omega (arith, keeps.there, (torn_length i old new torn).0);
-  same = λ k some lt. torn_before i k old new torn (omega (arith, lt, keeps.there)) (apart k some lt) ∙ keeps.same k some lt;
+  same = λ k lt none.
+      let other = apart k lt none in
+      torn_before i k old new torn (omega (arith, lt, keeps.there)) other.0 ∙ keeps.same k lt other.1;
 }
 
-module _ {P : Type 0} (base : P → Blocks) (may_leave : P → Blocks → Blocks → Type 0) (kept : ℕ) (past : List (P × ℕ)) where
-  -- a call that tears the gate, or a block that was not there
-  pub stays_gate : (old new : Blocks → Blocks → Type 0) → BaseFollows (Torn 0) old new → StaysAs base may_leave kept past old → StaysAs base may_leave kept past new
-  stays_gate old new follows s p e lasts a b left =
+module _ {P : Type 0} (base : P → Blocks) (may_leave : P → Blocks → Blocks → Type 0) (kept : ℕ) (first : List (P × ℕ)) where
+  -- a call that tears a block that was not there
+  pub stays_behind : (writes : List (P × ℕ)) (i : ℕ) (old new : Blocks → Blocks → Type 0) → kept ≤ i → BaseFollows (Torn i) old new → StaysAs base may_leave kept first writes old → StaysAs base may_leave kept first writes new
+  stays_behind writes i old new behind follows s p e lasts a b left =
       let from = follows a b left in
-      first_torn kept 0 (base p) from.0 a (λ k some lt zero_is. omega (arith, some, zero_is)) from.2 (s p e lasts from.0 b from.1)
+      keeps_torn writes writes kept i (base p) from.0 a (λ k lt none. (λ is. omega (arith, lt, is, behind), none)) from.2 (s p e lasts from.0 b from.1)
 
-  pub stays_behind : (i : ℕ) (old new : Blocks → Blocks → Type 0) → kept ≤ i → BaseFollows (Torn i) old new → StaysAs base may_leave kept past old → StaysAs base may_leave kept past new
-  stays_behind i old new behind follows s p e lasts a b left =
+  -- and one that was
+  pub stays_but : (writes writes' : List (P × ℕ)) (q : P) (i : ℕ) (old new : Blocks → Blocks → Type 0) → writes' ≡ (q, i) ∷ writes → BaseFollows (Torn i) old new → StaysAs base may_leave kept first writes old
+      → StaysAs base may_leave kept first writes' new
+  stays_but writes writes' q i old new is follows s p e lasts a b left =
       let from = follows a b left in
-      first_torn kept i (base p) from.0 a (λ k some lt is. omega (arith, lt, is, behind)) from.2 (s p e lasts from.0 b from.1)
+      subst (λ (ws : List (P × ℕ)). KeepsUnwritten ws kept (base p) a) (sym is)
+      (keeps_torn writes ((q, i) ∷ writes) kept i (base p) from.0 a (λ k lt none. (λ same. none (inl (sym same)), λ w. none (inr w))) from.2 (s p e lasts from.0 b from.1))
+
+-- a mark that was found stays until its gate is written
+pub found_stays : {P : Type 0} (writes : List (P × ℕ)) (n : ℕ) (base a : Blocks) → 0 < n → ¬ WasWritten writes 0 → KeepsUnwritten writes n base a → IsMarked base → IsMarked a
+found_stays writes n base a some none keeps m = record { there = omega (arith, some, keeps.there); mark = ap (reads_as 2) (keeps.same 0 some none) ∙ m.mark }

@@ -50,10 +50,13 @@ may_leave_of {m = m} d = Shown (m.may_leave d.pair)
 abbrev pub left_since_of : {P : Type 0} {m : _} → MarkedPair P m → ℕ → Blocks → Blocks → Type 0
 left_since_of {m = m} d t = Shown (m.left_since d.pair t)
 
--- the pair before each write of a block that was there when it was taken over, but the gate, the newest first, and as it was
--- taken over
-abbrev pub past_of : {P : Type 0} {m : _} → MarkedPair P m → List (P × ℕ)
-past_of d = d.past.taken
+-- the pair as it was taken over, beside how many blocks there were
+abbrev pub first_of : {P : Type 0} {m : _} → MarkedPair P m → List (P × ℕ)
+first_of d = d.first.taken
+
+-- the pair before each write of a block that was there then, beside its number, the newest first
+abbrev pub writes_of : {P : Type 0} {m : _} → MarkedPair P m → List (P × ℕ)
+writes_of d = d.writes.taken
 
 -- No block was written, and a stop leaves nothing new.
 pub record IsQuiet {P : Type 0} {m : _} (old new : MarkedPair P m) : Type 0 where
@@ -68,7 +71,8 @@ pub record IsTorn {P : Type 0} {m : _} (i : ℕ) (old new : MarkedPair P m) : Ty
   pub stops : BaseFollows (Torn i) (m.may_leave old.pair) (m.may_leave new.pair)
   pub time : PairElapses (m.moment old.pair) (m.moment new.pair) (m.left_since old.pair) (m.left_since new.pair) (m.may_leave new.pair)
 
--- the same was refused here, and the same blocks were there
+-- It is of the same pair that was taken over, and no call was refused here.
 pub record IsSameHere {P : Type 0} {m : _} (old new : MarkedPair P m) : Type 0 where
   pub kept : kept_of new ≡ kept_of old
+  pub first : first_of new ≡ first_of old
   pub refusals : refusals_of new ≡ refusals_of old

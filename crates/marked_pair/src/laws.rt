@@ -1,11 +1,11 @@
 //! The laws of a pair behind a mark, each the contract of a function that does nothing.
-ghost use Rattle.std.specs.Prelude.{◌≡◌, ◌≤◌, ◌∷◌, [], Some, length};
+ghost use Rattle.std.specs.Prelude.{◌≡◌, ◌<◌, ◌≤◌, ◌∷◌, [], Some, length};
 ghost use Rattle.block_device.specs.Device.{Blocks};
 ghost use Rattle.page_file.specs.Opening.{IsRefused, failed_check};
 ghost use Rattle.page_file.specs.declared.fault.Fault.TheVariants.{NotClosed};
-ghost use Rattle.marked_pair.specs.Behind.{KeepsFirst, LeavesBase};
+ghost use Rattle.marked_pair.specs.Behind.{KeepsUnwritten, LeavesBase, WasWritten};
 ghost use Rattle.marked_pair.specs.Mark.{unmarked, IsMarked};
-ghost use Rattle.marked_pair.specs.Pair.{base_of, disk_of, kept_of, mark_of, pair_of, past_of, IsHonest};
+ghost use Rattle.marked_pair.specs.Pair.{base_of, disk_of, first_of, kept_of, mark_of, pair_of, writes_of, IsHonest};
 ghost use Rattle.marked_pair.specs.declared.mark.Mark.TheVariants.{Synced};
 ghost use Rattle.marked_pair.specs.declared.pair.MarkedPair.{MarkedPair};
 
@@ -20,13 +20,18 @@ pub fn a_base_behind_a_mark_is_refused<P: DevicePair>()
         P.may_leave (pair_of d) a b → 3 ≤ length a → failed_check a ≡ Some NotClosed }
 {}
 
-/// Where no block was written since the pair was taken over but the gate and blocks that were not there, a stop leaves
-/// the base alone with all other blocks as they were then, if a stop would have left the base as it was read then: if it
-/// was synced.
-pub fn without_a_write_blocks_stay<P: DevicePair>()
-    ensures { (d : MarkedPair P ⟦<P as DevicePair>⟧) (p : P) (a b : Blocks) → IsHonest d →
-        past_of d ≡ (p, kept_of d) ∷ [] → LeavesBase (P.base p) (P.may_leave p) → P.may_leave (pair_of d) a b →
-        KeepsFirst (kept_of d) (P.base p) a }
+/// Of the blocks that were there when the pair was taken over, a stop leaves those that were not written since as they were,
+/// if they were synced then: if a stop would have left the base as it was read.
+///
+/// So while no mark is known, where none was since, all stay but the gate. And a mark that was found stays, until its gate
+/// is written, so that opening refuses the base alone.
+pub fn blocks_that_are_not_written_stay<P: DevicePair>()
+    ensures blocks { (d : MarkedPair P ⟦<P as DevicePair>⟧) (p : P) (a b : Blocks) → IsHonest d →
+        first_of d ≡ (p, kept_of d) ∷ [] → LeavesBase (P.base p) (P.may_leave p) → P.may_leave (pair_of d) a b →
+        KeepsUnwritten (writes_of d) (kept_of d) (P.base p) a }
+    ensures mark { (d : MarkedPair P ⟦<P as DevicePair>⟧) (p : P) (a b : Blocks) → IsHonest d → 0 < kept_of d →
+        first_of d ≡ (p, kept_of d) ∷ [] → LeavesBase (P.base p) (P.may_leave p) → P.may_leave (pair_of d) a b →
+        IsMarked (P.base p) → ¬ WasWritten (writes_of d) 0 → IsRefused a }
 {}
 
 /// A base without a mark is shown as it is.

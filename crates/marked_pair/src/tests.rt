@@ -73,13 +73,25 @@ fn a_clean_end_takes_the_mark_away(rt: HostRuntime) -> Result<(), Fail> {
     write(&mut pair, 0, &gate(1))?;
     write(&mut pair, 2, &[7; 4096])?;
     pair.sync_base()?;
-    pair.begin_end();
-    write(&mut pair, 0, &gate(1))?;
-    pair.sync_base()?;
+    pair.end()?;
     assert_eq!(rt; write(&mut pair, 2, &[8; 4096]), Err(DeviceError::Failed));
     let mut left = pair.into_pair().after_stop(Left::Synced, Left::Synced);
     assert!(rt; read(&mut left, 0)? == gate(1));
     assert!(rt; read(&mut left, 2)? == [7; 4096]);
+    Ok(())
+}
+
+// Then the gate is written as it is told once.
+#[test]
+fn a_clean_end_is_begun(rt: HostRuntime) -> Result<(), Fail> {
+    let mut pair = MarkedPair::over(closed(rt.alloc())?);
+    pair.begin_end();
+    write(&mut pair, 0, &gate(1))?;
+    assert_eq!(rt; write(&mut pair, 1, &[7; 4096]), Err(DeviceError::Failed));
+    write(&mut pair, 0, &gate(1))?;
+    write(&mut pair, 1, &[7; 4096])?;
+    let mut left = pair.into_pair();
+    assert!(rt; read(&mut left, 0)? == gate(2));
     Ok(())
 }
 

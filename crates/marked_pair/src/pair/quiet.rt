@@ -2,7 +2,7 @@
 ghost use Rattle.std.specs.Prelude.{◌≡◌, ◌<◌, ◌↔◌, true, false, length, IfOk, OnErr, OnOk};
 ghost use Rattle.block_device.specs.Device.{Counts, block_at};
 ghost use Rattle.marked_pair.specs.Behind.{LeavesBase};
-ghost use Rattle.marked_pair.specs.Pair.{disk_of, mark_of, pair_of, past_of, IsHonest, IsQuiet, IsSameHere};
+ghost use Rattle.marked_pair.specs.Pair.{disk_of, mark_of, pair_of, writes_of, IsHonest, IsQuiet, IsSameHere};
 ghost use Rattle.marked_pair.specs.declared.mark.Mark.TheVariants.{Unknown, Synced};
 
 use crate::pair::MarkedPair;
@@ -17,7 +17,7 @@ impl<P: DevicePair + Drop> MarkedPair<P> {
         ensures synced { ¬ (mark_of self.old ≡ Unknown) → OnOk result (mark_of self.new ≡ Synced) }
         ensures quiet { IsHonest self.old → IsQuiet self.old self.new }
         ensures here { IsSameHere self.old self.new }
-        ensures past { past_of self.new ≡ past_of self.old }
+        ensures writes { writes_of self.new ≡ writes_of self.old }
         ensures honest { IsHonest self.old ↔ IsHonest self.new }
         ensures faults { Counts (P.faults (pair_of self.old)) (P.faults (pair_of self.new)) result }
     {
@@ -35,7 +35,7 @@ impl<P: DevicePair + Drop> MarkedPair<P> {
             ¬ (block_at 0 (disk_of self.old) ≡ gate.now)) }
         ensures quiet { IsHonest self.old → IsQuiet self.old self.new }
         ensures here { IsSameHere self.old self.new }
-        ensures past { past_of self.new ≡ past_of self.old }
+        ensures writes { writes_of self.new ≡ writes_of self.old }
         ensures honest { IsHonest self.old ↔ IsHonest self.new }
         ensures faults { Counts (P.faults (pair_of self.old)) (P.faults (pair_of self.new)) result }
     {

@@ -1,6 +1,6 @@
 //! How a pair is taken over, and given back.
 ghost use Rattle.std.specs.Prelude.{◌≡◌, ◌∷◌, [], true, false, length};
-ghost use Rattle.marked_pair.specs.Pair.{ending_of, kept_of, mark_of, pair_of, past_of, refusals_of};
+ghost use Rattle.marked_pair.specs.Pair.{ending_of, first_of, kept_of, mark_of, pair_of, refusals_of, writes_of, IsSameHere};
 ghost use Rattle.marked_pair.specs.declared.mark.Mark.TheVariants.{Unknown};
 
 use crate::Mark;
@@ -14,18 +14,20 @@ impl<P: DevicePair + Drop> MarkedPair<P> {
         ensures mark { mark_of result ≡ Unknown }
         ensures ending { ending_of result ≡ false }
         ensures kept { kept_of result ≡ length (P.base pair) }
-        ensures past { past_of result ≡ (pair, length (P.base pair)) ∷ [] }
+        ensures first { first_of result ≡ (pair, length (P.base pair)) ∷ [] }
+        ensures writes { writes_of result ≡ [] }
         ensures refusals { refusals_of result ≡ 0 }
     {
         let kept = pair.base_blocks();
-        let past = Snapshots::new().with(&pair, &kept);
+        let first = Snapshots::new().with(&pair, &kept);
         MarkedPair {
             pair,
             mark: Mark::Unknown,
             ending: false,
             kept,
             refusals: 0,
-            past,
+            first,
+            writes: Snapshots::new(),
         }
     }
 
@@ -34,8 +36,8 @@ impl<P: DevicePair + Drop> MarkedPair<P> {
         ensures ending { ending_of self.new ≡ true }
         ensures pair { pair_of self.new ≡ pair_of self.old }
         ensures mark { mark_of self.new ≡ mark_of self.old }
-        ensures past { past_of self.new ≡ past_of self.old }
-        ensures refusals { refusals_of self.new ≡ refusals_of self.old }
+        ensures writes { writes_of self.new ≡ writes_of self.old }
+        ensures here { IsSameHere self.old self.new }
     {
         self.ending = true;
     }

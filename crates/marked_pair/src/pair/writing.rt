@@ -4,7 +4,7 @@ ghost use Rattle.block_device.specs.Device.{Counts, Torn, block_at, one_more, wr
 ghost use Rattle.block_device.specs.declared.device.DeviceError.TheVariants.{Failed};
 ghost use Rattle.device_pair.specs.Pairs.{PairsNoMore};
 ghost use Rattle.marked_pair.specs.Mark.{marked, reads_as};
-ghost use Rattle.marked_pair.specs.Pair.{disk_of, faults_of, kept_of, mark_of, pair_of, past_of, refusals_of};
+ghost use Rattle.marked_pair.specs.Pair.{disk_of, faults_of, kept_of, mark_of, pair_of, writes_of, refusals_of};
 ghost use Rattle.marked_pair.specs.Pair.{IsHonest, IsSameHere, IsTorn};
 ghost use Rattle.marked_pair.specs.declared.mark.Mark.TheVariants.{Unknown, Written, Synced};
 
@@ -21,7 +21,7 @@ impl<P: DevicePair + Drop> MarkedPair<P> {
         ensures pair { pair_of self.new ≡ pair_of self.old }
         ensures kept { kept_of self.new ≡ kept_of self.old }
         ensures mark { mark_of self.new ≡ mark_of self.old }
-        ensures past { past_of self.new ≡ past_of self.old }
+        ensures writes { writes_of self.new ≡ writes_of self.old }
         ensures counted { refusals_of self.new ≡ one_more (refusals_of self.old) }
     {
         self.refusals = self.refusals.saturating_add(1);
@@ -35,10 +35,11 @@ impl<P: DevicePair + Drop> MarkedPair<P> {
         ensures tears { IsHonest self.old → IsTorn 0 self.old self.new }
         ensures mark { mark_of self.new ≡ Unknown }
         ensures here { IsSameHere self.old self.new }
-        ensures past { past_of self.new ≡ past_of self.old }
+        ensures writes { writes_of self.new ≡ (pair_of self.old, 0) ∷ writes_of self.old }
         ensures honest { IsHonest self.old ↔ IsHonest self.new }
         ensures faults { Counts (P.faults (pair_of self.old)) (P.faults (pair_of self.new)) result }
     {
+        self.writes = self.writes.with(&self.pair, &0);
         self.mark = Mark::Unknown;
         self.ending = false;
         self.pair.write_base(0, bytes)
@@ -52,7 +53,7 @@ impl<P: DevicePair + Drop> MarkedPair<P> {
         ensures tears { IsHonest self.old → IsTorn 0 self.old self.new }
         ensures mark { OnOk result (mark_of self.new ≡ Written) }
         ensures here { IsSameHere self.old self.new }
-        ensures past { past_of self.new ≡ past_of self.old }
+        ensures writes { writes_of self.new ≡ (pair_of self.old, 0) ∷ writes_of self.old }
         ensures honest { IsHonest self.old ↔ IsHonest self.new }
         ensures faults { Counts (P.faults (pair_of self.old)) (P.faults (pair_of self.new)) result }
     {
@@ -68,7 +69,7 @@ impl<P: DevicePair + Drop> MarkedPair<P> {
         ensures pair { pair_of self.new ≡ pair_of self.old }
         ensures mark { ¬ (mark_of self.new ≡ Unknown) }
         ensures here { IsSameHere self.old self.new }
-        ensures past { past_of self.new ≡ past_of self.old }
+        ensures writes { writes_of self.new ≡ writes_of self.old }
     {
         self.mark = self.mark.seen();
     }
@@ -85,7 +86,8 @@ impl<P: DevicePair + Drop> MarkedPair<P> {
             PairsNoMore (P.may_leave (pair_of self.old)) (P.may_leave (pair_of self.new)) }
         ensures mark { OnOk result (¬ (mark_of self.new ≡ Unknown)) }
         ensures here { IsSameHere self.old self.new }
-        ensures past { past_of self.new ≡ past_of self.old }
+        ensures unwritten { IsHonest self.old → 0 < length (disk_of self.old) →
+            block_at 0 (disk_of self.old) ≡ marked gate.now → writes_of self.new ≡ writes_of self.old }
         ensures honest { IsHonest self.old ↔ IsHonest self.new }
         ensures faults { Counts (P.faults (pair_of self.old)) (P.faults (pair_of self.new)) result }
     {
@@ -108,7 +110,7 @@ impl<P: DevicePair + Drop> MarkedPair<P> {
         ensures tears { IsHonest self.old → IsTorn i self.old self.new }
         ensures mark { mark_of self.new ≡ mark_of self.old }
         ensures here { IsSameHere self.old self.new }
-        ensures past { past_of self.new ≡ past_of self.old }
+        ensures writes { writes_of self.new ≡ writes_of self.old }
         ensures honest { IsHonest self.old ↔ IsHonest self.new }
         ensures faults { Counts (P.faults (pair_of self.old)) (P.faults (pair_of self.new)) result }
     {
@@ -127,11 +129,11 @@ impl<P: DevicePair + Drop> MarkedPair<P> {
         ensures tears { IsHonest self.old → IsTorn i self.old self.new }
         ensures mark { mark_of self.new ≡ mark_of self.old }
         ensures here { IsSameHere self.old self.new }
-        ensures past { past_of self.new ≡ (pair_of self.old, i) ∷ past_of self.old }
+        ensures writes { writes_of self.new ≡ (pair_of self.old, i) ∷ writes_of self.old }
         ensures honest { IsHonest self.old ↔ IsHonest self.new }
         ensures faults { Counts (P.faults (pair_of self.old)) (P.faults (pair_of self.new)) result }
     {
-        self.past = self.past.with(&self.pair, &i);
+        self.writes = self.writes.with(&self.pair, &i);
         self.pair.write_base(i, bytes)
     }
 

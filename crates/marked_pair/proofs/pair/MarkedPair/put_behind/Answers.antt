@@ -13,5 +13,5 @@ invariant_of-self g c =
           (marked_answer c.write_base.result c.args.i c.args.bytes.now (p.base d.pair) (p.base e) c.requires.second (w.written h) (w.torn h)) (w.stops h) (d.behind h);
       stays = λ h2.
           let h = w.honest.1 h2 in
-          stays_behind p.base p.may_leave d.kept d.past.taken c.args.i (p.may_leave d.pair) (p.may_leave e) c.requires.behind (w.stops h) (d.stays h);
+          stays_behind p.base p.may_leave d.kept d.first.taken d.writes.taken c.args.i (p.may_leave d.pair) (p.may_leave e) c.requires.behind (w.stops h) (d.stays h);
     }

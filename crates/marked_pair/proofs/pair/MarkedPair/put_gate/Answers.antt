@@ -1,5 +1,5 @@
 -- The gate, written as it is told.
-use Rattle.marked_pair.specs.BehindLaws.{behind_none, stays_gate}
+use Rattle.marked_pair.specs.BehindLaws.{behind_none, stays_but}
 use Rattle.marked_pair.proofs.pair.MarkedPair.put_gate.Goals as goal
 
 pub invariant_of-self : goal.invariant_of-self
@@ -9,5 +9,5 @@ invariant_of-self g c =
       behind = λ h2. behind_none (p.base e) (p.may_leave e);
       stays = λ h2.
           let h = w.honest.1 h2 in
-          stays_gate p.base p.may_leave d.kept d.past.taken (p.may_leave d.pair) (p.may_leave e) (w.stops h) (d.stays h);
+          stays_but p.base p.may_leave d.kept d.first.taken d.writes.taken c.with-self.result.taken d.pair 0 (p.may_leave d.pair) (p.may_leave e) c.with-self.ensures (w.stops h) (d.stays h);
     }
