@@ -1,2 +1,2 @@
 -- The files of lemmas.
-mod JointSteps
+mod BothSteps

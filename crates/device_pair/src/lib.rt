@@ -2,11 +2,11 @@
 #![tactic(auto)]
 
 mod fuse;
-mod memory;
 mod pair;
 mod snapshots;
+mod two_devices;
 
 pub use fuse::FusePair;
-pub use memory::MemoryPair;
 pub use pair::DevicePair;
 pub use snapshots::Snapshots;
+pub use two_devices::{MemoryPair, TwoDevices};

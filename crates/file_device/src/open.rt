@@ -87,8 +87,9 @@ fn made_or_opened<R: Files<File = File>>(
     opened(rt, path, OpenOptions::new().read(true).write(true))
 }
 
-// The folder is opened first: where it can't be, or would take the number of a standard stream, no file is made.
-fn made<R: Files<File = File>>(rt: &R, path: &str) -> Result<File, OpenError>
+// Opened and locked. An empty file is made where there is none, and in either case its folder is synced. The folder is
+// opened first: where it can't be, or would take the number of a standard stream, no file is made.
+pub(crate) fn made<R: Files<File = File>>(rt: &R, path: &str) -> Result<File, OpenError>
     ensures { IfOk result (λ f. IsOwnNumber (file_raw_fd f)) }
 {
     let Ok(folder) = File::open(rt, folder_of(path)) else {
@@ -150,7 +151,7 @@ fn locked(answer: Result<(), TryLockError>) -> Result<(), OpenError> {
 }
 
 // The folder that a path names a file in.
-fn folder_of(path: &str) -> &str {
+pub(crate) fn folder_of(path: &str) -> &str {
     match path.rsplit_once('/') {
         Some(("", _)) => "/",
         Some((folder, _)) => folder,

@@ -1,0 +1,17 @@
+-- A block that was not there, written.
+use Rattle.marked_pair.specs.BehindLaws.{behind_torn, stays_behind}
+use Rattle.marked_pair.proofs.Steps.{marked_answer}
+use Rattle.marked_pair.proofs.pair.MarkedPair.put_behind.Goals as goal
+
+pub invariant_of-self : goal.invariant_of-self
+invariant_of-self g c =
+    let d = c.args.self.now in let p = g.P.DevicePair in let e = c.write_base.new.self in let w = c.write_base.ensures in
+    record {
+      behind = λ h2.
+          let h = w.honest.1 h2 in
+          behind_torn d.mark c.args.i (p.base d.pair) (p.base e) (p.may_leave d.pair) (p.may_leave e) c.requires.second
+          (marked_answer c.write_base.result c.args.i c.args.bytes.now (p.base d.pair) (p.base e) c.requires.second (w.written h) (w.torn h)) (w.stops h) (d.behind h);
+      stays = λ h2.
+          let h = w.honest.1 h2 in
+          stays_behind p.base p.may_leave d.kept d.first.taken d.writes.taken c.args.i (p.may_leave d.pair) (p.may_leave e) c.requires.behind (w.stops h) (d.stays h);
+    }
