@@ -8,6 +8,7 @@ ghost use Rattle.file_device.specs.Host.{number_of, number_read};
 use crate::host::{HostFile, HostReader};
 use crate::{FileDevice, FileReader};
 use block_device::{BlockDevice, DeviceError};
+use std::alloc::AllocError;
 use std::fs::{self, File, Files, OpenOptions, TryLockError};
 use std::os::fd::AsRawFd;
 use thiserror::Error;
@@ -27,6 +28,18 @@ pub enum OpenError {
     /// It would take the number of a standard stream that is closed.
     #[error("a standard stream is closed")]
     ClosedStream,
+    /// The file beside it that has the name of its journal is no journal of it.
+    #[error("FILE-journal is no journal of FILE")]
+    NoJournal,
+    /// Memory was refused.
+    #[error("no memory")]
+    Memory,
+}
+
+impl From<AllocError> for OpenError {
+    fn from(_: AllocError) -> Self {
+        OpenError::Memory
+    }
 }
 
 impl From<DeviceError> for OpenError {

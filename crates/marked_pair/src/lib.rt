@@ -10,5 +10,5 @@ mod pair;
 #[cfg(test)]
 mod tests;
 
-pub use mark::Mark;
+pub use mark::{MARKED, Mark, SHUT};
 pub use pair::MarkedPair;

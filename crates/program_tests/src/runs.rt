@@ -23,7 +23,8 @@ fn run<I: Read, W: Write, E: Write>(
 ) -> u8 {
     let open = |path: &str, create: bool| open_file(rt, path, create);
     let read = |path: &str| open_reader(rt, path);
-    serve(rt.alloc(), words, open, read, input, output, errors)
+    let end = |_: &str, _: Written| {};
+    serve(rt.alloc(), words, open, read, end, input, output, errors)
 }
 
 // The status of a run with these words and this text, and whether it wrote these replies and said this.
@@ -277,6 +278,7 @@ fn each_refusal_of_a_file_is_told(rt: HostRuntime) -> Result<(), Fail> {
         ] {
             let open = |_: &str, _: bool| -> Result<Written, OpenError> { Err(error) };
             let read = |_: &str| -> Result<OnlyRead, OpenError> { Err(error) };
+            let end = |_: &str, _: Written| {};
             let mut input = FIRST.as_bytes();
             let mut output = Vec::new(rt.alloc());
             let mut errors = Vec::new(rt.alloc());
@@ -285,6 +287,7 @@ fn each_refusal_of_a_file_is_told(rt: HostRuntime) -> Result<(), Fail> {
                 words,
                 open,
                 read,
+                end,
                 &mut input,
                 &mut output,
                 &mut errors,

@@ -3,11 +3,15 @@
 
 use command_line::{greet, serve};
 use command_shell::tell_refusal;
-use file_device::{open_file, open_reader};
+use file_device::open_reader;
+use journaled_file::{end_journaled, open_journaled};
 use layer_store::Refusal;
 use std::io::{BufWriter, IsTerminal, Write};
 use std::process::ExitCode;
 use std::{env, io};
+
+// What is said where the last run over a file was cut short after a closing.
+const UNENDED: &[u8] = b"rstore: the last run did not end; what it had closed is kept\n";
 
 /// Runs on the words of the command line, standard input and standard output, and ends with the status of the run.
 fn main(rt: HostRuntime) -> ExitCode {
@@ -38,13 +42,23 @@ fn run(rt: &HostRuntime) -> io::Result<u8> {
     }
     let mut output = BufWriter::new(alloc, io::writer(rt))?;
     let mut input = rt.reader();
-    let open = |path: &str, create: bool| open_file(rt, path, create);
+    let open = |path: &str, create: bool| {
+        let (device, unended) = open_journaled(rt, alloc, path, create)?;
+        if unended {
+            let _ = rt.stderr().write_all(UNENDED);
+        }
+        Ok(device)
+    };
     let read = |path: &str| open_reader(rt, path);
+    let end = |path: &str, device| {
+        let _ = end_journaled(rt, alloc, path, device); // where it can't be, the next opening does it
+    };
     Ok(serve(
         alloc,
         words.as_slice(),
         open,
         read,
+        end,
         &mut input,
         &mut output,
         &mut errors,
