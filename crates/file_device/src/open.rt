@@ -28,8 +28,8 @@ pub enum OpenError {
     /// It would take the number of a standard stream that is closed.
     #[error("a standard stream is closed")]
     ClosedStream,
-    /// The file beside it that has the name of its journal is no journal of it.
-    #[error("FILE-journal is no journal of FILE")]
+    /// The file beside it that has the name of its journal is none, or is missing where it is needed.
+    #[error("FILE-journal is missing, or is no journal")]
     NoJournal,
     /// Memory was refused.
     #[error("no memory")]

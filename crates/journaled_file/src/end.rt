@@ -1,12 +1,12 @@
 //! How a run ends.
 
 use crate::JournaledFile;
-use block_bytes::{read_u8, write_u8, zero_block};
+use block_bytes::{write_u8, zero_block};
 use block_device::{BlockDevice, DeviceError};
 use device_pair::DevicePair;
 use file_device::{journal_path, remove_journal};
 use journaled_device::JournaledDevice;
-use marked_pair::{MARKED, SHUT};
+use marked_pair::{MARKED, SHUT, reads_as};
 use std::alloc::{Allocator, Global};
 use std::fs::{File, Files};
 
@@ -39,7 +39,7 @@ fn take_mark<P: DevicePair, A: Allocator + Copy>(
     }
     let mut gate = zero_block();
     base.read(0, &mut gate)?;
-    if read_u8(&gate, 8) != MARKED {
+    if !reads_as(&gate, MARKED) {
         return Ok(());
     }
     write_u8(&mut gate, 8, SHUT);

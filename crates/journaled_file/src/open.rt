@@ -1,11 +1,11 @@
 //! How a file and its journal are opened.
 
-use block_bytes::{read_u8, read_u64, zero_block};
+use block_bytes::{read_u64, zero_block};
 use block_device::{BlockDevice, DeviceError};
 use device_pair::TwoDevices;
 use file_device::{FileDevice, HostFile, OpenError, journal_path, open_file, remove_journal};
 use journaled_device::{JournaledDevice, OpenFault};
-use marked_pair::{MARKED, MarkedPair};
+use marked_pair::{MARKED, MarkedPair, reads_as};
 use std::alloc::Global;
 use std::fs::{File, Files};
 
@@ -34,8 +34,12 @@ pub fn open_journaled<R: Files<File = File>>(
     if base.blocks() == 0 {
         let _ = remove_journal(rt, name.as_str()); // a journal of no file
     }
-    let mut journal = open_file(rt, name.as_str(), true)?;
-    if !may_be_journal(&mut journal)? {
+    // A file that has the mark can't be read without its journal.
+    let mut journal = match open_file(rt, name.as_str(), !unended) {
+        Err(OpenError::Refused) if unended => return Err(OpenError::NoJournal),
+        opened => opened?,
+    };
+    if !is_journal(&mut journal, unended)? {
         return Err(OpenError::NoJournal);
     }
     let pair = MarkedPair::over(TwoDevices::of(base, journal));
@@ -53,14 +57,14 @@ fn is_marked<D: BlockDevice>(base: &mut D) -> Result<bool, DeviceError> {
     }
     let mut gate = zero_block();
     base.read(0, &mut gate)?;
-    Ok(read_u8(&gate, 8) == MARKED)
+    Ok(reads_as(&gate, MARKED))
 }
 
 // Whether the text of a journal is in one of the first two blocks, of which a stop tears one at most. With so few blocks
-// it may be one whose making was cut short.
-fn may_be_journal<D: BlockDevice>(journal: &mut D) -> Result<bool, DeviceError> {
-    if journal.blocks() <= 2 {
-        return Ok(true);
+// it may be one whose making was cut short, but beside a file that has the mark.
+fn is_journal<D: BlockDevice>(journal: &mut D, unended: bool) -> Result<bool, DeviceError> {
+    if journal.blocks() < 2 {
+        return Ok(!unended);
     }
     let mut block = zero_block();
     journal.read(0, &mut block)?;
@@ -68,5 +72,5 @@ fn may_be_journal<D: BlockDevice>(journal: &mut D) -> Result<bool, DeviceError> 
         return Ok(true);
     }
     journal.read(1, &mut block)?;
-    Ok(read_u64(&block, 0) == JOURNAL_TEXT)
+    Ok(read_u64(&block, 0) == JOURNAL_TEXT || (journal.blocks() == 2 && !unended))
 }

@@ -50,9 +50,9 @@ impl Mark {
     }
 }
 
-// Whether a block reads as a gate of this number.
+/// Whether a block reads as a gate of this number.
 #[tactic(auto, unfolding(crate::specs::Mark::reads_as))]
-pub(crate) fn reads_as(page: &[u8; 4096], number: u8) -> bool
+pub fn reads_as(page: &[u8; 4096], number: u8) -> bool
     ensures { result ≡ mark.reads_as number page.now }
 {
     read_u64(page, 0) == GATE_TEXT && read_u8(page, 8) == number

@@ -3,4 +3,6 @@
 #![tactic(auto)]
 
 #[cfg(test)]
+mod cut_short;
+#[cfg(test)]
 mod runs;
