@@ -9,17 +9,25 @@ use std::test::Fail;
 // The boxes of the tests.
 const BOX: RawBox = RawBox::Two([0, 0], [5, 5]);
 
+// Stops a test where it is not so.
+fn sure(holds: bool) -> Result<(), Fail> {
+    if holds {
+        return Ok(());
+    }
+    Err(Fail::from("not so"))
+}
+
 // A new store in a file, with one object that was closed and one that was not, cut short there.
 fn cut_short(rt: &HostRuntime, path: &str) -> Result<(), Fail> {
     let (device, unended) = open_journaled(rt, rt.alloc(), path, true)?;
-    assert!(rt; !unended);
+    sure(!unended)?;
     let Ok(mut store) = create_store(rt.alloc(), device, 8) else {
         return Err(Fail::from("no store"));
     };
-    assert!(rt; store.create(b"a", 2, 8).is_ok());
-    assert!(rt; store.insert(b"a", 1, BOX, 0).is_ok());
-    assert!(rt; store.reopen().is_ok());
-    assert!(rt; store.insert(b"a", 2, BOX, 0).is_ok());
+    sure(store.create(b"a", 2, 8).is_ok())?;
+    sure(store.insert(b"a", 1, BOX, 0).is_ok())?;
+    sure(store.reopen().is_ok())?;
+    sure(store.insert(b"a", 2, BOX, 0).is_ok())?;
     drop(store.abandon());
     Ok(())
 }
@@ -33,8 +41,8 @@ fn objects(rt: &HostRuntime, path: &str) -> Result<(u64, bool), Fail> {
     let Ok(count) = store.count(b"a") else {
         return Err(Fail::from("no layer"));
     };
-    assert!(rt; store.check().is_ok());
-    assert!(rt; end_journaled(rt, rt.alloc(), path, store.abandon()));
+    sure(store.check().is_ok())?;
+    sure(end_journaled(rt, rt.alloc(), path, store.abandon()))?;
     Ok((count, unended))
 }
 
