@@ -1,5 +1,5 @@
 //! How a block of the base is written.
-ghost use Rattle.std.specs.Prelude.{◌≡◌, ◌<◌, ◌≤◌, ◌^◌, ◌↔◌, ◌∷◌, true, length, Err, OnErr, OnOk};
+ghost use Rattle.std.specs.Prelude.{◌≡◌, ◌<◌, ◌≤◌, ◌^◌, ◌↔◌, ◌∷◌, true, false, length, Err, OnErr, OnOk};
 ghost use Rattle.block_device.specs.Device.{Counts, Torn, block_at, one_more, written};
 ghost use Rattle.block_device.specs.declared.device.DeviceError.TheVariants.{Failed};
 ghost use Rattle.device_pair.specs.Pairs.{PairsNoMore};
