@@ -5,7 +5,7 @@ ghost use Rattle.device_pair.specs.Pairs.{PairLeaves};
 ghost use Rattle.marked_pair.specs.Behind.{LeavesBase};
 ghost use Rattle.marked_pair.specs.Shown.{GateTorn};
 ghost use Rattle.marked_pair.specs.Mark.{unmarked_gate};
-ghost use Rattle.marked_pair.specs.Pair.{base_of, disk_of, pair_of, writes_of, IsHonest, IsQuiet, IsSameHere};
+ghost use Rattle.marked_pair.specs.Pair.{base_of, disk_of, ending_of, pair_of, writes_of, IsHonest, IsQuiet, IsSameHere};
 
 use crate::mark::unmark;
 use crate::pair::MarkedPair;
@@ -45,6 +45,7 @@ impl<P: DevicePair + Drop> MarkedPair<P> {
         ensures writes { writes_of self.new ≡ writes_of self.old }
         ensures honest { IsHonest self.old ↔ IsHonest self.new }
         ensures faults { Counts (P.faults (pair_of self.old)) (P.faults (pair_of self.new)) result }
+        ensures ending { ending_of self.new ≡ ending_of self.old }
     {
         self.pair.read_base(0, into)?;
         unmark(into);

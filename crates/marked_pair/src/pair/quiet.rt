@@ -2,7 +2,7 @@
 ghost use Rattle.std.specs.Prelude.{◌≡◌, ◌<◌, ◌↔◌, true, false, length, IfOk, OnErr, OnOk};
 ghost use Rattle.block_device.specs.Device.{Counts, block_at};
 ghost use Rattle.marked_pair.specs.Behind.{LeavesBase};
-ghost use Rattle.marked_pair.specs.Pair.{disk_of, mark_of, pair_of, writes_of, IsHonest, IsQuiet, IsSameHere};
+ghost use Rattle.marked_pair.specs.Pair.{disk_of, ending_of, mark_of, pair_of, writes_of, IsHonest, IsQuiet, IsSameHere};
 ghost use Rattle.marked_pair.specs.declared.mark.Mark.TheVariants.{Unknown, Synced};
 
 use crate::pair::MarkedPair;
@@ -20,6 +20,7 @@ impl<P: DevicePair + Drop> MarkedPair<P> {
         ensures writes { writes_of self.new ≡ writes_of self.old }
         ensures honest { IsHonest self.old ↔ IsHonest self.new }
         ensures faults { Counts (P.faults (pair_of self.old)) (P.faults (pair_of self.new)) result }
+        ensures ending { ending_of self.new ≡ ending_of self.old }
     {
         self.pair.sync_base()?;
         self.mark = self.mark.synced();
@@ -38,6 +39,7 @@ impl<P: DevicePair + Drop> MarkedPair<P> {
         ensures writes { writes_of self.new ≡ writes_of self.old }
         ensures honest { IsHonest self.old ↔ IsHonest self.new }
         ensures faults { Counts (P.faults (pair_of self.old)) (P.faults (pair_of self.new)) result }
+        ensures ending { ending_of self.new ≡ ending_of self.old }
     {
         if self.pair.base_blocks() == 0 {
             return Ok(false);

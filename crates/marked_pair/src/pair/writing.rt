@@ -1,10 +1,10 @@
 //! How a block of the base is written.
-ghost use Rattle.std.specs.Prelude.{◌≡◌, ◌<◌, ◌≤◌, ◌^◌, ◌↔◌, ◌∷◌, true, length, Err, OnErr, OnOk};
+ghost use Rattle.std.specs.Prelude.{◌≡◌, ◌<◌, ◌≤◌, ◌^◌, ◌↔◌, ◌∷◌, true, false, length, Err, OnErr, OnOk};
 ghost use Rattle.block_device.specs.Device.{Counts, Torn, block_at, one_more, written};
 ghost use Rattle.block_device.specs.declared.device.DeviceError.TheVariants.{Failed};
 ghost use Rattle.device_pair.specs.Pairs.{PairsNoMore};
 ghost use Rattle.marked_pair.specs.Mark.{marked, reads_as};
-ghost use Rattle.marked_pair.specs.Pair.{disk_of, faults_of, kept_of, mark_of, pair_of, writes_of, refusals_of};
+ghost use Rattle.marked_pair.specs.Pair.{disk_of, ending_of, faults_of, kept_of, mark_of, pair_of, writes_of, refusals_of};
 ghost use Rattle.marked_pair.specs.Pair.{IsHonest, IsSameHere, IsTorn};
 ghost use Rattle.marked_pair.specs.declared.mark.Mark.TheVariants.{Unknown, Written, Synced};
 
@@ -23,6 +23,7 @@ impl<P: DevicePair + Drop> MarkedPair<P> {
         ensures mark { mark_of self.new ≡ mark_of self.old }
         ensures writes { writes_of self.new ≡ writes_of self.old }
         ensures counted { refusals_of self.new ≡ one_more (refusals_of self.old) }
+        ensures ending { ending_of self.new ≡ ending_of self.old }
     {
         self.refusals = self.refusals.saturating_add(1);
         Err(DeviceError::Failed)
@@ -38,6 +39,7 @@ impl<P: DevicePair + Drop> MarkedPair<P> {
         ensures writes { writes_of self.new ≡ (pair_of self.old, 0) ∷ writes_of self.old }
         ensures honest { IsHonest self.old ↔ IsHonest self.new }
         ensures faults { Counts (P.faults (pair_of self.old)) (P.faults (pair_of self.new)) result }
+        ensures ending { ending_of self.new ≡ false }
     {
         self.writes = self.writes.with(&self.pair, &0);
         self.mark = Mark::Unknown;
@@ -113,6 +115,7 @@ impl<P: DevicePair + Drop> MarkedPair<P> {
         ensures writes { writes_of self.new ≡ writes_of self.old }
         ensures honest { IsHonest self.old ↔ IsHonest self.new }
         ensures faults { Counts (P.faults (pair_of self.old)) (P.faults (pair_of self.new)) result }
+        ensures ending { ending_of self.new ≡ ending_of self.old }
     {
         self.pair.write_base(i, bytes)
     }
@@ -132,6 +135,7 @@ impl<P: DevicePair + Drop> MarkedPair<P> {
         ensures writes { writes_of self.new ≡ (pair_of self.old, i) ∷ writes_of self.old }
         ensures honest { IsHonest self.old ↔ IsHonest self.new }
         ensures faults { Counts (P.faults (pair_of self.old)) (P.faults (pair_of self.new)) result }
+        ensures ending { ending_of self.new ≡ ending_of self.old }
     {
         self.writes = self.writes.with(&self.pair, &i);
         self.pair.write_base(i, bytes)
