@@ -10,8 +10,9 @@ use std::alloc::Global;
 use std::fs::{File, Files};
 
 /// A file with its journal, as a device that commits.
-pub type JournaledFile =
-    JournaledDevice<MarkedPair<TwoDevices<FileDevice<HostFile<File>>, FileDevice<HostFile<File>>>>>;
+pub type JournaledFile = JournaledDevice<
+    MarkedPair<TwoDevices<FileDevice<HostFile<File>>, FileDevice<HostFile<File>>>>,
+>;
 
 // The ASCII text RSTARJNL, with which a journal begins.
 const JOURNAL_TEXT: u64 = 0x5253_5441_524a_4e4c;
@@ -70,6 +71,9 @@ fn is_journal<D: BlockDevice>(journal: &mut D, unended: bool) -> Result<bool, De
     journal.read(0, &mut block)?;
     if read_u64(&block, 0) == JOURNAL_TEXT {
         return Ok(true);
+    }
+    if journal.blocks() < 2 {
+        return Ok(false);
     }
     journal.read(1, &mut block)?;
     Ok(read_u64(&block, 0) == JOURNAL_TEXT || (journal.blocks() == 2 && !unended))
