@@ -91,7 +91,7 @@ for made in "$program" "$program.by-rattle"; do
     ends 1 "$failed" "$made" </ >/dev/null
     ends 1 "$failed" "$made" <<<'create a 2 4' >/dev/full
     ends 0 '' "$made" --help </dev/null >replies
-    grep -q 'NotClosed' replies || wrong "--help says nothing of files that were not closed"
+    grep -q 'FILE-journal' replies || wrong "--help says nothing of the journal"
     ends 1 "$failed" "$made" --help </dev/null >/dev/full
     ends 0 '' "$made" --version </dev/null >replies
 
