@@ -1,13 +1,14 @@
 #!/usr/bin/env python3
-"""Kills runs of the program by `kill -9` at random moments of a session with closings, and opens the file again.
+"""Kills runs of the program at random moments of a session with closings, and opens the file again.
 
-Each time it must hold a table that was closed, and none older than that of the last `ok` of a `reopen` that was read; or
-be refused as NotClosed. Each run inserts the same objects in the same order, so that a table is known by its count.
+Each time it must hold a table that was closed, and none older than that of the last `ok` of a `reopen` that was read: it
+is never refused. Each run inserts the same objects in the same order, so that a table is known by its count.
 
 kill.py PROGRAM KILLS SEED
 """
 import os
 import random
+import signal
 import subprocess
 import sys
 import tempfile
@@ -17,7 +18,8 @@ import time
 BATCH = 100  # inserts between two closings
 BATCHES = 40
 WHOLE = "window a -2147483648 -2147483648 2147483647 2147483647\n"
-NOT_CLOSED = "rstore: fail 20 NotClosed\n"
+UNENDED = "rstore: the last run did not end; what it had closed is kept\n"
+SIGNALS = [signal.SIGKILL, signal.SIGINT, signal.SIGTERM]
 
 
 def insert(ident):
@@ -65,7 +67,7 @@ def killed(program, file, closed, moment):
     for thread in threads:
         thread.start()
     time.sleep(moment)
-    child.kill()
+    child.send_signal(random.choice(SIGNALS))
     for thread in threads:
         thread.join()
     child.wait()
@@ -95,19 +97,14 @@ def main():
             batches = replies // (BATCH + 1)
             told = counts[batches - 1] if batches > 0 else closed
             status, rows, said = run(program, [file], WHOLE)
-            if status == 0:
-                idents = [int(row.split()[0]) for row in rows.split("\n")[1:] if row]
-                held = len(idents)
-                if idents != list(range(1, held + 1)) or held < told or held not in [closed, *counts]:
-                    sys.exit(f"tests/kill.py: {held} objects, {told} were told closed, seed {seed}")
-                closed = held
-                what = "opened"
-            elif (status, rows, said) == (1, "", NOT_CLOSED):
-                make(program, file)
-                closed = 0
-                what = "not closed"
-            else:
+            if status != 0 or said not in ["", UNENDED] or os.path.exists(file + "-journal"):
                 sys.exit(f"tests/kill.py: status {status}, {rows}{said}seed {seed}")
+            idents = [int(row.split()[0]) for row in rows.split("\n")[1:] if row]
+            held = len(idents)
+            if idents != list(range(1, held + 1)) or held < told or held not in [closed, *counts]:
+                sys.exit(f"tests/kill.py: {held} objects, {told} were told closed, seed {seed}")
+            closed = held
+            what = "brought back" if said else "opened"
             tally[what] = tally.get(what, 0) + 1
             if closed > 20000:
                 make(program, file)

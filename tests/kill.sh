@@ -1,8 +1,8 @@
 #!/usr/bin/env bash
-# Kills 20 runs of the program at random moments, and looks at what the next opening gives (tests/kill.py). A number
+# Kills 200 runs of the program at random moments, and looks at what the next opening gives (tests/kill.py). A number
 # after the script's name is how many runs are killed, and one after that the seed of the moments.
 set -eu
 cd "$(dirname "$0")/.."
 program=crates/rstore/out/rstore
 [ -x "$program" ] || ./rstore </dev/null >/dev/null
-exec python3 tests/kill.py "$program" "${1:-20}" "${2:-$RANDOM}"
+exec python3 tests/kill.py "$program" "${1:-200}" "${2:-$RANDOM}"
