@@ -80,6 +80,7 @@ kills() {
 unopened='rstore: cannot open the file'
 failed='rstore: input or output failed'
 in_use='rstore: FILE is in use'
+unended='rstore: the last run did not end; what it had closed is kept'
 closed_stream='rstore: a standard stream is closed'
 readers='1 2 3 4 5 6 7 8 9 10'
 
@@ -162,7 +163,14 @@ for made in "$program" "$program.by-rattle"; do
     refused _ _ new "$made" --create new
     refused _ _ new "$made" --read-only new
     kills maker
+    line='rstore: FILE-journal is missing, or is no journal'
+    mv new-journal aside
+    refused _ _ new "$made" new
+    mv aside new-journal
+    ends 0 "$unended" "$made" new <<<'layers' >/dev/null
     ends 0 '' "$made" new <<<'layers' >/dev/null
+    [ ! -e new-journal ] || wrong "a run that ended left its journal"
+    line=$in_use
     holds writer "$made" store
     kills writer
     ends 0 '' "$made" store <<<'window a 0 0 1 1' >/dev/null
