@@ -71,7 +71,12 @@ fn a_file_is_not_read_without_its_journal(rt: HostRuntime) -> Result<(), Fail> {
     }
     let bytes = fs::read(&rt, journal)?;
     fs::remove_file(&rt, journal)?;
-    assert!(rt; matches!(open_journaled(&rt, rt.alloc(), path, false), Err(OpenError::NoJournal)));
+    assert!(rt;
+        matches!(
+            open_journaled(&rt, rt.alloc(), path, false),
+            Err(OpenError::NoJournal)
+        )
+    );
     assert!(rt; !fs::exists(&rt, journal)?);
     fs::write(&rt, journal, bytes.as_slice())?;
     assert_eq!(rt; objects(&rt, path)?, (1, true));
@@ -88,7 +93,12 @@ fn what_is_no_journal_is_not_written(rt: HostRuntime) -> Result<(), Fail> {
     cut_short(&rt, path)?;
     assert_eq!(rt; objects(&rt, path)?, (1, true));
     fs::write(&rt, journal, [b'a'; 9000].as_slice())?;
-    assert!(rt; matches!(open_journaled(&rt, rt.alloc(), path, false), Err(OpenError::NoJournal)));
+    assert!(rt;
+        matches!(
+            open_journaled(&rt, rt.alloc(), path, false),
+            Err(OpenError::NoJournal)
+        )
+    );
     assert!(rt; fs::read(&rt, journal)?.as_slice() == [b'a'; 9000].as_slice());
     fs::remove_file(&rt, journal)?;
     assert_eq!(rt; objects(&rt, path)?, (1, false));
