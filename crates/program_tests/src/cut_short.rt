@@ -1,8 +1,9 @@
 //! Runs over a file with its journal that are cut short: nothing that was closed is lost.
 
+use block_device::BlockDevice;
 use file_device::{OpenError, open_file};
-use journaled_file::{JournaledFile, end_journaled, open_journaled};
-use layer_store::{RawBox, Refusal, Store, create_store, open_store};
+use journaled_file::{end_journaled, open_journaled};
+use layer_store::{RawBox, Refusal, create_store, open_store};
 use std::fs;
 use std::test::Fail;
 
@@ -20,7 +21,9 @@ fn sure(holds: bool) -> Result<(), Fail> {
 // A new store in a file, with one object that was closed and one that was not, cut short there.
 fn cut_short(rt: &HostRuntime, path: &str) -> Result<(), Fail> {
     let (device, unended) = open_journaled(rt, rt.alloc(), path, true)?;
-    sure(!unended)?;
+    if unended || device.blocks() != 0 {
+        return Err(Fail::from("no new file"));
+    }
     let Ok(mut store) = create_store(rt.alloc(), device, 8) else {
         return Err(Fail::from("no store"));
     };
