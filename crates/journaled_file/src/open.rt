@@ -21,8 +21,8 @@ const JOURNAL_TEXT: u64 = 0x5253_5441_524a_4e4c;
 /// `create` an empty file is made where there is none.
 ///
 /// Both are locked until they are closed. What a run that was cut short had closed is brought back; the answer says
-/// whether such a run had closed anything and not ended. Where the file is refused, or its journal is none, nothing is
-/// written into either.
+/// whether such a run had closed anything and not ended. Beside a file without blocks a journal is removed first. Where
+/// the journal is none, nothing is written into either.
 pub fn open_journaled<R: Files<File = File>>(
     rt: &R,
     alloc: Global,
