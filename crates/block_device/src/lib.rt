@@ -15,4 +15,3 @@ pub use device::{BlockDevice, DeviceError};
 pub use fuse::{FuseDevice, FuseMode};
 pub use left::Left;
 pub use memory::MemoryDevice;
-pub use past::Past;

@@ -18,7 +18,7 @@ impl Model for Past {
 
 impl Past {
     /// No event yet.
-    pub fn new() -> Past
+    pub(crate) fn new() -> Past
         ensures { result.notes ≡ [] }
     {
         Past {
@@ -27,7 +27,7 @@ impl Past {
     }
 
     /// Adds an event, which costs nothing.
-    pub fn note(&mut self, _numbers: &[u64], _bytes: &[u8])
+    pub(crate) fn note(&mut self, _numbers: &[u64], _bytes: &[u8])
         ensures { self.new.notes ≡ note_of _numbers.now _bytes.now ∷ self.old.notes }
     {}
 
