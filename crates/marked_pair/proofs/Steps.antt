@@ -21,6 +21,13 @@ pub shown_torn : (r : Result (Unit {0}) DeviceError) (i : ℕ) (old new : Blocks
 shown_torn (Ok u) i old new err = tt
 shown_torn (Err u) i old new err = unmarked_torn i old new err
 
+-- the same after calls that left the base as it was
+pub shown_gate_from : (r : Result (Unit {0}) DeviceError) (x b : List ℕ) (old mid new : Blocks) → mid ≡ old → unmarked_gate x ≡ b → OnOk r (new ≡ written 0 x mid) → OnOk r (unmarked new ≡ written 0 b (unmarked old))
+shown_gate_from r x b old mid new same e ok = shown_gate r x b old new e (subst (λ (c : Blocks). OnOk r (new ≡ written 0 x c)) same ok)
+
+pub shown_torn_from : (r : Result (Unit {0}) DeviceError) (i : ℕ) (old mid new : Blocks) → mid ≡ old → OnErr r (Torn i mid new) → OnErr r (Torn i (unmarked old) (unmarked new))
+shown_torn_from r i old mid new same err = shown_torn r i old new (subst (λ (c : Blocks). OnErr r (Torn i c new)) same err)
+
 -- a block that does not read as a gate with the mark
 pub plain : (t : Bool) (b : List ℕ) → t ≡ reads_as 2 b → t ≡ false → unmarked_gate b ≡ b
 plain t b is isnt = unmarked_plain b (λ (e : reads_as 2 b ≡ true). let never : true ≡ false = sym e ∙ sym is ∙ isnt in cc)

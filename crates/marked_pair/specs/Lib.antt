@@ -3,6 +3,7 @@ pub mod Mark
 pub mod Shown
 pub mod Behind
 -- Lemmas on them, which ghost laws and laws cite.
+pub mod GateBlock
 pub mod MarkLaws
 pub mod Refused
 pub mod ShownLaws

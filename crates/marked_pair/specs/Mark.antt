@@ -1,20 +1,16 @@
 -- The mark: the gate's byte from a session's first commit to its clean end (our format, docs/FORMAT.md, "The gate").
 use Rattle.std.specs.Prelude.{◌≡◌, ◌<◌, ℕ, Bool, true, ◌&&◌, ◌==◌, if◌then◌else◌, List, [], ◌∷◌, length}
 use Rattle.block_device.specs.Device.{Blocks, block_at}
-use Rattle.block_bytes.specs.Numbers.{number_at, put_number}
-use Rattle.page_file.specs.Layout.{gate_text}
+use Rattle.block_bytes.specs.Numbers.{number_at}
+use Rattle.page_file.specs.Layout.{gate_block, gate_text}
 
 -- whether a block reads as a gate of this number: 0 open, 1 shut, 2 marked
 unfoldable pub reads_as : ℕ → List ℕ → Bool
 reads_as n block = number_at 8 0 block == gate_text && number_at 1 8 block == n
 
--- a gate with the mark
-unfoldable pub marked : List ℕ → List ℕ
-marked block = put_number 1 8 2 block
-
 -- block 0 as it is shown: a gate with the mark as a shut one
 unfoldable pub unmarked_gate : List ℕ → List ℕ
-unmarked_gate block = if reads_as 2 block then put_number 1 8 1 block else block
+unmarked_gate block = if reads_as 2 block then gate_block 1 else block
 
 -- the blocks as they are shown
 abbrev pub unmarked : Blocks → Blocks

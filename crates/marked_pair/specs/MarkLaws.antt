@@ -4,12 +4,13 @@ use Rattle.std.specs.List.{All}
 use Rattle.std.proofs.lemmas.Bool.{cases_eq, cases_lt}
 use Rattle.std.proofs.lemmas.Bool.Decides.{nat_tests}
 use Rattle.std.proofs.lemmas.List.{ext_get_or}
-use Rattle.block_bytes.specs.Numbers.{number_at, put_number, IsApart}
-use Rattle.block_bytes.specs.Laws.{byte_at, length-put, number_at-put, number_at-put_other}
+use Rattle.block_bytes.specs.Numbers.{zeros, number_at, put_number}
+use Rattle.block_bytes.specs.Laws.{length-put, length-zeros, number_at-put, number_at-put_other}
 use Rattle.block_device.specs.Device.{Blocks, IsBlock, Torn, block_at, written}
-use Rattle.page_file.specs.Layout.{gate_text}
+use Rattle.page_file.specs.Layout.{gate_block, gate_text}
+use Rattle.marked_pair.specs.GateBlock.{gate_is_block}
 use Rattle.page_file.specs.Written.{first_torn}
-use Rattle.marked_pair.specs.Mark.{marked, reads_as, unmarked, unmarked_gate, IsMarked}
+use Rattle.marked_pair.specs.Mark.{reads_as, unmarked, unmarked_gate, IsMarked}
 
 both : (s t : Bool) → (s && t) ≡ true → (s ≡ true) × (t ≡ true)
 both true t e = (refl, e)
@@ -31,67 +32,36 @@ reads_so n b text byte =
     let t1 : (number_at 1 8 b == n) ≡ true = grind (arith, nat_tests) in
     ap (λ (s : Bool). s && (number_at 1 8 b == n)) t0 ∙ t1
 
-other_byte : (k : ℕ) → ¬ (k ≡ 8) → IsApart 1 k 1 8
-other_byte k apart = ⊎_elim (λ (lt : k < 8). inl (omega arith)) (λ (ge : 8 ≤ k). inr (omega (arith, apart))) (cases_lt k 8)
+-- the gate with this number reads so
+pub gate_reads : (n : ℕ) → n < 256 → reads_as n (gate_block n) ≡ true
+unfolding gate_block
+gate_reads n small =
+    let t = put_number 8 0 gate_text zeros in
+    let size : length t ≡ 4096 = length-put 8 0 gate_text zeros (omega (arith, length-zeros)) ∙ length-zeros in
+    reads_so n (put_number 1 8 n t)
+    (number_at-put_other 8 0 1 8 n t (omega (arith, size)) (inl (omega arith)) ∙ number_at-put 8 0 gate_text zeros (omega (arith, length-zeros)) (lit< tt))
+    (number_at-put 1 8 n t (omega (arith, size)) small)
 
-same_bytes : (a b : List ℕ) → length a ≡ 4096 → length b ≡ 4096 → ((k : ℕ) → number_at 1 k a ≡ number_at 1 k b) → a ≡ b
-same_bytes a b la lb same = ext_get_or 0 a b (la ∙ sym lb) (λ k lt. byte_at k a ∙ same k ∙ sym (byte_at k b))
-
-size : (x : ℕ) (b : List ℕ) → length b ≡ 4096 → length (put_number 1 8 x b) ≡ 4096
-size x b is = length-put 1 8 x b (omega (arith, is)) ∙ is
-
-there : (x : ℕ) (b : List ℕ) → length b ≡ 4096 → x < 256 → number_at 1 8 (put_number 1 8 x b) ≡ x
-there x b is small = number_at-put 1 8 x b (omega (arith, is)) small
-
-other : (k x : ℕ) (b : List ℕ) → length b ≡ 4096 → ¬ (k ≡ 8) → number_at 1 k (put_number 1 8 x b) ≡ number_at 1 k b
-other k x b is apart = number_at-put_other 1 k 1 8 x b (omega (arith, is)) (other_byte k apart)
-
--- a gate with the mark reads so
-pub marked_reads : (b : List ℕ) → length b ≡ 4096 → reads_as 1 b ≡ true → reads_as 2 (marked b) ≡ true
-unfolding marked
-marked_reads b is shut =
-    let g = gate_bytes 1 b shut in
-    reads_so 2 (put_number 1 8 2 b) (number_at-put_other 8 0 1 8 2 b (omega (arith, is)) (inl (omega arith)) ∙ g.0) (there 2 b is (lit< tt))
-
-put_back : (b : List ℕ) → length b ≡ 4096 → reads_as 1 b ≡ true → put_number 1 8 1 (marked b) ≡ b
-unfolding marked
-put_back b is shut =
-    let m = put_number 1 8 2 b in
-    same_bytes (put_number 1 8 1 m) b (size 1 m (size 2 b is)) is (λ k. ⊎_elim
-    (λ (e : k ≡ 8). subst (λ (j : ℕ). number_at 1 j (put_number 1 8 1 m) ≡ number_at 1 j b) (sym e) (there 1 m (size 2 b is) (lit< tt) ∙ sym (gate_bytes 1 b shut).1))
-    (λ (apart : ¬ (k ≡ 8)). other k 1 m (size 2 b is) apart ∙ other k 2 b is apart)
-    (cases_eq k 8))
-
--- and is shown as the shut gate
-pub unmarked_marked : (b : List ℕ) → length b ≡ 4096 → reads_as 1 b ≡ true → unmarked_gate (marked b) ≡ b
+-- one with the mark is shown as a shut gate
+pub unmarked_marked : (b : List ℕ) → reads_as 2 b ≡ true → unmarked_gate b ≡ gate_block 1
 unfolding unmarked_gate
-unmarked_marked b is shut =
-    ap (λ (t : Bool). cond t (put_number 1 8 1 (marked b)) (marked b)) (marked_reads b is shut) ∙ put_back b is shut
+unmarked_marked b m = ap (λ (t : Bool). cond t (gate_block 1) b) m
 
 -- a block without the mark is shown as it is
 pub unmarked_plain : (b : List ℕ) → ¬ (reads_as 2 b ≡ true) → unmarked_gate b ≡ b
 unfolding unmarked_gate
 unmarked_plain b none = case (reads_as 2 b) none
   where
-    case : (t : Bool) → ¬ (t ≡ true) → cond t (put_number 1 8 1 b) b ≡ b
+    case : (t : Bool) → ¬ (t ≡ true) → cond t (gate_block 1) b ≡ b
     case true none = absurd (none refl)
     case false none = refl
-
-fits : (b : List ℕ) → IsBlock b → (k : ℕ) → number_at 1 k (put_number 1 8 1 b) < 256
-fits b is k = ⊎_elim
-    (λ (e : k ≡ 8). subst (λ (j : ℕ). number_at 1 j (put_number 1 8 1 b) < 256) (sym e) (omega (arith, there 1 b is.size (lit< tt))))
-    (λ (apart : ¬ (k ≡ 8)). omega (arith, other k 1 b is.size apart, byte_at k b, is.bytes_fit k))
-    (cases_eq k 8)
-
-shut_block : (b : List ℕ) → IsBlock b → IsBlock (put_number 1 8 1 b)
-shut_block b is = record { size = size 1 b is.size; bytes_fit = λ k. subst (λ (n : ℕ). n < 256) (sym (byte_at k (put_number 1 8 1 b))) (fits b is k) }
 
 pub unmarked_block : (b : List ℕ) → IsBlock b → IsBlock (unmarked_gate b)
 unfolding unmarked_gate
 unmarked_block b is = case (reads_as 2 b)
   where
-    case : (t : Bool) → IsBlock (cond t (put_number 1 8 1 b) b)
-    case true = shut_block b is
+    case : (t : Bool) → IsBlock (cond t (gate_block 1) b)
+    case true = gate_is_block 1
     case false = is
 
 -- so of blocks
@@ -151,3 +121,12 @@ other_first (suc i) b (x ∷ bs) some there = refl
 
 pub marked_stays : (i : ℕ) (b : List ℕ) (c : Blocks) → 0 < i → IsMarked c → IsMarked (written i b c)
 marked_stays i b c some m = record { there = length_written i b c m.there; mark = ap (reads_as 2) (other_first i b c some m.there) ∙ m.mark }
+
+-- blocks with the mark, as they are shown, and as it is written
+pub shown_marked : (c : Blocks) → IsMarked c → unmarked c ≡ written 0 (gate_block 1) (unmarked c)
+shown_marked [] m = absurd (omega (arith, m.there))
+shown_marked (b ∷ bs) m = ap (λ (x : List ℕ). x ∷ bs) (unmarked_marked b m.mark)
+
+pub marked_written : (c : Blocks) → IsMarked (written 0 (gate_block 2) c)
+marked_written [] = record { there = omega arith; mark = gate_reads 2 (lit< tt) }
+marked_written (b ∷ bs) = record { there = omega arith; mark = gate_reads 2 (lit< tt) }

@@ -1,5 +1,5 @@
 -- A pair behind a mark as its contracts see it.
-use Rattle.std.specs.Prelude.{◌≡◌, ℕ, Bool, List}
+use Rattle.std.specs.Prelude.{◌≡◌, ℕ, List}
 use Rattle.block_device.specs.Device.{Blocks, Torn}
 use Rattle.block_device.specs.Fuse.{faults_with}
 use Rattle.device_pair.specs.Pairs.{BaseFollows, PairElapses, PairsNoMore}
@@ -27,10 +27,6 @@ base_of d = unmarked (disk_of d)
 abbrev pub mark_of : {P : Type 0} {m : _} → MarkedPair P m → Mark
 mark_of d = d.mark
 
--- whether the gate is written next by a clean end
-abbrev pub ending_of : {P : Type 0} {m : _} → MarkedPair P m → Bool
-ending_of d = d.ending
-
 -- how many blocks there were when the pair was taken over
 abbrev pub kept_of : {P : Type 0} {m : _} → MarkedPair P m → ℕ
 kept_of d = d.kept
@@ -53,10 +49,6 @@ left_since_of {m = m} d t = Shown (m.left_since d.pair t)
 -- the pair as it was taken over, beside how many blocks there were
 abbrev pub first_of : {P : Type 0} {m : _} → MarkedPair P m → List (P × ℕ)
 first_of d = d.first.taken
-
--- the pair before each write of a block that was there then, beside its number, the newest first
-abbrev pub writes_of : {P : Type 0} {m : _} → MarkedPair P m → List (P × ℕ)
-writes_of d = d.writes.taken
 
 -- No block was written, and a stop leaves nothing new.
 pub record IsQuiet {P : Type 0} {m : _} (old new : MarkedPair P m) : Type 0 where

@@ -10,5 +10,5 @@ mod pair;
 #[cfg(test)]
 mod tests;
 
-pub use mark::{MARKED, Mark, SHUT, reads_as};
+pub use mark::{MARKED, Mark, SHUT, gate_page, reads_as};
 pub use pair::MarkedPair;

@@ -1,9 +1,10 @@
 //! The mark in the gate's block.
 ghost use Rattle.std.specs.Prelude.{◌≡◌, ◌<◌};
+ghost use Rattle.page_file.specs.Layout.{gate_block};
 ghost use Rattle.marked_pair.specs.Mark as mark;
 ghost use Rattle.marked_pair.specs.declared.mark.Mark.TheVariants.{Unknown, Written, Synced};
 
-use block_bytes::{read_u8, read_u64, write_u8};
+use block_bytes::{read_u8, read_u64, write_u8, write_u64, zero_block};
 
 // The ASCII text RSTARGAT, with which a gate begins.
 const GATE_TEXT: u64 = 0x5253_5441_5247_4154;
@@ -58,14 +59,15 @@ pub fn reads_as(page: &[u8; 4096], number: u8) -> bool
     read_u64(page, 0) == GATE_TEXT && read_u8(page, 8) == number
 }
 
-// The gate with the mark.
-#[tactic(auto, unfolding(crate::specs::Mark::marked))]
-pub(crate) fn with_mark(page: &[u8; 4096]) -> [u8; 4096]
-    ensures { result ≡ mark.marked page.now }
+/// The block of a gate with this number.
+#[tactic(auto, unfolding(page_file::specs::Layout::gate_block))]
+pub fn gate_page(number: u8) -> [u8; 4096]
+    ensures { result ≡ gate_block number }
 {
-    let mut marked = *page;
-    write_u8(&mut marked, 8, MARKED);
-    marked
+    let mut page = zero_block();
+    write_u64(&mut page, 0, GATE_TEXT);
+    write_u8(&mut page, 8, number);
+    page
 }
 
 // Makes a gate with the mark a shut one.
@@ -74,6 +76,6 @@ pub(crate) fn unmark(page: &mut [u8; 4096])
     ensures { page.new ≡ mark.unmarked_gate page.old }
 {
     if reads_as(page, MARKED) {
-        write_u8(page, 8, SHUT);
+        *page = gate_page(SHUT);
     }
 }

@@ -50,6 +50,9 @@ impl<P: DevicePair + Drop> DevicePair for MarkedPair<P> {
     }
 
     fn write_journal(&mut self, i: u32, bytes: &[u8; 4096]) -> Result<(), DeviceError> {
+        if self.is_early(i) {
+            return self.refuse();
+        }
         self.pair.write_journal(i, bytes)
     }
 

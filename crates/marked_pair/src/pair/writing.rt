@@ -1,15 +1,15 @@
 //! How a block of the base is written.
-ghost use Rattle.std.specs.Prelude.{◌≡◌, ◌<◌, ◌≤◌, ◌^◌, ◌↔◌, ◌∷◌, true, false, length, Err, OnErr, OnOk};
-ghost use Rattle.block_device.specs.Device.{Counts, Torn, block_at, one_more, written};
+ghost use Rattle.std.specs.Prelude.{◌≡◌, ◌<◌, ◌≤◌, ◌^◌, ◌↔◌, true, length, Err, OnErr, OnOk};
+ghost use Rattle.block_device.specs.Device.{Counts, Torn, one_more, written};
 ghost use Rattle.block_device.specs.declared.device.DeviceError.TheVariants.{Failed};
-ghost use Rattle.device_pair.specs.Pairs.{PairsNoMore};
-ghost use Rattle.marked_pair.specs.Mark.{marked, reads_as};
-ghost use Rattle.marked_pair.specs.Pair.{disk_of, ending_of, faults_of, kept_of, mark_of, pair_of, writes_of, refusals_of};
+ghost use Rattle.page_file.specs.Layout.{gate_block};
+ghost use Rattle.marked_pair.specs.Mark.{IsMarked};
+ghost use Rattle.marked_pair.specs.Pair.{base_of, disk_of, faults_of, kept_of, mark_of, pair_of, refusals_of};
 ghost use Rattle.marked_pair.specs.Pair.{IsHonest, IsSameHere, IsTorn};
 ghost use Rattle.marked_pair.specs.declared.mark.Mark.TheVariants.{Unknown, Written, Synced};
 
 use crate::Mark;
-use crate::mark::with_mark;
+use crate::mark::{MARKED, gate_page};
 use crate::pair::MarkedPair;
 use block_device::DeviceError;
 use device_pair::DevicePair;
@@ -21,84 +21,70 @@ impl<P: DevicePair + Drop> MarkedPair<P> {
         ensures pair { pair_of self.new ≡ pair_of self.old }
         ensures kept { kept_of self.new ≡ kept_of self.old }
         ensures mark { mark_of self.new ≡ mark_of self.old }
-        ensures writes { writes_of self.new ≡ writes_of self.old }
         ensures counted { refusals_of self.new ≡ one_more (refusals_of self.old) }
-        ensures ending { ending_of self.new ≡ ending_of self.old }
     {
         self.refusals = self.refusals.saturating_add(1);
         Err(DeviceError::Failed)
     }
 
-    // Writes block 0 as it is told, after which no mark is known.
+    // Writes block 0 as it is told, where there is no mark.
     pub(crate) fn put_gate(&mut self, bytes: &[u8; 4096]) -> Result<(), DeviceError>
+        requires plain { IsHonest self.old → ¬ IsMarked (disk_of self.old) }
         ensures written { IsHonest self.old → OnOk result (disk_of self.new ≡ written 0 bytes.now (disk_of self.old)) }
         ensures torn { IsHonest self.old → OnErr result (Torn 0 (disk_of self.old) (disk_of self.new)) }
         ensures tears { IsHonest self.old → IsTorn 0 self.old self.new }
-        ensures mark { mark_of self.new ≡ Unknown }
+        ensures mark { IsHonest self.old → mark_of self.new ≡ Unknown }
         ensures here { IsSameHere self.old self.new }
-        ensures writes { writes_of self.new ≡ (pair_of self.old, 0) ∷ writes_of self.old }
         ensures honest { IsHonest self.old ↔ IsHonest self.new }
         ensures faults { Counts (P.faults (pair_of self.old)) (P.faults (pair_of self.new)) result }
-        ensures ending { ending_of self.new ≡ false }
     {
-        self.writes = self.writes.with(&self.pair, &0);
-        self.mark = Mark::Unknown;
-        self.ending = false;
         self.pair.write_base(0, bytes)
     }
 
-    // Writes block 0 with the mark.
-    fn put_marked(&mut self, bytes: &[u8; 4096]) -> Result<(), DeviceError>
-        requires marked { reads_as 2 bytes.now ≡ true }
-        ensures written { IsHonest self.old → OnOk result (disk_of self.new ≡ written 0 bytes.now (disk_of self.old)) }
+    // Writes the mark, where there is none.
+    fn put_mark(&mut self) -> Result<(), DeviceError>
+        requires plain { IsHonest self.old → ¬ IsMarked (disk_of self.old) }
+        ensures written { IsHonest self.old → OnOk result (disk_of self.new ≡ written 0 (gate_block 2) (disk_of self.old)) }
         ensures torn { IsHonest self.old → OnErr result (Torn 0 (disk_of self.old) (disk_of self.new)) }
         ensures tears { IsHonest self.old → IsTorn 0 self.old self.new }
-        ensures mark { OnOk result (mark_of self.new ≡ Written) }
+        ensures mark { IsHonest self.old → OnOk result (mark_of self.new ≡ Written) }
         ensures here { IsSameHere self.old self.new }
-        ensures writes { writes_of self.new ≡ (pair_of self.old, 0) ∷ writes_of self.old }
         ensures honest { IsHonest self.old ↔ IsHonest self.new }
         ensures faults { Counts (P.faults (pair_of self.old)) (P.faults (pair_of self.new)) result }
     {
-        self.put_gate(bytes)?;
-        self.mark = Mark::Written;
+        self.put_gate(&gate_page(MARKED))?;
+        self.note_mark();
         Ok(())
     }
 
-    // Notes that block 0 is there with the mark.
+    // Notes that the base has the mark.
     fn note_mark(&mut self)
-        requires there { IsHonest self.old → 0 < length (disk_of self.old) }
-        requires marked { IsHonest self.old → reads_as 2 (block_at 0 (disk_of self.old)) ≡ true }
+        requires marked { IsHonest self.old → IsMarked (disk_of self.old) }
         ensures pair { pair_of self.new ≡ pair_of self.old }
         ensures mark { ¬ (mark_of self.new ≡ Unknown) }
+        ensures written { mark_of self.old ≡ Unknown → mark_of self.new ≡ Written }
         ensures here { IsSameHere self.old self.new }
-        ensures writes { writes_of self.new ≡ writes_of self.old }
     {
         self.mark = self.mark.seen();
     }
 
-    // Has a shut gate be there with the mark. One that is there is not written again, so that no stop tears it.
-    pub(crate) fn put_mark(&mut self, gate: &[u8; 4096]) -> Result<(), DeviceError>
-        requires shut { reads_as 1 gate.now ≡ true }
+    // Has a shut gate be there with the mark. One that has it is not written again, so that no stop tears it.
+    pub(crate) fn put_shut(&mut self) -> Result<(), DeviceError>
         ensures written { IsHonest self.old →
-            OnOk result (disk_of self.new ≡ written 0 (marked gate.now) (disk_of self.old)) }
+            OnOk result (base_of self.new ≡ written 0 (gate_block 1) (base_of self.old)) }
         ensures torn { IsHonest self.old → OnErr result (Torn 0 (disk_of self.old) (disk_of self.new)) }
         ensures tears { IsHonest self.old → IsTorn 0 self.old self.new }
-        ensures still { IsHonest self.old → 0 < length (disk_of self.old) →
-            block_at 0 (disk_of self.old) ≡ marked gate.now →
-            PairsNoMore (P.may_leave (pair_of self.old)) (P.may_leave (pair_of self.new)) }
-        ensures mark { OnOk result (¬ (mark_of self.new ≡ Unknown)) }
+        ensures still { IsHonest self.old → IsMarked (disk_of self.old) → disk_of self.new ≡ disk_of self.old }
+        ensures mark { IsHonest self.old → OnOk result (¬ (mark_of self.new ≡ Unknown)) }
         ensures here { IsSameHere self.old self.new }
-        ensures unwritten { IsHonest self.old → 0 < length (disk_of self.old) →
-            block_at 0 (disk_of self.old) ≡ marked gate.now → writes_of self.new ≡ writes_of self.old }
         ensures honest { IsHonest self.old ↔ IsHonest self.new }
         ensures faults { Counts (P.faults (pair_of self.old)) (P.faults (pair_of self.new)) result }
     {
-        let marked = with_mark(gate);
-        if self.holds(&marked)? {
+        if self.has_mark()? {
             self.note_mark();
             return Ok(());
         }
-        self.put_marked(&marked)
+        self.put_mark()
     }
 
     // Writes a block that was not there when the pair was taken over.
@@ -112,10 +98,8 @@ impl<P: DevicePair + Drop> MarkedPair<P> {
         ensures tears { IsHonest self.old → IsTorn i self.old self.new }
         ensures mark { mark_of self.new ≡ mark_of self.old }
         ensures here { IsSameHere self.old self.new }
-        ensures writes { writes_of self.new ≡ writes_of self.old }
         ensures honest { IsHonest self.old ↔ IsHonest self.new }
         ensures faults { Counts (P.faults (pair_of self.old)) (P.faults (pair_of self.new)) result }
-        ensures ending { ending_of self.new ≡ ending_of self.old }
     {
         self.pair.write_base(i, bytes)
     }
@@ -125,19 +109,15 @@ impl<P: DevicePair + Drop> MarkedPair<P> {
         requires within { i ≤ length (disk_of self.old) }
         requires small { i < 2 ^ 31 }
         requires second { 0 < i }
-        requires there { i < kept_of self.old }
         requires synced { mark_of self.old ≡ Synced }
         ensures written { IsHonest self.old → OnOk result (disk_of self.new ≡ written i bytes.now (disk_of self.old)) }
         ensures torn { IsHonest self.old → OnErr result (Torn i (disk_of self.old) (disk_of self.new)) }
         ensures tears { IsHonest self.old → IsTorn i self.old self.new }
         ensures mark { mark_of self.new ≡ mark_of self.old }
         ensures here { IsSameHere self.old self.new }
-        ensures writes { writes_of self.new ≡ (pair_of self.old, i) ∷ writes_of self.old }
         ensures honest { IsHonest self.old ↔ IsHonest self.new }
         ensures faults { Counts (P.faults (pair_of self.old)) (P.faults (pair_of self.new)) result }
-        ensures ending { ending_of self.new ≡ ending_of self.old }
     {
-        self.writes = self.writes.with(&self.pair, &i);
         self.pair.write_base(i, bytes)
     }
 
@@ -147,7 +127,6 @@ impl<P: DevicePair + Drop> MarkedPair<P> {
         requires within { i ≤ length (disk_of self.old) }
         requires small { i < 2 ^ 31 }
         requires second { 0 < i }
-        requires there { i < kept_of self.old }
         requires known { ¬ (mark_of self.old ≡ Unknown) }
         ensures written { IsHonest self.old → OnOk result (disk_of self.new ≡ written i bytes.now (disk_of self.old)) }
         ensures torn { IsHonest self.old → OnErr result (Torn i (disk_of self.old) (disk_of self.new)) }

@@ -1,16 +1,13 @@
--- The gate, with the mark.
-use Rattle.std.proofs.Common.{◌∙◌, ap}
-use Rattle.block_device.specs.Device.{block_at}
-use Rattle.marked_pair.specs.Mark.{reads_as}
-use Rattle.marked_pair.specs.MarkLaws.{marked_reads}
+-- The mark that was written is there.
+use Rattle.std.proofs.Common.{◌∙◌, sym, ap, subst}
+use Rattle.block_device.specs.Device.{written}
+use Rattle.marked_pair.specs.Mark.{IsMarked}
+use Rattle.marked_pair.specs.MarkLaws.{marked_written}
+use Rattle.marked_pair.specs.Pair.{disk_of}
 use Rattle.marked_pair.proofs.pair.MarkedPair.put_mark.Goals as goal
 
-pub note_mark-requires-clause-marked : goal.note_mark-requires-clause-marked
-note_mark-requires-clause-marked g c = λ h2.
-    let h = c.holds.ensures.honest.1 h2 in
-    ap (λ b. reads_as 2 (block_at 0 b)) (c.holds.ensures.quiet h).base
-    ∙ ap (reads_as 2) (c.in_ok-holds.ensures.found h c.if-branch.true ∙ c.with_mark-marked.ensures)
-    ∙ marked_reads c.args.gate.now c.told-gate c.requires.shut
-
-pub put_marked-requires : goal.put_marked-requires
-put_marked-requires g c = record { marked = ap (reads_as 2) c.with_mark-marked.ensures ∙ marked_reads c.args.gate.now c.told-gate c.requires.shut }
+pub note_mark-requires : goal.note_mark-requires
+note_mark-requires g c = record { marked = λ h2.
+    let h = c.put_gate.ensures.honest.1 h2 in
+    let d = c.args.self.now in
+    subst IsMarked (sym (c.in_ok-put_gate.ensures.written h ∙ ap (λ b. written 0 b (disk_of d)) c.gate_page.ensures)) (marked_written (disk_of d)) }
