@@ -36,6 +36,14 @@ impl<B: BlockDevice + Drop, J: BlockDevice + Drop> TwoDevices<B, J> {
         }
     }
 
+    /// The base and its journal, as they are.
+    pub fn into_devices(self) -> (B, J)
+        ensures base { result.0 ≡ self.base }
+        ensures journal { result.1 ≡ self.journal }
+    {
+        (self.base, self.journal)
+    }
+
     // Remembers both as they are, which costs nothing.
     fn remember(&mut self)
         ensures base { self.new.base ≡ self.old.base }

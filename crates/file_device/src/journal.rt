@@ -1,10 +1,7 @@
 //! The file of a journal: where it lies, how it is opened, and how it is removed.
 ghost use Rattle.std.specs.Prelude.{◌≡◌, ◌++◌, IfOk, codes, string_bytes};
-ghost use Rattle.std.specs.Fd.{file_raw_fd};
-ghost use Rattle.file_device.specs.Number.{IsOwnNumber};
 
-use crate::OpenError;
-use crate::open::{folder_of, made};
+use crate::open::folder_of;
 use std::alloc::{AllocError, Allocator};
 use std::fs::{self, File, Files};
 use std::io::{self, ErrorKind};
@@ -14,17 +11,6 @@ pub fn journal_path<A: Allocator>(alloc: A, path: &str) -> Result<String<A>, All
     ensures { IfOk result (λ name. string_bytes name ≡ path.now ++ codes "-journal") }
 {
     format!(in alloc; "{path}-journal")
-}
-
-/// Opens the journal at `path` for reading and writing, and makes an empty one where there is none.
-///
-/// In either case its folder is synced, so that a stop after this doesn't take the journal away: a run that made it may
-/// have been ended before it had synced the folder. It is locked until it is closed, and its number is none of a
-/// standard stream's.
-pub fn open_journal<R: Files<File = File>>(rt: &R, path: &str) -> Result<File, OpenError>
-    ensures number { IfOk result (λ f. IsOwnNumber (file_raw_fd f)) }
-{
-    made(rt, path)
 }
 
 /// Removes the journal at `path`, if there is one, and syncs its folder, so that a stop after this doesn't bring it

@@ -31,6 +31,9 @@ pub enum OpenError {
     /// The file beside it that has the name of its journal is none, or is missing where it is needed.
     #[error("FILE-journal is missing, or is no journal")]
     NoJournal,
+    /// The file beside it is the journal of another file.
+    #[error("FILE-journal is the journal of another file")]
+    OtherJournal,
     /// Memory was refused.
     #[error("no memory")]
     Memory,

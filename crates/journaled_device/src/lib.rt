@@ -9,5 +9,6 @@ mod slots;
 mod stage;
 
 pub use device::JournaledDevice;
+pub use gate::says_complete;
 pub use pair::OpenFault;
 pub use stage::Stage;

@@ -1,14 +1,22 @@
 //! How a run ends.
+ghost use Rattle.std.specs.Prelude.{◌≡◌, ◌<◌, ◌≤◌, ◌↔◌, true, length, IfOk, OnOk};
+ghost use Rattle.block_device.specs.Device.{Torn, block_at, written};
+ghost use Rattle.device_pair.specs.Pairs.{PairLeaves};
+ghost use Rattle.journaled_file.specs.Ending.{LeavesEnding};
+ghost use Rattle.journaled_file.specs.Judged.{HasEnded, HasEntries};
+ghost use Rattle.marked_pair.specs.Behind.{IsSynced};
+ghost use Rattle.marked_pair.specs.Mark.{IsMarked};
+ghost use Rattle.page_file.specs.Layout.{gate_block};
 
 use crate::JournaledFile;
-use block_bytes::{write_u8, zero_block};
-use block_device::{BlockDevice, DeviceError};
+use crate::judging::{has_entries, is_marked};
+use crate::open::shut_gate;
+use block_device::DeviceError;
 use device_pair::DevicePair;
 use file_device::{journal_path, remove_journal};
-use journaled_device::JournaledDevice;
-use marked_pair::{MARKED, SHUT, reads_as};
-use std::alloc::{Allocator, Global};
+use std::alloc::Global;
 use std::fs::{File, Files};
+use titled_pair::end_of_base;
 
 /// Ends a run over the file at `path`: what was not committed is given up, the mark is taken away, and the journal is
 /// removed. Whether it could be done is answered. Where it could not, or where this is cut short, the next opening brings
@@ -22,27 +30,55 @@ pub fn end_journaled<R: Files<File = File>>(
     let Ok(name) = journal_path(alloc, path) else {
         return false;
     };
-    let pair = device.into_pair().into_pair();
-    let Ok(mut base) = JournaledDevice::open(pair, alloc) else {
-        return false;
-    };
+    let mut pair = device.into_pair().into_pair().into_pair();
     // The files are locked until the journal is gone.
-    take_mark(&mut base).is_ok() && remove_journal(rt, name.as_str()).is_ok()
+    match end_session(&mut pair) {
+        Ok(true) => remove_journal(rt, name.as_str()).is_ok(),
+        _ => false,
+    }
 }
 
-// Has the gate be shut without a mark. The device commits that, so that no stop loses the gate.
-fn take_mark<P: DevicePair, A: Allocator + Copy>(
-    base: &mut JournaledDevice<P, A>,
-) -> Result<(), DeviceError> {
-    if base.blocks() == 0 {
-        return Ok(());
+/// Takes the mark of the base away, once the journal says that the session has ended. Whether the base is then read
+/// without its journal is answered: it is not where a commit was not finished, and then nothing is written.
+pub fn end_session<P: DevicePair>(pair: &mut P) -> Result<bool, DeviceError>
+    ensures ended { P.honest pair.old → IfOk result (λ t. t ≡ true → ¬ HasEntries (P.journal pair.old)) }
+    ensures shut { P.honest pair.old → IsMarked (P.base pair.old) →
+        IfOk result (λ t. t ≡ true → P.base pair.new ≡ written 0 (gate_block 1) (P.base pair.old)) }
+    ensures plain { P.honest pair.old → ¬ IsMarked (P.base pair.old) → P.base pair.new ≡ P.base pair.old }
+    ensures honest { P.honest pair.old ↔ P.honest pair.new }
+{
+    if has_entries(pair)? {
+        return Ok(false);
     }
-    let mut gate = zero_block();
-    base.read(0, &mut gate)?;
-    if !reads_as(&gate, MARKED) {
-        return Ok(());
+    if !is_marked(pair)? {
+        return Ok(true);
     }
-    write_u8(&mut gate, 8, SHUT);
-    base.write(0, &gate)?;
-    base.sync()
+    if !put_end(pair)? {
+        return Ok(false);
+    }
+    shut_gate(pair)?;
+    Ok(true)
+}
+
+// Has the journal say that the session has ended with the base as it is, all of it synced. Whether it has room for that is
+// answered.
+fn put_end<P: DevicePair>(pair: &mut P) -> Result<bool, DeviceError>
+    ensures base { P.honest pair.old → P.base pair.new ≡ P.base pair.old }
+    ensures end { P.honest pair.old →
+        IfOk result (λ t. t ≡ true → HasEnded (P.base pair.old) (P.journal pair.new)) }
+    ensures synced { P.honest pair.old →
+        IfOk result (λ t. t ≡ true → IsSynced (P.base pair.new) (P.journal pair.new) (P.may_leave pair.new)) }
+    ensures honest { P.honest pair.old ↔ P.honest pair.new }
+{
+    if pair.journal_blocks() < 2 {
+        return Ok(false);
+    }
+    let page = end_of_base(pair)?;
+    pair.sync_base()?;
+    if pair.journal_blocks() < 2 {
+        return Ok(false);
+    }
+    pair.write_journal(1, &page)?;
+    pair.sync_journal()?;
+    Ok(true)
 }

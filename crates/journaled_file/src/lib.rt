@@ -5,7 +5,10 @@
 #![tactic(auto)]
 
 mod end;
+mod judging;
+pub mod laws;
 mod open;
 
-pub use end::end_journaled;
-pub use open::{JournaledFile, open_journaled};
+pub use end::{end_journaled, end_session};
+pub use judging::{Found, judge};
+pub use open::{JournaledFile, JournaledOver, open_journaled, open_over};

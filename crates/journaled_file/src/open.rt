@@ -1,80 +1,144 @@
 //! How a file and its journal are opened.
+ghost use Rattle.std.specs.Prelude.{◌≡◌, ◌≤◌, ◌↔◌, length, IfOk, OnOk};
+ghost use Rattle.block_device.specs.Device.{written};
+ghost use Rattle.journaled_device.specs.Journal.{recovered};
+ghost use Rattle.journaled_device.specs.Journaled.{inner_of};
+ghost use Rattle.journaled_device.specs.Standing.{shown_of};
+ghost use Rattle.marked_pair.specs.Mark.{unmarked};
+ghost use Rattle.page_file.specs.Layout.{gate_block};
+ghost use Rattle.titled_pair.specs.Title.{untitled};
 
-use block_bytes::{read_u64, zero_block};
+use crate::judging::{Found, is_marked, judge};
 use block_device::{BlockDevice, DeviceError};
-use device_pair::TwoDevices;
+use device_pair::{DevicePair, TwoDevices};
 use file_device::{FileDevice, HostFile, OpenError, journal_path, open_file, remove_journal};
 use journaled_device::{JournaledDevice, OpenFault};
-use marked_pair::{MARKED, MarkedPair, reads_as};
-use std::alloc::Global;
+use marked_pair::{MarkedPair, SHUT, gate_page};
+use std::alloc::{Allocator, Global};
 use std::fs::{File, Files};
+use titled_pair::{TITLE_BLOCKS, TitledPair, make_title};
 
-/// A file with its journal, as a device that commits.
-pub type JournaledFile = JournaledDevice<
-    MarkedPair<TwoDevices<FileDevice<HostFile<File>>, FileDevice<HostFile<File>>>>,
->;
+/// A base and its journal, as a device that commits.
+pub type JournaledOver<P, A> = JournaledDevice<MarkedPair<TitledPair<P>>, A>;
 
-// The ASCII text RSTARJNL, with which a journal begins.
-const JOURNAL_TEXT: u64 = 0x5253_5441_524a_4e4c;
+/// A file with its journal, as such a device.
+pub type JournaledFile = JournaledOver<Pair, Global>;
+
+// A file and its journal.
+type Pair = TwoDevices<FileDevice<HostFile<File>>, FileDevice<HostFile<File>>>;
 
 /// Opens the file at `path` for reading and writing, and its journal beside it, which is made where there is none. With
 /// `create` an empty file is made where there is none.
 ///
 /// Both are locked until they are closed. What a run that was cut short had closed is brought back; the answer says
-/// whether such a run had closed anything and not ended. Beside a file without blocks a journal is removed first. Where
-/// the journal is none, nothing is written into either.
+/// whether such a run had closed anything and not ended. A journal without entries, beside a file that needs none, is made
+/// anew. Where the journal is none or another file's, nothing is written into either.
 pub fn open_journaled<R: Files<File = File>>(
     rt: &R,
     alloc: Global,
     path: &str,
     create: bool,
 ) -> Result<(JournaledFile, bool), OpenError> {
-    let mut base = open_file(rt, path, create)?;
-    let unended = is_marked(&mut base)?;
+    let base = open_file(rt, path, create)?;
     let name = journal_path(alloc, path)?;
-    if base.blocks() == 0 {
-        let _ = remove_journal(rt, name.as_str()); // a journal of no file
-    }
+    let (pair, unended) = paired(rt, name.as_str(), base)?;
+    Ok((open_over(pair, alloc)?, unended))
+}
+
+// Opens the journal of a file, and judges both. The pair has a title; whether the last run had not ended is told.
+fn paired<R: Files<File = File>>(
+    rt: &R,
+    name: &str,
+    base: FileDevice<HostFile<File>>,
+) -> Result<(Pair, bool), OpenError> {
+    let mut base = base;
+    let marked = has_mark(&mut base)?;
     // A file that has the mark can't be read without its journal.
-    let mut journal = match open_file(rt, name.as_str(), !unended) {
-        Err(OpenError::Refused) if unended => return Err(OpenError::NoJournal),
+    let journal = match open_file(rt, name, !marked) {
+        Err(OpenError::Refused) if marked => return Err(OpenError::NoJournal),
         opened => opened?,
     };
-    if !is_journal(&mut journal, unended)? {
+    let mut pair = TwoDevices::of(base, journal);
+    match judge(&mut pair)? {
+        Found::Own => Ok((pair, marked)),
+        Found::Fresh => Ok((renewed(rt, name, pair)?, false)),
+        Found::Ended => {
+            shut_gate(&mut pair)?;
+            Ok((renewed(rt, name, pair)?, false))
+        }
+        Found::Missing => Err(OpenError::NoJournal),
+        Found::Foreign => Err(OpenError::OtherJournal),
+    }
+}
+
+// Whether the gate of a file has the mark of a run that has not ended.
+fn has_mark<D: BlockDevice>(base: &mut D) -> Result<bool, DeviceError> {
+    if base.blocks() == 0 {
+        return Ok(false);
+    }
+    let mut gate = [0; 4096];
+    base.read(0, &mut gate)?;
+    Ok(marked_pair::reads_as(&gate, marked_pair::MARKED))
+}
+
+// The pair with a journal that is made anew, and has a title.
+fn renewed<R: Files<File = File>>(rt: &R, name: &str, pair: Pair) -> Result<Pair, OpenError> {
+    let mut pair = pair;
+    if pair.journal_blocks() != 0 {
+        let (base, old) = pair.into_devices();
+        if remove_journal(rt, name).is_err() {
+            return Err(OpenError::Refused);
+        }
+        drop(old);
+        pair = TwoDevices::of(base, open_file(rt, name, true)?);
+    }
+    if pair.journal_blocks() != 0 {
+        return Err(OpenError::Refused); // another program made it meanwhile
+    }
+    make_title(&mut pair)?;
+    Ok(pair)
+}
+
+/// Writes the gate of the base shut, without a mark, and syncs it. A base without blocks has none.
+pub(crate) fn shut_gate<P: DevicePair>(pair: &mut P) -> Result<(), DeviceError>
+    ensures shut { P.honest pair.old → 0 < length (P.base pair.old) →
+        OnOk result (P.base pair.new ≡ written 0 (gate_block 1) (P.base pair.old)) }
+    ensures journal { P.honest pair.old → P.journal pair.new ≡ P.journal pair.old }
+    ensures honest { P.honest pair.old ↔ P.honest pair.new }
+{
+    if pair.base_blocks() == 0 {
+        return Ok(());
+    }
+    pair.write_base(0, &gate_page(SHUT))?;
+    pair.sync_base()
+}
+
+/// Opens a pair whose journal has a title. Where the pair is honest, what is then read is what recovery makes of the base,
+/// a gate with the mark as a shut one, and of the journal behind its title.
+pub fn open_over<P: DevicePair + Drop, A: Allocator + Copy>(
+    pair: P,
+    alloc: A,
+) -> Result<JournaledOver<P, A>, OpenError>
+    ensures shown { IfOk result (λ d. P.honest pair →
+        shown_of (inner_of d) ≡ recovered (unmarked (P.base pair)) (untitled (P.journal pair))) }
+{
+    if pair.journal_blocks() < TITLE_BLOCKS {
         return Err(OpenError::NoJournal);
     }
-    let pair = MarkedPair::over(TwoDevices::of(base, journal));
-    match JournaledDevice::open(pair, alloc) {
-        Ok(device) => Ok((device, unended)),
+    let titled = match TitledPair::over(pair) {
+        Ok(titled) => titled,
+        Err(_) => return Err(OpenError::Refused),
+    };
+    if titled.base_blocks() < 2 && titled.journal_blocks() > 2 {
+        return Err(OpenError::NoJournal);
+    }
+    let marked = match MarkedPair::over(titled) {
+        Ok(marked) => marked,
+        Err(_) => return Err(OpenError::Refused),
+    };
+    match JournaledDevice::open(marked, alloc) {
+        Ok(device) => Ok(device),
         Err((OpenFault::Malformed, _)) => Err(OpenError::NoJournal),
         Err((OpenFault::Device(_), _)) => Err(OpenError::Refused),
     }
-}
-
-// Whether the gate has the mark of a run that has not ended.
-fn is_marked<D: BlockDevice>(base: &mut D) -> Result<bool, DeviceError> {
-    if base.blocks() == 0 {
-        return Ok(false);
-    }
-    let mut gate = zero_block();
-    base.read(0, &mut gate)?;
-    Ok(reads_as(&gate, MARKED))
-}
-
-// Whether the text of a journal is in one of the first two blocks, of which a stop tears one at most. With so few blocks
-// it may be one whose making was cut short, but beside a file that has the mark.
-fn is_journal<D: BlockDevice>(journal: &mut D, unended: bool) -> Result<bool, DeviceError> {
-    if journal.blocks() < 2 {
-        return Ok(!unended);
-    }
-    let mut block = zero_block();
-    journal.read(0, &mut block)?;
-    if read_u64(&block, 0) == JOURNAL_TEXT {
-        return Ok(true);
-    }
-    if journal.blocks() < 2 {
-        return Ok(false);
-    }
-    journal.read(1, &mut block)?;
-    Ok(read_u64(&block, 0) == JOURNAL_TEXT || (journal.blocks() == 2 && !unended))
 }

@@ -39,6 +39,22 @@ fn write<P: DevicePair>(pair: &mut P, i: u32, bytes: &[u8; 4096]) -> Result<(), 
     pair.write_base(i, bytes)
 }
 
+// Takes a pair over.
+fn over<P: DevicePair + Drop>(pair: P) -> Result<MarkedPair<P>, DeviceError> {
+    match MarkedPair::over(pair) {
+        Ok(marked) => Ok(marked),
+        Err((fault, _)) => Err(fault),
+    }
+}
+
+// Writes a block of the journal. `Memory` says that it has no place.
+fn put<P: DevicePair>(pair: &mut P, i: u32) -> Result<(), DeviceError> {
+    if i > pair.journal_blocks() || i >= 1 << 31 {
+        return Err(DeviceError::Memory);
+    }
+    pair.write_journal(i, &[3; 4096])
+}
+
 // A base with a shut gate and two blocks of ones, all synced.
 fn closed(alloc: Global) -> Result<MemoryPair, DeviceError> {
     let mut pair = MemoryPair::new(alloc);
@@ -51,7 +67,7 @@ fn closed(alloc: Global) -> Result<MemoryPair, DeviceError> {
 
 #[test]
 fn a_block_is_written_behind_a_mark(rt: HostRuntime) -> Result<(), Fail> {
-    let mut pair = MarkedPair::over(closed(rt.alloc())?);
+    let mut pair = over(closed(rt.alloc())?)?;
     assert_eq!(rt; write(&mut pair, 1, &[7; 4096]), Err(DeviceError::Failed));
     assert!(rt; read(&mut pair, 1)? == [1; 4096]);
     write(&mut pair, 3, &[3; 4096])?;
@@ -67,31 +83,45 @@ fn a_block_is_written_behind_a_mark(rt: HostRuntime) -> Result<(), Fail> {
     Ok(())
 }
 
+// The mark is not taken away: no other gate is written over it.
 #[test]
-fn a_clean_end_takes_the_mark_away(rt: HostRuntime) -> Result<(), Fail> {
-    let mut pair = MarkedPair::over(closed(rt.alloc())?);
+fn a_mark_stays(rt: HostRuntime) -> Result<(), Fail> {
+    let mut pair = over(closed(rt.alloc())?)?;
+    write(&mut pair, 0, &gate(0))?;
+    assert!(rt; read(&mut pair, 0)? == gate(0));
     write(&mut pair, 0, &gate(1))?;
-    write(&mut pair, 2, &[7; 4096])?;
-    pair.sync_base()?;
-    pair.end()?;
-    assert_eq!(rt; write(&mut pair, 2, &[8; 4096]), Err(DeviceError::Failed));
-    let mut left = pair.into_pair().after_stop(Left::Synced, Left::Synced);
-    assert!(rt; read(&mut left, 0)? == gate(1));
-    assert!(rt; read(&mut left, 2)? == [7; 4096]);
+    assert_eq!(rt; write(&mut pair, 0, &gate(0)), Err(DeviceError::Failed));
+    let mut left = pair.into_pair();
+    assert!(rt; read(&mut left, 0)? == gate(2));
     Ok(())
 }
 
-// Then the gate is written as it is told once.
+// What is behind a mark that was torn is not looked at.
 #[test]
-fn a_clean_end_is_begun(rt: HostRuntime) -> Result<(), Fail> {
-    let mut pair = MarkedPair::over(closed(rt.alloc())?);
-    pair.begin_end();
-    write(&mut pair, 0, &gate(1))?;
-    assert_eq!(rt; write(&mut pair, 1, &[7; 4096]), Err(DeviceError::Failed));
+fn a_mark_with_other_bytes_is_one(rt: HostRuntime) -> Result<(), Fail> {
+    let mut base = closed(rt.alloc())?;
+    let mut torn = gate(2);
+    torn[100] = 7;
+    write(&mut base, 0, &torn)?;
+    let mut pair = over(base)?;
+    assert!(rt; read(&mut pair, 0)? == gate(1));
     write(&mut pair, 0, &gate(1))?;
     write(&mut pair, 1, &[7; 4096])?;
-    let mut left = pair.into_pair();
-    assert!(rt; read(&mut left, 0)? == gate(2));
+    Ok(())
+}
+
+// Where there was no header, nothing is written into a slot before a mark is synced.
+#[test]
+fn a_slot_of_a_new_file_waits_for_the_mark(rt: HostRuntime) -> Result<(), Fail> {
+    let mut pair = over(MemoryPair::new(rt.alloc()))?;
+    for i in 0..2 {
+        pair.write_journal(i, &[1; 4096])?;
+    }
+    assert_eq!(rt; put(&mut pair, 2), Err(DeviceError::Failed));
+    write(&mut pair, 0, &gate(1))?;
+    assert_eq!(rt; put(&mut pair, 2), Err(DeviceError::Failed));
+    pair.sync_base()?;
+    put(&mut pair, 2)?;
     Ok(())
 }
 
@@ -100,13 +130,13 @@ fn a_clean_end_is_begun(rt: HostRuntime) -> Result<(), Fail> {
 fn a_gate_with_the_mark_is_not_written_again(rt: HostRuntime) -> Result<(), Fail> {
     let mut base = closed(rt.alloc())?;
     write(&mut base, 0, &gate(2))?;
-    let mut pair = MarkedPair::over(FusePair::new(base, 100, FuseMode::Onward));
+    let mut pair = over(FusePair::new(base, 100, FuseMode::Onward))?;
     assert!(rt; read(&mut pair, 0)? == gate(1));
     write(&mut pair, 0, &gate(1))?;
     write(&mut pair, 1, &[7; 4096])?;
     write(&mut pair, 0, &gate(1))?;
     let fuse = pair.into_pair();
-    assert_eq!(rt; fuse.calls(), 5);
+    assert_eq!(rt; fuse.calls(), 7);
     let mut left = fuse.into_inner().after_stop(Left::Filled(5), Left::Written);
     assert!(rt; read(&mut left, 0)? == gate(2));
     assert!(rt; read(&mut left, 1)? == [5; 4096]);

@@ -2,5 +2,6 @@
 pub mod Title
 pub mod Titled
 pub mod Pair
+pub mod Calls
 -- Lemmas on them, which ghost laws and laws cite.
 pub mod TitleLaws

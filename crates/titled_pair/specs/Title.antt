@@ -1,5 +1,5 @@
 -- The first two blocks of a journal: its title, and whether its session has ended (our format, docs/FORMAT.md, "The journal").
-use Rattle.std.specs.Prelude.{◌≡◌, ◌<◌, ◌≤◌, ℕ, List, [], ◌∷◌, length, slice_index_or}
+use Rattle.std.specs.Prelude.{◌≡◌, ◌<◌, ◌≤◌, ℕ, Bool, ◌==◌, List, [], ◌∷◌, length, slice_index_or}
 use Rattle.block_device.specs.Device.{Blocks, block_at}
 use Rattle.block_bytes.specs.Numbers.{zeros, number_at, put_number}
 
@@ -25,6 +25,10 @@ title_of a = with_text title_text (header_in a)
 
 abbrev pub end_of : Blocks → List ℕ
 end_of a = with_text end_text (header_in a)
+
+-- a block that begins with the text of a title
+abbrev pub reads_title : List ℕ → Bool
+reads_title block = number_at 8 0 block == title_text
 
 -- a journal behind its title
 abbrev pub untitled : Blocks → Blocks

@@ -1,0 +1,34 @@
+-- What the file that has the name of a base's journal is to the base (our format, docs/FORMAT.md, "The journal", "Files").
+use Rattle.std.specs.Prelude.{◌≡◌, ◌<◌, ◌≤◌, ◌⊎◌, true, length}
+use Rattle.block_device.specs.Device.{Blocks, block_at}
+use Rattle.journaled_device.specs.Journal.{gate_says}
+use Rattle.journaled_file.specs.declared.judging.Found.{Found}
+use Rattle.journaled_file.specs.declared.judging.Found.TheVariants.{Fresh, Own, Ended, Missing, Foreign}
+use Rattle.marked_pair.specs.Mark.{IsMarked}
+use Rattle.titled_pair.specs.Title.{end_of, reads_title, title_of}
+
+-- it begins with a title and an end
+pub record IsJournal (e : Blocks) : Type 0 where
+  pub room : 2 ≤ length e
+  pub title : reads_title (block_at 0 e) ≡ true
+
+-- its title is of this base
+abbrev pub IsOf : Blocks → Blocks → Type 0
+IsOf a e = block_at 0 e ≡ title_of a
+
+-- its end is of this base
+abbrev pub HasEnded : Blocks → Blocks → Type 0
+HasEnded a e = block_at 1 e ≡ end_of a
+
+-- behind both it is complete, and has room for entries
+pub record HasEntries (e : Blocks) : Type 0 where
+  pub room : 4 < length e
+  pub complete : gate_says (block_at 2 e) ≡ true
+
+-- what is so of a base and such a file
+abbrev pub IsJudged : Found → Blocks → Blocks → Type 0
+IsJudged Fresh a e = (¬ IsMarked a) × ((length e ≤ 2) ⊎ (IsJournal e × ¬ HasEntries e))
+IsJudged Own a e = IsJournal e × (¬ HasEnded a e) × (IsMarked a ⊎ (HasEntries e × IsOf a e))
+IsJudged Ended a e = IsJournal e × HasEnded a e
+IsJudged Missing a e = (¬ IsJournal e) × (IsMarked a ⊎ (2 < length e))
+IsJudged Foreign a e = (¬ IsMarked a) × HasEntries e × ¬ IsOf a e
