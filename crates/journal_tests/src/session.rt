@@ -15,9 +15,9 @@ const GATE_TEXT: u64 = 0x5253_5441_5247_4154;
 
 const HEADER_TEXT: u64 = 0x5253_5441_5248_4452;
 
-// Block i of a file of at least three blocks: a gate that is shut or not, a header in which nothing but the catalog was
-// given out, or a page. What is left of it is full of a byte.
-fn block(i: u32, byte: u8, shut: bool) -> [u8; 4096] {
+/// Block i of a file of at least three blocks: a gate that is shut or not, a header in which nothing but the catalog was
+/// given out, or a page. What is left of it is full of a byte.
+pub fn block(i: u32, byte: u8, shut: bool) -> [u8; 4096] {
     let mut bytes = [byte; 4096];
     if i == 0 {
         write_u64(&mut bytes, 0, GATE_TEXT);

@@ -18,7 +18,7 @@ keeps_call {m = m} commits old new h time more = record {
   now = more;
   stops = pair_call m.moment m.left_since old.pair new.pair _ (m.may_leave new.pair) time (λ a b left.
       let s = new.standing h in
-      let r = recovery new.stage new.kept new.homes.items (base_of new) (journal_of new) a b s.kept_there s.reads (s.stops a b left) in
+      let r = recovery new.stage new.kept new.slots.homes.items (base_of new) (journal_of new) a b s.kept_there s.reads (s.stops a b left) in
       (r.0, more r.0 r.1, r.2));
 }
 

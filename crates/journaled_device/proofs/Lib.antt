@@ -2,7 +2,7 @@
 mod Steps
 mod Keeping
 mod Stood
-mod Finding
+mod Chains
 mod Advanced
 mod Copies
 mod Indexing

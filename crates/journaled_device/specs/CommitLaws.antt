@@ -25,5 +25,5 @@ shown_whole homes journal base room all = slots_whole 0 homes journal base (omeg
 pub begins : {P A : Type 0} {m : _} (d : JournaledPair P A m) (c : Blocks) → IsHonest d → may_leave_of d c → BeginsOne (commits_of d) c
 begins d c h left =
     let s = d.standing h in
-    let r = recovery d.stage d.kept d.homes.items (base_of d) (journal_of d) left.0 left.1 s.kept_there s.reads (s.stops left.0 left.1 left.2) in
+    let r = recovery d.stage d.kept d.slots.homes.items (base_of d) (journal_of d) left.0 left.1 s.kept_there s.reads (s.stops left.0 left.1 left.2) in
     subst (BeginsOne (commits_of d)) (sym left.3) r

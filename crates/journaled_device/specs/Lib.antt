@@ -2,6 +2,8 @@
 pub mod Commits
 pub mod Journal
 pub mod Found
+pub mod Buckets
+pub mod Room
 pub mod Stages
 pub mod Index
 pub mod Opening
@@ -10,6 +12,7 @@ pub mod Calls
 pub mod Events
 pub mod Journaled
 -- Lemmas on them, which laws and callers cite.
+pub mod BucketsFact
 pub mod StandingFact
 pub mod EventsFact
 pub mod Torn

@@ -7,6 +7,7 @@ use Rattle.journaled_device.specs.Journal.{overlaid, recovered}
 use Rattle.device_pair.specs.Pairs.{PairLeaves}
 use Rattle.journaled_device.specs.Stages.{CommitsIn}
 use Rattle.journaled_device.specs.declared.stage.Stage.{Stage}
+use Rattle.journaled_device.specs.declared.slots.Slots.{Slots}
 use Rattle.journaled_device.specs.declared.pair.JournaledPair.{JournaledPair}
 
 -- its pair, and the blocks of base and journal as they are read
@@ -22,15 +23,18 @@ journal_of {m = m} d = m.journal d.pair
 abbrev pub IsHonest : {P A : Type 0} {m : _} → JournaledPair P A m → Type 0
 IsHonest {m = m} d = m.honest d.pair
 
--- how far a commit has come, how many blocks there were at the last one, and the homes of the slots
+-- how far a commit has come, how many blocks there were at the last one, the slots, and their homes
 abbrev pub stage_of : {P A : Type 0} {m : _} → JournaledPair P A m → Stage
 stage_of d = d.stage
 
 abbrev pub kept_of : {P A : Type 0} {m : _} → JournaledPair P A m → ℕ
 kept_of d = d.kept
 
+abbrev pub slots_of : {P A : Type 0} {m : _} → JournaledPair P A m → Slots A
+slots_of d = d.slots
+
 abbrev pub homes_of : {P A : Type 0} {m : _} → JournaledPair P A m → List ℕ
-homes_of d = d.homes.items
+homes_of d = d.slots.homes.items
 
 -- the blocks, as a read returns them
 abbrev pub shown_of : {P A : Type 0} {m : _} → JournaledPair P A m → Blocks

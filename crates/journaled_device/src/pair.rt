@@ -11,6 +11,7 @@ pub(crate) mod record;
 mod sync;
 
 use crate::Stage;
+use crate::slots::Slots;
 use device_pair::DevicePair;
 pub use open::OpenFault;
 use std::alloc::{Allocator, Global};
@@ -22,12 +23,11 @@ use std::alloc::{Allocator, Global};
 #[derive(Drop)]
 pub struct JournaledPair<P: DevicePair, A: Allocator + Copy = Global> {
     pair: P,
-    // the blocks of the base that the slots hold, in order of the slots
-    homes: Vec<u32, A>,
+    slots: Slots<A>,
     // how many blocks the base had at the last commit
     kept: u32,
     stage: Stage,
-    ghost standing: { P.honest pair → IsStanding stage kept homes.items (P.base pair) (P.journal pair)
-        (P.may_leave pair) } by { λ p q i h. standing_fact stage kept homes.items (P.base pair) (P.journal pair)
+    ghost standing: { P.honest pair → IsStanding stage kept slots.homes.items (P.base pair) (P.journal pair)
+        (P.may_leave pair) } by { λ p q i h. standing_fact stage kept slots.homes.items (P.base pair) (P.journal pair)
             (P.may_leave pair) (p h) (q h) i },
 }

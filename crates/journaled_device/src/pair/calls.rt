@@ -8,7 +8,6 @@ ghost use Rattle.journaled_device.specs.Standing.{base_of, commits_of, homes_of,
 ghost use Rattle.journaled_device.specs.Standing.{stage_of, IsHonest, IsSettled, KeepsTo, SameSlots};
 
 use crate::pair::JournaledPair;
-use crate::slots::slot_of;
 use block_device::DeviceError;
 use device_pair::DevicePair;
 use std::alloc::Allocator;
@@ -37,7 +36,7 @@ impl<P: DevicePair, A: Allocator + Copy> JournaledPair<P, A> {
         ensures honest { IsHonest self.old ↔ IsHonest self.new }
         ensures faults { Counts (P.faults (pair_of self.old)) (P.faults (pair_of self.new)) result }
     {
-        match slot_of(&self.homes, i) {
+        match self.slots.slot_of(i) {
             Some(k) => self.read_slot(k, into),
             None => self.read_behind(i, into),
         }

@@ -32,7 +32,7 @@ impl<P: DevicePair, A: Allocator + Copy> JournaledPair<P, A> {
         ensures honest { IsHonest self.old ↔ IsHonest self.new }
         ensures faults { Counts (P.faults (pair_of self.old)) (P.faults (pair_of self.new)) result }
     {
-        if self.homes.is_empty() {
+        if self.slots.len() == 0 {
             return self.commit_appended();
         }
         self.record()?;
@@ -165,7 +165,7 @@ impl<P: DevicePair, A: Allocator + Copy> JournaledPair<P, A> {
     {
         self.put_gate(0)?;
         self.pair.sync_journal()?; // the empty gate
-        self.homes.clear();
+        self.slots.clear();
         self.kept = self.pair.base_blocks();
         self.stage = Stage::Filling;
         Ok(())
@@ -200,7 +200,7 @@ impl<P: DevicePair, A: Allocator + Copy> JournaledPair<P, A> {
         ensures honest { IsHonest self.old ↔ IsHonest self.new }
         ensures faults { Counts (P.faults (pair_of self.old)) (P.faults (pair_of self.new)) result }
     {
-        for k in 0..self.homes.len() {
+        for k in 0..self.slots.len() {
             self.copy_entry(k)?;
         }
         Ok(())
@@ -260,7 +260,7 @@ impl<P: DevicePair, A: Allocator + Copy> JournaledPair<P, A> {
         ensures honest { IsHonest self.old ↔ IsHonest self.new }
         ensures faults { Counts (P.faults (pair_of self.old)) (P.faults (pair_of self.new)) result }
     {
-        let home = self.homes[k];
+        let home = self.slots.homes()[k];
         if home >= self.pair.base_blocks() {
             return Err(DeviceError::Memory);
         }

@@ -8,11 +8,11 @@ ghost use Rattle.block_device.specs.Device.{Blocks};
 ghost use Rattle.block_device.specs.Device.{Begins};
 ghost use Rattle.journaled_device.specs.Found.{IsSlot};
 ghost use Rattle.journaled_device.specs.Standing.{base_of, journal_of, homes_of, kept_of, shown_of, stage_of, pair_of};
-ghost use Rattle.journaled_device.specs.Standing.{commits_of, IsHonest, KeepsTo, SameSlots};
+ghost use Rattle.journaled_device.specs.Room.{HasRoom};
+ghost use Rattle.journaled_device.specs.Standing.{commits_of, slots_of, IsHonest, KeepsTo, SameSlots};
 ghost use Rattle.journaled_device.specs.declared.stage.Stage.TheVariants.{Filling};
 
 use crate::pair::JournaledPair;
-use crate::slots::slot_of;
 use block_device::DeviceError;
 use device_pair::DevicePair;
 use std::alloc::Allocator;
@@ -25,6 +25,7 @@ impl<P: DevicePair, A: Allocator + Copy> JournaledPair<P, A> {
         requires filling { stage_of self.old ≡ Filling }
         requires behind { 0 < at }
         ensures slots { SameSlots self.old self.new }
+        ensures room { HasRoom (slots_of self.old) → HasRoom (slots_of self.new) }
         ensures base { IsHonest self.old → base_of self.new ≡ base_of self.old }
         ensures there { OnOk result (at ≤ length (journal_of self.old)) }
         ensures written { IsHonest self.old →
@@ -80,7 +81,7 @@ impl<P: DevicePair, A: Allocator + Copy> JournaledPair<P, A> {
         self.put_journal(2 + slot, bytes)
     }
 
-    // Writes a block that has none.
+    // Writes a block that has none. The memory is taken before the write, so that no slot is written that is not found.
     pub(crate) fn put_first(&mut self, i: u32, bytes: &[u8; 4096]) -> Result<(), DeviceError>
         requires filling { stage_of self.old ≡ Filling }
         requires committed { i < kept_of self.old }
@@ -91,9 +92,25 @@ impl<P: DevicePair, A: Allocator + Copy> JournaledPair<P, A> {
         ensures honest { IsHonest self.old ↔ IsHonest self.new }
         ensures faults { Counts (P.faults (pair_of self.old)) (P.faults (pair_of self.new)) result }
     {
-        let at = 2 + self.homes.len();
+        self.slots.reserve()?;
+        self.put_next(i, bytes)
+    }
+
+    // Writes a block into a new slot, for which there is memory.
+    fn put_next(&mut self, i: u32, bytes: &[u8; 4096]) -> Result<(), DeviceError>
+        requires filling { stage_of self.old ≡ Filling }
+        requires committed { i < kept_of self.old }
+        requires room { HasRoom (slots_of self.old) }
+        ensures written { IsHonest self.old →
+            OnOk result (shown_of self.new ≡ written i bytes.now (shown_of self.old)) }
+        ensures torn { IsHonest self.old → OnErr result (Torn i (shown_of self.old) (shown_of self.new)) }
+        ensures keeps { IsHonest self.old → KeepsTo (commits_of self.old) self.old self.new }
+        ensures honest { IsHonest self.old ↔ IsHonest self.new }
+        ensures faults { Counts (P.faults (pair_of self.old)) (P.faults (pair_of self.new)) result }
+    {
+        let at = 2 + self.slots.len();
         self.put_journal(at, bytes)?;
-        self.homes.push(i)?;
+        self.slots.push(i);
         Ok(())
     }
 
@@ -111,7 +128,7 @@ impl<P: DevicePair, A: Allocator + Copy> JournaledPair<P, A> {
         if i >= self.kept {
             return self.put_behind(i, bytes);
         }
-        match slot_of(&self.homes, i) {
+        match self.slots.slot_of(i) {
             Some(slot) => self.put_again(slot, i, bytes),
             None => self.put_first(i, bytes),
         }

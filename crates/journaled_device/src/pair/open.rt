@@ -8,6 +8,7 @@ ghost use Rattle.block_device.specs.Device.{BeginsOne};
 ghost use Rattle.journaled_device.specs.Journal.{count_in, gate_says, has_room, home_in, overlaid, recovered};
 ghost use Rattle.journaled_device.specs.Standing.{commits_of, pair_of, shown_of, stage_of, IsHonest, KeepsTo};
 ghost use Rattle.journaled_device.specs.Stages.{CommitsIn, IsStanding};
+ghost use Rattle.journaled_device.specs.Room.{blocks_of};
 ghost use Rattle.journaled_device.specs.Opening.{AreHomes, AreSynced, IsMalformed, LeavesOr};
 ghost use Rattle.journaled_device.specs.declared.pair.open.OpenFault.TheVariants as fault;
 ghost use Rattle.journaled_device.specs.declared.stage.Stage.TheVariants.{Filling};
@@ -18,6 +19,7 @@ use crate::Stage;
 use crate::gate::{gate_page, says_complete};
 use crate::pair::JournaledPair;
 use crate::pair::record::HOMES;
+use crate::slots::Slots;
 use block_bytes::{read_u32, zero_block};
 use block_device::DeviceError;
 use device_pair::DevicePair;
@@ -139,38 +141,37 @@ fn read_home<P: DevicePair>(pair: &mut P, n: u32, k: u32, limit: u32) -> Result<
     Ok(home)
 }
 
-// Reads the homes of n entries.
+// Reads the homes of n entries, as slots.
 fn read_homes<P: DevicePair, A: Allocator + Copy>(
     pair: &mut P,
     n: u32,
     limit: u32,
     alloc: A,
-) -> Result<Vec<u32, A>, OpenFault>
+) -> Result<Slots<A>, OpenFault>
     ensures base { P.honest pair.old → P.base pair.new ≡ P.base pair.old }
     ensures journal { P.honest pair.old → P.journal pair.new ≡ P.journal pair.old }
-    ensures homes { P.honest pair.old → IfOk result (λ homes. AreHomes n homes.items (P.journal pair.old)) }
-    ensures below { IfOk result (λ homes. All (λ h. h < limit) homes.items) }
+    ensures homes { P.honest pair.old → IfOk result (λ slots. AreHomes n (blocks_of slots) (P.journal pair.old)) }
+    ensures below { IfOk result (λ slots. All (λ h. h < limit) (blocks_of slots)) }
     ensures malformed { P.honest pair.old → IsErrOf result fault.Malformed → (k : ℕ) × (k < n) ×
         ((length (P.journal pair.old) ≤ 2 + n + k / 1024) ⊎ (limit ≤ home_in n k (P.journal pair.old))) }
     ensures now { P.honest pair.old → PairsNoMore (P.may_leave pair.old) (P.may_leave pair.new) }
     ensures stops { P.honest pair.old → PairLeaves P.moment P.left_since pair.old pair.new (P.may_leave pair.old) }
     ensures honest { P.honest pair.old ↔ P.honest pair.new }
 {
-    let mut homes = Vec::new(alloc);
+    let mut slots = Slots::new(alloc);
     for k in 0..n {
         let home = read_home(pair, n, k, limit)?;
-        if homes.push(home).is_err() {
-            return Err(OpenFault::Device(DeviceError::Memory));
-        }
+        slots.reserve()?;
+        slots.push(home);
     }
-    Ok(homes)
+    Ok(slots)
 }
 
-/// What is read of a pair: how far its commit has come, and the homes of its slots.
+/// What is read of a pair: how far its commit has come, and its slots.
 #[derive(Drop)]
 pub struct State<A: Allocator> {
     stage: Stage,
-    homes: Vec<u32, A>,
+    slots: Slots<A>,
 }
 
 // Syncs and reads a base and its journal.
@@ -179,12 +180,12 @@ fn read_state<P: DevicePair, A: Allocator + Copy>(
     alloc: A,
 ) -> Result<State<A>, OpenFault>
     ensures stands { P.honest pair.old → IfOk result (λ s.
-        IsStanding s.stage (length (P.base pair.new)) s.homes.items (P.base pair.new) (P.journal pair.new)
+        IsStanding s.stage (length (P.base pair.new)) (blocks_of s.slots) (P.base pair.new) (P.journal pair.new)
         (P.may_leave pair.new)) }
     ensures shown { P.honest pair.old → IfOk result (λ s.
-        overlaid s.homes.items (P.journal pair.new) (P.base pair.new) ≡ recovered (P.base pair.old) (P.journal pair.old)) }
+        overlaid (blocks_of s.slots) (P.journal pair.new) (P.base pair.new) ≡ recovered (P.base pair.old) (P.journal pair.old)) }
     ensures commits { P.honest pair.old → IfOk result (λ s. (kept : Blocks) →
-        CommitsIn s.stage (length (P.base pair.new)) s.homes.items (P.base pair.new) (P.journal pair.new) kept →
+        CommitsIn s.stage (length (P.base pair.new)) (blocks_of s.slots) (P.base pair.new) (P.journal pair.new) kept →
         kept ≡ recovered (P.base pair.old) (P.journal pair.old)) }
     ensures malformed { P.honest pair.old → IsErrOf result fault.Malformed →
         IsMalformed (P.base pair.old) (P.journal pair.old) }
@@ -198,20 +199,20 @@ fn read_state<P: DevicePair, A: Allocator + Copy>(
         make_journal(pair)?;
         return Ok(State {
             stage: Stage::Filling,
-            homes: Vec::new(alloc),
+            slots: Slots::new(alloc),
         });
     }
     match read_count(pair)? {
         None => Ok(State {
             stage: Stage::Filling,
-            homes: Vec::new(alloc),
+            slots: Slots::new(alloc),
         }),
         Some(n) => {
             let limit = pair.base_blocks();
-            let homes = read_homes(pair, n, limit, alloc)?;
+            let slots = read_homes(pair, n, limit, alloc)?;
             Ok(State {
                 stage: Stage::Copying,
-                homes,
+                slots,
             })
         }
     }
@@ -249,7 +250,7 @@ impl<P: DevicePair, A: Allocator + Copy> JournaledPair<P, A> {
         let kept = pair.base_blocks();
         let device = JournaledPair {
             pair,
-            homes: state.homes,
+            slots: state.slots,
             kept,
             stage: state.stage,
         };
@@ -262,7 +263,7 @@ impl<P: DevicePair, A: Allocator + Copy> JournaledPair<P, A> {
     {
         let JournaledPair {
             pair,
-            homes: _,
+            slots: _,
             kept: _,
             stage: _,
         } = self;

@@ -55,7 +55,7 @@ impl<P: DevicePair, A: Allocator + Copy> JournaledPair<P, A> {
         ensures honest { IsHonest self.old ↔ IsHonest self.new }
         ensures faults { Counts (P.faults (pair_of self.old)) (P.faults (pair_of self.new)) result }
     {
-        let count = self.homes.len();
+        let count = self.slots.len();
         if count >= 1 << 31 {
             return Err(DeviceError::Memory);
         }
@@ -74,9 +74,9 @@ impl<P: DevicePair, A: Allocator + Copy> JournaledPair<P, A> {
         ensures honest { IsHonest self.old ↔ IsHonest self.new }
         ensures faults { Counts (P.faults (pair_of self.old)) (P.faults (pair_of self.new)) result }
     {
-        let count = self.homes.len();
+        let count = self.slots.len();
         for j in 0..count.div_ceil(HOMES) {
-            let page = index_page(&self.homes, j * HOMES);
+            let page = index_page(self.slots.homes(), j * HOMES);
             self.put_journal(2 + count + j, &page)?;
         }
         Ok(())

@@ -27,7 +27,7 @@ loop-j-preserved g c =
     let at = (goal.at.loop-j-preserved g c).After-put_journal in (
       indexed_step c.loop-j.j c.args.self.now c.loop-j.self c.put_journal.new.self inv.0 e.slots e.honest (c.in_ok-put_journal.ensures.faults.other (λ x. cc)) (λ h. still g at h) e.keeps
           (λ h i. index_more (homes_of c.args.self.now) c.loop-j.j _ _ (journal_of c.loop-j.self) (journal_of c.put_journal.new.self) c.index_page-page.result (omega (arith, inv.1)) (omega arith)
-          (subst (λ (hs : List ℕ). (k : ℕ) → k < 1024 → c.loop-j.j * 1024 + k < length hs → number_at 4 (4 * k) c.index_page-page.result ≡ slice_index hs (c.loop-j.j * 1024 + k)) (c.deref.ensures.value ∙ inv.0.slots.homes) c.index_page-page.ensures)
+          (subst (λ (hs : List ℕ). (k : ℕ) → k < 1024 → c.loop-j.j * 1024 + k < length hs → number_at 4 (4 * k) c.index_page-page.result ≡ slice_index hs (c.loop-j.j * 1024 + k)) (c.homes.ensures ∙ inv.0.slots.homes) c.index_page-page.ensures)
           (c.in_ok-put_journal.ensures.written (inv.0.honest.0 h)) i),
       inv.1,
       inv.2,

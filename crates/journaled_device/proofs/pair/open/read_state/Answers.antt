@@ -31,26 +31,26 @@ homes_so g c homes h are =
     let h1 = c.sync_both.ensures.honest.0 h in let h2 = c.read_count.ensures.honest.0 h1 in
     subst (AreHomes c.in-Some.n homes) (c.read_count.ensures.journal h1 ∙ c.sync_both.ensures.journal h) (are h2)
 
-pub returns-in_ok-homes-in-Some-clause-stands : goal.returns-in_ok-homes-in-Some-clause-stands
-returns-in_ok-homes-in-Some-clause-stands g c = λ h.
+pub returns-in_ok-slots-in-Some-clause-stands : goal.returns-in_ok-slots-in-Some-clause-stands
+returns-in_ok-slots-in-Some-clause-stands g c = λ h.
     let p = g.P.DevicePair in let d = c.args.pair.now in let e = c.read_homes.new.pair in
-    let at = (goal.at.returns-in_ok-homes-in-Some-clause-stands g c).After-read_homes in
+    let at = (goal.at.returns-in_ok-slots-in-Some-clause-stands g c).After-read_homes in
     let h1 = c.sync_both.ensures.honest.0 h in let h2 = c.read_count.ensures.honest.0 h1 in
     let says = says_so g at h in
-    found_stands c.in_ok-homes-in-Some.homes.items (p.base d) (p.base e) (p.journal d) (p.journal e) c.in-Some.n (base_so g at h) (journal_so g at h) says.0 says.1 says.2 (homes_so g at c.in_ok-homes-in-Some.homes.items h c.in_ok-homes-in-Some.ensures.homes)
+    found_stands c.in_ok-slots-in-Some.slots.homes.items (p.base d) (p.base e) (p.journal d) (p.journal e) c.in-Some.n (base_so g at h) (journal_so g at h) says.0 says.1 says.2 (homes_so g at c.in_ok-slots-in-Some.slots.homes.items h c.in_ok-slots-in-Some.ensures.homes)
     (p.may_leave e) (λ a b left. c.in_ok-sync_both.ensures.durable h a b (c.read_count.ensures.now h1 a b (c.read_homes.ensures.now h2 a b left)))
-    (subst (λ (n : ℕ). All (λ x. x < n) c.in_ok-homes-in-Some.homes.items) (c.base_blocks-limit.ensures.is ∙ ap length (c.read_count.ensures.base h1 ∙ c.sync_both.ensures.base h)) c.in_ok-homes-in-Some.ensures.below)
+    (subst (λ (n : ℕ). All (λ x. x < n) c.in_ok-slots-in-Some.slots.homes.items) (c.base_blocks-limit.ensures.is ∙ ap length (c.read_count.ensures.base h1 ∙ c.sync_both.ensures.base h)) c.in_ok-slots-in-Some.ensures.below)
 
-pub returns-in_ok-homes-in-Some-clause-shown : goal.returns-in_ok-homes-in-Some-clause-shown
-returns-in_ok-homes-in-Some-clause-shown g c = λ h.
+pub returns-in_ok-slots-in-Some-clause-shown : goal.returns-in_ok-slots-in-Some-clause-shown
+returns-in_ok-slots-in-Some-clause-shown g c = λ h.
     let p = g.P.DevicePair in let d = c.args.pair.now in let e = c.read_homes.new.pair in
-    let at = (goal.at.returns-in_ok-homes-in-Some-clause-shown g c).After-read_homes in
+    let at = (goal.at.returns-in_ok-slots-in-Some-clause-shown g c).After-read_homes in
     let says = says_so g at h in
-    found_shown c.in_ok-homes-in-Some.homes.items (p.base d) (p.base e) (p.journal d) (p.journal e) c.in-Some.n (base_so g at h) (journal_so g at h) says.0 says.1 says.2 (homes_so g at c.in_ok-homes-in-Some.homes.items h c.in_ok-homes-in-Some.ensures.homes)
+    found_shown c.in_ok-slots-in-Some.slots.homes.items (p.base d) (p.base e) (p.journal d) (p.journal e) c.in-Some.n (base_so g at h) (journal_so g at h) says.0 says.1 says.2 (homes_so g at c.in_ok-slots-in-Some.slots.homes.items h c.in_ok-slots-in-Some.ensures.homes)
 
-pub returns-in_ok-homes-in-Some-clause-commits : goal.returns-in_ok-homes-in-Some-clause-commits
-returns-in_ok-homes-in-Some-clause-commits g c = λ h kept is.
+pub returns-in_ok-slots-in-Some-clause-commits : goal.returns-in_ok-slots-in-Some-clause-commits
+returns-in_ok-slots-in-Some-clause-commits g c = λ h kept is.
     let p = g.P.DevicePair in let d = c.args.pair.now in let e = c.read_homes.new.pair in
-    let at = (goal.at.returns-in_ok-homes-in-Some-clause-commits g c).After-read_homes in
+    let at = (goal.at.returns-in_ok-slots-in-Some-clause-commits g c).After-read_homes in
     let says = says_so g at h in
-    is ∙ found_shown c.in_ok-homes-in-Some.homes.items (p.base d) (p.base e) (p.journal d) (p.journal e) c.in-Some.n (base_so g at h) (journal_so g at h) says.0 says.1 says.2 (homes_so g at c.in_ok-homes-in-Some.homes.items h c.in_ok-homes-in-Some.ensures.homes)
+    is ∙ found_shown c.in_ok-slots-in-Some.slots.homes.items (p.base d) (p.base e) (p.journal d) (p.journal e) c.in-Some.n (base_so g at h) (journal_so g at h) says.0 says.1 says.2 (homes_so g at c.in_ok-slots-in-Some.slots.homes.items h c.in_ok-slots-in-Some.ensures.homes)
