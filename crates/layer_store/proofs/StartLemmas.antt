@@ -128,12 +128,13 @@ module _ {D A : Type 0} {m : _} where
       → IsFound (cache_in store) (m.moment (device_in store)) (t ∷ []) (t ∷ [])
   settled_found store t honest one brought settled image opens = found_now (cache_in store) (t ∷ []) brought (settled_kept (cache_in store) t honest one (is_settled store settled).0 image opens)
 
-  -- and so since the moment of a device of which a stop brings that back, if a run from it left nothing else
+  -- and so since the moment of a device of which a stop brings that back, if a run from it left nothing else that is opened
   pub opened_found : (store : Store D A m) (device : D) (t : Table) (P : Blocks → Type 0) → m.honest (device_in store) → OneCommit (cache_in store) → IsSettled store → IsImage (blocks_in store) t
-      → ((k : Blocks) → m.recovery.commits device k → IsImage k t) → ((c : Blocks) → m.recovery.found_since device (m.moment device) c → BeginsOne (m.recovery.commits device) c) → ((c : Blocks) → P c → IsImage c t)
+      → ((k : Blocks) → m.recovery.commits device k → IsImage k t) → ((c : Blocks) → m.recovery.found_since device (m.moment device) c → BeginsOne (m.recovery.commits device) c) → ((c : Blocks) → P c → IsRefused c ⊎ IsImage c t)
       → LeavesOnly m.moment m.left_since m.recovery device (device_in store) P → CommitsWhatOpens m.recovery → IsFound (cache_in store) (m.moment device) (t ∷ []) (t ∷ [])
   opened_found store device t P honest one settled image commits brought images run opens =
-      let brings = brings_weaker m.moment m.recovery device (device_in store) P (IsRefusedOrImageOf (t ∷ [])) (λ c p. this_one [] t c (images c p)) run.brings in
+      let brings = brings_weaker m.moment m.recovery device (device_in store) P (IsRefusedOrImageOf (t ∷ []))
+      (λ c p. ⊎_elim (λ refused. inl refused) (λ there. this_one [] t c there) (images c p)) run.brings in
       let was : (k : Blocks) → m.recovery.commits device k → IsImageOfOne (t ∷ []) k = λ k is. image_kept k t [] k (commits k is) refl in
       record {
         now = settled_kept (cache_in store) t honest one (is_settled store settled).0 image opens;

@@ -12,7 +12,7 @@ all_read xs left more text e none so = sym (append-nil text) ∙ sym so ∙ sym 
 
 pub returns-in-Finished : goal.returns-in-Finished
 returns-in-Finished c =
-    let begun = c.in-Ok.ensures.begins c.new.ensures.honest in
+    let begun = c.in-Ok.ensures.made c.new.ensures.honest in
     let end = c.in-Finished.ensures begun.next begun.represents in
     let serves = end.so in
     let reads = serves.reads in

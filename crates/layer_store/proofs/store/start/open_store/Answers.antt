@@ -37,7 +37,7 @@ returns-in-Ok-clause-durable_image g c = λ t honest image only commits. ok_case
     begins_so store (d.moment device) t (at_ok _ c.begin.result store is (c.begin.ensures.image t (d.shown device) inside (opened.lies honest) image)) settled there run.later
     (λ b since. inr (left b (run.each b since)))
     (opened_found store device t (d.may_leave device) kept (λ k durable takes. g.met.D.BlockDevice.committed (device_in store) k kept durable takes) settled there
-    (λ k is. subst (λ (x : Blocks). IsImage x t) (sym (commits k is)) image) (λ b found. g.met.D.BlockDevice.brought_now device b honest found) left run))
+    (λ k is. subst (λ (x : Blocks). IsImage x t) (sym (commits k is)) image) (λ b found. g.met.D.BlockDevice.brought_now device b honest found) (λ b may. inr (left b may)) run))
 
 pub returns-in-Ok-clause-opened : goal.returns-in-Ok-clause-opened
 returns-in-Ok-clause-opened g c = ok_case c.begin.result (λ store is honest f refuses.
