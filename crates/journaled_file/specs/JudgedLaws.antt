@@ -1,5 +1,5 @@
 -- Laws of what is found beside a base.
-use Rattle.std.proofs.Common.{◌≡◌, ◌∙◌, ◌<◌, ◌≤◌, ℕ, true, false, List, length, refl, sym, ap, subst, arith, ⊎_elim}
+use Rattle.std.proofs.Common.{◌≡◌, ◌∙◌, ◌<◌, ◌≤◌, ℕ, true, List, [], length, zero, suc, refl, sym, ap, subst, arith, ⊎_elim}
 use Rattle.std.proofs.lemmas.List.{get_or_default}
 use Rattle.block_bytes.specs.Numbers.{zeros}
 use Rattle.block_device.specs.Device.{Blocks, block_at}
@@ -33,6 +33,6 @@ none_foreign n base journal a e size of has left judged =
     judged.2 (has.title ∙ of (λ m. judged.0 (left.found m)) ∙ sym (same_title n base a (untitled e) size two plain))
   where
     many : (k : ℕ) → (k < 2 → length (untitled e) ≤ 2) → 2 ≤ k
-    many 0 few = absurd (omega (arith, few (omega arith), length-untitled e, judged.1.room))
-    many 1 few = absurd (omega (arith, few (omega arith), length-untitled e, judged.1.room))
+    many zero few = absurd (omega (arith, few (omega arith), length-untitled e, judged.1.room))
+    many (suc zero) few = absurd (omega (arith, few (omega arith), length-untitled e, judged.1.room))
     many (suc (suc k)) few = omega arith

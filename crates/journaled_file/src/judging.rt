@@ -55,9 +55,9 @@ fn judge_titled<P: DevicePair>(
     marked: bool,
     title: &[u8; 4096],
 ) -> Result<Found, DeviceError>
-    requires room { 2 ≤ length (P.journal pair.old) }
-    requires marked { P.honest pair.old → marked.now ≡ true → IsMarked (P.base pair.old) }
-    requires unmarked { P.honest pair.old → marked.now ≡ false → ¬ IsMarked (P.base pair.old) }
+    requires room { P.honest pair.old → 2 ≤ length (P.journal pair.old) }
+    requires marked { P.honest pair.old → marked ≡ true → IsMarked (P.base pair.old) }
+    requires unmarked { P.honest pair.old → marked ≡ false → ¬ IsMarked (P.base pair.old) }
     requires title { P.honest pair.old → title.now ≡ block_at 0 (P.journal pair.old) }
     requires reads { reads_title title.now ≡ true }
     ensures judged { P.honest pair.old → IfOk result (λ found. IsJudged found (P.base pair.old) (P.journal pair.old)) }
@@ -94,13 +94,16 @@ pub(crate) fn is_marked<P: DevicePair>(pair: &mut P) -> Result<bool, DeviceError
 
 // Whether the journal says that its session has ended with this base.
 fn has_ended<P: DevicePair>(pair: &mut P) -> Result<bool, DeviceError>
-    requires room { 2 ≤ length (P.journal pair.old) }
+    requires room { P.honest pair.old → 2 ≤ length (P.journal pair.old) }
     ensures is { P.honest pair.old → IfOk result (λ t. t ≡ true → HasEnded (P.base pair.old) (P.journal pair.old)) }
     ensures none { P.honest pair.old →
         IfOk result (λ t. t ≡ false → ¬ HasEnded (P.base pair.old) (P.journal pair.old)) }
     ensures quiet { P.honest pair.old → IsQuiet P.DevicePair pair.old pair.new }
     ensures honest { P.honest pair.old ↔ P.honest pair.new }
 {
+    if pair.journal_blocks() < TITLE_BLOCKS {
+        return Ok(false);
+    }
     let mut end = zero_block();
     pair.read_journal(1, &mut end)?;
     Ok(end == end_of_base(pair)?)

@@ -1,5 +1,5 @@
 //! How a file and its journal are opened.
-ghost use Rattle.std.specs.Prelude.{◌≡◌, ◌≤◌, ◌↔◌, length, IfOk, OnOk};
+ghost use Rattle.std.specs.Prelude.{◌≡◌, ◌<◌, ◌↔◌, length, IfOk, OnOk};
 ghost use Rattle.block_device.specs.Device.{written};
 ghost use Rattle.journaled_device.specs.Journal.{recovered};
 ghost use Rattle.journaled_device.specs.Journaled.{inner_of};
