@@ -11,4 +11,4 @@ mod open;
 
 pub use end::{end_journaled, end_session};
 pub use judging::{Found, judge};
-pub use open::{JournaledFile, JournaledOver, open_journaled, open_over};
+pub use open::{JournaledFile, JournaledOver, judge_and_finish, open_journaled, open_over};

@@ -1,6 +1,8 @@
 //! How a file and its journal are opened.
 ghost use Rattle.std.specs.Prelude.{◌≡◌, ◌<◌, ◌↔◌, length, IfOk, OnOk};
 ghost use Rattle.block_device.specs.Device.{written};
+ghost use Rattle.journaled_file.specs.Judged.{IsJudged};
+ghost use Rattle.journaled_file.specs.declared.judging.Found.TheVariants.{Ended};
 ghost use Rattle.journaled_device.specs.Journal.{recovered};
 ghost use Rattle.journaled_device.specs.Journaled.{inner_of};
 ghost use Rattle.journaled_device.specs.Standing.{shown_of};
@@ -8,7 +10,7 @@ ghost use Rattle.marked_pair.specs.Mark.{unmarked};
 ghost use Rattle.page_file.specs.Layout.{gate_block};
 ghost use Rattle.titled_pair.specs.Title.{untitled};
 
-use crate::judging::{Found, is_marked, judge};
+use crate::judging::{Found, judge};
 use block_device::{BlockDevice, DeviceError};
 use device_pair::{DevicePair, TwoDevices};
 use file_device::{FileDevice, HostFile, OpenError, journal_path, open_file, remove_journal};
@@ -42,7 +44,10 @@ pub fn open_journaled<R: Files<File = File>>(
     let base = open_file(rt, path, create)?;
     let name = journal_path(alloc, path)?;
     let (pair, unended) = paired(rt, name.as_str(), base)?;
-    Ok((open_over(pair, alloc)?, unended))
+    match open_over(pair, alloc) {
+        Ok(device) => Ok((device, unended)),
+        Err((error, _)) => Err(error),
+    }
 }
 
 // Opens the journal of a file, and judges both. The pair has a title; whether the last run had not ended is told.
@@ -59,13 +64,9 @@ fn paired<R: Files<File = File>>(
         opened => opened?,
     };
     let mut pair = TwoDevices::of(base, journal);
-    match judge(&mut pair)? {
+    match judge_and_finish(&mut pair)? {
         Found::Own => Ok((pair, marked)),
-        Found::Fresh => Ok((renewed(rt, name, pair)?, false)),
-        Found::Ended => {
-            shut_gate(&mut pair)?;
-            Ok((renewed(rt, name, pair)?, false))
-        }
+        Found::Fresh | Found::Ended => Ok((renewed(rt, name, pair)?, false)),
         Found::Missing => Err(OpenError::NoJournal),
         Found::Foreign => Err(OpenError::OtherJournal),
     }
@@ -99,6 +100,23 @@ fn renewed<R: Files<File = File>>(rt: &R, name: &str, pair: Pair) -> Result<Pair
     Ok(pair)
 }
 
+/// Judges, and finishes a clean end that was cut short, after which the base is read without its journal.
+pub fn judge_and_finish<P: DevicePair>(pair: &mut P) -> Result<Found, DeviceError>
+    ensures judged { P.honest pair.old → IfOk result (λ found. IsJudged found (P.base pair.old) (P.journal pair.old)) }
+    ensures finished { P.honest pair.old → 0 < length (P.base pair.old) →
+        IfOk result (λ found. found ≡ Ended → P.base pair.new ≡ written 0 (gate_block 1) (P.base pair.old)) }
+    ensures other { P.honest pair.old →
+        IfOk result (λ found. ¬ (found ≡ Ended) → P.base pair.new ≡ P.base pair.old) }
+    ensures journal { P.honest pair.old → P.journal pair.new ≡ P.journal pair.old }
+    ensures honest { P.honest pair.old ↔ P.honest pair.new }
+{
+    let found = judge(pair)?;
+    if found == Found::Ended {
+        shut_gate(pair)?;
+    }
+    Ok(found)
+}
+
 /// Writes the gate of the base shut, without a mark, and syncs it. A base without blocks has none.
 pub(crate) fn shut_gate<P: DevicePair>(pair: &mut P) -> Result<(), DeviceError>
     ensures shut { P.honest pair.old → 0 < length (P.base pair.old) →
@@ -114,31 +132,31 @@ pub(crate) fn shut_gate<P: DevicePair>(pair: &mut P) -> Result<(), DeviceError>
 }
 
 /// Opens a pair whose journal has a title. Where the pair is honest, what is then read is what recovery makes of the base,
-/// a gate with the mark as a shut one, and of the journal behind its title.
+/// a gate with the mark as a shut one, and of the journal behind its title. Where it is refused, the pair is given back.
 pub fn open_over<P: DevicePair + Drop, A: Allocator + Copy>(
     pair: P,
     alloc: A,
-) -> Result<JournaledOver<P, A>, OpenError>
+) -> Result<JournaledOver<P, A>, (OpenError, P)>
     ensures shown { IfOk result (λ d. P.honest pair →
         shown_of (inner_of d) ≡ recovered (unmarked (P.base pair)) (untitled (P.journal pair))) }
 {
     if pair.journal_blocks() < TITLE_BLOCKS {
-        return Err(OpenError::NoJournal);
+        return Err((OpenError::NoJournal, pair));
     }
     let titled = match TitledPair::over(pair) {
         Ok(titled) => titled,
-        Err(_) => return Err(OpenError::Refused),
+        Err((_, pair)) => return Err((OpenError::Refused, pair)),
     };
     if titled.base_blocks() < 2 && titled.journal_blocks() > 2 {
-        return Err(OpenError::NoJournal);
+        return Err((OpenError::NoJournal, titled.into_pair()));
     }
     let marked = match MarkedPair::over(titled) {
         Ok(marked) => marked,
-        Err(_) => return Err(OpenError::Refused),
+        Err((_, titled)) => return Err((OpenError::Refused, titled.into_pair())),
     };
     match JournaledDevice::open(marked, alloc) {
         Ok(device) => Ok(device),
-        Err((OpenFault::Malformed, _)) => Err(OpenError::NoJournal),
-        Err((OpenFault::Device(_), _)) => Err(OpenError::Refused),
+        Err((OpenFault::Malformed, left)) => Err((OpenError::NoJournal, left.into_pair().into_pair())),
+        Err((OpenFault::Device(_), left)) => Err((OpenError::Refused, left.into_pair().into_pair())),
     }
 }

@@ -4,5 +4,6 @@
 
 #[cfg(test)]
 mod cut_short;
+mod stops;
 #[cfg(test)]
 mod runs;
