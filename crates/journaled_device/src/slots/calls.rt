@@ -42,7 +42,7 @@ fn chain<A: Allocator>(homes: &[u32], before: &mut Vec<u32, A>, heads: &mut Vec<
 
 impl<A: Allocator + Copy> Slots<A> {
     /// No slots. It takes no memory.
-    pub fn new(alloc: A) -> Slots<A>
+    pub(crate) fn new(alloc: A) -> Slots<A>
         ensures { blocks_of result ≡ [] }
     {
         Slots {
@@ -53,21 +53,21 @@ impl<A: Allocator + Copy> Slots<A> {
     }
 
     /// How many slots there are.
-    pub fn len(&self) -> usize
+    pub(crate) fn len(&self) -> usize
         ensures { result ≡ length (blocks_of self.now) }
     {
         self.homes.len()
     }
 
     /// The blocks that the slots hold, in order of the slots.
-    pub fn homes(&self) -> &[u32]
+    pub(crate) fn homes(&self) -> &[u32]
         ensures { result.now ≡ blocks_of self.now }
     {
         &self.homes
     }
 
     /// The slot that holds block i: the last one whose home it is.
-    pub fn slot_of(&self, i: u32) -> Option<usize>
+    pub(crate) fn slot_of(&self, i: u32) -> Option<usize>
         ensures found { IfSome result (λ m. IsSlot (blocks_of self.now) i m) }
         ensures none { result ≡ None → ¬ Contains (blocks_of self.now) i }
     {
@@ -86,7 +86,7 @@ impl<A: Allocator + Copy> Slots<A> {
     }
 
     /// Takes the memory for one slot more. Where it is refused, the slots stay.
-    pub fn reserve(&mut self) -> Result<(), DeviceError>
+    pub(crate) fn reserve(&mut self) -> Result<(), DeviceError>
         ensures same { blocks_of self.new ≡ blocks_of self.old }
         ensures room { OnOk result (HasRoom self.new) }
         ensures refused { IfErr result (λ e. e ≡ Memory) }
@@ -120,7 +120,7 @@ impl<A: Allocator + Copy> Slots<A> {
     }
 
     /// Adds a slot that holds block i.
-    pub fn push(&mut self, i: u32)
+    pub(crate) fn push(&mut self, i: u32)
         requires { HasRoom self.old }
         ensures { blocks_of self.new ≡ blocks_of self.old ++ i ∷ [] }
     {
@@ -131,7 +131,7 @@ impl<A: Allocator + Copy> Slots<A> {
     }
 
     /// Gives up all slots and their memory.
-    pub fn clear(&mut self)
+    pub(crate) fn clear(&mut self)
         ensures { blocks_of self.new ≡ [] }
     {
         let alloc = *self.homes.allocator();
