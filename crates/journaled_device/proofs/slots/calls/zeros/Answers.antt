@@ -1,5 +1,5 @@
 -- One zero more.
-use Rattle.std.proofs.Common.{◌∙◌, ◌++◌, ◌∷◌, [], List, ℕ, ap, replicate, rules}
+use Rattle.std.proofs.Common.{◌∙◌, ◌++◌, ◌∷◌, [], List, ℕ, ap, rules}
 use Rattle.std.proofs.lemmas.List.{replicate_more}
 use Rattle.journaled_device.proofs.slots.calls.zeros.Goals as goal
 
