@@ -83,7 +83,9 @@ fn all_are<D: BlockDevice>(device: &mut D, count: u32, round: u8) -> bool {
 fn base_is<P: DevicePair>(pair: &mut P, count: u32, round: u8) -> bool {
     let mut into = [0; 4096];
     for i in 0..count {
-        if i >= pair.base_blocks() || pair.read_base(i, &mut into).is_err() || into != page(i, round)
+        if i >= pair.base_blocks()
+            || pair.read_base(i, &mut into).is_err()
+            || into != page(i, round)
         {
             return false;
         }

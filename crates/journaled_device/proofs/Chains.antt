@@ -1,10 +1,10 @@
 -- The slots of each bucket, chained: what a chain leads to, and one slot more.
-use Rattle.std.proofs.Common.{◌≡◌, ◌∙◌, ◌^◌, ℕ, suc, zero, ◌+◌, ◌<◌, ◌≤◌, ◌==◌, Bool, true, false, if◌then◌else◌, List, [], ◌∷◌, ◌++◌, length, replicate, set, take, refl, sym, ap, subst, arith, ⊎_elim}
-use Rattle.std.specs.Prelude.{slice_index}
+use Rattle.std.proofs.Common.{◌≡◌, ◌∙◌, ◌^◌, ℕ, suc, zero, ◌+◌, ◌<◌, ◌≤◌, Bool, if◌then◌else◌, List, [], ◌∷◌, ◌++◌, length, replicate, set, take, refl, sym, ap, subst, arith, ⊎_elim}
+use Rattle.std.specs.Prelude.{◌/◌, slice_index}
 use Rattle.std.specs.List.{Contains}
 use Rattle.std.proofs.lemmas.Bool.{cases_lt, cases_eq, eq-eqb, ne_eqb}
 use Rattle.std.proofs.lemmas.List.{get_or_append_left, get_or_default, get_or_push, get_or-replicate, get_or-set_same, get_or-set_other, length-set, length_push, length-take-le, take_all, take_more}
-use Rattle.journaled_device.specs.Buckets.{AreChained, bucket_in, last_among}
+use Rattle.journaled_device.specs.Buckets.{AreChained, IsSmall, bucket_in, last_among}
 use Rattle.journaled_device.specs.Found.{IsSlot}
 
 -- below a number more, and not there
@@ -194,3 +194,17 @@ sought_none homes heads i next s is one = s.none one.0 (omega (arith, is)) (omeg
 
 pub none_without_buckets : (homes before heads : List ℕ) (i : ℕ) → AreChained homes before heads → length heads ≡ 0 → ¬ Contains homes i
 none_without_buckets homes before heads i c none one = absurd (omega (arith, c.some_bucket none, one.1))
+
+-- ---- what is allocated
+
+pub small_of : (n homes before heads : ℕ) → homes ≤ n + (n / 4 + 1) → before ≤ n + (n / 4 + 1) → heads ≤ (n + (n / 4 + 1)) / 3 + 1 → IsSmall n homes before heads
+small_of n homes before heads a b c = record { homes_few = a; before_few = b; heads_few = c; all_few = omega (arith, a, b, c) }
+
+pub small_more : (n n' homes homes' before before' heads : ℕ) → n' ≡ n + 1 → homes' ≡ homes → before' ≡ before → IsSmall n homes before heads → IsSmall n' homes' before' heads
+small_more n n' homes homes' before before' heads e h b s = small_of n' homes' before' heads (omega (arith, e, h, s.homes_few)) (omega (arith, e, b, s.before_few)) (omega (arith, e, s.heads_few))
+
+pub small_heads : (n homes before heads heads' : ℕ) → heads' ≤ (n + (n / 4 + 1)) / 3 + 1 → IsSmall n homes before heads → IsSmall n homes before heads'
+small_heads n homes before heads heads' le s = small_of n homes before heads' s.homes_few s.before_few le
+
+pub small_grown : (n homes homes' before before' heads : ℕ) → homes' ≤ n + (n / 4 + 1) → before' ≤ n + (n / 4 + 1) → IsSmall n homes before heads → IsSmall n homes' before' heads
+small_grown n homes homes' before before' heads a b s = small_of n homes' before' heads a b s.heads_few

@@ -1,5 +1,5 @@
 -- The steps of Steps.antt, in the form in which the calls ask for them.
-use Rattle.std.specs.Prelude.{is_ok, if◌then◌else◌, slice_index}
+use Rattle.std.specs.Prelude.{slice_index}
 use Rattle.std.proofs.lemmas.List.{get_or_default}
 use Rattle.block_device.specs.Written.{block_at-written_other, length-written_within}
 use Rattle.std.proofs.Common.{◌≡◌, ◌∙◌, ◌⊎◌, ℕ, ◌+◌, ◌<◌, ◌≤◌, List, [], ◌∷◌, ◌++◌, length, take, Result, Ok, Err, OnOk, OnErr, refl, sym, ap, subst, arith, inl, inr, ⊎_elim}
@@ -116,11 +116,6 @@ module _ (homes homes' : List ℕ) (journal journal' base base' : Blocks) (homes
       t.0)
       (λ (e : journal' ≡ journal). over journal e)
       torn
-
--- a list that is pushed, or not
-pub pushed : {X E : Type 0} (P : List ℕ → Type 0) (r : Result X E) (old new : List ℕ) (i : ℕ) → new ≡ (if is_ok r then old ++ i ∷ [] else old) → P (old ++ i ∷ []) → P old → P new
-pushed P (Ok u) old new i e more same = subst P (sym e) more
-pushed P (Err x) old new i e more same = subst P (sym e) same
 
 -- a read, and a sync that is refused
 pub read_stays : (stage : Stage) (kept : ℕ) (homes : List ℕ) (base base' journal journal' : Blocks) → base' ≡ base → journal' ≡ journal → CommitsNoMore (CommitsIn stage kept homes base journal) (CommitsIn stage kept homes base' journal')

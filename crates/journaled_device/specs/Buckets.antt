@@ -1,5 +1,5 @@
 -- The map from a block to its slot: the slots of one bucket are chained, the last one first.
-use Rattle.std.specs.Prelude.{◌≡◌, ◌==◌, ◌<◌, ◌*◌, ◌/◌, ◌%◌, ◌^◌, ℕ, zero, suc, if◌then◌else◌, List, length, slice_index}
+use Rattle.std.specs.Prelude.{◌≡◌, ◌==◌, ◌<◌, ◌*◌, ◌+◌, ◌≤◌, ◌/◌, ◌%◌, ◌^◌, ℕ, zero, suc, if◌then◌else◌, List, length, slice_index}
 
 -- the bucket of a block among so many
 unfoldable pub bucket_in : ℕ → ℕ → ℕ
@@ -18,3 +18,10 @@ pub record AreChained (homes before heads : List ℕ) : Type 0 where
   pub as_many : length before ≡ length homes
   pub heads_are : (b : ℕ) → b < length heads → slice_index heads b ≡ last_among (bucket_in (length heads)) b homes (length homes)
   pub before_are : (k : ℕ) → k < length homes → slice_index before k ≡ last_among (bucket_in (length heads)) (bucket_in (length heads) (slice_index homes k)) homes k
+
+-- The places that are allocated for n slots, of 4 bytes each: at most three for each slot and the next one.
+pub record IsSmall (n homes before heads : ℕ) : Type 0 where
+  pub homes_few : homes ≤ n + (n / 4 + 1)
+  pub before_few : before ≤ n + (n / 4 + 1)
+  pub heads_few : heads ≤ (n + (n / 4 + 1)) / 3 + 1
+  pub all_few : homes + before + heads ≤ 3 * (n + 1)

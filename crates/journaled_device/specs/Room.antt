@@ -1,5 +1,5 @@
 -- Room in the index of slots.
-use Rattle.std.specs.Prelude.{◌<◌, ◌+◌, ◌^◌, ℕ, List, length, vec_len, vec_capacity}
+use Rattle.std.specs.Prelude.{◌<◌, ◌+◌, ◌^◌, ℕ, List, vec_len, vec_capacity}
 use Rattle.journaled_device.specs.declared.slots.Slots.{Slots}
 
 -- the blocks that the slots hold

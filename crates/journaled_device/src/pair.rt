@@ -19,7 +19,8 @@ use std::alloc::{Allocator, Global};
 /// A device over a base and its journal. A sync commits what was written since the last one, or nothing of it.
 ///
 /// A block that was there at the last commit is written into a slot of the journal, and read from there, until a sync
-/// copies it into the base. Blocks behind those go straight into the base.
+/// copies it into the base. Blocks behind those go straight into the base. Memory is the index of the slots, which is
+/// taken before the write that needs it and given back by a commit.
 #[derive(Drop)]
 pub struct JournaledPair<P: DevicePair, A: Allocator + Copy = Global> {
     pair: P,

@@ -1,5 +1,6 @@
 //! Slots made, found and added.
-ghost use Rattle.std.specs.Prelude.{◌≡◌, ◌<◌, ◌≤◌, ◌^◌, ◌++◌, [], ◌∷◌, None, IfSome, IfErr, OnOk, length, replicate, vec_len, vec_capacity};
+ghost use Rattle.std.specs.Prelude.{◌≡◌, ◌<◌, ◌≤◌, ◌+◌, ◌/◌, ◌^◌, ◌++◌, [], ◌∷◌, length, replicate};
+ghost use Rattle.std.specs.Prelude.{None, IfSome, IfErr, IfOk, OnOk, vec_len, vec_capacity};
 ghost use Rattle.std.specs.List.{Contains};
 ghost use Rattle.block_device.specs.declared.device.DeviceError.TheVariants.{Memory};
 ghost use Rattle.journaled_device.specs.Buckets.{bucket_in, AreChained};
@@ -8,7 +9,7 @@ ghost use Rattle.journaled_device.specs.Room.{blocks_of, HasRoom};
 
 use crate::slots::Slots;
 use block_device::DeviceError;
-use std::alloc::Allocator;
+use std::alloc::{AllocError, Allocator};
 
 // The bucket of a block: its number, mixed, falls into one of so many equal parts of 2^32.
 #[tactic(auto, unfolding(crate::specs::Buckets::bucket_in))]
@@ -22,6 +23,19 @@ fn bucket(i: u32, count: usize) -> usize
     (mixed * count as u64 / (1 << 32)) as usize
 }
 
+// So many zeros, with no room for more.
+fn zeros<A: Allocator>(alloc: A, count: usize) -> Result<Vec<u32, A>, AllocError>
+    ensures items { IfOk result (λ v. v.items ≡ replicate count 0) }
+    ensures len { IfOk result (λ v. vec_len v ≡ count) }
+    ensures capacity { IfOk result (λ v. vec_capacity v ≡ count) }
+{
+    let mut row = Vec::with_capacity(alloc, count)?;
+    for _k in 0..count {
+        row.push_reserved(0);
+    }
+    Ok(row)
+}
+
 // Chains the slots of these blocks by buckets that are empty.
 fn chain<A: Allocator>(homes: &[u32], before: &mut Vec<u32, A>, heads: &mut Vec<u32, A>)
     requires few { length homes.now < 2 ^ 32 }
@@ -31,6 +45,8 @@ fn chain<A: Allocator>(homes: &[u32], before: &mut Vec<u32, A>, heads: &mut Vec<
     requires empty { heads.old.items ≡ replicate (vec_len heads.old) 0 }
     ensures chained { AreChained homes.now before.new.items heads.new.items }
     ensures buckets { vec_len heads.new ≡ vec_len heads.old }
+    ensures before_kept { vec_capacity before.new ≡ vec_capacity before.old }
+    ensures heads_kept { vec_capacity heads.new ≡ vec_capacity heads.old }
 {
     before.clear();
     for k in 0..homes.len() {
@@ -42,7 +58,7 @@ fn chain<A: Allocator>(homes: &[u32], before: &mut Vec<u32, A>, heads: &mut Vec<
 
 impl<A: Allocator + Copy> Slots<A> {
     /// No slots. It takes no memory.
-    pub fn new(alloc: A) -> Slots<A>
+    pub(crate) fn new(alloc: A) -> Slots<A>
         ensures { blocks_of result ≡ [] }
     {
         Slots {
@@ -53,21 +69,21 @@ impl<A: Allocator + Copy> Slots<A> {
     }
 
     /// How many slots there are.
-    pub fn len(&self) -> usize
+    pub(crate) fn len(&self) -> usize
         ensures { result ≡ length (blocks_of self.now) }
     {
         self.homes.len()
     }
 
     /// The blocks that the slots hold, in order of the slots.
-    pub fn homes(&self) -> &[u32]
+    pub(crate) fn homes(&self) -> &[u32]
         ensures { result.now ≡ blocks_of self.now }
     {
         &self.homes
     }
 
     /// The slot that holds block i: the last one whose home it is.
-    pub fn slot_of(&self, i: u32) -> Option<usize>
+    pub(crate) fn slot_of(&self, i: u32) -> Option<usize>
         ensures found { IfSome result (λ m. IsSlot (blocks_of self.now) i m) }
         ensures none { result ≡ None → ¬ Contains (blocks_of self.now) i }
     {
@@ -86,7 +102,7 @@ impl<A: Allocator + Copy> Slots<A> {
     }
 
     /// Takes the memory for one slot more. Where it is refused, the slots stay.
-    pub fn reserve(&mut self) -> Result<(), DeviceError>
+    pub(crate) fn reserve(&mut self) -> Result<(), DeviceError>
         ensures same { blocks_of self.new ≡ blocks_of self.old }
         ensures room { OnOk result (HasRoom self.new) }
         ensures refused { IfErr result (λ e. e ≡ Memory) }
@@ -109,18 +125,19 @@ impl<A: Allocator + Copy> Slots<A> {
     fn spread(&mut self, count: usize) -> Result<(), DeviceError>
         requires some { 0 < count }
         requires few { count < 2 ^ 32 }
+        requires fits { count ≤ (length (blocks_of self.old) + (length (blocks_of self.old) / 4 + 1)) / 3 + 1 }
         ensures same { blocks_of self.new ≡ blocks_of self.old }
         ensures buckets { OnOk result (vec_len self.new.heads ≡ count) }
         ensures refused { IfErr result (λ e. e ≡ Memory) }
     {
-        let mut heads = vec![in *self.homes.allocator(); 0; count]?;
+        let mut heads = zeros(*self.homes.allocator(), count)?;
         chain(&self.homes, &mut self.before, &mut heads);
         self.heads = heads;
         Ok(())
     }
 
     /// Adds a slot that holds block i.
-    pub fn push(&mut self, i: u32)
+    pub(crate) fn push(&mut self, i: u32)
         requires { HasRoom self.old }
         ensures { blocks_of self.new ≡ blocks_of self.old ++ i ∷ [] }
     {
@@ -131,7 +148,7 @@ impl<A: Allocator + Copy> Slots<A> {
     }
 
     /// Gives up all slots and their memory.
-    pub fn clear(&mut self)
+    pub(crate) fn clear(&mut self)
         ensures { blocks_of self.new ≡ [] }
     {
         let alloc = *self.homes.allocator();

@@ -19,8 +19,12 @@ pub loop-next-smaller : goal.loop-next-smaller
 loop-next-smaller g c =
     let s = c.args.self.now in let slot = c.loop-next.next - 1 in
     let there : slot < length s.before.items = omega (arith, c.loop-next-test.true, c.loop-next.invariant.within, s.chained.as_many) in
-    omega (arith, c.loop-next-test.true, before_less s.homes.items s.before.items s.heads.items slot c.index-next-in-loop-next.result.now s.chained (omega (arith, there, s.chained.as_many))
-    (get_or_read s.before.items slot c.index-next-in-loop-next.result.now there c.index-next-in-loop-next.ensures 0))
+    omega (
+      arith,
+      c.loop-next-test.true,
+      before_less s.homes.items s.before.items s.heads.items slot c.index-next-in-loop-next.result.now s.chained (omega (arith, there, s.chained.as_many))
+          (get_or_read s.before.items slot c.index-next-in-loop-next.result.now there c.index-next-in-loop-next.ensures 0),
+    )
 
 pub loop-next-preserved : goal.loop-next-preserved
 loop-next-preserved g c =

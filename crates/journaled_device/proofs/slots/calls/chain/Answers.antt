@@ -9,7 +9,7 @@ use Rattle.journaled_device.proofs.slots.calls.chain.Goals as goal
 pub loop-k-init : goal.loop-k-init
 loop-k-init g c =
     let long : c.args.heads.now.len ≡ length c.args.heads.now.items = search rules in
-    (chained_empty c.clear.new.self.items c.args.heads.now.items c.clear.ensures.items (c.requires.empty ∙ ap (λ (n : ℕ). replicate n 0) long) (omega (arith, long, c.requires.few_buckets)), search rules, search rules)
+    (chained_empty c.clear.new.self.items c.args.heads.now.items c.clear.ensures.items (c.requires.empty ∙ ap (λ (n : ℕ). replicate n 0) long) (omega (arith, long, c.requires.few_buckets)), search rules, search rules, search rules, search rules)
 
 pub loop-k-preserved : goal.loop-k-preserved
 loop-k-preserved g c =
@@ -17,7 +17,12 @@ loop-k-preserved g c =
     let long : c.loop-k.heads.len ≡ length heads = search rules in
     let wide : c.len.result ≡ length heads = c.len.ensures ∙ long in
     let x : slice_index heads c.bucket-b.result ≡ c.index.result.now = sym (get_or_read heads c.bucket-b.result c.index.result.now (omega (arith, wide, c.bucket-b.ensures.within)) c.index.ensures 0) in
-    let at : c.loop-k.k < length homes = search rules in
-    (subst (λ (l : List ℕ). AreChained (take (c.loop-k.k + 1) homes) l (set heads c.bucket-b.result (c.loop-k.k + 1))) (sym c.push_reserved.ensures.items)
-    (chained_step homes c.loop-k.before.items heads (slice_index homes c.loop-k.k) c.bucket-b.result c.loop-k.k (c.loop-k.k + 1) c.index.result.now c.loop-k.invariant.0 at refl
-    (c.bucket-b.ensures.is ∙ ap (λ (w : ℕ). bucket_in w (slice_index homes c.loop-k.k)) wide) (omega (arith, wide, c.bucket-b.ensures.within)) refl c.requires.few (sym x)), search rules, search rules)
+    let at : c.loop-k.k < length homes = search rules in (
+      subst (λ (l : List ℕ). AreChained (take (c.loop-k.k + 1) homes) l (set heads c.bucket-b.result (c.loop-k.k + 1))) (sym c.push_reserved.ensures.items)
+          (chained_step homes c.loop-k.before.items heads (slice_index homes c.loop-k.k) c.bucket-b.result c.loop-k.k (c.loop-k.k + 1) c.index.result.now c.loop-k.invariant.0 at refl
+          (c.bucket-b.ensures.is ∙ ap (λ (w : ℕ). bucket_in w (slice_index homes c.loop-k.k)) wide) (omega (arith, wide, c.bucket-b.ensures.within)) refl c.requires.few (sym x)),
+      search rules,
+      search rules,
+      search rules,
+      search rules,
+    )
