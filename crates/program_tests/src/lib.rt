@@ -4,6 +4,7 @@
 
 #[cfg(test)]
 mod cut_short;
-mod stops;
 #[cfg(test)]
 mod runs;
+#[cfg(test)]
+mod stops;

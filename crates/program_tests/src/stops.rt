@@ -100,6 +100,7 @@ fn begun(alloc: Global) -> Result<MemoryPair, Fail> {
 
 // What a run left that was stopped: the pair, the last table whose closing was begun and was finished, by its boxes, and
 // whether it came to its end.
+#[derive(Drop)]
 struct Stopped {
     pair: MemoryPair,
     begun: u64,
@@ -108,7 +109,7 @@ struct Stopped {
 }
 
 // A run over a store of three boxes, which is stopped after so many calls.
-fn stopped(alloc: Global, pair: MemoryPair, passes: u64) -> Stopped
+fn stop_run(alloc: Global, pair: MemoryPair, passes: u64) -> Stopped
     requires { passes < 2 ^ 64 - 1 }
 {
     let none = |pair: MemoryPair| Stopped { pair, begun: 3, finished: 3, done: false };
@@ -142,10 +143,15 @@ fn a_stop_at_any_call_leaves_a_closed_table(rt: HostRuntime) -> Result<(), Fail>
         let mut done = true;
         for one in KINDS {
             for other in KINDS {
-                let run = stopped(alloc, begun(alloc)?, passes);
-                done = done && run.done;
-                let left = boxes(alloc, run.pair.after_stop(one, other));
-                let fits = left == Some(run.begun) || left == Some(run.finished);
+                let Stopped {
+                    pair,
+                    begun: last,
+                    finished,
+                    done: whole,
+                } = stop_run(alloc, begun(alloc)?, passes);
+                done = done && whole;
+                let left = boxes(alloc, pair.after_stop(one, other));
+                let fits = left == Some(last) || left == Some(finished);
                 assert!(rt; fits, "a stop after {passes} calls");
             }
         }
