@@ -12,6 +12,9 @@ usage: generate.py windows [N]    N windows (a million) on an empty layer, to st
        generate.py tags FOLDER [BOXES]
            files in FOLDER, each of one operation: so many boxes (100,000) with a hundred tags that are inserted, and windows
            of about a thousand of them, for all tags and for one
+       generate.py closings FOLDER BOXES MORE
+           files in FOLDER: `made`, which makes a layer of so many uniform boxes of two axes and closes it, and `more`, as many
+           inserts on it
 
 A box of a scene has sides that are uniform from 0 to a length with which a point is held by a tenth of a box.
 """
@@ -112,6 +115,15 @@ def tags(folder, boxes="100000"):
             file.writelines(line + "\n" for line in lines)
 
 
+def closings(folder, boxes, more):
+    at = Scene(int(boxes), "uniform", 2)
+    lines = [text("insert a", place, at.box()) for place in shuffled(int(boxes) + int(more))]
+    files = {"made": ["create a 2 100", *lines[: int(boxes)], "reopen"], "more": lines[int(boxes) :]}
+    for name, lines in files.items():
+        with open(f"{folder}/{name}", "w") as file:
+            file.writelines(line + "\n" for line in lines)
+
+
 def small_box(axes):
     lows = [random.randint(-40, 40) for _ in range(axes)]
     return lows + [low + random.randrange(12) for low in lows]
@@ -173,6 +185,8 @@ def main():
         return scene(*words)
     if what == "tags":
         return tags(*words)
+    if what == "closings":
+        return closings(*words)
     lines = mixed(words) if what == "mixed" else {"windows": windows, "rows": shown}[what](int((words or [10**6])[0]))
     sys.stdout.writelines(line + "\n" for line in lines)
 

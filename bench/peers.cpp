@@ -1,6 +1,8 @@
 // The command language (docs/COMMANDS.md) over another index: SQLite's R*Tree (-DSQLITE), libspatialindex
 // (-DSPATIALINDEX) or Boost's tree. It reads lines that the store would answer `ok` to; where one is refused, it ends.
-// usage: peer PAGES [FILE], the commands on standard input. Without FILE the index is in memory, and Boost's always is.
+// usage: peer PAGES [FILE [JOURNAL]], the commands on standard input. Without FILE the index is in memory, and Boost's always
+// is. Of SQLite's JOURNAL is the mode of its journal (DELETE, PERSIST, WAL), none where it is left out. Where it is said, a
+// reopening is a commit that is synced in full, and the database stays open; but for DELETE, the default, it stays locked.
 #include <algorithm>
 #include <charconv>
 #include <cmath>
@@ -29,6 +31,7 @@ enum Ask { WINDOW, INSIDE, AROUND };
 
 static const char *file;  // null in memory
 static const char *pages; // how many are cached
+static const char *journal; // null where a stop may lose the file
 
 [[noreturn]] static void fail(const char *why) {
     fprintf(stderr, "peer: %s\n", why);
@@ -130,8 +133,9 @@ static void open_database() {
     must(sqlite3_open(file ? file : ":memory:", &db));
     run("PRAGMA page_size = 4096");
     run(std::string("PRAGMA cache_size = ") + pages);
-    run("PRAGMA journal_mode = OFF");
-    run("PRAGMA locking_mode = EXCLUSIVE");
+    if (!journal || strcmp(journal, "DELETE") != 0) run("PRAGMA locking_mode = EXCLUSIVE");
+    run(std::string("PRAGMA journal_mode = ") + (journal ? journal : "OFF"));
+    run("PRAGMA synchronous = FULL");
     must(sqlite3_rtree_query_callback(db, "nearest", score, nullptr, nullptr));
     run("BEGIN");
 }
@@ -248,7 +252,7 @@ static std::unique_ptr<Layer> make_layer(const std::string &name, int axes) { re
 
 static void reopen(Layers &layers) {
     run("COMMIT");
-    if (!file) return run("BEGIN");
+    if (!file || journal) return run("BEGIN");
     for (auto &[name, layer] : layers) static_cast<Table &>(*layer).finalize();
     must(sqlite3_close(db));
     open_database();
@@ -667,16 +671,23 @@ static void answer_line(Words words) {
     }
 }
 
+static void hand_on() {
+    fwrite(out.data(), 1, out.size(), stdout);
+    fflush(stdout);
+    out.clear();
+}
+
 int main(int count, char **words) {
     static char line[4096];
     pages = count > 1 ? words[1] : "64";
     file = count > 2 ? words[2] : nullptr;
+    journal = count > 3 ? words[3] : nullptr;
     setvbuf(stdin, nullptr, _IOFBF, 1 << 16);
     open_database();
     while (fgets(line, sizeof line, stdin)) {
         answer_line({line, line + strcspn(line, "\n")});
-        if (out.size() > 60000) fwrite(out.data(), 1, out.size(), stdout), out.clear();
+        if (out.size() > 60000 || journal) hand_on();
     }
     reopen(layers);
-    fwrite(out.data(), 1, out.size(), stdout);
+    hand_on();
 }

@@ -70,4 +70,5 @@ def main():
             print(min(seconds, earlier), size, sep="\t", file=file)
 
 
-main()
+if __name__ == "__main__":
+    main()
