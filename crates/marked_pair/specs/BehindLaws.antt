@@ -5,7 +5,7 @@ use Rattle.std.proofs.lemmas.Bool.{cases_lt}
 use Rattle.block_device.specs.Device.{Blocks, IsBlock, Torn, block_at, written}
 use Rattle.block_device.specs.Written.{length-written_behind, length-written_within, torn_length}
 use Rattle.device_pair.specs.Pairs.{BaseFollows, JournalFollows, PairElapses, PairsNoMore}
-use Rattle.marked_pair.specs.Behind.{IsBehind, IsLeft, IsPlain, IsSession, IsSessionOf, IsSynced}
+use Rattle.marked_pair.specs.Behind.{IsBehind, IsLeft, IsPlain, IsSession, IsSessionOf, IsSynced, LeavesBase}
 use Rattle.marked_pair.specs.Mark.{reads_as, IsMarked}
 use Rattle.marked_pair.specs.MarkLaws.{marked_torn}
 use Rattle.marked_pair.specs.declared.mark.Mark.{Mark}
@@ -23,6 +23,9 @@ plain_is_fact n base a b = hlevel props
 
 left_is_fact : (n : ℕ) (base a b : Blocks) → IsProp (IsLeft n base a b)
 left_is_fact n base a b = hlevel (props, marked_is_fact, plain_is_fact n base)
+
+pub last_is_fact : (base : Blocks) (may_leave : Blocks → Blocks → Type 0) → IsProp (LeavesBase base may_leave)
+last_is_fact base may_leave = hlevel props
 
 -- where no mark is known
 pub behind_none : (base : Blocks) (may_leave : Blocks → Blocks → Type 0) → IsBehind Unknown base may_leave

@@ -136,7 +136,7 @@ fn a_gate_with_the_mark_is_not_written_again(rt: HostRuntime) -> Result<(), Fail
     write(&mut pair, 1, &[7; 4096])?;
     write(&mut pair, 0, &gate(1))?;
     let fuse = pair.into_pair();
-    assert_eq!(rt; fuse.calls(), 7);
+    assert_eq!(rt; fuse.calls(), 6);
     let mut left = fuse.into_inner().after_stop(Left::Filled(5), Left::Written);
     assert!(rt; read(&mut left, 0)? == gate(2));
     assert!(rt; read(&mut left, 1)? == [5; 4096]);

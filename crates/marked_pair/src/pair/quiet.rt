@@ -13,7 +13,7 @@ use block_device::DeviceError;
 use device_pair::DevicePair;
 
 impl<P: DevicePair + Drop> MarkedPair<P> {
-    // Syncs the base, and with it the mark.
+    // Syncs the base where it was written since it was synced, and with it the mark.
     pub(crate) fn sync_mark(&mut self) -> Result<(), DeviceError>
         ensures durable { IsHonest self.old →
             OnOk result (LeavesBase (disk_of self.old) (P.may_leave (pair_of self.new))) }
@@ -24,7 +24,10 @@ impl<P: DevicePair + Drop> MarkedPair<P> {
         ensures honest { IsHonest self.old ↔ IsHonest self.new }
         ensures faults { Counts (P.faults (pair_of self.old)) (P.faults (pair_of self.new)) result }
     {
-        self.pair.sync_base()?;
+        if !self.clean {
+            self.pair.sync_base()?;
+            self.clean = true;
+        }
         self.mark = self.mark.synced();
         Ok(())
     }

@@ -52,6 +52,7 @@ impl<P: DevicePair + Drop> MarkedPair<P> {
             mark: Mark::Unknown,
             kept,
             refusals: 0,
+            clean: true,
             first,
         }
     }

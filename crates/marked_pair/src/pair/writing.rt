@@ -38,6 +38,7 @@ impl<P: DevicePair + Drop> MarkedPair<P> {
         ensures honest { IsHonest self.old ↔ IsHonest self.new }
         ensures faults { Counts (P.faults (pair_of self.old)) (P.faults (pair_of self.new)) result }
     {
+        self.clean = false;
         self.pair.write_base(0, bytes)
     }
 
@@ -101,6 +102,7 @@ impl<P: DevicePair + Drop> MarkedPair<P> {
         ensures honest { IsHonest self.old ↔ IsHonest self.new }
         ensures faults { Counts (P.faults (pair_of self.old)) (P.faults (pair_of self.new)) result }
     {
+        self.clean = false;
         self.pair.write_base(i, bytes)
     }
 
@@ -118,6 +120,7 @@ impl<P: DevicePair + Drop> MarkedPair<P> {
         ensures honest { IsHonest self.old ↔ IsHonest self.new }
         ensures faults { Counts (P.faults (pair_of self.old)) (P.faults (pair_of self.new)) result }
     {
+        self.clean = false;
         self.pair.write_base(i, bytes)
     }
 

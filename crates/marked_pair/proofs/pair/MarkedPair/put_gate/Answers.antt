@@ -13,6 +13,7 @@ invariant_of-self g c =
           let h = w.honest.1 h2 in
           let none = unmarked_unknown d.mark (p.base d.pair) (p.may_leave d.pair) (d.behind h) (c.requires.plain h) in
           subst (λ m. IsBehind m (p.base e) (p.may_leave e)) (sym none) (behind_none (p.base e) (p.may_leave e));
+      last = λ h2 e2. cc;
       session = λ h2 q is.
           let h = w.honest.1 h2 in
           let none = unmarked_unknown d.mark (p.base d.pair) (p.may_leave d.pair) (d.behind h) (c.requires.plain h) in

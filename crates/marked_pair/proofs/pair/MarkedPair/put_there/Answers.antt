@@ -13,6 +13,7 @@ invariant_of-self g c =
         (marked_answer c.write_base.result c.args.i c.args.bytes.now (p.base d.pair) (p.base e) c.requires.second (w.written h) (w.torn h)) (w.stops h) (d.behind h) in
     record {
       behind = λ h2. behind (w.honest.1 h2);
+      last = λ h2 e2. cc;
       session = λ h2 q is.
           let h = w.honest.1 h2 in
           session_there p.base p.moment p.left_since p.may_leave d.mark d.kept q d.pair e (d.session h q is) (w.time h) (λ t a b le left. g.met.P.DevicePair.counts_now d.pair t a b h le left)
