@@ -1,4 +1,5 @@
 -- A reopening of the layers is a step of the store, and a closing.
+use Rattle.std.proofs.Common.{inl}
 use Rattle.plain_table.specs.Commands.Command.{Reopen}
 use Rattle.layer_store.specs.Representation.{device_in}
 use Rattle.layer_store.proofs.ChangeLemmas.{cause_told, not_refused, refused_goes_on, step_told}
@@ -54,7 +55,7 @@ pub returns-clause-cause : goal.returns-clause-cause
 returns-clause-cause g c = cause_told c.tell.ensures c.reopen-closed.ensures.cause
 
 pub returns-then-self-clause-ends : goal.returns-then-self-clause-ends
-returns-then-self-clause-ends g c = λ settled. dead_so c.args.self.now c.if-self.true
+returns-then-self-clause-ends g c = inl (dead_so c.args.self.now c.if-self.true)
 
 pub returns-clause-ends : goal.returns-clause-ends
 returns-clause-ends g c = ends_closed c.args.self.now _ c.if-self.false c.tell.ensures c.reopen-closed.ensures.refused
