@@ -1,5 +1,5 @@
 -- What each command keeps of the store that it works on: one word for commands that change, and one for those that ask.
-use Rattle.std.specs.Prelude.{◌≡◌, ◌⊎◌, Bool, false, Result, Err, OnErr}
+use Rattle.std.specs.Prelude.{◌≡◌, ◌⊎◌, ◌↔◌, Bool, true, false, Result, Err, OnErr, IfErr}
 use Rattle.live_layers.specs.Faults.{HasRefusalCause}
 use Rattle.live_layers.specs.Image.{IsRefusedOrImageOf, MayRemain}
 use Rattle.live_layers.specs.Staying.{KeepsEachTree, KeepsPagesAndRecords}
@@ -18,7 +18,7 @@ use Rattle.plain_table.specs.declared.refusal.Refusal.TheVariants as refusal
 use Rattle.store_law.specs.Sessions.{LawfulStep, SessionState, Takes}
 use Rattle.store_law.specs.States.Request.{Asks}
 use Rattle.store_law.specs.States.StoreState.{Alive, Dead}
-use Rattle.store_law.specs.Stops.{tables_left}
+use Rattle.store_law.specs.Stops.{is_end, tables_left}
 use Rattle.layer_store.specs.Representation.{IsInState, IsSettled, KeepsStore, Represents, RepresentsTable, StopsLeave, cache_in, device_in, layers_in}
 use Rattle.layer_store.specs.declared.store.Store.{Store}
 
@@ -34,6 +34,10 @@ StaysDead old new result = IsInState old Dead → (result ≡ Err (refusal.Store
 abbrev pub CountsFaults : {D A : Type 0} {m : _} {T : Type 0} → Store D A m → Store D A m → Result T Refusal → Type 0
 CountsFaults {m = m} old new result = HasRefusalCause (m.faults (device_in old)) (m.faults (device_in new)) result
 
+-- the refusal is StoreFailed exactly where the store is dead
+abbrev pub TellsOfEnd : {D A : Type 0} {m : _} → Store D A m → Refusal → Type 0
+TellsOfEnd store r = (is_end r ≡ true) ↔ IsInState store Dead
+
 -- A command that may change the table was asked, and done or refused.
 pub record Changes {D A : Type 0} {m : _} (old new : Store D A m) (c : Command) (result : Result (Unit {0}) Refusal) : Type 0 where
   -- it was answered by one lawful step
@@ -46,6 +50,8 @@ pub record Changes {D A : Type 0} {m : _} (old new : Store D A m) (c : Command) 
   pub settled : (t : Table) → RepresentsTable old t → changes t c ≡ false → IsSettled old → IsSettled new
   -- refused, it keeps pages and records, so each tree, but where the store has failed
   pub refused : OnErr result (IsInState new Dead ⊎ KeepsPagesAndRecords (layers_in old) (layers_in new))
+  -- by StoreFailed exactly then
+  pub ended : IfErr result (TellsOfEnd new)
   -- a store that had failed stays so
   pub dead : StaysDead old new result
   -- faults of the device are counted
@@ -59,6 +65,8 @@ pub record Answers {D A : Type 0} {m : _} {T : Type 0} (old new : Store D A m) (
   pub kept : KeepsStore old new
   -- a stop leaves nothing else than before
   pub stops : (s : SessionState) → Represents old s → StopsLeave old new (MayRemain s.stops.now)
+  -- refused, it is so by StoreFailed exactly where the store is dead
+  pub ended : IfErr result (TellsOfEnd new)
   -- a store that had failed stays so
   pub dead : StaysDead old new result
   -- faults of the device are counted

@@ -14,7 +14,7 @@ ghost use Rattle.plain_table.specs.declared.refusal.Refusal.TheVariants as refus
 ghost use Rattle.store_law.specs.Sessions.{SessionState};
 ghost use Rattle.store_law.specs.States.StoreState.{Alive, Dead};
 ghost use Rattle.store_law.specs.Stops.{tables_left};
-ghost use Rattle.layer_store.specs.Commands.{CountsFaults, IsUnfinished, StaysDead, TakesStep};
+ghost use Rattle.layer_store.specs.Commands.{CountsFaults, IsUnfinished, StaysDead, TakesStep, TellsOfEnd};
 ghost use Rattle.layer_store.specs.Faults.{IsMemoryOrDevice};
 ghost use Rattle.layer_store.specs.Representation.{HasFailed, IsInState, IsSettled, Represents, RepresentsTable};
 ghost use Rattle.layer_store.specs.Representation.{StopsLeave, blocks_in, cache_in, device_in, layers_in};
@@ -54,6 +54,8 @@ impl<D: BlockDevice, A: Allocator + Copy> Store<D, A> {
         // One that is refused has failed, or was not finished: its gate is not shut. One that has failed stays so, on any
         // device.
         ensures ends { OnErr result (IsInState self.new Dead ⊎ ¬ (gate_of (cache_in self.new) ≡ Shut)) }
+        // It is refused by StoreFailed exactly where it is dead afterwards, also one that is not sound.
+        ensures ended { IfErr result (TellsOfEnd self.new) }
         ensures dead { StaysDead self.old self.new result }
         ensures cause { CountsFaults self.old self.new result }
     {
