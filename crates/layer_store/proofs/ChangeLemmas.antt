@@ -1,7 +1,7 @@
 -- A change of layers is a change of their store.
 use Rattle.std.proofs.Common.{◌≡◌, ◌∙◌, ◌^◌, ◌<◌, ◌⊎◌, ℕ, Bool, true, false, not, cond, inl, inr, refl, sym, ap, subst}
-use Rattle.std.specs.Prelude.{Option, Some, None, is_some, Result, Ok, Err, OnErr, OnOk}
-use Rattle.live_layers.specs.Changes.{IsChangeBy, IsChanged, OnRefused}
+use Rattle.std.specs.Prelude.{Option, Some, None, is_some, Result, Ok, Err, OnErr, OnOk, IfErr}
+use Rattle.live_layers.specs.Changes.{GoesOn, IsChangeBy, IsChanged, OnRefused}
 use Rattle.live_layers.specs.Faults.{HasRefusalCause, HasUnmadeCause}
 use Rattle.live_layers.specs.Keeping.{IsSound, IsWritten, Leaves}
 use Rattle.live_layers.specs.Staying.{KeepsPagesAndRecords}
@@ -11,6 +11,7 @@ use Rattle.live_layers.specs.declared.unmade.Unmade.{Unmade}
 use Rattle.live_layers.specs.declared.unmade.Unmade.TheVariants as unmade
 use Rattle.live_layers.proofs.KeepLemmas.{nothing_moved}
 use Rattle.page_cache.specs.Cache.{IsHonest}
+use Rattle.page_file.specs.Fault.{number_of}
 use Rattle.plain_table.specs.Answers.{done_answer}
 use Rattle.plain_table.specs.Commands.{Command, MayGiveUp}
 use Rattle.plain_table.specs.Laws.{a_change_makes_another_table, no_change_leaves_the_table}
@@ -21,11 +22,11 @@ use Rattle.plain_table.specs.declared.refusal.Refusal.{Refusal}
 use Rattle.plain_table.specs.declared.refusal.Refusal.TheVariants as refusal
 use Rattle.store_law.specs.States.StoreState.{Dead}
 use Rattle.store_law.specs.Stops.{Stops, after_change, after_command, is_end, tables_left, with_now}
-use Rattle.layer_store.specs.Commands.{Changes, TakesStep, Tells}
+use Rattle.layer_store.specs.Commands.{Changes, TakesStep, Tells, TellsOfEnd}
 use Rattle.layer_store.specs.Representation.{IsInState, cache_in, device_in}
 use Rattle.layer_store.specs.declared.store.Store.{Store}
 use Rattle.layer_store.proofs.StopLemmas.{OnlyNow, change_leaves, kept_leaves, left_rests}
-use Rattle.layer_store.proofs.StoreLemmas.{alive_in, alive_with, blames_none, change_goes_on, dead_so, is_dead, is_settled, no_fewer_faults, not_both, settled_so, takes_change, takes_nothing, told_cause, what_is_kept}
+use Rattle.layer_store.proofs.StoreLemmas.{alive_in, alive_with, blames_none, change_goes_on, dead_so, dead_tells, goes_on_tells, is_dead, is_settled, no_fewer_faults, not_both, settled_so, takes_change, takes_nothing, told_cause, what_is_kept}
 
 -- ---- one of a store that failed
 
@@ -36,6 +37,7 @@ failed_changes {m = m} {store = store} {c = c} failed = record {
   quiet = λ s t represents alive unchanged. absurd (not_both store.failed failed (alive_in store s t represents alive).0);
   settled = λ t represents unchanged was. was;
   refused = inr (nothing_moved store.layers);
+  ended = dead_tells store 19 failed;
   dead = λ dead. (refl, refl);
   cause = blames_none (m.faults (device_in store)) (Err (refusal.StoreFailed 19)) refl;
 }
@@ -79,6 +81,12 @@ refused_so new P (Ok u) failed kept = tt
 refused_so new P (Err (unmade.Broken f)) failed kept = inl (dead_so new failed)
 refused_so new P (Err (unmade.Refused r)) failed kept = inr kept
 
+-- and is told so exactly then
+ended_so : {D A : Type 0} {m : _} (new : Store D A m) (made : Result (Unit {0}) Unmade) → new.failed ≡ is_broken made → GoesOn made → IfErr (told made) (TellsOfEnd new)
+ended_so new (Ok u) failed goes_on = tt
+ended_so new (Err (unmade.Broken f)) failed goes_on = dead_tells new (number_of f) failed
+ended_so new (Err (unmade.Refused r)) failed goes_on = goes_on_tells new r failed goes_on
+
 module _ {D A : Type 0} {m : _} (old new : Store D A m) {made : Result (Unit {0}) Unmade} {result : Result (Unit {0}) Refusal}
     (going : old.failed ≡ false) (tells : Tells old.failed new.failed made result) where
   -- it is a lawful step
@@ -89,6 +97,10 @@ module _ {D A : Type 0} {m : _} (old new : Store D A m) {made : Result (Unit {0}
   step_told {c = c} may changed leaves fits cause =
       takes_change old new c made (done_answer result) going may (ap done_answer tells.answer) (tells.failed going) changed leaves
       (λ t sound. no_fewer_faults (m.faults (device_in old)) (m.faults (device_in new)) result fits (cause_told tells cause))
+
+  -- what is refused is told
+  pub told_end : GoesOn made → IfErr result (TellsOfEnd new)
+  told_end goes_on = subst (λ (r : Result (Unit {0}) Refusal). IfErr r (TellsOfEnd new)) (sym tells.answer) (ended_so new made (tells.failed going) goes_on)
 
   -- what the layers keep of a change is what their store does
   pub told_changes : {c : Command} → MayGiveUp c → ((t : Table) (stops : Stops) (a : Answer) → after_command t stops c a ≡ cond (changes t c) (with_now (after_change stops.now a) stops) stops)
@@ -110,6 +122,7 @@ module _ {D A : Type 0} {m : _} (old new : Store D A m) {made : Result (Unit {0}
         settled_so new (((change.lawful t sound).leaves.quiet (no_change_leaves_the_table t c unchanged)).gate ∙ settled.0, written t sound unchanged settled.1);
     refused = subst (λ (r : Result (Unit {0}) Refusal). OnErr r (IsInState new Dead ⊎ KeepsPagesAndRecords old.layers new.layers)) (sym tells.answer)
         (refused_so new (KeepsPagesAndRecords old.layers new.layers) made (tells.failed going) change.keeps.refused);
+    ended = told_end change.keeps.goes_on;
     dead = λ dead. absurd (not_both old.failed (is_dead old dead) going);
     cause = cause_told tells change.keeps.cause;
   }

@@ -2,10 +2,12 @@
 use Rattle.std.proofs.Common.{◌≡◌, ◌∙◌, ◌<◌, ◌^◌, true, false, refl, sym, subst}
 use Rattle.std.specs.Prelude.{Result, Err, IfErr}
 use Rattle.live_layers.specs.Changes.{IsAnswered, KeepsInQuestion}
+use Rattle.live_layers.specs.Faults.{is_plain}
 use Rattle.live_layers.specs.Image.{MayRemain}
 use Rattle.live_layers.specs.Keeping.{IsSound}
 use Rattle.live_layers.specs.declared.layers.Layers.{Layers}
 use Rattle.live_layers.proofs.KeepLemmas.{nothing_moved}
+use Rattle.live_layers.proofs.QuestionLemmas.{plain_goes_on, plain_is_quiet}
 use Rattle.live_layers.proofs.StopLemmas.{leaves_kept}
 use Rattle.page_cache.specs.Cache.{IsHonest, device_of}
 use Rattle.page_cache.specs.Laws.{no_call_keeps_the_gate}
@@ -16,14 +18,13 @@ use Rattle.plain_table.specs.Step.Answer.{Refused}
 use Rattle.plain_table.specs.Table.{Table}
 use Rattle.plain_table.specs.declared.refusal.Refusal.{Refusal}
 use Rattle.plain_table.specs.declared.refusal.Refusal.TheVariants as refusal
-use Rattle.store_law.specs.Lawful.{blames_device}
 use Rattle.store_law.specs.Sessions.{SessionState}
 use Rattle.store_law.specs.Stops.{Stops, after_command}
 use Rattle.layer_store.specs.Commands.{Answers, TakesStep}
 use Rattle.layer_store.specs.Representation.{KeepsStore, Represents, StopsLeave, cache_in, device_in}
 use Rattle.layer_store.specs.declared.store.Store.{Store}
 use Rattle.layer_store.proofs.StopLemmas.{OnlyNow, kept_leaves}
-use Rattle.layer_store.proofs.StoreLemmas.{blames_none, is_dead, is_settled, no_fewer_faults, not_both, settled_so, takes_nothing, takes_question, takes_reply, what_is_kept}
+use Rattle.layer_store.proofs.StoreLemmas.{blames_none, dead_tells, err_so, goes_on_tells, is_dead, is_settled, no_fewer_faults, not_both, settled_so, takes_nothing, takes_question, takes_reply, what_is_kept}
 
 module _ {D A : Type 0} {m : _} where
   -- what a question keeps of its store
@@ -51,19 +52,21 @@ module _ {D A : Type 0} {m : _} where
       step = subst (TakesStep store store c) (sym refused) (takes_nothing store c failed);
       kept = nothing_asked store;
       stops = stops_asked store store now (nothing_asked store);
+      ended = dead_tells store 19 failed;
       dead = λ dead. (refl, refl);
       cause = blames_none (m.faults (device_in store)) (Err (refusal.StoreFailed 19)) refl;
     }
 
     -- one that a live store answers without a call of the device
     pub reply_answers : {store : Store D A m} (result : Result T Refusal) → store.failed ≡ false → (IsHonest (cache_in store) → OnlyNow (cache_in store)) → ((t : Table) → changes t c ≡ false) → ((t : Table) (stops : Stops) → after_command t stops c (answer result) ≡ stops)
-        → ((t : Table) → IsSound store.layers t → answer result ≡ reply_of t c) → IfErr result (λ r. blames_device r ≡ false) → Answers store store c answer result
-    reply_answers {store = store} result going now unchanged quiet replied blameless = record {
+        → ((t : Table) → IsSound store.layers t → answer result ≡ reply_of t c) → IfErr result (λ r. is_plain r ≡ true) → Answers store store c answer result
+    reply_answers {store = store} result going now unchanged quiet replied plain = record {
       step = takes_reply store c (answer result) going (λ t. no_change_leaves_the_table t c (unchanged t)) quiet replied;
       kept = nothing_asked store;
       stops = stops_asked store store now (nothing_asked store);
+      ended = err_so result (λ r p. goes_on_tells store r going (plain_goes_on r p)) plain;
       dead = λ dead. absurd (not_both store.failed (is_dead store dead) going);
-      cause = blames_none (m.faults (device_in store)) result blameless;
+      cause = blames_none (m.faults (device_in store)) result (err_so result plain_is_quiet plain);
     }
 
     -- one of the layers of a live store
@@ -78,6 +81,7 @@ module _ {D A : Type 0} {m : _} where
               (no_fewer_faults (m.faults (device_in old)) (m.faults (device_of mid.cache)) result fits keeps.cause);
           kept = kept;
           stops = stops_asked old new now kept;
+          ended = err_so result (λ r. goes_on_tells new r going) keeps.goes_on;
           dead = λ dead. absurd (not_both old.failed (is_dead old dead) going);
           cause = keeps.cause;
         }

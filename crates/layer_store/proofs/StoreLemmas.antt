@@ -28,7 +28,7 @@ use Rattle.store_law.specs.States.{StoreState}
 use Rattle.store_law.specs.States.Request.{Asks}
 use Rattle.store_law.specs.States.StoreState.{Alive, Dead}
 use Rattle.store_law.specs.Stops.{Stops, after_command, after_request, is_end}
-use Rattle.layer_store.specs.Commands.{TakesStep}
+use Rattle.layer_store.specs.Commands.{TakesStep, TellsOfEnd}
 use Rattle.layer_store.specs.Representation.{BeginsWith, HasFailed, IsInState, IsOfStore, IsSettled, Represents, RepresentsTable, cache_in, closed_since, device_in}
 use Rattle.layer_store.specs.declared.store.Store.{Store}
 
@@ -51,6 +51,10 @@ end_of_change rose fault.WrongVersion h = absurd h
 pub no_end : (rose : Type 0) (r : Refusal) → IsFault rose r → is_end r ≡ false
 no_end rose (refusal.StoreFailed n) h = absurd h
 no_end rose r h = refl
+
+pub err_so : {T : Type 0} {P Q : Refusal → Type 0} (result : Result T Refusal) → ((r : Refusal) → P r → Q r) → IfErr result P → IfErr result Q
+err_so (Ok v) f h = tt
+err_so (Err r) f h = f r h
 
 -- ---- the count of faults
 
@@ -101,6 +105,13 @@ module _ {D A : Type 0} {m : _} where
   pub is_dead : (store : Store D A m) → IsInState store Dead → store.failed ≡ true
   unfolding IsInState
   is_dead store dead = dead
+
+  -- what a store that failed, and one that goes on, is refused by
+  pub dead_tells : (store : Store D A m) (cause : ℕ) → store.failed ≡ true → TellsOfEnd store (refusal.StoreFailed cause)
+  dead_tells store cause failed = (λ end. dead_so store failed, λ dead. refl)
+
+  pub goes_on_tells : (store : Store D A m) (r : Refusal) → store.failed ≡ false → is_end r ≡ false → TellsOfEnd store r
+  goes_on_tells store r going goes_on = (λ end. absurd (not_both (is_end r) end goes_on), λ dead. absurd (not_both store.failed (is_dead store dead) going))
 
   -- it is in one state: its pages hold one table
   pub in_one_state : (store : Store D A m) (s t : StoreState) → IsInState store s → IsInState store t → s ≡ t

@@ -1,21 +1,25 @@
 -- What each command keeps of the store that it works on: one word for commands that change, and one for those that ask.
-use Rattle.std.specs.Prelude.{◌≡◌, ◌⊎◌, Bool, false, Result, Err, OnErr}
+use Rattle.std.specs.Prelude.{◌≡◌, ◌⊎◌, ◌↔◌, Bool, true, false, Result, Err, OnErr, IfErr}
 use Rattle.live_layers.specs.Faults.{HasRefusalCause}
 use Rattle.live_layers.specs.Image.{IsRefusedOrImageOf, MayRemain}
-use Rattle.live_layers.specs.Staying.{KeepsPagesAndRecords}
+use Rattle.live_layers.specs.Staying.{KeepsEachTree, KeepsPagesAndRecords}
 use Rattle.live_layers.specs.Unmade.{is_broken, told}
 use Rattle.live_layers.specs.declared.unmade.Unmade.{Unmade}
+use Rattle.page_cache.specs.Cache.{gate_of}
+use Rattle.page_file.specs.declared.gate.Gate.TheVariants.{Shut}
 use Rattle.plain_table.specs.Answers.{done_answer}
 use Rattle.plain_table.specs.Commands.{Command}
+use Rattle.plain_table.specs.Commands.Command.{Reopen}
 use Rattle.plain_table.specs.Step.{Answer, changes}
+use Rattle.plain_table.specs.Step.Answer.{Refused}
 use Rattle.plain_table.specs.Table.{Table}
 use Rattle.plain_table.specs.declared.refusal.Refusal.{Refusal}
 use Rattle.plain_table.specs.declared.refusal.Refusal.TheVariants as refusal
 use Rattle.store_law.specs.Sessions.{LawfulStep, SessionState, Takes}
 use Rattle.store_law.specs.States.Request.{Asks}
 use Rattle.store_law.specs.States.StoreState.{Alive, Dead}
-use Rattle.store_law.specs.Stops.{tables_left}
-use Rattle.layer_store.specs.Representation.{IsInState, IsSettled, KeepsStore, Represents, RepresentsTable, StopsLeave, device_in, layers_in}
+use Rattle.store_law.specs.Stops.{is_end, tables_left}
+use Rattle.layer_store.specs.Representation.{IsInState, IsSettled, KeepsStore, Represents, RepresentsTable, StopsLeave, cache_in, device_in, layers_in}
 use Rattle.layer_store.specs.declared.store.Store.{Store}
 
 -- the command was answered so, by one lawful step from whatever state of a session the store was in
@@ -30,6 +34,10 @@ StaysDead old new result = IsInState old Dead → (result ≡ Err (refusal.Store
 abbrev pub CountsFaults : {D A : Type 0} {m : _} {T : Type 0} → Store D A m → Store D A m → Result T Refusal → Type 0
 CountsFaults {m = m} old new result = HasRefusalCause (m.faults (device_in old)) (m.faults (device_in new)) result
 
+-- the refusal is StoreFailed exactly where the store is dead
+abbrev pub TellsOfEnd : {D A : Type 0} {m : _} → Store D A m → Refusal → Type 0
+TellsOfEnd store r = (is_end r ≡ true) ↔ IsInState store Dead
+
 -- A command that may change the table was asked, and done or refused.
 pub record Changes {D A : Type 0} {m : _} (old new : Store D A m) (c : Command) (result : Result (Unit {0}) Refusal) : Type 0 where
   -- it was answered by one lawful step
@@ -42,6 +50,8 @@ pub record Changes {D A : Type 0} {m : _} (old new : Store D A m) (c : Command) 
   pub settled : (t : Table) → RepresentsTable old t → changes t c ≡ false → IsSettled old → IsSettled new
   -- refused, it keeps pages and records, so each tree, but where the store has failed
   pub refused : OnErr result (IsInState new Dead ⊎ KeepsPagesAndRecords (layers_in old) (layers_in new))
+  -- by StoreFailed exactly then
+  pub ended : IfErr result (TellsOfEnd new)
   -- a store that had failed stays so
   pub dead : StaysDead old new result
   -- faults of the device are counted
@@ -55,10 +65,22 @@ pub record Answers {D A : Type 0} {m : _} {T : Type 0} (old new : Store D A m) (
   pub kept : KeepsStore old new
   -- a stop leaves nothing else than before
   pub stops : (s : SessionState) → Represents old s → StopsLeave old new (MayRemain s.stops.now)
+  -- refused, it is so by StoreFailed exactly where the store is dead
+  pub ended : IfErr result (TellsOfEnd new)
   -- a store that had failed stays so
   pub dead : StaysDead old new result
   -- faults of the device are counted
   pub cause : CountsFaults old new result
+
+-- A closing that was refused, and not finished: the device is that of a store that goes on, as after a reopening that was
+-- refused so, with each tree, and its gate is not shut.
+pub record IsUnfinished {D A : Type 0} {m : _} (old : Store D A m) (r : Refusal) (device : D) : Type 0 where
+  pub left : Store D A m
+  pub has : device ≡ device_in left
+  pub step : TakesStep old left Reopen (Refused r)
+  pub going : IsInState left Dead → ⊥
+  pub trees : KeepsEachTree (layers_in old) (layers_in left)
+  pub unshut : ¬ (gate_of (cache_in left) ≡ Shut)
 
 -- What was made of the layers is told, and where it broke off half way a store that was alive has failed.
 pub record Tells (old new : Bool) (made : Result (Unit {0}) Unmade) (result : Result (Unit {0}) Refusal) : Type 0 where

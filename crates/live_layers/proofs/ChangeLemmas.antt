@@ -15,11 +15,11 @@ use Rattle.plain_table.specs.Step.{after, answer_of, changed, kept_or, refusal_o
 use Rattle.plain_table.specs.Step.Answer.{Done, Refused}
 use Rattle.plain_table.specs.Table.{Table}
 use Rattle.plain_table.specs.declared.refusal.Refusal.{Refusal}
-use Rattle.store_law.specs.Lawful.{IsFault, blames_device}
+use Rattle.store_law.specs.Lawful.{IsFault}
 use Rattle.tree_node.specs.Trees.{Tree}
 use Rattle.live_layers.specs.Begun.{Begins, BeginsChange}
-use Rattle.live_layers.specs.Changes.{ChangeLeaves, IsBegun, IsChange, IsChangeBy, IsChanged, IsFaultOfChange, KeepsInChange, KeepsInQuestion, OnRefused, Rose}
-use Rattle.live_layers.specs.Faults.{HasUnmadeCause, as_refusal, change_of}
+use Rattle.live_layers.specs.Changes.{ChangeLeaves, GoesOn, IsBegun, IsChange, IsChangeBy, IsChanged, IsFaultOfChange, KeepsInChange, KeepsInQuestion, OnRefused, Rose}
+use Rattle.live_layers.specs.Faults.{HasUnmadeCause, as_refusal, change_of, is_plain}
 use Rattle.live_layers.specs.Image.{IsRefusedOrImageOf}
 use Rattle.live_layers.specs.Inserting.{IsAllowedOr}
 use Rattle.live_layers.specs.Keeping.{ChangesTree, IsSound, IsWritten}
@@ -30,7 +30,7 @@ use Rattle.live_layers.specs.declared.unmade.Unmade.TheVariants as unmade
 use Rattle.live_layers.proofs.AskLemmas.{risen_of, same_count}
 use Rattle.live_layers.proofs.BegunLemmas.{OnlyNow}
 use Rattle.live_layers.proofs.KeepLemmas.{stays_in_turn}
-use Rattle.live_layers.proofs.QuestionLemmas.{refuses_unasked}
+use Rattle.live_layers.proofs.QuestionLemmas.{fault_goes_on, refuses_unasked}
 use Rattle.live_layers.proofs.ReplaceLemmas.{changes_before}
 use Rattle.live_layers.proofs.Results.{on_ok}
 use Rattle.live_layers.proofs.StopLemmas.{kept_rests, kept_run}
@@ -54,6 +54,7 @@ module _ {D A : Type 0} {m : _} {T : Type 0} (old new : Layers D A m) where
   pub refused_keeps : (r : Refusal) → KeepsInQuestion {T = T} old new (Err r) → KeepsInChange old new (Err (unmade.Refused r))
   refused_keeps r keeps = record {
     refused = keeps.trees;
+    goes_on = keeps.goes_on;
     written = keeps.trees.written;
     honest = keeps.gate.honest.0;
     cause = record { made = tt; unmade = keeps.cause.refused };
@@ -67,7 +68,7 @@ module _ {D A : Type 0} {m : _} {T : Type 0} (old new : Layers D A m) where
 
   -- one that the table does not refuse and that leaves it as it is
   pub unbegun_keeps : {x : T} → KeepsInQuestion old new (Ok x) → KeepsInChange old new (Ok tt)
-  unbegun_keeps keeps = record { refused = tt; written = tt; honest = keeps.gate.honest.0; cause = record { made = keeps.cause.ok; unmade = tt } }
+  unbegun_keeps keeps = record { refused = tt; goes_on = tt; written = tt; honest = keeps.gate.honest.0; cause = record { made = keeps.cause.ok; unmade = tt } }
 
   pub unbegun_change : (t : Table) (c : Command) {x : T} → OnlyNow old → KeepsInQuestion old new (Ok x) → IsSound old t → refusal_of t c ≡ None → Done ≡ answer_of t c → after t c ≡ t → IsChange old new t c (Ok tt)
   unbegun_change t c now keeps sound none done same = record {
@@ -76,11 +77,11 @@ module _ {D A : Type 0} {m : _} {T : Type 0} (old new : Layers D A m) where
   }
 
 -- one that is refused before anything is asked of the pages
-pub refused_by : {D A : Type 0} {m : _} (kept : Layers D A m) (c : Command) (r : Refusal) → OnlyNow kept → blames_device r ≡ false → ((t : Table) → IsSound kept t → IsAllowedOr {T = Unit {0}} (Rose kept kept) (refusal_of t c) (Err r)) → IsChangeBy kept kept c (Err (unmade.Refused r))
-refused_by kept c r now quiet why = record { keeps = refused_keeps kept kept r unasked; lawful = λ t sound. refused_change kept kept t c r now unasked sound (why t sound) }
+pub refused_by : {D A : Type 0} {m : _} (kept : Layers D A m) (c : Command) (r : Refusal) → OnlyNow kept → is_plain r ≡ true → ((t : Table) → IsSound kept t → IsAllowedOr {T = Unit {0}} (Rose kept kept) (refusal_of t c) (Err r)) → IsChangeBy kept kept c (Err (unmade.Refused r))
+refused_by kept c r now plain why = record { keeps = refused_keeps kept kept r unasked; lawful = λ t sound. refused_change kept kept t c r now unasked sound (why t sound) }
   where
     unasked : KeepsInQuestion {T = Unit {0}} kept kept (Err r)
-    unasked = refuses_unasked kept r quiet
+    unasked = refuses_unasked kept r plain
 
 -- ---- begun after calls that only asked
 
@@ -116,6 +117,15 @@ refused_so P Q (Err b) f kept = untouched b.touched kept
     untouched true kept = tt
     untouched false kept = f (kept refl)
 
+-- what broke off before a page was touched is answered by its fault
+begun_goes_on : (made : Result (Unit {0}) Broken) → GoesOn (change_of made)
+begun_goes_on (Ok u) = tt
+begun_goes_on (Err b) = by_touch b.touched
+  where
+    by_touch : (touched : Bool) → GoesOn (Err (cond touched (unmade.Broken b.cause) (unmade.Refused (as_refusal b.cause))))
+    by_touch true = tt
+    by_touch false = fault_goes_on b.cause
+
 module _ {D A : Type 0} {m : _} {T : Type 0} (old mid new : Layers D A m) {x : T} (asked : KeepsInQuestion old mid (Ok x)) (made : Result (Unit {0}) Broken) (begun : BeginsChange mid new made)
     (result : Result (Unit {0}) Unmade) (is : result ≡ change_of made) where
   counted : m.faults (device_of new.cache) ≡ faults_behind (cause_in made) (m.faults (device_of old.cache))
@@ -124,6 +134,7 @@ module _ {D A : Type 0} {m : _} {T : Type 0} (old mid new : Layers D A m) {x : T
   pub begun_keeps : KeepsInChange old new result
   begun_keeps = subst (KeepsInChange old new) (sym is) (record {
     refused = refused_so (KeepsPagesAndRecords mid new) (KeepsPagesAndRecords old new) made (stays_in_turn old mid new asked.gate.honest.0 asked.trees) begun.kept;
+    goes_on = begun_goes_on made;
     written = unmade_so (IsWritten mid → IsWritten new) (IsWritten old → IsWritten new) made (λ kept was. kept (asked.trees.written was)) begun.written;
     honest = λ honest. begun.begins.honest.0 (asked.gate.honest.0 honest);
     cause = begun_cause _ _ made counted;

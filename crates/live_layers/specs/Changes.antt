@@ -1,6 +1,6 @@
 -- What calls do to live layers. A change is made, refused with the table as it was, or broken off half way; a question is
 -- answered or refused.
-use Rattle.std.specs.Prelude.{◌≡◌, ◌⊎◌, List, Result, Ok, Err, OnErr}
+use Rattle.std.specs.Prelude.{◌≡◌, ◌⊎◌, false, List, Result, Ok, Err, OnErr, IfErr}
 use Rattle.block_device.specs.Device.{HasRisen, LeavesOnly}
 use Rattle.page_cache.specs.Cache.{IsHonest, KeepsGate, device_of, gate_of}
 use Rattle.page_file.specs.declared.fault.Fault.{Fault}
@@ -12,6 +12,7 @@ use Rattle.plain_table.specs.Step.Answer.{Done, Refused}
 use Rattle.plain_table.specs.Table.{Table}
 use Rattle.plain_table.specs.declared.refusal.Refusal.{Refusal}
 use Rattle.store_law.specs.Lawful.{IsFault, MayWrite, RefusedBy}
+use Rattle.store_law.specs.Stops.{is_end}
 use Rattle.live_layers.specs.Faults.{HasRefusalCause, HasUnmadeCause}
 use Rattle.live_layers.specs.Image.{IsRefusedOrImageOf}
 use Rattle.live_layers.specs.Keeping.{IsSound, IsWritten, RestLeavesOneOf}
@@ -61,10 +62,17 @@ abbrev pub OnRefused : Result (Unit {0}) Unmade → Type 0 → Type 0
 OnRefused (Err (unmade.Refused r)) P = P
 OnRefused result P = Unit {0}
 
--- What a change keeps of any layers: pages and records, so each tree, where it was refused; what was written, where it was
--- not made; honesty; and the count of the device's faults, which rises by one where its failure ended the change.
+-- a refusal that is answered so is none of a store that failed
+abbrev pub GoesOn : Result (Unit {0}) Unmade → Type 0
+GoesOn (Err (unmade.Refused r)) = is_end r ≡ false
+GoesOn result = Unit {0}
+
+-- What a change keeps of any layers: pages and records, so each tree, where it was refused, which is not as by a store that
+-- failed; what was written, where it was not made; honesty; and the count of the device's faults, which rises by one where
+-- its failure ended the change.
 pub record KeepsInChange {D A : Type 0} {m : _} (old new : Layers D A m) (result : Result (Unit {0}) Unmade) : Type 0 where
   pub refused : OnRefused result (KeepsPagesAndRecords old new)
+  pub goes_on : GoesOn result
   pub written : OnErr result (IsWritten old → IsWritten new)
   pub honest : IsHonest old.cache → IsHonest new.cache
   pub cause : HasUnmadeCause (m.faults (device_of old.cache)) (m.faults (device_of new.cache)) result
@@ -81,10 +89,12 @@ abbrev pub IsAnswered : {D A : Type 0} {m : _} → Layers D A m → Layers D A m
 IsAnswered old new t c a =
     IsSound new t × ((a ≡ reply_of t c) ⊎ RefusedBy (IsFault (Rose old new)) a)
 
--- What a question keeps of any layers: their trees, each table that they are sound with, and the gate; and the count of the
--- device's faults rises by one with a refusal that says so, and with nothing else.
+-- What a question keeps of any layers: their trees, each table that they are sound with, and the gate; no refusal is
+-- that of a store that failed; and the count of the device's faults rises by one with a refusal that says so, and with nothing
+-- else.
 pub record KeepsInQuestion {D A : Type 0} {m : _} {T : Type 0} (old new : Layers D A m) (result : Result T Refusal) : Type 0 where
   pub trees : KeepsPagesAndRecords old new
   pub sound : (t : Table) → IsSound old t → IsSound new t
   pub gate : KeepsGate old.cache new.cache
+  pub goes_on : IfErr result (λ r. is_end r ≡ false)
   pub cause : HasRefusalCause (m.faults (device_of old.cache)) (m.faults (device_of new.cache)) result

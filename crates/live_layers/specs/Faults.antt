@@ -1,5 +1,5 @@
 -- What a change that broke off leaves, and the refusals that faults of a file are.
-use Rattle.std.specs.Prelude.{ℕ, ◌≡◌, if◌then◌else◌, Result, Ok, Err, OnOk, IfErr}
+use Rattle.std.specs.Prelude.{ℕ, ◌≡◌, Bool, true, false, if◌then◌else◌, Result, Ok, Err, OnOk, IfErr}
 use Rattle.block_device.specs.Device.{one_more}
 use Rattle.node_page.specs.declared.broken.Broken.{Broken}
 use Rattle.page_file.specs.Fault.{faults_after}
@@ -29,6 +29,12 @@ unmade_by b = if b.touched then unmade.Broken b.cause else unmade.Refused (as_re
 abbrev pub change_of : Result (Unit {0}) Broken → Result (Unit {0}) Unmade
 change_of (Ok u) = Ok u
 change_of (Err b) = Err (unmade_by b)
+
+-- the refusal says neither that the device failed, nor that the store did
+abbrev pub is_plain : Refusal → Bool
+is_plain refusal.Device = false
+is_plain (refusal.StoreFailed cause) = false
+is_plain r = true
 
 -- how often the device has failed after a refusal: once more with one that says so, and no more with another
 abbrev pub faults_after_refusal : Refusal → ℕ → ℕ

@@ -1,9 +1,9 @@
 //! Objects of a load into a layer of so many axes, as they were given.
 
-ghost use Rattle.std.specs.Prelude.{◌≡◌, false, IfErr, IfOk, map};
+ghost use Rattle.std.specs.Prelude.{◌≡◌, IfErr, IfOk, map, true};
 ghost use Rattle.plain_table.specs.Loads.{given_object, have_dims};
 ghost use Rattle.plain_table.specs.Step.{first_refusal};
-ghost use Rattle.store_law.specs.Lawful.{blames_device};
+ghost use Rattle.live_layers.specs.Faults.{is_plain};
 ghost use Rattle.live_layers.specs.Inserting.{IsAllowedOr};
 ghost use Rattle.live_layers.specs.Loading.{boxes_refusals};
 
@@ -18,7 +18,7 @@ pub(crate) fn objects_in_plane<A: Allocator>(
 ) -> Result<Vec<(u64, (BBox<2>, u32)), A>, Refusal>
     ensures allowed { IsAllowedOr ⊥ (first_refusal (boxes_refusals 2 objects.now)) result }
     ensures given { IfOk result (λ boxed. boxed.items ≡ map given_object objects.now) }
-    ensures quiet { IfErr result (λ r. blames_device r ≡ false) }
+    ensures quiet { IfErr result (λ r. is_plain r ≡ true) }
 {
     if !are_plane(objects) {
         return Err(Refusal::WrongDims);
@@ -43,7 +43,7 @@ pub(crate) fn objects_in_space<A: Allocator>(
 ) -> Result<Vec<(u64, (BBox<3>, u32)), A>, Refusal>
     ensures allowed { IsAllowedOr ⊥ (first_refusal (boxes_refusals 3 objects.now)) result }
     ensures given { IfOk result (λ boxed. boxed.items ≡ map given_object objects.now) }
-    ensures quiet { IfErr result (λ r. blames_device r ≡ false) }
+    ensures quiet { IfErr result (λ r. is_plain r ≡ true) }
 {
     if !are_spatial(objects) {
         return Err(Refusal::WrongDims);

@@ -5,6 +5,8 @@ ghost use Rattle.block_device.specs.Device.{LeavesOnly, Only};
 ghost use Rattle.live_layers.specs.Faults.{faults_after_refusal};
 ghost use Rattle.live_layers.specs.Image.{IsImage, IsRefusedOrImageOf};
 ghost use Rattle.live_layers.specs.Staying.{KeepsEachTree, LeavesTreesIn};
+ghost use Rattle.page_cache.specs.Cache.{gate_of};
+ghost use Rattle.page_file.specs.declared.gate.Gate.TheVariants.{Shut};
 ghost use Rattle.plain_table.specs.Answers.{done_answer};
 ghost use Rattle.plain_table.specs.Commands.Command.{Reopen};
 ghost use Rattle.plain_table.specs.Table.{Table};
@@ -12,10 +14,10 @@ ghost use Rattle.plain_table.specs.declared.refusal.Refusal.TheVariants as refus
 ghost use Rattle.store_law.specs.Sessions.{SessionState};
 ghost use Rattle.store_law.specs.States.StoreState.{Alive, Dead};
 ghost use Rattle.store_law.specs.Stops.{tables_left};
-ghost use Rattle.layer_store.specs.Commands.{CountsFaults, StaysDead, TakesStep};
+ghost use Rattle.layer_store.specs.Commands.{CountsFaults, IsUnfinished, StaysDead, TakesStep, TellsOfEnd};
 ghost use Rattle.layer_store.specs.Faults.{IsMemoryOrDevice};
 ghost use Rattle.layer_store.specs.Representation.{HasFailed, IsInState, IsSettled, Represents, RepresentsTable};
-ghost use Rattle.layer_store.specs.Representation.{StopsLeave, blocks_in, device_in, layers_in};
+ghost use Rattle.layer_store.specs.Representation.{StopsLeave, blocks_in, cache_in, device_in, layers_in};
 
 use crate::store::changes::tell;
 use crate::store::{FAILED, Store};
@@ -49,8 +51,11 @@ impl<D: BlockDevice, A: Allocator + Copy> Store<D, A> {
         ensures quiet { (t : Table) → RepresentsTable self.old t → IsSettled self.old →
             StopsLeave self.old self.new (λ c. c ≡ blocks_in self.old) }
 
-        // One that is refused after its closing has failed; and one that has failed stays so, on any device.
-        ensures ends { OnErr result (IsSettled self.new → IsInState self.new Dead) }
+        // One that is refused has failed, or was not finished: its gate is not shut. One that has failed stays so, on any
+        // device.
+        ensures ends { OnErr result (IsInState self.new Dead ⊎ ¬ (gate_of (cache_in self.new) ≡ Shut)) }
+        // It is refused by StoreFailed exactly where it is dead afterwards, also one that is not sound.
+        ensures ended { IfErr result (TellsOfEnd self.new) }
         ensures dead { StaysDead self.old self.new result }
         ensures cause { CountsFaults self.old self.new result }
     {
@@ -86,6 +91,10 @@ impl<D: BlockDevice, A: Allocator + Copy> Store<D, A> {
         ensures quiet { IsSettled self → IsInState self Dead ⊎ (result ≡ Ok (device_in self)) }
 
         ensures refused { (t : Table) → RepresentsTable self t → IfErr result (λ e. IsMemoryOrDevice e.0) }
+
+        // One that is refused was not finished: what is left is what a refused reopening leaves, and its gate is not shut.
+        ensures unfinished { (t : Table) → RepresentsTable self t → IfErr result (λ e. IsUnfinished self e.0 e.1) }
+
         ensures dead { IsInState self Dead → result ≡ Err (refusal.StoreFailed 19, device_in self) }
         ensures failed { HasFailed self → result ≡ Err (refusal.StoreFailed 19, device_in self) }
         ensures no_fault { IfOk result (λ device. D.faults device ≡ D.faults (device_in self)) }
@@ -102,9 +111,12 @@ impl<D: BlockDevice, A: Allocator + Copy> Store<D, A> {
         if failed {
             return Err((FAILED, layers.abandon()));
         }
-        match layers.close() {
-            Ok(device) => Ok(device),
-            Err((fault, device)) => Err((as_refusal(fault), device)),
+        let mut layers = layers;
+        let settled = layers.settle();
+        let device = layers.abandon();
+        match settled {
+            Ok(()) => Ok(device),
+            Err(fault) => Err((as_refusal(fault), device)),
         }
     }
 

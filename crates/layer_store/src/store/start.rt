@@ -45,8 +45,7 @@ pub fn create_store<D: BlockDevice, A: Allocator + Copy>(
 ) -> Result<Store<D, A>, (Refusal, D)>
     requires { length (D.shown device) ≡ 0 }
     ensures bad_cache { is_cache cache ≡ false → result ≡ Err (refusal.BadCache, device) }
-    // What stops leave is told from the moment on at which the store is made, and of a device without a commit from that of
-    // the call.
+    // What stops leave is told since the store is made, and of a device without a commit since before the call.
     ensures begins { IfOk result (λ store. D.honest device → ((k : Blocks) → D.recovery.commits device k → ⊥) →
         BeginsWith store (D.moment device) empty) }
     ensures made { IfOk result (λ store. D.honest device →

@@ -1,8 +1,8 @@
-//! The records written into the catalog, the gate shut after all pages, and the layers closed.
+//! The records written into the catalog, the gate shut after all pages, and the device handed back.
 
-ghost use Rattle.std.specs.Prelude.{◌≡◌, ◌⊎◌, ◌↔◌, List, ◌∷◌, Ok, IsOk, IfErr, IfOk, OnErr, OnOk};
-ghost use Rattle.block_device.specs.Device.{LeavesOnly, Only};
-ghost use Rattle.page_file.specs.Fault.{HasCause, IsDamage, IsOfDevice, faults_after};
+ghost use Rattle.std.specs.Prelude.{◌≡◌, ◌⊎◌, ◌↔◌, List, ◌∷◌, IsOk, IfErr, OnErr, OnOk};
+ghost use Rattle.block_device.specs.Device.{LeavesOnly};
+ghost use Rattle.page_file.specs.Fault.{HasCause, IsDamage, IsOfDevice};
 ghost use Rattle.page_file.specs.declared.gate.Gate.TheVariants.{Shut};
 ghost use Rattle.page_cache.specs.Cache.{IsHonest, IsPageMap, IsUnchanged, blocks_of, device_of, gate_of, next_of};
 ghost use Rattle.plain_table.specs.Table.{Table};
@@ -82,39 +82,6 @@ impl<B: BlockDevice, A: Allocator + Copy> Layers<B, A> {
     {
         self.write()?;
         self.cache.settle()
-    }
-
-    /// Settles the layers, and hands the device back. Its blocks are then an image of the table, and have each tree.
-    ///
-    /// Refused, which on an honest device with sound layers is by `Memory` or `Device`, the device comes back: a stop
-    /// leaves of it what one at rest left, or an image of the table.
-    pub fn close(self) -> Result<B, (Fault, B)>
-        ensures closed { (t : Table) → IsSound self t → IfOk result (λ device. IsImage (B.shown device) t) }
-        ensures trees { (t : Table) → IsSound self t → IfOk result (λ device. LeavesTreesIn self (B.shown device)) }
-        ensures durable { (t : Table) → IsSound self t →
-            IfOk result (λ device. Only (B.shown device) (B.may_leave device)) }
-        ensures stops { (ts : List Table) (t : Table) → IsSound self t → RestLeavesOneOf (cache_of self) ts →
-            IfOk result (λ device. LeavesOnly B.moment B.left_since B.recovery (device_of (cache_of self)) device
-            (IsRefusedOrImageOf (t ∷ ts))) }
-        ensures refused_stops { (ts : List Table) (t : Table) → IsSound self t → RestLeavesOneOf (cache_of self) ts →
-            IfErr result (λ e. LeavesOnly B.moment B.left_since B.recovery (device_of (cache_of self)) e.1
-            (IsRefusedOrImageOf (t ∷ ts))) }
-        ensures was_settled { IsSettled self → result ≡ Ok (device_of (cache_of self)) }
-
-        ensures faults { (t : Table) → IsSound self t → IfErr result (λ e. IsOfDevice e.0) }
-        ensures other_faults { IfErr result (λ e. IsOfDevice e.0 ⊎ IsDamage e.0) }
-        ensures no_fault { IfOk result (λ device. B.faults device ≡ B.faults (device_of (cache_of self))) }
-        ensures cause { IfErr result (λ e. B.faults e.1 ≡ faults_after e.0 (B.faults (device_of (cache_of self)))) }
-        ensures honest { IfOk result (λ device. IsHonest (cache_of self) ↔ B.honest device) }
-        ensures refused_honest { IfErr result (λ e. IsHonest (cache_of self) ↔ B.honest e.1) }
-    {
-        let mut layers = self;
-        let settled = layers.settle();
-        let device = layers.abandon();
-        match settled {
-            Ok(()) => Ok(device),
-            Err(fault) => Err((fault, device)),
-        }
     }
 
     /// The device as it is, without a call of it. What was not settled may be lost.

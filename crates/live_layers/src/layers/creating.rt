@@ -1,11 +1,11 @@
 //! Layers made.
 
-ghost use Rattle.std.specs.Prelude.{◌≡◌, ◌≤◌, ◌<◌, length, MatchResult, IfErr, IfOk, OnOk, None, Some, false};
+ghost use Rattle.std.specs.Prelude.{◌≡◌, ◌≤◌, ◌<◌, length, MatchResult, IfErr, IfOk, OnOk, None, Some, true};
 ghost use Rattle.layer_pages.specs.Changes.{IsEmptyLeaf};
 ghost use Rattle.plain_table.specs.Commands.Command.{Create};
 ghost use Rattle.plain_table.specs.Step.{refusal_of};
 ghost use Rattle.plain_table.specs.Table.{Table};
-ghost use Rattle.store_law.specs.Lawful.{blames_device};
+ghost use Rattle.live_layers.specs.Faults.{is_plain};
 ghost use Rattle.live_layers.specs.Changes.{IsChangeBy};
 ghost use Rattle.live_layers.specs.Creating.{BringsTree, MayBeLayer};
 ghost use Rattle.live_layers.specs.Keeping.{Belongs, IsSound, records_in};
@@ -43,7 +43,7 @@ impl<B: BlockDevice, A: Allocator + Copy> Layers<B, A> {
         ensures may_be { IfOk result (λ place. MayBeLayer name.now dims fanout) }
         ensures within { IfOk result (λ place. place ≤ length (records_in self.now)) }
         ensures room { IfOk result (λ place. length (records_in self.now) < 60) }
-        ensures blames_none { IfErr result (λ r. blames_device r ≡ false) }
+        ensures blames_none { IfErr result (λ r. is_plain r ≡ true) }
     {
         if !is_layer_name(name) {
             return Err(Refusal::BadName);

@@ -1,9 +1,9 @@
 //! The layer that a question names.
 
-ghost use Rattle.std.specs.Prelude.{◌≡◌, ◌⊎◌, ◌<◌, false, true, length, IfOk, IfErr};
+ghost use Rattle.std.specs.Prelude.{◌≡◌, ◌⊎◌, ◌<◌, true, length, IfOk, IfErr};
 ghost use Rattle.plain_table.specs.Table.{Table, is_layer_name};
 ghost use Rattle.plain_table.specs.declared.refusal.Refusal.TheVariants as refusal;
-ghost use Rattle.store_law.specs.Lawful.{blames_device};
+ghost use Rattle.live_layers.specs.Faults.{is_plain};
 ghost use Rattle.live_layers.specs.Keeping.{Finds, IsSound, records_in};
 ghost use Rattle.live_layers.specs.Questions.{IsNamed, IsUnnamed};
 
@@ -21,7 +21,7 @@ impl<D: BlockDevice, A: Allocator> Layers<D, A> {
         ensures named { (t : Table) → IsSound self.now t → IfOk result (λ _. IsNamed t name.now) }
         ensures unnamed { (t : Table) → IsSound self.now t → IfErr result (IsUnnamed t name.now) }
         ensures gives_up { IfErr result (λ r. (r ≡ refusal.BadName) ⊎ (r ≡ refusal.NoLayer)) }
-        ensures cause { IfErr result (λ refusal. blames_device refusal ≡ false) }
+        ensures cause { IfErr result (λ refusal. is_plain refusal ≡ true) }
     {
         if !is_layer_name(name) {
             return Err(Refusal::BadName);

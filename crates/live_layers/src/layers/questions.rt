@@ -1,6 +1,6 @@
 //! Questions, answered from the records, the trees and the identifier tables of the layers.
 
-ghost use Rattle.std.specs.Prelude.{◌≡◌, ◌⊎◌, ◌*◌, false, IfErr, OnOk};
+ghost use Rattle.std.specs.Prelude.{◌≡◌, ◌⊎◌, ◌*◌, IfErr, OnOk, true};
 ghost use Rattle.nearest.specs.Nearest.{is_searched};
 ghost use Rattle.page_cache.specs.Cache.{looks_of};
 ghost use Rattle.plain_table.specs.Answers.{boxes_answer, count_answer, object_answer};
@@ -10,7 +10,7 @@ ghost use Rattle.plain_table.specs.Commands.Command.{Count, Get, Join, Nearest, 
 ghost use Rattle.plain_table.specs.Step.{nearest_rows, reply_of};
 ghost use Rattle.plain_table.specs.Table.{Table, layer_at};
 ghost use Rattle.plain_table.specs.declared.refusal.Refusal.TheVariants as refusal;
-ghost use Rattle.store_law.specs.Lawful.{blames_device};
+ghost use Rattle.live_layers.specs.Faults.{is_plain};
 ghost use Rattle.tree_node.specs.Joins.{admitted_pairs};
 ghost use Rattle.tree_node.specs.Searches.{admitted};
 ghost use Rattle.live_layers.specs.Changes.{IsAnswered, KeepsInQuestion};
@@ -78,7 +78,7 @@ impl<B: BlockDevice, A: Allocator + Copy> Layers<B, A> {
     pub fn count(&self, name: &[u8]) -> Result<u64, Refusal>
         ensures answered { (t : Table) → IsSound self.now t → count_answer result ≡ reply_of t (Count name.now) }
         ensures gives_up { IfErr result (λ r. (r ≡ refusal.BadName) ⊎ (r ≡ refusal.NoLayer)) }
-        ensures cause { IfErr result (λ refusal. blames_device refusal ≡ false) }
+        ensures cause { IfErr result (λ refusal. is_plain refusal ≡ true) }
     {
         let place = self.named(name)?;
         Ok(self.records[place].count)

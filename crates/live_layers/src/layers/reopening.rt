@@ -7,7 +7,7 @@ ghost use Rattle.page_file.specs.declared.gate.Gate.TheVariants.{Shut};
 ghost use Rattle.page_cache.specs.Cache.{IsHonest, KeepsGate, device_of, gate_of, next_of};
 ghost use Rattle.plain_table.specs.Commands.Command.{Reopen};
 ghost use Rattle.plain_table.specs.Table.{Table};
-ghost use Rattle.live_layers.specs.Changes.{IsBegun, IsChanged};
+ghost use Rattle.live_layers.specs.Changes.{GoesOn, IsBegun, IsChanged};
 ghost use Rattle.live_layers.specs.Closings.{ClosingLeaves};
 ghost use Rattle.live_layers.specs.Keeping.{IsSettled, IsSound, IsWritten, cache_of};
 ghost use Rattle.live_layers.specs.Faults.{HasUnmadeCause};
@@ -39,6 +39,7 @@ impl<B: BlockDevice, A: Allocator + Copy> Layers<B, A> {
         ensures next { IsHonest (cache_of self.old) →
             next_of (cache_of self.new) ≡ next_of (cache_of self.old) }
         ensures honest { IsHonest (cache_of self.old) ↔ IsHonest (cache_of self.new) }
+        ensures goes_on { GoesOn result }
         ensures cause { HasUnmadeCause (B.faults (device_of (cache_of self.old)))
             (B.faults (device_of (cache_of self.new))) result }
     {

@@ -1,10 +1,10 @@
 //! Whether objects may be put into a layer.
 
-ghost use Rattle.std.specs.Prelude.{◌≡◌, ◌+◌, ◌<◌, ◌≤◌, ℕ, List, false, IfErr, OnOk, length};
+ghost use Rattle.std.specs.Prelude.{◌≡◌, ◌+◌, ◌<◌, ◌≤◌, ℕ, List, IfErr, OnOk, length, true};
 ghost use Rattle.plain_table.specs.Loads.{GivenObjects};
 ghost use Rattle.plain_table.specs.Step.{first_refusal, load_refusals};
 ghost use Rattle.plain_table.specs.Table.{Table, layer_at, most_objects, object_count};
-ghost use Rattle.store_law.specs.Lawful.{blames_device};
+ghost use Rattle.live_layers.specs.Faults.{is_plain};
 ghost use Rattle.live_layers.specs.Inserting.{IsAllowedOr};
 ghost use Rattle.live_layers.specs.Keeping.{IsSound, records_in};
 ghost use Rattle.live_layers.specs.Loading.{ReachesObjects};
@@ -30,7 +30,7 @@ impl<B: BlockDevice, A: Allocator + Copy> Layers<B, A> {
             IsAllowedOr ⊥ (first_refusal (load_refusals (layer_at t name) given (object_count t))) result }
         ensures room { OnOk result (0 < length objects.now →
             self.now.object_count + length objects.now ≤ most_objects) }
-        ensures quiet { IfErr result (λ r. blames_device r ≡ false) }
+        ensures quiet { IfErr result (λ r. is_plain r ≡ true) }
     {
         if self.count_at(place) > 0 {
             return Err(Refusal::NotEmpty);

@@ -1,10 +1,11 @@
 -- A reopening of the layers is a step of the store, and a closing.
+use Rattle.std.proofs.Common.{inl}
 use Rattle.plain_table.specs.Commands.Command.{Reopen}
 use Rattle.layer_store.specs.Representation.{device_in}
-use Rattle.layer_store.proofs.ChangeLemmas.{cause_told, not_refused, refused_goes_on, step_told}
+use Rattle.layer_store.proofs.ChangeLemmas.{cause_told, not_refused, refused_goes_on, step_told, told_end}
 use Rattle.layer_store.proofs.ClosingLemmas.{durable_closed, ends_closed, image_closed, quiet_closed, settled_closed, stops_closed}
 use Rattle.layer_store.proofs.StopLemmas.{reopening_leaves}
-use Rattle.layer_store.proofs.StoreLemmas.{alive_in, alive_with, dead_so, is_dead, not_both, takes_nothing}
+use Rattle.layer_store.proofs.StoreLemmas.{alive_in, alive_with, dead_so, dead_tells, is_dead, not_both, takes_nothing}
 use Rattle.layer_store.proofs.store.Store.reopen.Goals as goal
 
 pub returns-then-self-clause-step : goal.returns-then-self-clause-step
@@ -54,10 +55,16 @@ pub returns-clause-cause : goal.returns-clause-cause
 returns-clause-cause g c = cause_told c.tell.ensures c.reopen-closed.ensures.cause
 
 pub returns-then-self-clause-ends : goal.returns-then-self-clause-ends
-returns-then-self-clause-ends g c = λ settled. dead_so c.args.self.now c.if-self.true
+returns-then-self-clause-ends g c = inl (dead_so c.args.self.now c.if-self.true)
 
 pub returns-clause-ends : goal.returns-clause-ends
 returns-clause-ends g c = ends_closed c.args.self.now _ c.if-self.false c.tell.ensures c.reopen-closed.ensures.refused
+
+pub returns-then-self-clause-ended : goal.returns-then-self-clause-ended
+returns-then-self-clause-ended g c = dead_tells c.args.self.now 19 c.if-self.true
+
+pub returns-clause-ended : goal.returns-clause-ended
+returns-clause-ended g c = told_end c.args.self.now _ c.if-self.false c.tell.ensures c.reopen-closed.ensures.goes_on
 
 pub returns-then-self-clause-trees : goal.returns-then-self-clause-trees
 returns-then-self-clause-trees g c = λ t represents. absurd (not_both _ c.if-self.true (alive_with c.args.self.now t represents).0)

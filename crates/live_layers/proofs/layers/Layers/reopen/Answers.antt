@@ -1,7 +1,9 @@
 -- A closing that is finished, or refused, and what is read after it.
-use Rattle.std.proofs.Common.{◌∙◌}
+use Rattle.std.proofs.Common.{◌∙◌, ap}
 use Rattle.page_cache.specs.Laws.{the_gate_is_kept_in_turn}
 use Rattle.live_layers.proofs.ClosingLemmas.{read_image, rests_on_closed, then_read, unchanged_keeps_gate}
+use Rattle.live_layers.proofs.QuestionLemmas.{fault_goes_on}
+use Rattle.store_law.specs.Stops.{is_end}
 use Rattle.live_layers.proofs.layers.Layers.reopen.Goals as goal
 
 pub returns-in-Err-clause-leaves : goal.returns-in-Err-clause-leaves
@@ -11,6 +13,9 @@ returns-in-Err-clause-leaves g c = λ t sound. record {
   closed = λ begun. absurd begun;
   quiet = λ settled. unchanged_keeps_gate c.args.self.now.cache c.settle.new.self.cache (c.in-Err.ensures.was_settled settled).0;
 }
+
+pub returns-in-Err-clause-goes_on : goal.returns-in-Err-clause-goes_on
+returns-in-Err-clause-goes_on g c = ap is_end c.as_refusal.ensures ∙ fault_goes_on c.in-Err.fault
 
 pub returns-in-Ok-clause-leaves : goal.returns-in-Ok-clause-leaves
 returns-in-Ok-clause-leaves g c = λ t sound.
