@@ -17,8 +17,8 @@ pub fn recovery_gives_a_commit<P: DevicePair, A: Allocator + Copy>()
         P.may_leave (pair_of d) a b → BeginsOne (commits_of (inner_of d)) (recovered a b) }
 {}
 
-/// Whatever a stop of both has left since a moment is found, once it is recovered, since that moment of the device: it has
-/// one moment more with each write and sync, and as many as the pair when it is opened.
+/// Whatever a stop of both has left since a moment is found, once it is recovered, since that moment of the device: it
+/// has one moment more with each write and sync, and as many as the pair when it is opened.
 pub fn stops_of_the_pair_are_found<P: DevicePair, A: Allocator + Copy>()
     ensures { (d : JournaledDevice P A ⟦<P as DevicePair>⟧) (t u : ℕ) (a b : Blocks) → IsHonest (inner_of d) →
         t ≤ u → P.left_since (pair_of d) u a b → found_since_of d t (recovered a b) }
@@ -41,8 +41,8 @@ pub fn what_is_given_up_is_a_commit_again<P: DevicePair, A: Allocator + Copy>()
         BeginsOne (commits_of (inner_of d)) (shown_of (inner_of opened)) }
 {}
 
-/// Whatever a stop of both devices leaves, a journal whose gate says that it is complete is so, with room for its entries
-/// and homes that are there: opening finds none malformed.
+/// Whatever a stop of both devices leaves, a journal whose gate says that it is complete is so, with room for its
+/// entries and homes that are there: opening finds none malformed.
 pub fn a_journal_that_is_left_is_well_formed<P: DevicePair, A: Allocator + Copy>()
     ensures { (d : JournaledDevice P A ⟦<P as DevicePair>⟧) (a b : Blocks) → IsHonest (inner_of d) →
         P.may_leave (pair_of d) a b → gate_says (block_at 0 b) ≡ true → IsWellFormed a b }

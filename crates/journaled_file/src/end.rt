@@ -19,8 +19,8 @@ use std::fs::{File, Files};
 use titled_pair::end_of_base;
 
 /// Ends a run over the file at `path`: what was not committed is given up, the mark is taken away, and the journal is
-/// removed. Whether it could be done is answered. Where it could not, or where this is cut short, the next opening brings
-/// the same blocks back.
+/// removed. Whether it could be done is answered. Where it could not, or where this is cut short, the next opening
+/// brings the same blocks back.
 pub fn end_journaled<R: Files<File = File>>(
     rt: &R,
     alloc: Global,
@@ -60,8 +60,8 @@ pub fn end_session<P: DevicePair>(pair: &mut P) -> Result<bool, DeviceError>
     Ok(true)
 }
 
-// Has the journal say that the session has ended with the base as it is, all of it synced. Whether it has room for that is
-// answered.
+// Has the journal say that the session has ended with the base as it is, all of it synced. Whether it has room for that
+// is answered.
 fn put_end<P: DevicePair>(pair: &mut P) -> Result<bool, DeviceError>
     ensures base { P.honest pair.old → P.base pair.new ≡ P.base pair.old }
     ensures end { P.honest pair.old →

@@ -28,8 +28,8 @@ pub enum Found {
     Foreign,
 }
 
-/// Tells what the journal of a pair is to its base (docs/FORMAT.md, "The journal", "Files"). Nothing is written. It fails
-/// where the pair does.
+/// Tells what the journal of a pair is to its base (docs/FORMAT.md, "The journal", "Files"). Nothing is written. It
+/// fails where the pair does.
 pub fn judge<P: DevicePair>(pair: &mut P) -> Result<Found, DeviceError>
     ensures judged { P.honest pair.old → IfOk result (λ found. IsJudged found (P.base pair.old) (P.journal pair.old)) }
     ensures quiet { P.honest pair.old → IsQuiet P.DevicePair pair.old pair.new }
@@ -44,7 +44,11 @@ pub fn judge<P: DevicePair>(pair: &mut P) -> Result<Found, DeviceError>
     pair.read_journal(0, &mut title)?;
     if !is_title(&title) {
         let cut_short = !marked && blocks == TITLE_BLOCKS;
-        return Ok(if cut_short { Found::Fresh } else { Found::Missing });
+        return Ok(if cut_short {
+            Found::Fresh
+        } else {
+            Found::Missing
+        });
     }
     judge_titled(pair, marked, &title)
 }
@@ -74,7 +78,11 @@ fn judge_titled<P: DevicePair>(
         return Ok(Found::Fresh);
     }
     let own = title_of_base(pair)?;
-    Ok(if *title == own { Found::Own } else { Found::Foreign })
+    Ok(if *title == own {
+        Found::Own
+    } else {
+        Found::Foreign
+    })
 }
 
 /// Whether the gate of the base has the mark of a run that has not ended.

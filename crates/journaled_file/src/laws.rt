@@ -8,8 +8,8 @@ ghost use Rattle.marked_pair.specs.Mark.{IsMarked};
 ghost use Rattle.std.specs.Prelude.{length};
 ghost use Rattle.titled_pair.specs.Title.{untitled, HasTitle};
 
-/// What a session leaves of a base and its journal is opened: where its journal had a title, of the base that it found or
-/// beside a base with the mark, the file beside the base is not missing, and not another's.
+/// What a session leaves of a base and its journal is opened: where its journal had a title, of the base that it found
+/// or beside a base with the mark, the file beside the base is not missing, and not another's.
 ///
 /// What a stop leaves is so by the laws `marked_pair::laws::a_stop_leaves_a_mark_or_the_base_as_it_was` and
 /// `titled_pair::laws::a_stop_leaves_the_title`.

@@ -15,7 +15,7 @@ use block_device::{BlockDevice, DeviceError};
 use device_pair::{DevicePair, TwoDevices};
 use file_device::{FileDevice, HostFile, OpenError, journal_path, open_file, remove_journal};
 use journaled_device::{JournaledDevice, OpenFault};
-use marked_pair::{MarkedPair, SHUT, gate_page};
+use marked_pair::{MARKED, MarkedPair, SHUT, gate_page, reads_as};
 use std::alloc::{Allocator, Global};
 use std::fs::{File, Files};
 use titled_pair::{TITLE_BLOCKS, TitledPair, make_title};
@@ -33,8 +33,8 @@ type Pair = TwoDevices<FileDevice<HostFile<File>>, FileDevice<HostFile<File>>>;
 /// `create` an empty file is made where there is none.
 ///
 /// Both are locked until they are closed. What a run that was cut short had closed is brought back; the answer says
-/// whether such a run had closed anything and not ended. A journal without entries, beside a file that needs none, is made
-/// anew. Where the journal is none or another file's, nothing is written into either.
+/// whether such a run had closed anything and not ended. A journal without entries, beside a file that needs none, is
+/// made anew. Where the journal is none or another file's, nothing is written into either.
 pub fn open_journaled<R: Files<File = File>>(
     rt: &R,
     alloc: Global,
@@ -79,7 +79,7 @@ fn has_mark<D: BlockDevice>(base: &mut D) -> Result<bool, DeviceError> {
     }
     let mut gate = [0; 4096];
     base.read(0, &mut gate)?;
-    Ok(marked_pair::reads_as(&gate, marked_pair::MARKED))
+    Ok(reads_as(&gate, MARKED))
 }
 
 // The pair with a journal that is made anew, and has a title.
@@ -131,8 +131,9 @@ pub(crate) fn shut_gate<P: DevicePair>(pair: &mut P) -> Result<(), DeviceError>
     pair.sync_base()
 }
 
-/// Opens a pair whose journal has a title. Where the pair is honest, what is then read is what recovery makes of the base,
-/// a gate with the mark as a shut one, and of the journal behind its title. Where it is refused, the pair is given back.
+/// Opens a pair whose journal has a title. Where the pair is honest, what is then read is what recovery makes of the
+/// base, a gate with the mark as a shut one, and of the journal behind its title. Where it is refused, the pair is
+/// given back.
 pub fn open_over<P: DevicePair + Drop, A: Allocator + Copy>(
     pair: P,
     alloc: A,
@@ -156,7 +157,13 @@ pub fn open_over<P: DevicePair + Drop, A: Allocator + Copy>(
     };
     match JournaledDevice::open(marked, alloc) {
         Ok(device) => Ok(device),
-        Err((OpenFault::Malformed, left)) => Err((OpenError::NoJournal, left.into_pair().into_pair())),
-        Err((OpenFault::Device(_), left)) => Err((OpenError::Refused, left.into_pair().into_pair())),
+        Err((OpenFault::Malformed, left)) => Err((
+            OpenError::NoJournal,
+            left.into_pair().into_pair(),
+        )),
+        Err((OpenFault::Device(_), left)) => Err((
+            OpenError::Refused,
+            left.into_pair().into_pair(),
+        )),
     }
 }

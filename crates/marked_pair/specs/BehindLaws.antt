@@ -129,12 +129,12 @@ module _ {P : Type 0} (base : P → Blocks) (moment : P → ℕ) (left_since : P
         (λ none a b left. let from = follows a b left in plain_torn i n (base p) from.0 a b (λ k gt lt e. omega (arith, lt, behind, e)) from.2 (s.plain none from.0 b from.1))
         (λ m. stays (s.found m))
         (λ a b left.
-          let from = follows a b left in
-          let was = left_now from.0 b from.1 in
-          record {
-            plain = λ none. plain_torn i n (base p) from.0 a b (λ k gt lt e. omega (arith, lt, behind, e)) from.2 (was.plain (λ m. none (marked_torn i from.0 a some from.2 m)));
-            found = λ m. marked_torn i from.0 a some from.2 (was.found m);
-          })
+        let from = follows a b left in
+        let was = left_now from.0 b from.1 in
+        record {
+          plain = λ none. plain_torn i n (base p) from.0 a b (λ k gt lt e. omega (arith, lt, behind, e)) from.2 (was.plain (λ m. none (marked_torn i from.0 a some from.2 m)));
+          found = λ m. marked_torn i from.0 a some from.2 (was.found m);
+        })
 
     -- one that was there, behind a mark that is synced
     pub session_there : mark ≡ Synced → IsMarked (base new) → ((a b : Blocks) → may_leave new a b → IsMarked a) → IsSession base moment left_since may_leave mark n p new
@@ -160,9 +160,9 @@ module _ {P : Type 0} (base : P → Blocks) (moment : P → ℕ) (left_since : P
         (λ none a b left. let from = follows a b left in torn a b from.0 from.2 (λ lt ge. absurd (none (guard lt ge))) (s.plain none a from.0 from.1))
         (λ m. subst IsMarked (sym same) (s.found m))
         (λ a b left.
-          let from = follows a b left in
-          let was = left_now a from.0 from.1 in
-          record { plain = λ none. torn a b from.0 from.2 (λ lt ge. absurd (none (marked (guard lt ge) a from.0 from.1))) (was.plain none); found = was.found })
+        let from = follows a b left in
+        let was = left_now a from.0 from.1 in
+        record { plain = λ none. torn a b from.0 from.2 (λ lt ge. absurd (none (marked (guard lt ge) a from.0 from.1))) (was.plain none); found = was.found })
       where
         torn : (a b c : Blocks) → Torn i c b → (n < 2 → 2 ≤ i → ⊥) → IsPlain n (base p) a c → IsPlain n (base p) a b
         torn a b c step never plain = record {

@@ -125,7 +125,8 @@ fn a_slot_of_a_new_file_waits_for_the_mark(rt: HostRuntime) -> Result<(), Fail> 
     Ok(())
 }
 
-// A gate that is found with the mark is only read, and synced before another block is written: so a stop tears it no more.
+// A gate that is found with the mark is only read, and synced before another block is written: so a stop tears it no
+// more.
 #[test]
 fn a_gate_with_the_mark_is_not_written_again(rt: HostRuntime) -> Result<(), Fail> {
     let mut base = closed(rt.alloc())?;

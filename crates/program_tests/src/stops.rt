@@ -1,5 +1,5 @@
-//! A store over a base and its journal in memory that is stopped at each call: within opening, changes, closings and the
-//! clean end. What is left is opened, and has a table that was closed.
+//! A store over a base and its journal in memory that is stopped at each call: within opening, changes, closings and
+//! the clean end. What is left is opened, and has a table that was closed.
 ghost use Rattle.std.specs.Prelude.{◌<◌, ◌-◌, ◌^◌};
 
 use block_device::{FuseMode, Left, MemoryDevice};
@@ -59,11 +59,13 @@ fn ended(device: Device) -> (MemoryPair, bool) {
 
 // Inserts a box, and says whether it could.
 fn insert(store: &mut Store<Device, Global>, id: u64) -> bool {
-    store.insert(b"a", id, RawBox::Two([0, 0], [5, 5]), 0).is_ok()
+    store
+        .insert(b"a", id, RawBox::Two([0, 0], [5, 5]), 0)
+        .is_ok()
 }
 
-// Inserts boxes up to this one, each before a closing. Tells the last whose closing was begun, and the last whose closing
-// was finished.
+// Inserts boxes up to this one, each before a closing. Tells the last whose closing was begun, and the last whose
+// closing was finished.
 fn grown(store: &mut Store<Device, Global>, from: u64, to: u64) -> (u64, u64) {
     let mut finished = from;
     for id in from..to {
@@ -98,8 +100,8 @@ fn begun(alloc: Global) -> Result<MemoryPair, Fail> {
     }
 }
 
-// What a run left that was stopped: the pair, the last table whose closing was begun and was finished, by its boxes, and
-// whether it came to its end.
+// What a run left that was stopped: the pair, the last table whose closing was begun and was finished, by its boxes,
+// and whether it came to its end.
 #[derive(Drop)]
 struct Stopped {
     pair: MemoryPair,
@@ -112,7 +114,12 @@ struct Stopped {
 fn stop_run(alloc: Global, pair: MemoryPair, passes: u64) -> Stopped
     requires { passes < 2 ^ 64 - 1 }
 {
-    let none = |pair: MemoryPair| Stopped { pair, begun: 3, finished: 3, done: false };
+    let none = |pair: MemoryPair| Stopped {
+        pair,
+        begun: 3,
+        finished: 3,
+        done: false,
+    };
     let device = match opened(alloc, pair, passes) {
         Ok(device) => device,
         Err(pair) => return none(pair.into_inner()),
@@ -123,7 +130,12 @@ fn stop_run(alloc: Global, pair: MemoryPair, passes: u64) -> Stopped
     };
     let (begun, finished) = grown(&mut store, 3, 6);
     let (pair, done) = ended(store.abandon());
-    Stopped { pair, begun, finished, done }
+    Stopped {
+        pair,
+        begun,
+        finished,
+        done,
+    }
 }
 
 // How many boxes the store has that is opened from what is left.

@@ -66,12 +66,12 @@ pub title_torn : (i : ℕ) (journal old new : Blocks) → Torn (i + 2) old new �
 title_torn i journal old new torn has = ⊎_elim
     (λ (e : new ≡ old). subst (HasTitle journal) (sym e) has)
     (λ (w : (b : List ℕ) × IsBlock b × (new ≡ written (i + 2) b old)).
-      let kept = kept_title i w.0 old has.room in
-      subst (HasTitle journal) (sym w.2) (record {
-        room = omega (arith, has.room, (torn_length (i + 2) old (written (i + 2) w.0 old) (inr (w.0, w.1, refl))).0);
-        title = kept.0 ∙ has.title;
-        end = kept.1 ∙ has.end;
-      }))
+    let kept = kept_title i w.0 old has.room in
+    subst (HasTitle journal) (sym w.2) (record {
+      room = omega (arith, has.room, (torn_length (i + 2) old (written (i + 2) w.0 old) (inr (w.0, w.1, refl))).0);
+      title = kept.0 ∙ has.title;
+      end = kept.1 ∙ has.end;
+    }))
     torn
 
 -- it stays by a call after which a stop leaves it

@@ -100,8 +100,8 @@ impl<P: DevicePair + Drop> MarkedPair<P> {
         self.write_other(i, bytes)
     }
 
-    // Whether block i of the journal is a slot, and may not be one yet: where the base had no header, the mark is synced
-    // first.
+    // Whether block i of the journal is a slot, and may not be one yet: where the base had no header, the mark is
+    // synced first.
     pub(crate) fn is_early(&self, i: u32) -> bool
         ensures { result ≡ false → kept_of self.now < 2 → 2 ≤ i → mark_of self.now ≡ Synced }
     {

@@ -11,8 +11,8 @@ use block_device::DeviceError;
 use device_pair::{DevicePair, Snapshots};
 
 impl<P: DevicePair + Drop> MarkedPair<P> {
-    /// Takes a pair, which is synced first; where that is refused, it is given back. No mark is known. Where the base has
-    /// no header, the journal has no slots.
+    /// Takes a pair, which is synced first; where that is refused, it is given back. No mark is known. Where the base
+    /// has no header, the journal has no slots.
     pub fn over(pair: P) -> Result<MarkedPair<P>, (DeviceError, P)>
         requires few { length (P.base pair) < 2 → length (P.journal pair) ≤ 2 }
         ensures base { IfOk result (λ d. P.honest pair → disk_of d ≡ P.base pair) }
