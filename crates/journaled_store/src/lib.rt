@@ -5,6 +5,12 @@ ghost use Rattle.block_device.specs.Device.{Blocks};
 ghost use Rattle.journaled_device.specs.Journal.{recovered};
 ghost use Rattle.journaled_device.specs.Journaled.{pair_of};
 ghost use Rattle.journaled_device.specs.declared.device.JournaledDevice.{JournaledDevice as Journaled};
+ghost use Rattle.marked_pair.specs.Mark.{unmarked};
+ghost use Rattle.marked_pair.specs.Pair.{pair_of as titled_of};
+ghost use Rattle.marked_pair.specs.declared.pair.MarkedPair.{MarkedPair as Marked};
+ghost use Rattle.titled_pair.specs.Pair.{pair_of as files_of};
+ghost use Rattle.titled_pair.specs.Title.{untitled};
+ghost use Rattle.titled_pair.specs.declared.pair.TitledPair.{TitledPair as Titled};
 ghost use Rattle.layer_store.specs.Representation.{Represents, device_in};
 ghost use Rattle.layer_store.specs.declared.store.Store.{Store};
 ghost use Rattle.live_layers.specs.Image.{IsImageOfOne};
@@ -16,7 +22,9 @@ use device_pair::DevicePair;
 use journaled_device::JournaledDevice;
 use journaled_device::laws::{recovery_gives_a_commit, stops_of_the_pair_are_found};
 use layer_store::laws::a_stop_is_found_to_have_left_a_closed_table;
+use marked_pair::MarkedPair;
 use std::alloc::Allocator;
+use titled_pair::TitledPair;
 
 /// **Whatever a stop leaves of base and journal, recovery makes of it an image of a table that was closed, which opening
 /// does not refuse.**
@@ -42,4 +50,26 @@ pub fn a_stop_leaves_a_table_that_was_closed<P: DevicePair, A: Allocator + Copy,
     recovery_gives_a_commit::<P, A>();
     stops_of_the_pair_are_found::<P, A>();
     a_stop_is_found_to_have_left_a_closed_table::<JournaledDevice<P, A>, S>();
+}
+
+/// **The same of two files as they lie on disk, the base with its mark and the journal with its title**: what recovery
+/// makes of them, as `journaled_file::open_over` opens them, is such a table, now and at any moment since the beginning.
+pub fn a_stop_of_both_files_leaves_a_table_that_was_closed<
+    P: DevicePair + Drop,
+    A: Allocator + Copy,
+    S: Allocator,
+>()
+    ensures now { (store : Store (Journaled (Marked (Titled P ⟦<P as DevicePair>⟧) ⟦<TitledPair<P> as DevicePair>⟧) A
+        ⟦<MarkedPair<TitledPair<P>> as DevicePair>⟧) S
+        ⟦<JournaledDevice<MarkedPair<TitledPair<P>>, A> as BlockDevice>⟧) (s : SessionState) (a e : Blocks) →
+        Represents store s → P.may_leave (files_of (titled_of (pair_of (device_in store)))) a e →
+        IsImageOfOne s.stops.kept (recovered (unmarked a) (untitled e)) }
+    ensures so_far { (store : Store (Journaled (Marked (Titled P ⟦<P as DevicePair>⟧) ⟦<TitledPair<P> as DevicePair>⟧) A
+        ⟦<MarkedPair<TitledPair<P>> as DevicePair>⟧) S
+        ⟦<JournaledDevice<MarkedPair<TitledPair<P>>, A> as BlockDevice>⟧) (s : SessionState) (a e : Blocks) →
+        Represents store s →
+        P.left_since (files_of (titled_of (pair_of (device_in store)))) s.stops.since a e →
+        IsImageOfOne s.stops.kept_so_far (recovered (unmarked a) (untitled e)) }
+{
+    a_stop_leaves_a_table_that_was_closed::<MarkedPair<TitledPair<P>>, A, S>();
 }
