@@ -167,7 +167,8 @@ for made in "$program" "$program.by-rattle"; do
     mv new-journal aside
     refused _ _ new "$made" new
     mv aside new-journal
-    ends 0 "$unended" "$made" new <<<'layers' >/dev/null
+    ln -s new newlink # a link leads to the same journal
+    ends 0 "$unended" "$made" newlink <<<'layers' >/dev/null
     ends 0 '' "$made" new <<<'layers' >/dev/null
     [ ! -e new-journal ] || wrong "a run that ended left its journal"
     line=$in_use

@@ -10,24 +10,24 @@ ghost use Rattle.page_file.specs.Layout.{gate_block};
 
 use crate::JournaledFile;
 use crate::judging::{has_entries, is_marked};
-use crate::open::shut_gate;
+use crate::open::{journal_name, shut_gate};
 use block_device::DeviceError;
 use device_pair::DevicePair;
-use file_device::{journal_path, remove_journal};
-use std::alloc::Global;
+use file_device::remove_journal;
+use std::alloc::{Alloc, Global};
 use std::fs::{File, Files};
 use titled_pair::end_of_base;
 
 /// Ends a run over the file at `path`: what was not committed is given up, the mark is taken away, and the journal is
 /// removed. Whether it could be done is answered. Where it could not, or where this is cut short, the next opening
 /// brings the same blocks back.
-pub fn end_journaled<R: Files<File = File>>(
+pub fn end_journaled<R: Files<File = File> + Alloc>(
     rt: &R,
     alloc: Global,
     path: &str,
     device: JournaledFile,
 ) -> bool {
-    let Ok(name) = journal_path(alloc, path) else {
+    let Ok(name) = journal_name(rt, alloc, path) else {
         return false;
     };
     let mut pair = device.into_pair().into_pair().into_pair();

@@ -16,8 +16,8 @@ use device_pair::{DevicePair, TwoDevices};
 use file_device::{FileDevice, HostFile, OpenError, journal_path, open_file, remove_journal};
 use journaled_device::{JournaledDevice, OpenFault};
 use marked_pair::{MARKED, MarkedPair, SHUT, gate_page, reads_as};
-use std::alloc::{Allocator, Global};
-use std::fs::{File, Files};
+use std::alloc::{Alloc, Allocator, Global};
+use std::fs::{self, File, Files};
 use titled_pair::{TITLE_BLOCKS, TitledPair, make_title};
 
 /// A base and its journal, as a device that commits.
@@ -35,18 +35,30 @@ type Pair = TwoDevices<FileDevice<HostFile<File>>, FileDevice<HostFile<File>>>;
 /// Both are locked until they are closed. What a run that was cut short had closed is brought back; the answer says
 /// whether such a run had closed anything and not ended. A journal without entries, beside a file that needs none, is
 /// made anew. Where the journal is none or another file's, nothing is written into either.
-pub fn open_journaled<R: Files<File = File>>(
+pub fn open_journaled<R: Files<File = File> + Alloc>(
     rt: &R,
     alloc: Global,
     path: &str,
     create: bool,
 ) -> Result<(JournaledFile, bool), OpenError> {
     let base = open_file(rt, path, create)?;
-    let name = journal_path(alloc, path)?;
+    let name = journal_name(rt, alloc, path)?;
     let (pair, unended) = paired(rt, name.as_str(), base)?;
     match open_over(pair, alloc) {
         Ok(device) => Ok((device, unended)),
         Err((error, _)) => Err(error),
+    }
+}
+
+/// The path of the journal of the file that this path leads to: it lies beside the file itself, and not beside a link to it.
+pub(crate) fn journal_name<R: Files<File = File> + Alloc>(
+    rt: &R,
+    alloc: Global,
+    path: &str,
+) -> Result<String, OpenError> {
+    match fs::canonicalize(rt, path) {
+        Ok(real) => Ok(journal_path(alloc, real.as_str())?),
+        Err(_) => Err(OpenError::Refused),
     }
 }
 
