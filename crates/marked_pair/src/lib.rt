@@ -7,8 +7,6 @@
 pub mod laws;
 mod mark;
 mod pair;
-#[cfg(test)]
-mod tests;
 
 pub use mark::{MARKED, Mark, SHUT, gate_page, reads_as};
 pub use pair::MarkedPair;
