@@ -1,0 +1,4 @@
+-- The files of definitions.
+pub mod Layout
+pub mod Leaf
+pub mod LeafLaws
