@@ -2,3 +2,5 @@
 pub mod Layout
 pub mod Leaf
 pub mod LeafLaws
+pub mod Fork
+pub mod ForkLaws

@@ -4,6 +4,7 @@ ghost use Rattle.std.specs.Prelude.{◌≡◌, ℕ, ◌+◌, ◌<◌, ◌≤◌,
 ghost use Rattle.block_bytes.specs.Numbers.{IsApart, number_at};
 ghost use Rattle.box_bytes.specs.Corners.{Keeps};
 ghost use Rattle.bucket_page.specs.Layout.{Entry};
+ghost use Rattle.id_page.specs.Fork.{ForkContent, fork_at};
 ghost use Rattle.id_page.specs.Leaf.{leaf_at};
 
 use block_bytes::{read_u16, write_u8};
@@ -20,6 +21,7 @@ pub fn count_at(page: &[u8; 4096]) -> usize
     ensures value { result ≡ number_at 2 2 page.now }
     ensures of_leaf { (dims : ℕ) (objects : List Entry) → leaf_at dims page.now ≡ Some objects
         → result ≡ length objects }
+    ensures of_fork { (dims : ℕ) (c : ForkContent) → fork_at dims page.now ≡ Some c → result ≡ length c.links }
 {
     usize::from(read_u16(page, 2))
 }

@@ -1,6 +1,7 @@
 //! Leaf pages filled, joined and cut.
 
-ghost use Rattle.std.specs.Prelude.{◌≡◌, ℕ, ◌+◌, ◌-◌, ◌<◌, ◌≤◌, Some, List, ◌∷◌, ◌++◌, [], length, slice_index_or, take, drop};
+ghost use Rattle.std.specs.Prelude.{◌≡◌, ℕ, ◌+◌, ◌-◌, ◌<◌, ◌≤◌, Some, List, ◌∷◌, ◌++◌, []};
+ghost use Rattle.std.specs.Prelude.{length, slice_index_or, take, drop};
 ghost use Rattle.block_bytes.specs.Numbers.{number_at};
 ghost use Rattle.box_math.specs.Bounds.{IsDims};
 ghost use Rattle.bucket_page.specs.Layout.{Entry};

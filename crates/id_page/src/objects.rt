@@ -1,6 +1,7 @@
 //! One object in its place of a leaf page: its identifier, then its lows, then its highs, then its tag.
 
-ghost use Rattle.std.specs.Prelude.{◌≡◌, ℕ, ◌+◌, ◌*◌, ◌<◌, ◌≤◌, ◌↔◌, Some, List, length, slice_index_or, IsSome, IsTrue, IfSome};
+ghost use Rattle.std.specs.Prelude.{◌≡◌, ℕ, ◌+◌, ◌*◌, ◌<◌, ◌≤◌, ◌↔◌, Some, List, length, slice_index_or};
+ghost use Rattle.std.specs.Prelude.{IsSome, IsTrue, IfSome};
 ghost use Rattle.block_bytes.specs.Numbers.{number_at};
 ghost use Rattle.box_math.specs.Bounds.{IsDims, IsBox};
 ghost use Rattle.box_math.specs.Objects.{bounds_of};

@@ -1,10 +1,10 @@
 -- Each step takes the last object.
-use Rattle.std.proofs.Common.{◌≡◌, ◌∙◌, ◌+◌, ◌-◌, ◌≤◌, ℕ, List, Some, ap, arith, inl, inr, length, sym, take, ◌<◌, ◌⊎◌, ⊎_elim}
+use Rattle.std.proofs.Common.{◌≡◌, ◌∙◌, ◌+◌, ◌-◌, ℕ, List, Some, ap, arith, inl, inr, length, sym, take}
 use Rattle.std.proofs.lemmas.List.{take_all}
 use Rattle.block_bytes.specs.Numbers.{number_at}
 use Rattle.bucket_page.specs.Layout.{Entry}
 use Rattle.id_page.proofs.LeafReading.{count_of_leaf}
-use Rattle.id_page.proofs.Lists.{taken_less}
+use Rattle.id_page.proofs.Lists.{kept_at_last, taken_less}
 use Rattle.id_page.proofs.leaf_parts.keep_objects.Goals as goal
 
 pub loop-place-init : goal.loop-place-init
@@ -35,17 +35,6 @@ loop-place-preserved g c =
 
 pub returns-clause-kept : goal.returns-clause-kept
 returns-clause-kept g c = λ objects is.
-    let long : number_at 2 2 c.args.page.now ≡ length objects = count_of_leaf g.row.D c.args.page.now objects is in
     let last = c.loop-place.invariant in
-    let place = c.loop-place.place in
-    let many = c.args.many in
-    last.kept objects is ∙ ap (λ (os : List Entry). Some os) (⊎_elim
-    (λ (few : place ≤ many). take_all (length objects - (place - many)) objects (omega (arith, few)) ∙ sym (take_all many objects (omega (arith, few, long))))
-    (λ (upto : place ≤ number_at 2 2 c.args.page.now). ⊎_elim
-    (λ (less : many ≤ length objects). ap (λ (i : ℕ). take i objects) (let e : length objects - (place - many) ≡ many = omega (arith, upto, long, less) in e))
-    (λ (more : length objects < many). take_all (length objects - (place - many)) objects (omega (arith, last.from, more, long, upto)) ∙ sym (take_all many objects (omega (arith, more))))
-    (le_or_lt many (length objects)))
-    last.upto)
-  where
-    le_or_lt : (a b : ℕ) → (a ≤ b) ⊎ (b < a)
-    le_or_lt a b = grind arith
+    last.kept objects is ∙ ap (λ (os : List Entry). Some os)
+    (kept_at_last objects c.args.many c.loop-place.place (number_at 2 2 c.args.page.now) (count_of_leaf g.row.D c.args.page.now objects is) last.from (omega arith) last.upto)
