@@ -8,4 +8,8 @@ mod buckets;
 #[cfg(test)]
 mod catalogs;
 #[cfg(test)]
+mod forks;
+#[cfg(test)]
+mod leaves;
+#[cfg(test)]
 mod numbers;
