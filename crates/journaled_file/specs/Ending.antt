@@ -1,7 +1,15 @@
 -- What a stop leaves within a clean end (our format, docs/FORMAT.md, "The journal", "Files").
-use Rattle.std.specs.Prelude.{◌≡◌, ◌<◌, ◌≤◌, ◌⊎◌, ℕ, length}
-use Rattle.block_device.specs.Device.{Blocks, Torn, block_at}
+use Rattle.std.specs.Prelude.{◌≡◌, ◌⊎◌, ℕ}
+use Rattle.block_device.specs.Device.{Blocks, Torn}
 use Rattle.journaled_file.specs.Judged.{HasEnded}
+
+-- what a stop left before, with the end of the journal torn
+abbrev pub EndTorn : (Blocks → Blocks → Type 0) → Blocks → Blocks → Type 0
+EndTorn outcomes a e = (d : Blocks) × outcomes a d × Torn 1 d e
+
+-- what a stop left before, with the gate of the base torn
+abbrev pub GateTorn : (Blocks → Blocks → Type 0) → Blocks → Blocks → Type 0
+GateTorn outcomes a e = (d : Blocks) × outcomes d e × Torn 0 d a
 
 -- The journal's end is of the base, which is as it was but for its gate.
 pub record IsEnding (base a e : Blocks) : Type 0 where
@@ -10,4 +18,4 @@ pub record IsEnding (base a e : Blocks) : Type 0 where
 
 -- what a stop left before, with the journal's end torn, or what it leaves of a base that is ending
 abbrev pub LeavesEnding : (Blocks → Blocks → Type 0) → Blocks → Blocks → Blocks → Type 0
-LeavesEnding outcomes base a e = ((d : Blocks) × outcomes a d × Torn 1 d e) ⊎ IsEnding base a e
+LeavesEnding outcomes base a e = EndTorn outcomes a e ⊎ IsEnding base a e

@@ -2,10 +2,11 @@
 use Rattle.std.specs.Prelude.{◌≡◌, ◌<◌, ◌≤◌, ◌⊎◌, true, length}
 use Rattle.block_device.specs.Device.{Blocks, block_at}
 use Rattle.journaled_device.specs.Journal.{gate_says}
+use Rattle.journaled_device.specs.Opening.{IsMalformed}
 use Rattle.journaled_file.specs.declared.judging.Found.{Found}
 use Rattle.journaled_file.specs.declared.judging.Found.TheVariants.{Fresh, Own, Ended, Missing, Foreign}
-use Rattle.marked_pair.specs.Mark.{IsMarked}
-use Rattle.titled_pair.specs.Title.{end_of, reads_title, title_of}
+use Rattle.marked_pair.specs.Mark.{unmarked, IsMarked}
+use Rattle.titled_pair.specs.Title.{end_of, reads_title, title_of, untitled}
 
 -- it begins with a title and an end
 pub record IsJournal (e : Blocks) : Type 0 where
@@ -32,3 +33,7 @@ IsJudged Own a e = IsJournal e × (¬ HasEnded a e) × (IsMarked a ⊎ (HasEntri
 IsJudged Ended a e = IsJournal e × HasEnded a e
 IsJudged Missing a e = (¬ IsJournal e) × (IsMarked a ⊎ (2 < length e))
 IsJudged Foreign a e = (¬ IsMarked a) × HasEntries e × ¬ IsOf a e
+
+-- it has no title, or has entries beside a base without a header, or what stands behind its title is no journal
+abbrev pub IsNoJournal : Blocks → Blocks → Type 0
+IsNoJournal a e = (length e < 2) ⊎ ((length a < 2) × (4 < length e)) ⊎ IsMalformed (unmarked a) (untitled e)

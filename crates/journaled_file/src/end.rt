@@ -1,10 +1,10 @@
 //! How a run ends.
-ghost use Rattle.std.specs.Prelude.{◌≡◌, ◌<◌, ◌≤◌, ◌↔◌, true, length, IfOk, OnOk};
-ghost use Rattle.block_device.specs.Device.{Torn, block_at, written};
+ghost use Rattle.std.specs.Prelude.{◌≡◌, ◌<◌, ◌↔◌, ◌⊎◌, true, false, length, IfOk};
+ghost use Rattle.block_device.specs.Device.{written};
 ghost use Rattle.device_pair.specs.Pairs.{PairLeaves};
-ghost use Rattle.journaled_file.specs.Ending.{LeavesEnding};
+ghost use Rattle.journaled_file.specs.Ending.{EndTorn, LeavesEnding};
 ghost use Rattle.journaled_file.specs.Judged.{HasEnded, HasEntries};
-ghost use Rattle.marked_pair.specs.Behind.{IsSynced};
+ghost use Rattle.marked_pair.specs.Behind.{IsSynced, LeavesBase};
 ghost use Rattle.marked_pair.specs.Mark.{IsMarked};
 ghost use Rattle.page_file.specs.Layout.{gate_block};
 
@@ -42,9 +42,19 @@ pub fn end_journaled<R: Files<File = File> + Alloc>(
 /// without its journal is answered: it is not where a commit was not finished, and then nothing is written.
 pub fn end_session<P: DevicePair>(pair: &mut P) -> Result<bool, DeviceError>
     ensures ended { P.honest pair.old → IfOk result (λ t. t ≡ true → ¬ HasEntries (P.journal pair.old)) }
+    ensures not_ended { P.honest pair.old →
+        IfOk result (λ t. t ≡ false → HasEntries (P.journal pair.old) ⊎ (length (P.journal pair.old) < 2)) }
+    ensures left { P.honest pair.old → IfOk result (λ t. t ≡ false → P.base pair.new ≡ P.base pair.old) }
     ensures shut { P.honest pair.old → IsMarked (P.base pair.old) →
         IfOk result (λ t. t ≡ true → P.base pair.new ≡ written 0 (gate_block 1) (P.base pair.old)) }
     ensures plain { P.honest pair.old → ¬ IsMarked (P.base pair.old) → P.base pair.new ≡ P.base pair.old }
+    ensures durable { P.honest pair.old → IsMarked (P.base pair.old) →
+        IfOk result (λ t. t ≡ true → LeavesBase (P.base pair.new) (P.may_leave pair.new)) }
+
+    // Before its end stands in the journal, a stop leaves what one left before, and from then on a base that is ending.
+    ensures stops { P.honest pair.old →
+        PairLeaves P.moment P.left_since pair.old pair.new
+        (LeavesEnding (P.may_leave pair.old) (P.base pair.old)) }
     ensures honest { P.honest pair.old ↔ P.honest pair.new }
 {
     if has_entries(pair)? {
@@ -68,6 +78,9 @@ fn put_end<P: DevicePair>(pair: &mut P) -> Result<bool, DeviceError>
         IfOk result (λ t. t ≡ true → HasEnded (P.base pair.old) (P.journal pair.new)) }
     ensures synced { P.honest pair.old →
         IfOk result (λ t. t ≡ true → IsSynced (P.base pair.new) (P.journal pair.new) (P.may_leave pair.new)) }
+    ensures no_room { P.honest pair.old → IfOk result (λ t. t ≡ false → length (P.journal pair.old) < 2) }
+    ensures stops { P.honest pair.old →
+        PairLeaves P.moment P.left_since pair.old pair.new (EndTorn (P.may_leave pair.old)) }
     ensures honest { P.honest pair.old ↔ P.honest pair.new }
 {
     if pair.journal_blocks() < 2 {

@@ -1,11 +1,10 @@
 //! The laws of a file with its journal, each the contract of a function that does nothing.
-ghost use Rattle.std.specs.Prelude.{◌≡◌, ◌∷◌, [], ℕ};
+ghost use Rattle.std.specs.Prelude.{length};
 ghost use Rattle.block_device.specs.Device.{Blocks};
 ghost use Rattle.journaled_file.specs.Judged.{IsJournal, IsJudged, IsOf};
 ghost use Rattle.journaled_file.specs.declared.judging.Found.TheVariants.{Foreign, Missing};
 ghost use Rattle.marked_pair.specs.Behind.{IsLeft};
 ghost use Rattle.marked_pair.specs.Mark.{IsMarked};
-ghost use Rattle.std.specs.Prelude.{length};
 ghost use Rattle.titled_pair.specs.Title.{untitled, HasTitle};
 
 /// What a session leaves of a base and its journal is opened: where its journal had a title, of the base that it found

@@ -1,11 +1,15 @@
 //! How a file and its journal are opened.
-ghost use Rattle.std.specs.Prelude.{◌≡◌, ◌<◌, ◌↔◌, length, IfOk, OnOk};
-ghost use Rattle.block_device.specs.Device.{written};
-ghost use Rattle.journaled_file.specs.Judged.{IsJudged};
+ghost use Rattle.std.specs.Prelude.{◌≡◌, ◌<◌, ◌↔◌, ◌⊎◌, length, IfErr, IfOk, OnOk};
+ghost use Rattle.block_device.specs.Device.{Blocks, written};
+ghost use Rattle.device_pair.specs.Pairs.{PairLeaves};
+ghost use Rattle.file_device.specs.declared.open.OpenError.TheVariants as error;
+ghost use Rattle.journaled_file.specs.Ending.{GateTorn};
+ghost use Rattle.journaled_file.specs.Judged.{IsJudged, IsNoJournal};
 ghost use Rattle.journaled_file.specs.declared.judging.Found.TheVariants.{Ended};
 ghost use Rattle.journaled_device.specs.Journal.{recovered};
 ghost use Rattle.journaled_device.specs.Journaled.{inner_of};
-ghost use Rattle.journaled_device.specs.Standing.{shown_of};
+ghost use Rattle.journaled_device.specs.Standing.{commits_of, shown_of, IsHonest};
+ghost use Rattle.marked_pair.specs.Behind.{LeavesBase};
 ghost use Rattle.marked_pair.specs.Mark.{unmarked};
 ghost use Rattle.page_file.specs.Layout.{gate_block};
 ghost use Rattle.titled_pair.specs.Title.{untitled};
@@ -50,7 +54,8 @@ pub fn open_journaled<R: Files<File = File> + Alloc>(
     }
 }
 
-/// The path of the journal of the file that this path leads to: it lies beside the file itself, and not beside a link to it.
+/// The path of the journal of the file that this path leads to: it lies beside the file itself, and not beside a link
+/// to it.
 pub(crate) fn journal_name<R: Files<File = File> + Alloc>(
     rt: &R,
     alloc: Global,
@@ -120,6 +125,8 @@ pub fn judge_and_finish<P: DevicePair>(pair: &mut P) -> Result<Found, DeviceErro
     ensures other { P.honest pair.old →
         IfOk result (λ found. ¬ (found ≡ Ended) → P.base pair.new ≡ P.base pair.old) }
     ensures journal { P.honest pair.old → P.journal pair.new ≡ P.journal pair.old }
+    ensures stops { P.honest pair.old →
+        PairLeaves P.moment P.left_since pair.old pair.new (GateTorn (P.may_leave pair.old)) }
     ensures honest { P.honest pair.old ↔ P.honest pair.new }
 {
     let found = judge(pair)?;
@@ -133,7 +140,11 @@ pub fn judge_and_finish<P: DevicePair>(pair: &mut P) -> Result<Found, DeviceErro
 pub(crate) fn shut_gate<P: DevicePair>(pair: &mut P) -> Result<(), DeviceError>
     ensures shut { P.honest pair.old → 0 < length (P.base pair.old) →
         OnOk result (P.base pair.new ≡ written 0 (gate_block 1) (P.base pair.old)) }
+    ensures durable { P.honest pair.old → 0 < length (P.base pair.old) →
+        OnOk result (LeavesBase (P.base pair.new) (P.may_leave pair.new)) }
     ensures journal { P.honest pair.old → P.journal pair.new ≡ P.journal pair.old }
+    ensures stops { P.honest pair.old →
+        PairLeaves P.moment P.left_since pair.old pair.new (GateTorn (P.may_leave pair.old)) }
     ensures honest { P.honest pair.old ↔ P.honest pair.new }
 {
     if pair.base_blocks() == 0 {
@@ -152,6 +163,13 @@ pub fn open_over<P: DevicePair + Drop, A: Allocator + Copy>(
 ) -> Result<JournaledOver<P, A>, (OpenError, P)>
     ensures shown { IfOk result (λ d. P.honest pair →
         shown_of (inner_of d) ≡ recovered (unmarked (P.base pair)) (untitled (P.journal pair))) }
+    ensures commits { IfOk result (λ d. P.honest pair → (k : Blocks) → commits_of (inner_of d) k →
+        k ≡ shown_of (inner_of d)) }
+    ensures honest { IfOk result (λ d. P.honest pair ↔ IsHonest (inner_of d)) }
+    ensures refused_honest { IfErr result (λ e. P.honest pair ↔ P.honest e.1) }
+    ensures refused { IfErr result (λ e. (e.0 ≡ error.NoJournal) ⊎ (e.0 ≡ error.Refused)) }
+    ensures no_journal { IfErr result (λ e. P.honest pair → e.0 ≡ error.NoJournal →
+        IsNoJournal (P.base pair) (P.journal pair)) }
 {
     if pair.journal_blocks() < TITLE_BLOCKS {
         return Err((OpenError::NoJournal, pair));

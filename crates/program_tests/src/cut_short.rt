@@ -108,3 +108,81 @@ fn what_is_no_journal_is_not_written(rt: HostRuntime) -> Result<(), Fail> {
     fs::remove_file(&rt, path)?;
     Ok(())
 }
+
+// A journal that is complete: the gate is to be shut, and block 2 to hold this byte alone. Its title is of a file whose
+// block 1 this is.
+fn journal_of(rt: &HostRuntime, journal: &str, header: &[u8; 4096], byte: u8) -> Result<(), Fail> {
+    let mut bytes = [0; 7 * 4096];
+    bytes[..4096].copy_from_slice(header);
+    bytes[..8].copy_from_slice(b"RSTARTTL");
+    bytes[2 * 4096..2 * 4096 + 8].copy_from_slice(b"RSTARJNL");
+    bytes[2 * 4096 + 8] = 1; // complete
+    bytes[3 * 4096 + 11] = 2; // two entries
+    bytes[4 * 4096..4 * 4096 + 8].copy_from_slice(b"RSTARGAT");
+    bytes[4 * 4096 + 8] = 1; // shut
+    bytes[5 * 4096..6 * 4096].copy_from_slice(&[byte; 4096]);
+    bytes[6 * 4096 + 7] = 2; // of blocks 0 and 2
+    fs::write(rt, journal, bytes.as_slice())?;
+    Ok(())
+}
+
+// A complete journal is replayed over the file that its title is of, and over no other.
+#[test]
+fn a_journal_of_another_file_is_refused(rt: HostRuntime) -> Result<(), Fail> {
+    let path = "program_tests_other";
+    let journal = "program_tests_other-journal";
+    let _ = fs::remove_file(&rt, path);
+    cut_short(&rt, path)?;
+    assert_eq!(rt; objects(&rt, path)?, (1, true));
+    let before = fs::read(&rt, path)?;
+    if before.len() < 3 * 4096 {
+        return Err(Fail::from("too short"));
+    }
+    let mut header = [0; 4096];
+    header.copy_from_slice(&before[4096..8192]);
+    header[100] = 1; // of another file
+    journal_of(&rt, journal, &header, 7)?;
+    assert!(rt;
+        matches!(
+            open_journaled(&rt, rt.alloc(), path, false),
+            Err(OpenError::OtherJournal)
+        )
+    );
+    assert!(rt; fs::read(&rt, path)?.as_slice() == before.as_slice());
+    header[100] = 0;
+    journal_of(&rt, journal, &header, 7)?;
+    drop(open_journaled(&rt, rt.alloc(), path, false)?);
+    let after = fs::read(&rt, path)?;
+    if after.len() < 3 * 4096 {
+        return Err(Fail::from("too short"));
+    }
+    assert!(rt; after[2 * 4096..3 * 4096] == [7; 4096]);
+    let _ = fs::remove_file(&rt, journal);
+    fs::remove_file(&rt, path)?;
+    Ok(())
+}
+
+// A clean end that was cut short when the gate was written is finished by the next opening.
+#[test]
+fn an_end_that_was_cut_short_is_finished(rt: HostRuntime) -> Result<(), Fail> {
+    let path = "program_tests_end";
+    let journal = "program_tests_end-journal";
+    let _ = fs::remove_file(&rt, path);
+    cut_short(&rt, path)?;
+    assert_eq!(rt; objects(&rt, path)?, (1, true));
+    let mut file = fs::read(&rt, path)?;
+    if file.len() < 2 * 4096 {
+        return Err(Fail::from("too short"));
+    }
+    let mut bytes = [0; 2 * 4096];
+    bytes[..4096].copy_from_slice(&file[4096..8192]);
+    bytes[4096..].copy_from_slice(&file[4096..8192]);
+    bytes[..8].copy_from_slice(b"RSTARTTL");
+    bytes[4096..4104].copy_from_slice(b"RSTAREND");
+    fs::write(&rt, journal, bytes.as_slice())?;
+    file[3] = 9;
+    fs::write(&rt, path, file.as_slice())?;
+    assert_eq!(rt; objects(&rt, path)?, (1, false));
+    fs::remove_file(&rt, path)?;
+    Ok(())
+}
