@@ -1,10 +1,12 @@
 //! The laws of a file with its journal, each the contract of a function that does nothing.
-ghost use Rattle.std.specs.Prelude.{length};
-ghost use Rattle.block_device.specs.Device.{Blocks};
+ghost use Rattle.std.specs.Prelude.{◌≡◌, ◌≤◌, length};
+ghost use Rattle.block_device.specs.Device.{Blocks, Torn, block_at, written};
+ghost use Rattle.journaled_file.specs.Ending.{IsEnding};
 ghost use Rattle.journaled_file.specs.Judged.{IsJournal, IsJudged, IsOf};
-ghost use Rattle.journaled_file.specs.declared.judging.Found.TheVariants.{Foreign, Missing};
+ghost use Rattle.journaled_file.specs.declared.judging.Found.TheVariants.{Ended, Foreign, Missing};
 ghost use Rattle.marked_pair.specs.Behind.{IsLeft};
 ghost use Rattle.marked_pair.specs.Mark.{IsMarked};
+ghost use Rattle.page_file.specs.Layout.{gate_block};
 ghost use Rattle.titled_pair.specs.Title.{untitled, HasTitle};
 
 /// What a session leaves of a base and its journal is opened: where its journal had a title, of the base that it found
@@ -16,4 +18,15 @@ pub fn what_a_session_leaves_is_its_own()
     ensures there { (journal a e : Blocks) → IsJournal journal → HasTitle journal e → ¬ IsJudged Missing a e }
     ensures own { (base journal a e : Blocks) → (¬ IsMarked base → IsOf base journal) → HasTitle journal e →
         IsLeft (length base) base a (untitled e) → ¬ IsJudged Foreign a e }
+{}
+
+/// A clean end that is cut short is finished by the next opening: what is left once its end is in the journal is judged to
+/// be ended, whatever bytes the gate of its base has, and the gate that is then written makes the base what it was to be.
+/// Before that an end that is torn leaves the title, and the journal behind it.
+pub fn an_end_that_is_cut_short_is_finished()
+    ensures ended { (base a e : Blocks) → IsJournal e → IsEnding base a e → IsJudged Ended a e }
+    ensures shut { (base a e : Blocks) → IsEnding base a e →
+        written 0 (gate_block 1) a ≡ written 0 (gate_block 1) base }
+    ensures torn { (d e : Blocks) → 2 ≤ length d → Torn 1 d e →
+        (block_at 0 e ≡ block_at 0 d) × (untitled e ≡ untitled d) }
 {}

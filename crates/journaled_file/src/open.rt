@@ -1,18 +1,18 @@
 //! How a file and its journal are opened.
-ghost use Rattle.std.specs.Prelude.{◌≡◌, ◌<◌, ◌↔◌, ◌⊎◌, length, IfErr, IfOk, OnOk};
+ghost use Rattle.std.specs.Prelude.{◌≡◌, ◌<◌, ◌≤◌, ◌↔◌, ◌⊎◌, ℕ, length, IfErr, IfOk, OnOk};
 ghost use Rattle.block_device.specs.Device.{Blocks, written};
 ghost use Rattle.device_pair.specs.Pairs.{PairLeaves};
 ghost use Rattle.file_device.specs.declared.open.OpenError.TheVariants as error;
 ghost use Rattle.journaled_file.specs.Ending.{GateTorn};
 ghost use Rattle.journaled_file.specs.Judged.{IsJudged, IsNoJournal};
+ghost use Rattle.journaled_file.specs.Opened.{LeavesRead, read_of};
 ghost use Rattle.journaled_file.specs.declared.judging.Found.TheVariants.{Ended};
-ghost use Rattle.journaled_device.specs.Journal.{recovered};
-ghost use Rattle.journaled_device.specs.Journaled.{inner_of};
+ghost use Rattle.journaled_device.specs.Journaled.{inner_of, pair_of};
 ghost use Rattle.journaled_device.specs.Standing.{commits_of, shown_of, IsHonest};
 ghost use Rattle.marked_pair.specs.Behind.{LeavesBase};
-ghost use Rattle.marked_pair.specs.Mark.{unmarked};
+ghost use Rattle.marked_pair.specs.Pair.{pair_of as titled_of};
 ghost use Rattle.page_file.specs.Layout.{gate_block};
-ghost use Rattle.titled_pair.specs.Title.{untitled};
+ghost use Rattle.titled_pair.specs.Pair.{pair_of as files_of};
 
 use crate::judging::{Found, judge};
 use block_device::{BlockDevice, DeviceError};
@@ -155,16 +155,22 @@ pub(crate) fn shut_gate<P: DevicePair>(pair: &mut P) -> Result<(), DeviceError>
 }
 
 /// Opens a pair whose journal has a title. Where the pair is honest, what is then read is what recovery makes of the
-/// base, a gate with the mark as a shut one, and of the journal behind its title. Where it is refused, the pair is
-/// given back.
+/// base, a gate with the mark as a shut one, and of the journal behind its title; and a stop within leaves what is read
+/// so again. Where it is refused, the pair is given back.
 pub fn open_over<P: DevicePair + Drop, A: Allocator + Copy>(
     pair: P,
     alloc: A,
 ) -> Result<JournaledOver<P, A>, (OpenError, P)>
     ensures shown { IfOk result (λ d. P.honest pair →
-        shown_of (inner_of d) ≡ recovered (unmarked (P.base pair)) (untitled (P.journal pair))) }
+        shown_of (inner_of d) ≡ read_of (P.base pair) (P.journal pair)) }
     ensures commits { IfOk result (λ d. P.honest pair → (k : Blocks) → commits_of (inner_of d) k →
         k ≡ shown_of (inner_of d)) }
+    ensures stops { IfOk result (λ d. P.honest pair → (t : ℕ) (a e : Blocks) → t ≤ P.moment pair →
+        P.left_since (files_of (titled_of (pair_of d))) t a e →
+        LeavesRead (P.left_since pair t) (read_of (P.base pair) (P.journal pair)) a e) }
+    ensures refused_stops { IfErr result (λ r. P.honest pair → (t : ℕ) (a e : Blocks) → t ≤ P.moment pair →
+        P.left_since r.1 t a e →
+        LeavesRead (P.left_since pair t) (read_of (P.base pair) (P.journal pair)) a e) }
     ensures honest { IfOk result (λ d. P.honest pair ↔ IsHonest (inner_of d)) }
     ensures refused_honest { IfErr result (λ e. P.honest pair ↔ P.honest e.1) }
     ensures refused { IfErr result (λ e. (e.0 ≡ error.NoJournal) ⊎ (e.0 ≡ error.Refused)) }
