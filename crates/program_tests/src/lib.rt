@@ -6,5 +6,3 @@
 mod cut_short;
 #[cfg(test)]
 mod runs;
-#[cfg(test)]
-mod stops;

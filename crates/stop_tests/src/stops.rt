@@ -74,21 +74,21 @@ fn grown<D: BlockDevice>(store: &mut Store<D, Global>, from: u64, to: u64) -> (u
     (to, to)
 }
 
-// Makes a store of one layer with three boxes, each before a closing, and gives its device back.
+// Makes a store of one layer with one box, closed, and gives its device back.
 fn made<D: BlockDevice>(alloc: Global, device: D) -> Result<(D, u64), D>
     requires { length (D.shown device) ≡ 0 }
 {
     match create_store(alloc, device, 8) {
         Ok(mut store) => {
             let made = store.create(b"a", 2, 4).is_ok();
-            let (_, finished) = grown(&mut store, 0, 3);
+            let (_, finished) = grown(&mut store, 0, 1);
             Ok((store.abandon(), if made { finished } else { 0 }))
         }
         Err((_, device)) => Err(device),
     }
 }
 
-// A new store of one layer with three boxes, closed and ended.
+// A new store of one layer with one box, closed and ended.
 fn begun(alloc: Global) -> Result<MemoryPair, Fail> {
     let Ok(device) = opened(alloc, MemoryPair::new(alloc), 1 << 40) else {
         return Err(Fail::from("not opened"));
@@ -96,7 +96,7 @@ fn begun(alloc: Global) -> Result<MemoryPair, Fail> {
     if device.blocks() != 0 {
         return Err(Fail::from("no new store"));
     }
-    let Ok((device, 3)) = made(alloc, device) else {
+    let Ok((device, 1)) = made(alloc, device) else {
         return Err(Fail::from("no boxes"));
     };
     match ended(device) {
@@ -105,14 +105,14 @@ fn begun(alloc: Global) -> Result<MemoryPair, Fail> {
     }
 }
 
-// Opens a store of three boxes, has it grow to six, and gives its device back, with what `grown` tells.
+// Opens a store of one box, has it grow to three, and gives its device back, with what `grown` tells.
 fn worked<D: BlockDevice>(alloc: Global, device: D) -> (D, (u64, u64)) {
     match open_store(alloc, device, 8) {
         Ok(mut store) => {
-            let told = grown(&mut store, 3, 6);
+            let told = grown(&mut store, 1, 3);
             (store.abandon(), told)
         }
-        Err((_, device)) => (device, (3, 3)),
+        Err((_, device)) => (device, (1, 1)),
     }
 }
 
@@ -126,7 +126,7 @@ struct Stopped {
     done: bool,
 }
 
-// A run over a store of three boxes, which is stopped after so many calls.
+// A run over a store of one box, which is stopped after so many calls.
 fn stop_run(alloc: Global, pair: MemoryPair, passes: u64) -> Stopped
     requires { passes < 2 ^ 64 - 1 }
 {
@@ -143,8 +143,8 @@ fn stop_run(alloc: Global, pair: MemoryPair, passes: u64) -> Stopped
         }
         Err(pair) => Stopped {
             pair: pair.into_inner(),
-            begun: 3,
-            finished: 3,
+            begun: 1,
+            finished: 1,
             done: false,
         },
     }
