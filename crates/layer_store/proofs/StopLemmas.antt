@@ -47,7 +47,7 @@ contains_none : (t : Table) (ts : List Table) → Contains [] t → Contains ts 
 contains_none t ts there = absurd (omega (arith, there.1))
 
 -- one more of which a table is left
-left_among : (ts us : List Table) (c : Blocks) → ((t : Table) → Contains ts t → Contains us t) → IsRefusedOrImageOf ts c → IsRefusedOrImageOf us c
+pub left_among : (ts us : List Table) (c : Blocks) → ((t : Table) → Contains ts t → Contains us t) → IsRefusedOrImageOf ts c → IsRefusedOrImageOf us c
 left_among ts us c among (inl refused) = inl refused
 left_among ts us c among (inr (u, there, image)) = inr (u, among u there, image)
 

@@ -3,3 +3,4 @@ pub mod Faults
 pub mod Starting
 pub mod Representation
 pub mod Commands
+pub mod Calls

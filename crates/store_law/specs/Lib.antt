@@ -3,4 +3,5 @@ pub mod States
 pub mod Stops
 pub mod Lawful
 pub mod Sessions
+pub mod Checked
 pub mod Laws
