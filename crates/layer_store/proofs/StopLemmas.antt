@@ -283,6 +283,11 @@ module _ {D A : Type 0} {m : _} where
       (λ here. left_among (t ∷ tables_left s.stops.now) (t ∷ s.stops.so_far) c (either_among t (tables_left s.stops.now) s.stops.so_far represents.2.among) here)
       (only.before s.stops.since c represents.2.begun left)
 
+  -- what is left now, or by a closing of the table, is among what was left so far, or by the closing
+  pub left_more : (store : Store D A m) (s : SessionState) (t : Table) → Represents store s → (c : Blocks) → IsRefusedOrImageOf (t ∷ tables_left s.stops.now) c → IsRefusedOrImageOf (t ∷ s.stops.so_far) c
+  unfolding Represents
+  left_more store s t represents c here = left_among (t ∷ tables_left s.stops.now) (t ∷ s.stops.so_far) c (either_among t (tables_left s.stops.now) s.stops.so_far represents.2.among) here
+
   -- and what it is found to have left
   pub found_by_closing : (store : Store D A m) (s : SessionState) (t : Table) (device : D) → Represents store s → LeavesOnly m.moment m.left_since m.recovery (device_in store) device (IsRefusedOrImageOf (t ∷ tables_left s.stops.now))
       → CommitsWhatOpens m.recovery → (c : Blocks) → m.recovery.found_since device s.stops.since c → IsImageOfOne (t ∷ s.stops.kept_so_far) c

@@ -10,7 +10,7 @@ use Rattle.plain_table.specs.Table.{Table}
 use Rattle.plain_table.specs.declared.queries.RawQuery.TheVariants as query
 use Rattle.plain_table.specs.declared.refusal.Refusal.{Refusal}
 use Rattle.plain_table.specs.declared.refusal.Refusal.TheVariants as refusal
-use Rattle.store_law.specs.Checked.{LawfulReply, Standing, standing_of}
+use Rattle.store_law.specs.Checked.{LawfulOnceChecked, LawfulReply, LawfulTo, Standing, standing_of}
 use Rattle.store_law.specs.Lawful.{IsFault, Lawful, LawfulFrom, RefusedBy, blames_device}
 use Rattle.store_law.specs.Sessions.{LawfulStep, Session, SessionState, StepsBy}
 use Rattle.store_law.specs.States.{Request, StoreState}
@@ -181,3 +181,13 @@ a_step_is_a_reply old new r a step = record { answer = step.answer; faults = ste
 
 pub a_bad_line_is_a_lawful_reply : (s : Standing) → LawfulReply s BadCommand (Refused refusal.BadLine) s
 a_bad_line_is_a_lawful_reply s = record { answer = (refl, refl); faults = omega arith }
+
+-- what follows of the end
+pub once_checked_so : (P Q : Standing → Type 0) → ((s : Standing) → P s → Q s) → (rs : List Request) (as' : List Answer) → LawfulOnceChecked P rs as' → LawfulOnceChecked Q rs as'
+once_checked_so P Q f [] [] h = tt
+once_checked_so P Q f (r ∷ rs) (a ∷ as') h = (
+  λ passed. let to = h.0 passed in record { table = to.table; old = to.old; new = to.new; begins = to.begins; lawful = to.lawful; ends = f to.new to.ends },
+  once_checked_so P Q f rs as' h.1,
+)
+once_checked_so P Q f [] (a ∷ as') h = elim h [ ]
+once_checked_so P Q f (r ∷ rs) [] h = elim h [ ]
