@@ -10,7 +10,7 @@ use Rattle.plain_table.specs.Table.{Table}
 use Rattle.plain_table.specs.declared.queries.RawQuery.TheVariants as query
 use Rattle.plain_table.specs.declared.refusal.Refusal.{Refusal}
 use Rattle.plain_table.specs.declared.refusal.Refusal.TheVariants as refusal
-use Rattle.store_law.specs.Checked.{LawfulOnceChecked, LawfulReply, LawfulTo, Standing, standing_of}
+use Rattle.store_law.specs.Checked.{LawfulOnceChecked, LawfulReply, Standing, standing_of}
 use Rattle.store_law.specs.Lawful.{IsFault, Lawful, LawfulFrom, RefusedBy, blames_device}
 use Rattle.store_law.specs.Sessions.{LawfulStep, Session, SessionState, StepsBy}
 use Rattle.store_law.specs.States.{Request, StoreState}
