@@ -1,14 +1,12 @@
 -- Worked examples of lawful steps: what a live and a dead store may answer, and what they may not.
 -- No other proof rests on them. A definition that says another thing than docs/COMMANDS.md is refused here.
 use Rattle.std.proofs.Common.{List, None, Option, ◌≡◌, ℕ, [], ◌∷◌, refl, sym, ap, ◌∙◌, inl, inr, arith}
-use Rattle.std.specs.Prelude.{⊤}
-use Rattle.store_law.specs.Checked.{LawfulOnceChecked, Standing}
 use Rattle.std.specs.Cmp.Lexicographic.{slice_cmp}
 use Rattle.std.specs.Ordering.{nat_cmp}
 use Rattle.std.specs.FinMap.{entries, entries-from_sorted}
 use Rattle.block_device.specs.Device.{HasRisen}
 use Rattle.plain_table.specs.Commands.{Command, MayGiveUp}
-use Rattle.plain_table.specs.Commands.Command.{Check, Create, Count, Range, Layers, Reopen}
+use Rattle.plain_table.specs.Commands.Command.{Create, Count, Range, Layers, Reopen}
 use Rattle.store_law.specs.Sessions.{SessionState, LawfulAnswer, LawfulStep, Session}
 use Rattle.store_law.specs.States.{StoreState, Request}
 use Rattle.store_law.specs.Stops.{Stops, with_now, after_request}
@@ -289,20 +287,3 @@ nothing_is_answered_unasked s s' answer h = h
 
 nothing_asked_changes_nothing : (s s' : SessionState) → Session s [] [] s' → s' ≡ s
 nothing_asked_changes_nothing s s' h = h
-
--- ---- from a check on
-
-abbrev any_end : Standing → Type 0
-any_end s = ⊤
-
-before_a_check_all_answers_may_come : LawfulOnceChecked any_end (BadCommand ∷ Asks Check ∷ []) (Done ∷ Refused refusal.Memory ∷ [])
-before_a_check_all_answers_may_come = (
-  λ passed. let no : BadCommand ≡ Asks Check = passed.0 in absurd (cc),
-  (λ passed. let no : Refused refusal.Memory ≡ Done = passed.1 in absurd (cc), tt),
-)
-
-after_one_a_bad_line_is_answered_so : LawfulOnceChecked any_end (Asks Check ∷ BadCommand ∷ []) (Done ∷ Done ∷ []) → ⊥
-after_one_a_bad_line_is_answered_so h = let to = h.0 (refl, refl) in let no : Done ≡ Refused refusal.BadLine = to.lawful.1.answer.0 in cc
-
-each_request_has_an_answer : LawfulOnceChecked any_end (Asks Check ∷ []) [] → ⊥
-each_request_has_an_answer h = h
