@@ -2,7 +2,10 @@
 use Rattle.std.proofs.Common.{◌≡◌, ◌∙◌, ◌==◌, ◌⊎◌, ap, ℕ, List, Option, Result, Ok, Err, inl, inr, refl, sym, subst, arith}
 use Rattle.block_device.specs.Device.{Blocks, LeavesOnly, Recovery}
 use Rattle.block_device.specs.Moments.{leaves_then, leaves_weaker}
+use Rattle.live_layers.specs.Image.{IsRefusedOrImageOf}
 use Rattle.plain_table.specs.Table.{Table}
+use Rattle.store_law.specs.Sessions.{SessionState}
+use Rattle.command_shell.specs.Runs.{LeavesTablesOf, with_last}
 use Rattle.command_line.specs.Serving.{HasAnswered, HasNotBegun, HasServed, IsRefusedStart}
 use Rattle.command_line.specs.declared.program.Served.{Served}
 
@@ -22,14 +25,25 @@ refused_start moment left_since recovery P device d r r' w w' left so stops = re
   stops = subst (λ x. LeavesOnly moment left_since recovery device x P) (sym so.1) stops;
 }
 
+-- a stop in the start leaves what has P, and one since then an image of one of the session's tables, or refused blocks
+pub whole_run : {D : Type 0} (moment : D → ℕ) (left_since : D → ℕ → Blocks → Type 0) (recovery : Recovery D) (device opened left : D) (s : SessionState) (P : Blocks → Type 0) → LeavesOnly moment left_since recovery device opened P → LeavesTablesOf moment left_since recovery s opened left
+    → LeavesOnly moment left_since recovery device left (λ c. P c ⊎ IsRefusedOrImageOf (with_last s.state s.stops.so_far) c)
+whole_run moment left_since recovery device opened left s P opening since =
+    let Tables : Blocks → Type 0 = IsRefusedOrImageOf (with_last s.state s.stops.so_far) in
+    let Either : Blocks → Type 0 = λ c. P c ⊎ Tables c in
+    leaves_then moment left_since recovery device opened left Either
+    (leaves_weaker moment left_since recovery device opened P Either (λ c p. inl p) opening)
+    (leaves_weaker moment left_since recovery opened left Tables Either (λ c q. inr q) since)
+
 -- a store that was served since it was made was served since its making began
 pub served_since_making : {D : Type 0} (shown : D → Blocks) (moment : D → ℕ) (left_since : D → ℕ → Blocks → Type 0) (recovery : Recovery D) (may_leave : D → Blocks → Type 0) (faults : D → ℕ) (P Q : Blocks → Type 0) (t : Table) (device made : D)
     (unread unread' written written' : Option (List ℕ)) (left : Served D) → LeavesOnly moment left_since recovery device made P → ((c : Blocks) → Q c → P c) → faults made ≡ faults device
     → HasServed shown moment left_since recovery may_leave faults Q t made unread unread' written written' left
     → HasServed shown moment left_since recovery may_leave faults P t device unread unread' written written' left
-served_since_making shown moment left_since recovery may_leave faults P Q t device made unread unread' written written' left making weaker same h = record {
+served_since_making shown moment left_since recovery may_leave faults P Q t device made unread unread' written written' left making weaker same h =
+    let opening = leaves_then moment left_since recovery device made h.opened P making (leaves_weaker moment left_since recovery made h.opened Q P weaker h.opening) in record {
   opened = h.opened;
-  opening = leaves_then moment left_since recovery device made h.opened P making (leaves_weaker moment left_since recovery made h.opened Q P weaker h.opening);
+  opening = opening;
   old = h.old;
   new = h.new;
   begins = h.begins;
@@ -37,6 +51,8 @@ served_since_making shown moment left_since recovery may_leave faults P Q t devi
   counted = h.counted ∙ same;
   runs = h.runs;
   durable = h.durable;
+  since = h.since;
+  whole = whole_run moment left_since recovery device h.opened left.device h.new P opening h.since;
 }
 
 -- a run to the closing answers what it read, and blames no device where it had no fault

@@ -1,5 +1,5 @@
 -- What a run of the program over a device leaves.
-use Rattle.std.specs.Prelude.{ℕ, ◌≡◌, ◌<◌, ◌⊎◌, ◌==◌, Bool, true, false, List, length, Option, Result, Ok, Err}
+use Rattle.std.specs.Prelude.{ℕ, ◌≡◌, ◌<◌, ◌⊎◌, ◌==◌, Bool, true, false, List, length, Option, Result, Ok, Err, ⊤}
 use Rattle.std.specs.FinMap.{empty}
 use Rattle.block_device.specs.Device.{Blocks, LeavesOnly, Only, Recovery}
 use Rattle.block_device.specs.declared.device.BlockDevice as device
@@ -7,13 +7,13 @@ use Rattle.file_device.specs.declared.open.OpenError.{OpenError}
 use Rattle.read_only_device.specs.declared.reader.BlockReader as reader
 use Rattle.page_file.specs.Opening.{IsRefused}
 use Rattle.page_file.specs.declared.fault.Fault.{Fault}
-use Rattle.live_layers.specs.Image.{IsImage, OpeningRefuses}
+use Rattle.live_layers.specs.Image.{IsImage, IsRefusedOrImageOf, OpeningRefuses}
 use Rattle.layer_store.specs.Representation.{closed_since}
 use Rattle.store_law.specs.Sessions.{SessionState}
 use Rattle.store_law.specs.States.StoreState.{Alive}
 use Rattle.plain_table.specs.Table.{Table}
 use Rattle.plain_table.specs.declared.refusal.Refusal.TheVariants as refusal
-use Rattle.command_shell.specs.Runs.{FoundSince, Runs, RunsToClose}
+use Rattle.command_shell.specs.Runs.{ChecksToClose, FoundSince, LeavesTablesOf, Runs, RunsOnceChecked, RunsToClose, with_last}
 use Rattle.command_shell.specs.Serving.{run_state}
 use Rattle.command_shell.specs.Texts.{told_refusal}
 use Rattle.command_shell.specs.Writing.{AppendsSome}
@@ -36,8 +36,9 @@ IsRefusedOpening shown moment left_since recovery may_leave device r r' w w' lef
 -- each reply was written, and the blocks are an image of the table at the session's end, also after a stop. With any
 -- status a stop until the store stood left blocks that have P, and one since then blocks that opening refuses, or an image
 -- of this table or of one that was closed, or was to be closed, since; over a device that commits what opening takes it is
--- found to have left such an image, and is never refused. The faults that the session counts are those of the device, from
--- those that it had to those that it has.
+-- found to have left such an image, and is never refused. So one at any moment of the whole run left the one or the other, and
+-- one before the run what it might have left then. The faults that the session counts are those of the device, from those
+-- that it had to those that it has.
 pub record HasServed {D : Type 0} (shown : D → Blocks) (moment : D → ℕ) (left_since : D → ℕ → Blocks → Type 0) (recovery : Recovery D) (may_leave : D → Blocks → Type 0) (faults : D → ℕ) (P : Blocks → Type 0) (t : Table) (device : D)
     (unread unread' written written' : Option (List ℕ)) (left : Served D) : Type 0 where
   pub opened : D
@@ -50,6 +51,8 @@ pub record HasServed {D : Type 0} (shown : D → Blocks) (moment : D → ℕ) (l
   pub runs : RunsToClose (left.status == 0) (shown left.device) (left_since left.device (moment opened)) (FoundSince recovery left.device (moment opened)) (faults left.device)
       (run_state old unread written) (run_state new unread' written')
   pub durable : left.status ≡ 0 → Only (shown left.device) (may_leave left.device)
+  pub since : LeavesTablesOf moment left_since recovery new opened left.device
+  pub whole : LeavesOnly moment left_since recovery device left.device (λ c. P c ⊎ IsRefusedOrImageOf (with_last new.state new.stops.so_far) c)
 
 -- No line was read and no reply written, and the status is that of a run that failed.
 pub record HasNotBegun {R W : Type 0} (r r' : R) (w w' : W) (status : ℕ) : Type 0 where
@@ -89,13 +92,21 @@ pub record HasAnsweredFrom (t : Table) (unread unread' written written' : Option
   pub runs : Runs end (run_state old unread written) (run_state new unread' written')
   pub well : status ≡ 0 → end ≡ Finished
 
+-- Commands were answered, lawfully from the first check on that was answered ok, from some table on. With status 0 all that
+-- the reader had was read, and each reply was written.
+pub record HasAnsweredOnceChecked (unread unread' written written' : Option (List ℕ)) (status : ℕ) : Type 0 where
+  pub end : RunEnd
+  pub runs : RunsOnceChecked (λ s. ⊤) end unread unread' written written'
+  pub well : status ≡ 0 → end ≡ Finished
+
 -- What was done over blocks that are only read, which stay as they are. Where their reader is honest, their store was
--- opened, and its commands were answered; or its opening was refused.
+-- opened, and its commands were answered; or its opening was refused. So it is of any blocks, once a check was answered ok.
 pub record HasRead {B R W : Type 0} (m : reader.Ghosts B) (blocks : B) (r r' : R) (w w' : W)
     (unread unread' written written' : Option (List ℕ)) (status : ℕ) : Type 0 where
   pub answers : m.honest blocks → (t : Table) → IsImage (m.shown blocks) t →
       HasNotBegun r r' w w' status ⊎ HasAnsweredFrom t unread unread' written written' status
   pub refused : m.honest blocks → (f : Fault) → OpeningRefuses (m.shown blocks) f → HasNotBegun r r' w w' status
+  pub checked : m.honest blocks → HasNotBegun r r' w w' status ⊎ HasAnsweredOnceChecked unread unread' written written' status
 
 -- A reader was opened, of which `opens` tells, and with this status it was done what is done over it; or its opening was
 -- refused, and nothing has begun.
@@ -107,7 +118,8 @@ OpensAndReads {B} m opens r r' w w' unread unread' written written' status =
 
 -- What was done on a device that was opened, and what is left of it. Where a store was to be made and there are
 -- blocks, nothing has begun, and the device is left as it was opened. Where it is honest, a store was made on it, or
--- opened, its commands were answered and it was closed; or its making or its opening was refused.
+-- opened, its commands were answered and it was closed; or its making or its opening was refused. So it is of any blocks that
+-- opening takes, once a check was answered ok.
 pub record HasServedOn {D R W : Type 0} (m : device.Ghosts D) (create : Bool) (device : D) (r r' : R) (w w' : W)
     (unread unread' written written' : Option (List ℕ)) (left : Served D) : Type 0 where
   pub kept : create ≡ true → 0 < length (m.shown device) → HasNotBegun r r' w w' left.status × (left.device ≡ device)
@@ -117,6 +129,9 @@ pub record HasServedOn {D R W : Type 0} (m : device.Ghosts D) (create : Bool) (d
   pub opened : create ≡ false → m.honest device → (t : Table) → IsImage (m.shown device) t →
       IsRefusedOpening m.shown m.moment m.left_since m.recovery m.may_leave device r r' w w' left
       ⊎ HasServed m.shown m.moment m.left_since m.recovery m.may_leave m.faults (m.may_leave device) t device unread unread' written written' left
+  pub checked : create ≡ false → m.honest device →
+      IsRefusedOpening m.shown m.moment m.left_since m.recovery m.may_leave device r r' w w' left
+      ⊎ ChecksToClose (left.status == 0) (m.shown left.device) unread unread' written written'
   pub refused : create ≡ false → m.honest device → (f : Fault) → OpeningRefuses (m.shown device) f →
       IsRefusedOpening m.shown m.moment m.left_since m.recovery m.may_leave device r r' w w' left
 

@@ -3,8 +3,7 @@ use Rattle.std.proofs.Common.{◌≡◌, ℕ, List, [], ◌∷◌, Option, Some,
 use Rattle.plain_table.specs.Commands.{Command, MayGiveUp}
 use Rattle.plain_table.specs.Commands.Command.{Load}
 use Rattle.plain_table.specs.Loads.{GivenObjects}
-use Rattle.store_law.specs.Sessions.{SessionState, LawfulStep, Takes}
-use Rattle.store_law.specs.Laws.{a_bad_line_is_lawful}
+use Rattle.store_law.specs.States.{Request}
 use Rattle.store_law.specs.States.Request.{BadCommand, Asks}
 use Rattle.plain_table.specs.Step.{Answer}
 use Rattle.plain_table.specs.Step.Answer.{Refused}
@@ -18,34 +17,33 @@ use Rattle.command_shell.specs.Texts.{answer_text, reply_answer}
 use Rattle.command_shell.specs.Writing.{Writes}
 use Rattle.command_shell.specs.declared.replies.Reply.{Reply}
 use Rattle.command_shell.proofs.CommandLemmas.{append_none}
-use Rattle.command_shell.proofs.SessionLemmas.{takes_on, takes_none, appends_none}
+use Rattle.command_shell.proofs.SessionLemmas.{appends_none}
 
 -- a command that a line asks was answered
-pub replied : {S : Type 0} {Represents : S → SessionState → Type 0} {old new : S} (m : Meaning) (c : Command) (a b : Answer) → m ≡ Means c → b ≡ a → Takes Represents old new (λ s s'. LawfulStep s (Asks c) a s') → Takes Represents old new (λ s s'. Replies m s s' (b ∷ []))
-replied m c a b h e t = takes_on t (λ s s' k. record { requests = Asks c ∷ []; asked = subst (λ x. AsksAlone x (Asks c ∷ [])) (sym h) refl; lawful = (s', subst (λ x. LawfulStep s (Asks c) x s') (sym e) k, refl) })
+pub replied : (So : List Request → List Answer → Type 0) (m : Meaning) (c : Command) (a b : Answer) → m ≡ Means c → b ≡ a → So (Asks c ∷ []) (a ∷ []) → Replies m So (b ∷ [])
+replied So m c a b h e so = record { requests = Asks c ∷ []; asked = subst (λ x. AsksAlone x (Asks c ∷ [])) (sym h) refl; lawful = subst (λ x. So (Asks c ∷ []) (x ∷ [])) (sym e) so }
 
 -- a bad line was answered, and asked nothing of the store
-pub replied_bad : {S : Type 0} {Represents : S → SessionState → Type 0} {old : S} (m : Meaning) → m ≡ Bad → Takes Represents old old (λ s s'. Replies m s s' (Refused refusal.BadLine ∷ []))
-replied_bad m e = takes_none _ (λ s. record { requests = BadCommand ∷ []; asked = subst (λ x. AsksAlone x (BadCommand ∷ [])) (sym e) refl; lawful = (s, a_bad_line_is_lawful s, refl) })
+pub replied_bad : (So : List Request → List Answer → Type 0) (m : Meaning) → m ≡ Bad → So (BadCommand ∷ []) (Refused refusal.BadLine ∷ []) → Replies m So (Refused refusal.BadLine ∷ [])
+replied_bad So m e so = record { requests = BadCommand ∷ []; asked = subst (λ x. AsksAlone x (BadCommand ∷ [])) (sym e) refl; lawful = so }
 
 -- a blank line asked nothing
-pub replied_blank : {S : Type 0} {Represents : S → SessionState → Type 0} {old : S} (m : Meaning) → m ≡ Blank → Takes Represents old old (λ s s'. Replies m s s' [])
-replied_blank m e = takes_none _ (λ s. record { requests = []; asked = subst (λ x. AsksAlone x []) (sym e) refl; lawful = refl })
+pub replied_blank : (So : List Request → List Answer → Type 0) (m : Meaning) → m ≡ Blank → So [] [] → Replies m So []
+replied_blank So m e so = record { requests = []; asked = subst (λ x. AsksAlone x []) (sym e) refl; lawful = so }
 
 pub wrote_reply : {A E T : Type 0} (r : Reply A) (a b : Option (List ℕ)) (result : Result T E) → Writes a b result (answer_text (reply_answer r)) → WroteAs a b result (reply_answer r ∷ [])
 wrote_reply r a b (Ok u) h = rw append_none h
 wrote_reply r a b (Err e) h = record { before = []; last = reply_answer r; are = refl; shown = h.0; is_part = h.1; written = h.2 }
 
 -- a reply was written
-pub written : {A E : Type 0} (m : Meaning) (w w' : Option (List ℕ)) (r : Reply A) (result : Result (Unit {0}) E) (s s' : SessionState) → Replies m s s' (reply_answer r ∷ []) → Writes w w' result (answer_text (reply_answer r)) → AnswersLine m s s' w w' result
-written m w w' r result s s' h k = record { requests = h.requests; asked = h.asked; answers = reply_answer r ∷ []; lawful = h.lawful; written = wrote_reply r w w' result k }
+pub written : {A E : Type 0} (m : Meaning) (So : List Request → List Answer → Type 0) (w w' : Option (List ℕ)) (r : Reply A) (result : Result (Unit {0}) E) → Replies m So (reply_answer r ∷ []) → Writes w w' result (answer_text (reply_answer r)) → AnswersLine m So w w' result
+written m So w w' r result h k = record { requests = h.requests; asked = h.asked; answers = reply_answer r ∷ []; lawful = h.lawful; written = wrote_reply r w w' result k }
 
 -- there was no reply to write
-pub unwritten : {E : Type 0} (m : Meaning) (w : Option (List ℕ)) (s s' : SessionState) → Replies m s s' [] → AnswersLine {E = E} m s s' w w (Ok tt)
-unwritten m w s s' h = record { requests = h.requests; asked = h.asked; answers = []; lawful = h.lawful; written = appends_none w }
+pub unwritten : {E : Type 0} (m : Meaning) (So : List Request → List Answer → Type 0) (w : Option (List ℕ)) → Replies m So [] → AnswersLine {E = E} m So w w (Ok tt)
+unwritten m So w h = record { requests = h.requests; asked = h.asked; answers = []; lawful = h.lawful; written = appends_none w }
 
 -- a load for which there is no room gave up
-pub out_of_room : {S : Type 0} {Represents : S → SessionState → Type 0} {old new : S} (layer : List ℕ) (all : Option GivenObjects) (a : Answer) → IsSome all
-    → ((c : Command) → MayGiveUp c → Takes Represents old new (λ s s'. LawfulStep s (Asks c) a s')) → Takes Represents old new (λ s s'. LawfulStep s (load_request layer all) a s')
-out_of_room layer (Some objects) a h t = t (Load layer objects) tt
-out_of_room layer None a h t = absurd (cc)
+pub out_of_room : (So : Request → Type 0) (layer : List ℕ) (all : Option GivenObjects) → IsSome all → ((c : Command) → MayGiveUp c → So (Asks c)) → So (load_request layer all)
+out_of_room So layer (Some objects) h t = t (Load layer objects) tt
+out_of_room So layer None h t = absurd (cc)

@@ -72,3 +72,14 @@ pub told_room : (good room : Bool) (name layer : List ℕ) (objects : GivenObjec
 told_room true false name layer objects all h is_good no_room = h
 told_room true true name layer objects all h is_good no_room = absurd (cc)
 told_room false room name layer objects all h is_good no_room = absurd (cc)
+
+-- where one was bad they give none
+pub told_bad : (good room : Bool) (name layer : List ℕ) (objects : GivenObjects) (all : Option GivenObjects) → Tells good room name objects layer all → good ≡ false → all ≡ None
+told_bad false room name layer objects all h is_bad = h
+told_bad true room name layer objects all h is_bad = absurd (cc)
+
+-- and where there was room for all, they give those
+pub told_all : (good room : Bool) (name layer : List ℕ) (objects : GivenObjects) (all : Option GivenObjects) → Tells good room name objects layer all → good ≡ true → room ≡ true → (all ≡ Some objects) × (name ≡ layer)
+told_all true true name layer objects all h is_good has_room = h
+told_all true false name layer objects all h is_good has_room = absurd (cc)
+told_all false room name layer objects all h is_good has_room = absurd (cc)

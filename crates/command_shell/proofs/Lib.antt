@@ -7,6 +7,7 @@ pub mod WriteLemmas
 pub mod ReadLemmas
 pub mod GatherLemmas
 pub mod SessionLemmas
+pub mod RunLemmas
 pub mod AnswerLemmas
 pub mod LoadLemmas
 pub mod Examples

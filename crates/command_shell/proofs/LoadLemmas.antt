@@ -3,10 +3,7 @@ use Rattle.std.proofs.Common.{◌≡◌, ◌∙◌, ℕ, ◌<◌, ◌≤◌, Boo
 use Rattle.std.proofs.lemmas.List.{drop_all, take_all}
 use Rattle.std.specs.Io.KnownBytes.{Appends, Keeps}
 use Rattle.plain_table.specs.Step.{Answer}
-use Rattle.plain_table.specs.Step.Answer.{Refused}
-use Rattle.plain_table.specs.declared.refusal.Refusal.TheVariants as refusal
-use Rattle.store_law.specs.Laws.{a_bad_line_is_lawful}
-use Rattle.store_law.specs.Sessions.{LawfulStep, SessionState, Takes}
+use Rattle.store_law.specs.States.{Request}
 use Rattle.store_law.specs.States.Request.{BadCommand}
 use Rattle.command_shell.specs.Entries.{objects_in}
 use Rattle.command_shell.specs.Gathering.{TakesPart}
@@ -16,7 +13,6 @@ use Rattle.command_shell.specs.Meanings.{meaning_of}
 use Rattle.command_shell.specs.Meanings.Meaning.{Loads}
 use Rattle.command_shell.specs.Reading.{Reads}
 use Rattle.command_shell.specs.Runs.{AnswersAllLines, StepsTo}
-use Rattle.command_shell.specs.Serving.{run_state}
 use Rattle.command_shell.specs.TextCommands.{AreCommands, load_request}
 use Rattle.command_shell.specs.TextCommands.AreCommands.{load, none, short}
 use Rattle.command_shell.specs.TextCommands.IsUnfinished.{in_load}
@@ -28,7 +24,7 @@ use Rattle.command_shell.specs.declared.session.RunEnd.TheVariants.{Finished, Re
 use Rattle.command_shell.proofs.AnswerLemmas.{wrote_reply}
 use Rattle.command_shell.proofs.CommandLemmas.{lines_of-line, lines_of-whole}
 use Rattle.command_shell.proofs.ReadLemmas.{reads_more}
-use Rattle.command_shell.proofs.SessionLemmas.{serves_kept, serves_none, steps_after, takes_none, takes_on}
+use Rattle.command_shell.proofs.SessionLemmas.{serves_kept, serves_none, steps_after}
 
 -- the lines of a load
 load_lines : (first text : List ℕ) → IsOneLine first → lines_of ((first ++ newline ∷ []) ++ text) ≡ first ∷ lines_of text
@@ -59,55 +55,47 @@ writes_after : {E T : Type 0} (a b c : Option (List ℕ)) (result : Result T E) 
 writes_after a b c (Ok v) text k h = appends_after a b c text k h
 writes_after a b c (Err e) text k h = (h.0, h.1, appends_after a b c (take h.0 text) k h.2)
 
--- a bad line is answered lawfully by what says so
-pub bad_step : (s : SessionState) (a : Answer) → a ≡ Refused refusal.BadLine → LawfulStep s BadCommand a s
-bad_step s a is = subst (λ (x : Answer). LawfulStep s BadCommand x s) (sym is) (a_bad_line_is_lawful s)
+-- all entry lines were there
+pub loads_full : {A E : Type 0} (So : List Request → List Answer → Type 0) (r0 r1 r2 w w1 w2 : Option (List ℕ)) (unread mid left first text layer : List ℕ) (count : ℕ) (ended : Bool) (end : Option RunEnd) (result : Result (Unit {0}) E) (reply : Reply A)
+    → MatchResult result (λ _. end ≡ cond ended (Some Finished) None) (λ _. end ≡ Some WriteFault) → IsOneLine first → meaning_of first ≡ Loads layer count
+    → Reads false r0 r1 unread mid (first ++ newline ∷ []) → Reads ended r1 r2 mid left text → length (lines_of text) ≡ count → Keeps w w1 → Writes w1 w2 result (answer_text (reply_answer reply))
+    → So (load_request layer (objects_in (lines_of text)) ∷ []) (reply_answer reply ∷ []) → StepsTo So end r0 r2 w w2 unread left
+loads_full So r0 r1 r2 w w1 w2 unread mid left first text layer count ended end result reply e one means p q all kept written so =
+    steps_after So r0 r2 w w2 unread left ((first ++ newline ∷ []) ++ text) (load_request layer (objects_in (lines_of text)) ∷ []) (reply_answer reply ∷ []) ended end result e
+    (reads_more ended r0 r1 r2 unread mid left (first ++ newline ∷ []) text p q) (asks_load ended first text layer count one means all) so
+    (wrote_reply reply w w2 result (writes_after w w1 w2 result (answer_text (reply_answer reply)) kept written))
 
-module _ {S : Type 0} {Represents : S → SessionState → Type 0} where
-  -- all entry lines were there
-  pub loads_full : {A E : Type 0} {old new : S} (r0 r1 r2 w w1 w2 : Option (List ℕ)) (unread mid left first text layer : List ℕ) (count : ℕ) (ended : Bool) (end : Option RunEnd) (result : Result (Unit {0}) E) (reply : Reply A)
-      → MatchResult result (λ _. end ≡ cond ended (Some Finished) None) (λ _. end ≡ Some WriteFault) → IsOneLine first → meaning_of first ≡ Loads layer count
-      → Reads false r0 r1 unread mid (first ++ newline ∷ []) → Reads ended r1 r2 mid left text → length (lines_of text) ≡ count → Keeps w w1 → Writes w1 w2 result (answer_text (reply_answer reply))
-      → Takes Represents old new (λ s s'. LawfulStep s (load_request layer (objects_in (lines_of text))) (reply_answer reply) s')
-      → Takes Represents old new (λ s s'. StepsTo end (run_state s r0 w) (run_state s' r2 w2) unread left)
-  loads_full r0 r1 r2 w w1 w2 unread mid left first text layer count ended end result reply e one means p q all kept written t =
-      takes_on t (λ s s' step. steps_after (run_state s r0 w) (run_state s' r2 w2) unread left ((first ++ newline ∷ []) ++ text) (load_request layer (objects_in (lines_of text)) ∷ []) (reply_answer reply ∷ []) ended end result e
-      (reads_more ended r0 r1 r2 unread mid left (first ++ newline ∷ []) text p q) (asks_load ended first text layer count one means all) (s', step, refl)
-      (wrote_reply reply w w2 result (writes_after w w1 w2 result (answer_text (reply_answer reply)) kept written)))
+-- fewer were there
+pub loads_short : {A E : Type 0} (So : List Request → List Answer → Type 0) (r0 r1 r2 w w1 w2 : Option (List ℕ)) (unread mid left first text layer : List ℕ) (count : ℕ) (end : Option RunEnd) (result : Result (Unit {0}) E) (reply : Reply A)
+    → MatchResult result (λ _. end ≡ cond true (Some Finished) None) (λ _. end ≡ Some WriteFault) → IsOneLine first → meaning_of first ≡ Loads layer count
+    → Reads false r0 r1 unread mid (first ++ newline ∷ []) → Reads true r1 r2 mid left text → length (lines_of text) < count → Keeps w w1 → Writes w1 w2 result (answer_text (reply_answer reply))
+    → So (BadCommand ∷ []) (reply_answer reply ∷ []) → StepsTo So end r0 r2 w w2 unread left
+loads_short So r0 r1 r2 w w1 w2 unread mid left first text layer count end result reply e one means p q few kept written so =
+    steps_after So r0 r2 w w2 unread left ((first ++ newline ∷ []) ++ text) (BadCommand ∷ []) (reply_answer reply ∷ []) true end result e
+    (reads_more true r0 r1 r2 unread mid left (first ++ newline ∷ []) text p q) (asks_short first text layer count one means few) so
+    (wrote_reply reply w w2 result (writes_after w w1 w2 result (answer_text (reply_answer reply)) kept written))
 
-  -- fewer were there
-  pub loads_short : {A E : Type 0} {old : S} (r0 r1 r2 w w1 w2 : Option (List ℕ)) (unread mid left first text layer : List ℕ) (count : ℕ) (end : Option RunEnd) (result : Result (Unit {0}) E) (reply : Reply A)
-      → MatchResult result (λ _. end ≡ cond true (Some Finished) None) (λ _. end ≡ Some WriteFault) → IsOneLine first → meaning_of first ≡ Loads layer count
-      → Reads false r0 r1 unread mid (first ++ newline ∷ []) → Reads true r1 r2 mid left text → length (lines_of text) < count → Keeps w w1 → Writes w1 w2 result (answer_text (reply_answer reply))
-      → reply_answer reply ≡ Refused refusal.BadLine
-      → Takes Represents old old (λ s s'. StepsTo end (run_state s r0 w) (run_state s' r2 w2) unread left)
-  loads_short r0 r1 r2 w w1 w2 unread mid left first text layer count end result reply e one means p q few kept written is =
-      takes_none _ (λ s. steps_after (run_state s r0 w) (run_state s r2 w2) unread left ((first ++ newline ∷ []) ++ text) (BadCommand ∷ []) (reply_answer reply ∷ []) true end result e
-      (reads_more true r0 r1 r2 unread mid left (first ++ newline ∷ []) text p q) (asks_short first text layer count one means few) (s, bad_step s (reply_answer reply) is, refl)
-      (wrote_reply reply w w2 result (writes_after w w1 w2 result (answer_text (reply_answer reply)) kept written)))
+-- the text could not be read further, or a flush failed
+pub loads_broken : (So : List Request → List Answer → Type 0) → So [] [] → (r0 r1 r2 w w1 : Option (List ℕ)) (unread mid left first layer : List ℕ) (count : ℕ) (end : RunEnd) → (end ≡ Finished → ⊥)
+    → IsOneLine first → meaning_of first ≡ Loads layer count → Reads false r0 r1 unread mid (first ++ newline ∷ []) → TakesPart count r1 r2 mid → Keeps w w1 → StepsTo So (Some end) r0 r2 w w1 unread left
+loads_broken So empty r0 r1 r2 w w1 unread mid left first layer count end going one means p t kept = ended end going
+  where
+    rest : List ℕ
+    rest = (first ++ newline ∷ []) ++ (t.entries ++ t.unread)
 
-  -- the text could not be read further, or a flush failed
-  pub loads_broken : {old : S} (r0 r1 r2 w w1 : Option (List ℕ)) (unread mid left first layer : List ℕ) (count : ℕ) (end : RunEnd) → (end ≡ Finished → ⊥)
-      → IsOneLine first → meaning_of first ≡ Loads layer count → Reads false r0 r1 unread mid (first ++ newline ∷ []) → TakesPart count r1 r2 mid → Keeps w w1
-      → Takes Represents old old (λ s s'. StepsTo (Some end) (run_state s r0 w) (run_state s' r2 w1) unread left)
-  loads_broken r0 r1 r2 w w1 unread mid left first layer count end going one means p t kept = takes_none _ (λ s. ended s end going)
-    where
-      rest : List ℕ
-      rest = (first ++ newline ∷ []) ++ (t.entries ++ t.unread)
+    not_taken : Reads false r0 r2 unread rest []
+    not_taken =
+        let h = reads_more false r0 r1 r2 unread mid t.unread (first ++ newline ∷ []) t.entries p t.reads in
+        record { stops = whole_none; read = record { more = h.read.more; read = h.read.read; so = h.read.so ∙ append_assoc (first ++ newline ∷ []) t.entries t.unread } }
 
-      not_taken : Reads false r0 r2 unread rest []
-      not_taken =
-          let h = reads_more false r0 r1 r2 unread mid t.unread (first ++ newline ∷ []) t.entries p t.reads in
-          record { stops = whole_none; read = record { more = h.read.more; read = h.read.read; so = h.read.so ∙ append_assoc (first ++ newline ∷ []) t.entries t.unread } }
+    unanswered : AnswersAllLines So r0 r2 w w1 unread
+    unanswered = (
+      rest,
+      in_load first t.entries t.unread layer count one means t.reads.stops t.few t.one_line refl,
+      serves_kept So false true r0 r2 w w w1 unread rest (serves_none So empty false r0 r2 w unread rest not_taken) kept,
+    )
 
-      unanswered : (s : SessionState) → AnswersAllLines (run_state s r0 w) (run_state s r2 w1) unread
-      unanswered s = (
-        rest,
-        in_load first t.entries t.unread layer count one means t.reads.stops t.few t.one_line refl,
-        serves_kept false true (run_state s r0 w) (run_state s r2 w) w1 unread rest (serves_none false s r0 r2 w unread rest not_taken) kept,
-      )
-
-      ended : (s : SessionState) (e : RunEnd) → (e ≡ Finished → ⊥) → StepsTo (Some e) (run_state s r0 w) (run_state s r2 w1) unread left
-      ended s Finished no_end = absurd (no_end refl)
-      ended s ReadFault no_end = unanswered s
-      ended s WriteFault no_end = inr (unanswered s)
+    ended : (e : RunEnd) → (e ≡ Finished → ⊥) → StepsTo So (Some e) r0 r2 w w1 unread left
+    ended Finished no_end = absurd (no_end refl)
+    ended ReadFault no_end = unanswered
+    ended WriteFault no_end = inr unanswered

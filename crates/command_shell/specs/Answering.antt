@@ -1,6 +1,5 @@
 -- What one line makes a store and a writer do.
 use Rattle.std.specs.Prelude.{ℕ, ◌≡◌, true, List, [], ◌∷◌, Option, Some, None, Result}
-use Rattle.store_law.specs.Sessions.{LawfulStep, SessionState, Session}
 use Rattle.store_law.specs.States.{Request}
 use Rattle.plain_table.specs.Commands.Command.{Check}
 use Rattle.plain_table.specs.Step.{Answer}
@@ -24,11 +23,11 @@ abbrev pub reply_answers : {A : Type 0} → Option (Reply A) → List Answer
 reply_answers None = []
 reply_answers (Some r) = reply_answer r ∷ []
 
--- what a line of this meaning asks was answered lawfully
-pub record Replies (m : Meaning) (old new : SessionState) (answers : List Answer) : Type 0 where
+-- what a line of this meaning asks was answered, so that `So` holds of requests and answers
+pub record Replies (m : Meaning) (So : List Request → List Answer → Type 0) (answers : List Answer) : Type 0 where
   pub requests : List Request
   pub asked : AsksAlone m requests
-  pub lawful : Session old requests answers new
+  pub lawful : So requests answers
 
 -- Where the line asks for a check and the reply is that it was done, the store is alive with some table; and where it
 -- was settled before, it begins with one now, as an opened store does.
@@ -37,24 +36,24 @@ SaysChecked {m = m} line old new answers =
     line ≡ Means Check → answers ≡ Done ∷ []
     → IsAliveWithSome new × (IsSettled old → BeginsWithSome new (m.moment (device_in new)))
 
--- what a line of this meaning asks was answered lawfully, and the answers were written
-pub record AnswersLine {E : Type 0} (m : Meaning) (old new : SessionState) (before after : Option (List ℕ)) (result : Result (Unit {0}) E) : Type 0 where
+-- the same, and the answers were written
+pub record AnswersLine {E : Type 0} (m : Meaning) (So : List Request → List Answer → Type 0) (before after : Option (List ℕ)) (result : Result (Unit {0}) E) : Type 0 where
   pub requests : List Request
   pub asked : AsksAlone m requests
   pub answers : List Answer
-  pub lawful : Session old requests answers new
+  pub lawful : So requests answers
   pub written : WroteAs before after result answers
 
--- the last line of a text asks one request, which was answered lawfully
-pub record RepliesLast (line : List ℕ) (old new : SessionState) (answer : Answer) : Type 0 where
+-- the last line of a text asks one request, which was answered, so that `So` holds of it and its answer
+pub record RepliesLast (line : List ℕ) (So : Request → Answer → Type 0) (answer : Answer) : Type 0 where
   pub request : Request
   pub asked : AreCommands true (line ∷ []) (request ∷ [])
-  pub step : LawfulStep old request answer new
+  pub step : So request answer
 
--- what the last line of a text asks was answered lawfully, and the answers were written
-pub record AnswersLast {E : Type 0} (line : List ℕ) (old new : SessionState) (before after : Option (List ℕ)) (result : Result (Unit {0}) E) : Type 0 where
+-- what the last line of a text asks was answered, so that `So` holds of requests and answers, and these were written
+pub record AnswersLast {E : Type 0} (line : List ℕ) (So : List Request → List Answer → Type 0) (before after : Option (List ℕ)) (result : Result (Unit {0}) E) : Type 0 where
   pub requests : List Request
   pub asked : AreCommands true (line ∷ []) requests
   pub answers : List Answer
-  pub lawful : Session old requests answers new
+  pub lawful : So requests answers
   pub written : WroteAs before after result answers

@@ -1,38 +1,50 @@
 -- What each end of a run says.
 use Rattle.std.specs.Prelude.{ℕ, ◌≡◌, ◌≤◌, ◌⊎◌, Bool, true, false, List, [], ◌∷◌, Option, Some, None}
 use Rattle.std.specs.Io.KnownBytes.{Keeps}
-use Rattle.block_device.specs.Device.{Blocks, Recovery}
+use Rattle.block_device.specs.Device.{Blocks, LeavesOnly, Recovery}
 use Rattle.live_layers.specs.Image.{CommitsWhatOpens, IsImage, IsImageOfOne, IsRefusedOrImageOf}
-use Rattle.store_law.specs.States.{StoreState}
+use Rattle.layer_store.specs.Checked.{LawfulOnceChecked, Standing}
+use Rattle.store_law.specs.Sessions.{SessionState}
+use Rattle.store_law.specs.States.{Request, StoreState}
 use Rattle.store_law.specs.States.StoreState.{Alive, Dead}
+use Rattle.plain_table.specs.Step.{Answer}
 use Rattle.plain_table.specs.Table.{Table}
 use Rattle.plain_table.specs.declared.refusal.Refusal.{Refusal}
 use Rattle.command_shell.specs.TextCommands.{IsUnfinished}
-use Rattle.command_shell.specs.Serving.{RunState, Serves}
+use Rattle.command_shell.specs.Serving.{IsSession, RunState, ServesBy}
 use Rattle.command_shell.specs.Texts.{told_fault, told_refusal}
 use Rattle.command_shell.specs.Writing.{AppendsSome}
 use Rattle.command_shell.specs.declared.session.RunEnd.{RunEnd}
 use Rattle.command_shell.specs.declared.session.RunEnd.TheVariants.{Finished, ReadFault, WriteFault}
 
 -- all commands that were read to their last newline are answered
-abbrev pub AnswersAllLines : RunState → RunState → List ℕ → Type 0
-AnswersAllLines before after pending = (left : List ℕ) × IsUnfinished left × Serves false true before after pending left
+abbrev pub AnswersAllLines : (List Request → List Answer → Type 0) → Option (List ℕ) → Option (List ℕ) → Option (List ℕ) → Option (List ℕ) → List ℕ → Type 0
+AnswersAllLines So input input' output output' pending = (left : List ℕ) × IsUnfinished left × ServesBy So false true input input' output output' pending left
 
 -- the last answer was written in part
-abbrev pub BreaksOffAnswer : RunState → RunState → List ℕ → Type 0
-BreaksOffAnswer before after pending = (ended : Bool) × (left : List ℕ) × Serves ended false before after pending left
+abbrev pub BreaksOffAnswer : (List Request → List Answer → Type 0) → Option (List ℕ) → Option (List ℕ) → Option (List ℕ) → Option (List ℕ) → List ℕ → Type 0
+BreaksOffAnswer So input input' output output' pending = (ended : Bool) × (left : List ℕ) × ServesBy So ended false input input' output output' pending left
 
 -- A run that begins with pending bytes. Finished: all that there was is read, and all its commands are answered.
 -- ReadFault: the same of all commands that were read to their last newline. WriteFault: the last answer is written in
--- part; or all commands that were read to their last newline are answered.
-abbrev pub RunsFrom : RunEnd → RunState → RunState → List ℕ → Type 0
-RunsFrom Finished before after pending = Serves true true before after pending []
-RunsFrom ReadFault before after pending = AnswersAllLines before after pending
-RunsFrom WriteFault before after pending = BreaksOffAnswer before after pending ⊎ AnswersAllLines before after pending
+-- part; or all commands that were read to their last newline are answered. `So` holds of requests and answers.
+abbrev pub RunsFrom : (List Request → List Answer → Type 0) → RunEnd → Option (List ℕ) → Option (List ℕ) → Option (List ℕ) → Option (List ℕ) → List ℕ → Type 0
+RunsFrom So Finished input input' output output' pending = ServesBy So true true input input' output output' pending []
+RunsFrom So ReadFault input input' output output' pending = AnswersAllLines So input input' output output' pending
+RunsFrom So WriteFault input input' output output' pending = BreaksOffAnswer So input input' output output' pending ⊎ AnswersAllLines So input input' output output' pending
 
 -- a run that begins with nothing pending
+abbrev pub RunsBy : (List Request → List Answer → Type 0) → RunEnd → Option (List ℕ) → Option (List ℕ) → Option (List ℕ) → Option (List ℕ) → Type 0
+RunsBy So end input input' output output' = RunsFrom So end input input' output output' []
+
+-- the same, whose commands are answered by a lawful session
 abbrev pub Runs : RunEnd → RunState → RunState → Type 0
-Runs end before after = RunsFrom end before after []
+Runs end before after = RunsBy (IsSession before.session after.session) end before.unread after.unread before.written after.written
+
+-- The same of a store on an honest device, whatever file was opened: from the first check on that was answered ok, the
+-- rest of the commands is answered lawfully, from some table on, and P holds of what is known in the end.
+abbrev pub RunsOnceChecked : (Standing → Type 0) → RunEnd → Option (List ℕ) → Option (List ℕ) → Option (List ℕ) → Option (List ℕ) → Type 0
+RunsOnceChecked P end input input' output output' = RunsBy (LawfulOnceChecked P) end input input' output output'
 
 -- the tables so far, and with them that of a store which goes on
 abbrev pub with_last : StoreState → List Table → List Table
@@ -57,12 +69,30 @@ pub record RunsToClose (went_well : Bool) (blocks : Blocks) (left found : Blocks
   pub kept : (c : Blocks) → found c → IsImageOfOne (with_last after.session.state after.session.stops.kept_so_far) c
   pub counted : after.session.faults ≤ faults
 
+-- Over a run of calls that began at `old`, each stop left blocks that opening refuses, or an image of one of the tables so far
+-- in this state of a session or the last.
+abbrev pub LeavesTablesOf : {D : Type 0} → (D → ℕ) → (D → ℕ → Blocks → Type 0) → Recovery D → SessionState → D → D → Type 0
+LeavesTablesOf moment left_since recovery s old new = LeavesOnly moment left_since recovery old new (IsRefusedOrImageOf (with_last s.state s.stops.so_far))
+
+-- What is known of a store in the end, of which nothing is known of stops: where the run went well, the blocks are an image of
+-- its table.
+abbrev pub EndsInImage : Bool → Blocks → Standing → Type 0
+EndsInImage went_well blocks s = went_well ≡ true → (t : Table) × (s.state ≡ Alive t) × IsImage blocks t
+
+-- A run of the program over a store on an honest device, whatever file was opened. Where it went well, all that there was is
+-- answered. From the first check on that was answered ok, the rest of the commands is answered lawfully, from some table on,
+-- and where it went well, the blocks are an image of the table in the end.
+pub record ChecksToClose (went_well : Bool) (blocks : Blocks) (input input' output output' : Option (List ℕ)) : Type 0 where
+  pub end : RunEnd
+  pub runs : RunsOnceChecked (EndsInImage went_well blocks) end input input' output output'
+  pub well : went_well ≡ true → end ≡ Finished
+
 -- What the program says of the end of a run: nothing where it went well, else a line that says why, or a front of it.
 abbrev pub TellsEnd : Bool → Option (List ℕ) → Option (List ℕ) → Type 0
 TellsEnd true old new = Keeps old new
 TellsEnd false old new = AppendsSome old new told_fault ⊎ ((r : Refusal) × AppendsSome old new (told_refusal r))
 
 -- one step of a run: a command further, or the end
-abbrev pub StepsTo : Option RunEnd → RunState → RunState → List ℕ → List ℕ → Type 0
-StepsTo None before after pending left = Serves false true before after pending left
-StepsTo (Some end) before after pending left = RunsFrom end before after pending
+abbrev pub StepsTo : (List Request → List Answer → Type 0) → Option RunEnd → Option (List ℕ) → Option (List ℕ) → Option (List ℕ) → Option (List ℕ) → List ℕ → List ℕ → Type 0
+StepsTo So None input input' output output' pending left = ServesBy So false true input input' output output' pending left
+StepsTo So (Some end) input input' output output' pending left = RunsFrom So end input input' output output' pending

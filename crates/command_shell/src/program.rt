@@ -4,8 +4,8 @@
 ghost use Rattle.std.specs.Prelude.{◌≡◌, IsOk, true};
 ghost use Rattle.block_device.specs.Device.{Only};
 ghost use Rattle.store_law.specs.Sessions.{SessionState};
-ghost use Rattle.layer_store.specs.Representation.{Represents};
-ghost use Rattle.command_shell.specs.Runs.{FoundSince, RunsToClose, TellsEnd};
+ghost use Rattle.layer_store.specs.Representation.{Represents, device_in};
+ghost use Rattle.command_shell.specs.Runs.{ChecksToClose, FoundSince, LeavesTablesOf, RunsToClose, TellsEnd};
 ghost use Rattle.command_shell.specs.Serving.{run_state};
 ghost use Rattle.command_shell.specs.Texts.{told_refusal};
 ghost use Rattle.command_shell.specs.Writing.{Writes};
@@ -34,7 +34,11 @@ pub struct Ended<D: BlockDevice> {
 ///
 /// Where all went well, all that the reader had was read, each of its commands was answered by a lawful session, and
 /// the device's blocks are an image of the table at its end; and a stop leaves nothing else. The device is blamed in no
-/// reply unless its count of faults rose.
+/// reply unless its count of faults rose. Stops before the run may leave what they might have left; each within it left
+/// blocks that opening refuses, or an image of one of the session's tables.
+///
+/// Whatever file was opened, on an honest device: from the first `check` on that was answered ok, the rest of the commands
+/// is answered lawfully, from some table on, and where all went well the blocks are an image of the table at the end.
 pub fn run_and_close<D: BlockDevice, A: Allocator + Copy, R: Read, W: FlushedWrite, E: Write>(
     store: Store<D, A>,
     input: &mut R,
@@ -46,7 +50,10 @@ pub fn run_and_close<D: BlockDevice, A: Allocator + Copy, R: Read, W: FlushedWri
         (FoundSince D.recovery result.device s.stops.since)
         (D.faults result.device)
         (run_state s (R.remaining input.old) (W.contents output.old))
-        (run_state s' (R.remaining input.new) (W.contents output.new)) }
+        (run_state s' (R.remaining input.new) (W.contents output.new))
+        × LeavesTablesOf D.moment D.left_since D.recovery s' (device_in store) result.device }
+    ensures checked { D.honest (device_in store) → ChecksToClose result.went_well (D.shown result.device)
+        (R.remaining input.old) (R.remaining input.new) (W.contents output.old) (W.contents output.new) }
     ensures flushed { result.went_well ≡ true → W.is_flushed output.new }
     ensures told { TellsEnd result.went_well (E.contents errors.old) (E.contents errors.new) }
     ensures durable { (s : SessionState) → Represents store s → result.went_well ≡ true →

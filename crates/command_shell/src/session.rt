@@ -7,8 +7,10 @@ ghost use Rattle.plain_table.specs.Answers.{done_answer, object_answer, boxes_an
 ghost use Rattle.plain_table.specs.Answers.{dump_answer, layers_answer, pairs_answer};
 ghost use Rattle.plain_table.specs.Step.Answer.{Refused};
 ghost use Rattle.plain_table.specs.declared.refusal.Refusal.TheVariants as refusal;
-ghost use Rattle.store_law.specs.Sessions.{LawfulStep, Takes};
-ghost use Rattle.layer_store.specs.Representation.{Represents, device_in};
+ghost use Rattle.live_layers.specs.Image.{IsRefusedOrImageOf};
+ghost use Rattle.store_law.specs.Sessions.{Takes};
+ghost use Rattle.layer_store.specs.Calls.{Calls, IsAsked};
+ghost use Rattle.layer_store.specs.Representation.{Represents, StandsAs, StopsLeave, device_in};
 ghost use Rattle.command_shell.specs.Answering.{AnswersLast, AnswersLine, IsPlain, Replies, RepliesLast};
 ghost use Rattle.command_shell.specs.Answering.{SaysChecked, reply_answers};
 ghost use Rattle.command_shell.specs.Entries.{objects_in};
@@ -18,7 +20,7 @@ ghost use Rattle.command_shell.specs.Meanings.{meaning_of};
 ghost use Rattle.command_shell.specs.Meanings.Meaning.{Loads};
 ghost use Rattle.command_shell.specs.Pending.{pending, work_left};
 ghost use Rattle.command_shell.specs.Reading.{BeginsLine, Reads, ReadsTo};
-ghost use Rattle.command_shell.specs.Runs.{Runs, StepsTo};
+ghost use Rattle.command_shell.specs.Runs.{Runs, RunsBy, RunsOnceChecked, StepsTo};
 ghost use Rattle.command_shell.specs.Said.{said};
 ghost use Rattle.command_shell.specs.Serving.{run_state};
 ghost use Rattle.command_shell.specs.TextCommands.{load_request};
@@ -58,6 +60,9 @@ pub enum RunEnd {
 /// of a table that one before it may have left or that the run closed (docs/FORMAT.md, "What stops leave of a
 /// store"). Where reader or writer does not make its bytes known, nothing is said of them.
 ///
+/// **And whatever the store is, on an honest device: from the first `check` on that was answered ok, the rest of the
+/// commands is answered lawfully, from some table on.**
+///
 /// The writer is flushed before more is read, unless a whole line is pending; at the end it is not. An interrupted
 /// read is a fault like any other. Beside what the store takes, it takes memory for the objects of a load alone.
 pub fn run<D: BlockDevice, A: Allocator + Copy, R: Read, W: Write>(
@@ -65,9 +70,25 @@ pub fn run<D: BlockDevice, A: Allocator + Copy, R: Read, W: Write>(
     input: &mut R,
     output: &mut W,
 ) -> RunEnd
-    ensures { Takes Represents store.old store.new (λ s s'. Runs result
+    ensures session { Takes Represents store.old store.new (λ s s'. Runs result
         (run_state s (R.remaining input.old) (W.contents output.old))
-        (run_state s' (R.remaining input.new) (W.contents output.new))) }
+        (run_state s' (R.remaining input.new) (W.contents output.new))
+        × StopsLeave store.old store.new (IsRefusedOrImageOf s'.stops.so_far)) }
+    ensures checked { D.honest (device_in store.old) → RunsOnceChecked (StandsAs store.new) result
+        (R.remaining input.old) (R.remaining input.new) (W.contents output.old) (W.contents output.new) }
+    ensures honest { D.honest (device_in store.old) → D.honest (device_in store.new) }
+{
+    answer_lines(store, input, output)
+}
+
+// The same: the commands of the text that was read were made of the store in turn.
+fn answer_lines<D: BlockDevice, A: Allocator + Copy, R: Read, W: Write>(
+    store: &mut Store<D, A>,
+    input: &mut R,
+    output: &mut W,
+) -> RunEnd
+    ensures { RunsBy (Calls store.old store.new) result
+        (R.remaining input.old) (R.remaining input.new) (W.contents output.old) (W.contents output.new) }
 {
     let mut lines = LineReader::new();
     loop {
@@ -101,10 +122,9 @@ fn step<D: BlockDevice, A: Allocator + Copy, R: Read, W: Write>(
     output: &mut W,
 ) -> Option<RunEnd>
     requires { IfSome line (BeginsLine (pending lines.old)) }
-    ensures steps { Takes Represents store.old store.new (λ s s'. StepsTo result
-        (run_state s (R.remaining input.old) (W.contents output.old))
-        (run_state s' (R.remaining input.new) (W.contents output.new))
-        (pending lines.old) (pending lines.new)) }
+    ensures steps { StepsTo (Calls store.old store.new) result
+        (R.remaining input.old) (R.remaining input.new) (W.contents output.old) (W.contents output.new)
+        (pending lines.old) (pending lines.new) }
     ensures fewer { IfNone result (work_left lines.new < work_left lines.old) }
 {
     match lines.find(line, input) {
@@ -132,10 +152,9 @@ fn step_line<D: BlockDevice, A: Allocator + Copy, R: Read, W: Write>(
     requires { BeginsLine (pending lines.old) len }
     ensures steps { (before : Option (List ℕ)) (unread : List ℕ) →
         ReadsTo before (R.remaining input.old) (λ more. unread ++ more ≡ pending lines.old) →
-        Takes Represents store.old store.new (λ s s'. StepsTo result
-        (run_state s before (W.contents output.old))
-        (run_state s' (R.remaining input.new) (W.contents output.new))
-        unread (pending lines.new)) }
+        StepsTo (Calls store.old store.new) result
+        before (R.remaining input.new) (W.contents output.old) (W.contents output.new)
+        unread (pending lines.new) }
     ensures fewer { IfNone result (work_left lines.new < work_left lines.old) }
 {
     let line = parse_line(lines.front(len));
@@ -161,10 +180,9 @@ fn load<D: BlockDevice, A: Allocator + Copy, R: Read, W: Write>(
     ensures steps { (before : Option (List ℕ)) (unread first layer : List ℕ) → IsOneLine first →
         meaning_of first ≡ Loads layer count → IsGathered gathered layer [] →
         Reads false before (R.remaining input.old) unread (pending lines.old) (first ++ newline ∷ []) →
-        Takes Represents store.old store.new (λ s s'. StepsTo result
-        (run_state s before (W.contents output.old))
-        (run_state s' (R.remaining input.new) (W.contents output.new))
-        unread (pending lines.new)) }
+        StepsTo (Calls store.old store.new) result
+        before (R.remaining input.new) (W.contents output.old) (W.contents output.new)
+        unread (pending lines.new) }
     ensures fewer { IfNone result (work_left lines.new ≤ work_left lines.old) }
 {
     let mut gathered = gathered;
@@ -184,8 +202,7 @@ fn load_reply<D: BlockDevice, A: Allocator + Copy>(
     gathered: &Gathered<A>,
 ) -> Reply<A>
     ensures { (layer : List ℕ) (entries : List (List ℕ)) → IsGathered gathered.now layer entries →
-        Takes Represents store.old store.new
-        (λ s s'. LawfulStep s (load_request layer (objects_in entries)) (reply_answer result) s') }
+        IsAsked store.old (load_request layer (objects_in entries)) (reply_answer result) store.new }
 {
     if !gathered.good {
         return bad_reply();
@@ -209,8 +226,8 @@ fn answer_last<D: BlockDevice, A: Allocator + Copy, W: Write>(
     line: Line<'_>,
     output: &mut W,
 ) -> io::Result<()>
-    ensures { (text : List ℕ) → said line.entry ≡ meaning_of text → Takes Represents store.old store.new (λ s s'.
-        AnswersLast text s s' (W.contents output.old) (W.contents output.new) result) }
+    ensures { (text : List ℕ) → said line.entry ≡ meaning_of text →
+        AnswersLast text (Calls store.old store.new) (W.contents output.old) (W.contents output.new) result }
 {
     if let Line::Load { layer, count } = line {
         let reply = last_load_reply(store, layer, count);
@@ -225,8 +242,8 @@ fn last_load_reply<D: BlockDevice, A: Allocator + Copy>(
     layer: &[u8],
     count: u64,
 ) -> Reply<A>
-    ensures { (line : List ℕ) → meaning_of line ≡ Loads layer.now count → Takes Represents store.old store.new
-        (λ s s'. RepliesLast line s s' (reply_answer result)) }
+    ensures { (line : List ℕ) → meaning_of line ≡ Loads layer.now count →
+        RepliesLast line (λ r a. IsAsked store.old r a store.new) (reply_answer result) }
 {
     if count > 0 {
         return bad_reply();
@@ -254,8 +271,8 @@ fn answer<D: BlockDevice, A: Allocator + Copy, W: Write>(
     output: &mut W,
 ) -> io::Result<()>
     requires { IsPlain (said line) }
-    ensures { Takes Represents store.old store.new (λ s s'.
-        AnswersLine (said line.entry) s s' (W.contents output.old) (W.contents output.new) result) }
+    ensures { AnswersLine (said line.entry) (Calls store.old store.new)
+        (W.contents output.old) (W.contents output.new) result }
 {
     match reply_to(store, line) {
         None => Ok(()),
@@ -269,8 +286,7 @@ fn reply_to<D: BlockDevice, A: Allocator + Copy>(
     line: Line<'_>,
 ) -> Option<Reply<A>>
     requires { IsPlain (said line) }
-    ensures replies { Takes Represents store.old store.new
-        (λ s s'. Replies (said line.entry) s s' (reply_answers result)) }
+    ensures replies { Replies (said line.entry) (Calls store.old store.new) (reply_answers result) }
     ensures checked { D.honest (device_in store.old) →
         SaysChecked (said line.entry) store.old store.new (reply_answers result) }
 {

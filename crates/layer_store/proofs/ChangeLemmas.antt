@@ -22,17 +22,19 @@ use Rattle.plain_table.specs.declared.refusal.Refusal.{Refusal}
 use Rattle.plain_table.specs.declared.refusal.Refusal.TheVariants as refusal
 use Rattle.store_law.specs.States.StoreState.{Dead}
 use Rattle.store_law.specs.Stops.{Stops, after_change, after_command, is_end, tables_left, with_now}
-use Rattle.layer_store.specs.Commands.{Changes, TakesStep, Tells, TellsOfEnd}
+use Rattle.layer_store.specs.Commands.{Changes, TakesReply, TakesStep, Tells, TellsOfEnd}
 use Rattle.layer_store.specs.Representation.{IsInState, cache_in, device_in}
 use Rattle.layer_store.specs.declared.store.Store.{Store}
 use Rattle.layer_store.proofs.StopLemmas.{OnlyNow, change_leaves, kept_leaves, left_rests}
-use Rattle.layer_store.proofs.StoreLemmas.{alive_in, alive_with, blames_none, change_goes_on, dead_so, dead_tells, goes_on_tells, is_dead, is_settled, no_fewer_faults, not_both, settled_so, takes_change, takes_nothing, told_cause, what_is_kept}
+use Rattle.layer_store.proofs.StoreLemmas.{alive_in, alive_with, blames_none, change_goes_on, dead_so, dead_tells, goes_on_tells, is_dead, is_settled, no_fewer_faults, not_both, replies_change, replies_nothing, settled_so, takes_change, takes_nothing, told_cause, what_is_kept}
 
 -- ---- one of a store that failed
 
 pub failed_changes : {D A : Type 0} {m : _} {store : Store D A m} {c : Command} → store.failed ≡ true → Changes store store c (Err (refusal.StoreFailed 19))
 failed_changes {m = m} {store = store} {c = c} failed = record {
   step = takes_nothing store c failed;
+  reply = replies_nothing store c failed;
+  honest = λ honest. honest;
   stops = λ s t represents alive. absurd (not_both store.failed failed (alive_in store s t represents alive).0);
   quiet = λ s t represents alive unchanged. absurd (not_both store.failed failed (alive_in store s t represents alive).0);
   settled = λ t represents unchanged was. was;
@@ -98,6 +100,13 @@ module _ {D A : Type 0} {m : _} (old new : Store D A m) {made : Result (Unit {0}
       takes_change old new c made (done_answer result) going may (ap done_answer tells.answer) (tells.failed going) changed leaves
       (λ t sound. no_fewer_faults (m.faults (device_in old)) (m.faults (device_in new)) result fits (cause_told tells cause))
 
+  -- and a lawful answer, whatever stops leave
+  pub reply_told : {c : Command} → MayGiveUp c → ((t : Table) → IsSound old.layers t → IsChanged old.layers new.layers t c made)
+      → m.faults (device_in old) < 2 ^ 64 → HasUnmadeCause (m.faults (device_in old)) (m.faults (device_in new)) made → TakesReply old new c (done_answer result)
+  reply_told {c = c} may changed fits cause =
+      replies_change old new c made (done_answer result) going may (ap done_answer tells.answer) (tells.failed going) changed
+      (λ t sound. no_fewer_faults (m.faults (device_in old)) (m.faults (device_in new)) result fits (cause_told tells cause))
+
   -- what is refused is told
   pub told_end : GoesOn made → IfErr result (TellsOfEnd new)
   told_end goes_on = subst (λ (r : Result (Unit {0}) Refusal). IfErr r (TellsOfEnd new)) (sym tells.answer) (ended_so new made (tells.failed going) goes_on)
@@ -112,6 +121,8 @@ module _ {D A : Type 0} {m : _} (old new : Store D A m) {made : Result (Unit {0}
         (change_leaves old.layers new.layers t c stops sound.map.honest was (changes t c) made (change.lawful t sound).leaves (no_change_leaves_the_table t c) (a_change_makes_another_table t c)
         (λ r is changing. refused_goes_on old.layers new.layers t c made r (λ as_table. a_change_makes_another_table t c changing) (change.lawful t sound).changed is)))
         fits change.keeps.cause;
+    reply = reply_told may (λ t sound. (change.lawful t sound).changed) fits change.keeps.cause;
+    honest = change.keeps.honest;
     stops = λ s t represents alive. (change.lawful t (alive_in old s t represents alive).1).leaves.stops (tables_left s.stops.now) (left_rests (cache_in old) s.stops.now (what_is_kept old s represents).leaves.now);
     quiet = λ s t represents alive unchanged.
         let kept = what_is_kept old s represents in

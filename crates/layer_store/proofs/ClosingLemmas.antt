@@ -29,10 +29,10 @@ use Rattle.store_law.specs.States.StoreState.{Alive, Dead}
 use Rattle.store_law.specs.Stops.{is_end, tables_left}
 use Rattle.layer_store.specs.Commands.{IsUnfinished, Tells}
 use Rattle.layer_store.specs.Faults.{IsMemoryOrDevice}
-use Rattle.layer_store.specs.Representation.{HasFailed, IsInState, IsSettled, Represents, RepresentsTable, StopsLeave, blocks_in, cache_in, device_in}
+use Rattle.layer_store.specs.Representation.{IsInState, IsSettled, Represents, StopsLeave, blocks_in, cache_in, device_in}
 use Rattle.layer_store.specs.declared.store.Store.{Store}
 use Rattle.layer_store.proofs.StopLemmas.{OneCommit, OnlyNow, left_rests, read_alone, reopening_leaves}
-use Rattle.layer_store.proofs.StoreLemmas.{alive_in, alive_with, dead_so, failed_so, is_dead, is_settled, no_fewer_faults, not_both, settled_so, takes_change, what_is_kept}
+use Rattle.layer_store.proofs.StoreLemmas.{alive_in, dead_so, is_alive, is_dead, is_settled, no_fewer_faults, not_both, settled_so, takes_change, what_is_kept}
 
 -- as a refusal
 pub memory_or_device : (f : Fault) → IsOfDevice f → IsMemoryOrDevice (as_refusal f)
@@ -73,9 +73,9 @@ rests_of_store store s represents = left_rests (cache_in store) s.stops.now (wha
 
 module _ {D A : Type 0} {m : _} (old new : Store D A m) {made : Result (Unit {0}) Unmade} {result : Result (Unit {0}) Refusal}
     (going : old.failed ≡ false) (tells : Tells old.failed new.failed made result) where
-  finished : IsOk result ⊎ HasFailed new → IsBegun made
+  finished : IsOk result ⊎ IsInState new Dead → IsBegun made
   finished (inl ok) = begun_so made (inl (subst (λ (r : Result (Unit {0}) Refusal). IsOk r) tells.answer ok))
-  finished (inr dead) = begun_so made (inr (sym (tells.failed going) ∙ failed_so new dead))
+  finished (inr dead) = begun_so made (inr (sym (tells.failed going) ∙ is_dead new dead))
 
   pub ends_closed : IsBegun made ⊎ ¬ (gate_of (cache_in new) ≡ Shut) → OnErr result (IsInState new Dead ⊎ ¬ (gate_of (cache_in new) ≡ Shut))
   ends_closed shut = subst (λ (r : Result (Unit {0}) Refusal). OnErr r (IsInState new Dead ⊎ ¬ (gate_of (cache_in new) ≡ Shut))) (sym tells.answer) (ends_so new made (tells.failed going) shut)
@@ -84,20 +84,20 @@ module _ {D A : Type 0} {m : _} (old new : Store D A m) {made : Result (Unit {0}
   settled_closed settled ok = settled_so new (settled (ok_so made (subst (λ (r : Result (Unit {0}) Refusal). IsOk r) tells.answer ok)))
 
   module _ (leaves : (t : Table) → IsSound old.layers t → ClosingLeaves old.layers new.layers t made) where
-    pub image_closed : (t : Table) → RepresentsTable old t → IsOk result ⊎ HasFailed new → IsImage (blocks_in new) t
-    image_closed t represents end = ((leaves t (alive_with old t represents).1).closed (finished end)).1
+    pub image_closed : (t : Table) → IsInState old (Alive t) → IsOk result ⊎ IsInState new Dead → IsImage (blocks_in new) t
+    image_closed t alive end = ((leaves t (is_alive old t alive).1).closed (finished end)).1
 
-    pub durable_closed : (IsHonest (cache_in old) → IsHonest (cache_in new)) → (t : Table) → RepresentsTable old t → IsOk result ⊎ HasFailed new → Only (blocks_in new) (m.may_leave (device_in new))
-    durable_closed honest t represents end =
-        let sound = (alive_with old t represents).1 in
+    pub durable_closed : (IsHonest (cache_in old) → IsHonest (cache_in new)) → (t : Table) → IsInState old (Alive t) → IsOk result ⊎ IsInState new Dead → Only (blocks_in new) (m.may_leave (device_in new))
+    durable_closed honest t alive end =
+        let sound = (is_alive old t alive).1 in
         shut_is_durable (cache_in new) (honest sound.map.honest) ((leaves t sound).closed (finished end)).0
 
     pub stops_closed : (s : SessionState) (t : Table) → Represents old s → s.state ≡ Alive t → StopsLeave old new (IsRefusedOrImageOf (t ∷ tables_left s.stops.now))
     stops_closed s t represents alive = (leaves t (alive_in old s t represents alive).1).stops (tables_left s.stops.now) (rests_of_store old s represents)
 
-    pub quiet_closed : (IsHonest (cache_in old) → OnlyNow (cache_in old)) → (t : Table) → RepresentsTable old t → IsSettled old → StopsLeave old new (λ c. c ≡ blocks_in old)
-    quiet_closed now t represents was =
-        let sound = (alive_with old t represents).1 in
+    pub quiet_closed : (IsHonest (cache_in old) → OnlyNow (cache_in old)) → (t : Table) → IsInState old (Alive t) → IsSettled old → StopsLeave old new (λ c. c ≡ blocks_in old)
+    quiet_closed now t alive was =
+        let sound = (is_alive old t alive).1 in
         let settled = is_settled old was in
         read_alone (cache_in old) (cache_in new) sound.map.honest (now sound.map.honest) settled.0 ((leaves t sound).quiet settled)
 

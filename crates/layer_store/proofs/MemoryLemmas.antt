@@ -13,10 +13,10 @@ use Rattle.plain_table.specs.Table.{Table}
 use Rattle.plain_table.specs.declared.refusal.Refusal.TheVariants as refusal
 use Rattle.store_law.specs.Stops.{Stops, after_command, tables_left, with_now}
 use Rattle.store_law.specs.Stops.AfterStop.{Perhaps}
-use Rattle.layer_store.specs.Commands.{TakesStep}
+use Rattle.layer_store.specs.Commands.{TakesReply, TakesStep}
 use Rattle.layer_store.specs.declared.store.Store.{Store}
 use Rattle.layer_store.proofs.StopLemmas.{either_among, left_rests, found_more}
-use Rattle.layer_store.proofs.StoreLemmas.{takes_change}
+use Rattle.layer_store.proofs.StoreLemmas.{replies_change, takes_change}
 
 module _ {D A : Type 0} {m : _} (cache : PageCache D A m) (t : Table) (stops : Stops) (was : Leaves cache stops) where
   -- what surely was left may be left
@@ -55,3 +55,8 @@ pub takes_want : {D A : Type 0} {m : _} (store : Store D A m) (c : Command) → 
 takes_want store c going may =
     takes_change store store c (Err (unmade.Refused refusal.Memory)) (Refused refusal.Memory) going may refl going (λ t sound. (sound, inr tt))
     (λ t stops sound was. wanting_leaves store.layers.cache t stops was c) (λ t sound. omega arith)
+
+-- and a lawful answer, whatever stops leave
+pub replies_want : {D A : Type 0} {m : _} (store : Store D A m) (c : Command) → store.failed ≡ false → MayGiveUp c → TakesReply store store c (Refused refusal.Memory)
+replies_want store c going may =
+    replies_change store store c (Err (unmade.Refused refusal.Memory)) (Refused refusal.Memory) going may refl going (λ t sound. (sound, inr tt)) (λ t sound. omega arith)

@@ -20,11 +20,11 @@ use Rattle.plain_table.specs.declared.refusal.Refusal.{Refusal}
 use Rattle.plain_table.specs.declared.refusal.Refusal.TheVariants as refusal
 use Rattle.store_law.specs.Sessions.{SessionState}
 use Rattle.store_law.specs.Stops.{Stops, after_command}
-use Rattle.layer_store.specs.Commands.{Answers, TakesStep}
+use Rattle.layer_store.specs.Commands.{Answers, TakesReply, TakesStep}
 use Rattle.layer_store.specs.Representation.{KeepsStore, Represents, StopsLeave, cache_in, device_in}
 use Rattle.layer_store.specs.declared.store.Store.{Store}
 use Rattle.layer_store.proofs.StopLemmas.{OnlyNow, kept_leaves}
-use Rattle.layer_store.proofs.StoreLemmas.{blames_none, dead_tells, err_so, goes_on_tells, is_dead, is_settled, no_fewer_faults, not_both, settled_so, takes_nothing, takes_question, takes_reply, what_is_kept}
+use Rattle.layer_store.proofs.StoreLemmas.{blames_none, dead_tells, err_so, goes_on_tells, is_dead, is_settled, no_fewer_faults, not_both, replies_nothing, replies_question, replies_reply, settled_so, takes_nothing, takes_question, takes_reply, what_is_kept}
 
 module _ {D A : Type 0} {m : _} where
   -- what a question keeps of its store
@@ -50,6 +50,7 @@ module _ {D A : Type 0} {m : _} where
     pub failed_answers : {store : Store D A m} → store.failed ≡ true → (IsHonest (cache_in store) → OnlyNow (cache_in store)) → answer (Err (refusal.StoreFailed 19)) ≡ Refused (refusal.StoreFailed 19) → Answers store store c answer (Err (refusal.StoreFailed 19))
     failed_answers {store = store} failed now refused = record {
       step = subst (TakesStep store store c) (sym refused) (takes_nothing store c failed);
+      reply = subst (TakesReply store store c) (sym refused) (replies_nothing store c failed);
       kept = nothing_asked store;
       stops = stops_asked store store now (nothing_asked store);
       ended = dead_tells store 19 failed;
@@ -62,6 +63,7 @@ module _ {D A : Type 0} {m : _} where
         → ((t : Table) → IsSound store.layers t → answer result ≡ reply_of t c) → IfErr result (λ r. is_plain r ≡ true) → Answers store store c answer result
     reply_answers {store = store} result going now unchanged quiet replied plain = record {
       step = takes_reply store c (answer result) going (λ t. no_change_leaves_the_table t c (unchanged t)) quiet replied;
+      reply = replies_reply store c (answer result) going (λ t. no_change_leaves_the_table t c (unchanged t)) replied;
       kept = nothing_asked store;
       stops = stops_asked store store now (nothing_asked store);
       ended = err_so result (λ r p. goes_on_tells store r going (plain_goes_on r p)) plain;
@@ -78,6 +80,8 @@ module _ {D A : Type 0} {m : _} where
         record {
           step = takes_question old new c (answer result) going going may (λ t. no_change_leaves_the_table t c (unchanged t)) quiet answered
               (λ t stops sound was. leaves_kept old.layers.cache mid.cache stops sound.map.honest keeps.gate was)
+              (no_fewer_faults (m.faults (device_in old)) (m.faults (device_of mid.cache)) result fits keeps.cause);
+          reply = replies_question old new c (answer result) going going may (λ t. no_change_leaves_the_table t c (unchanged t)) answered
               (no_fewer_faults (m.faults (device_in old)) (m.faults (device_of mid.cache)) result fits keeps.cause);
           kept = kept;
           stops = stops_asked old new now kept;

@@ -47,7 +47,7 @@ contains_none : (t : Table) (ts : List Table) → Contains [] t → Contains ts 
 contains_none t ts there = absurd (omega (arith, there.1))
 
 -- one more of which a table is left
-left_among : (ts us : List Table) (c : Blocks) → ((t : Table) → Contains ts t → Contains us t) → IsRefusedOrImageOf ts c → IsRefusedOrImageOf us c
+pub left_among : (ts us : List Table) (c : Blocks) → ((t : Table) → Contains ts t → Contains us t) → IsRefusedOrImageOf ts c → IsRefusedOrImageOf us c
 left_among ts us c among (inl refused) = inl refused
 left_among ts us c among (inr (u, there, image)) = inr (u, among u there, image)
 
@@ -282,6 +282,11 @@ module _ {D A : Type 0} {m : _} where
       ⊎_elim (λ before. or_this s.stops.so_far t c (represents.2.so_far c before))
       (λ here. left_among (t ∷ tables_left s.stops.now) (t ∷ s.stops.so_far) c (either_among t (tables_left s.stops.now) s.stops.so_far represents.2.among) here)
       (only.before s.stops.since c represents.2.begun left)
+
+  -- what is left now, or by a closing of the table, is among what was left so far, or by the closing
+  pub left_more : (store : Store D A m) (s : SessionState) (t : Table) → Represents store s → (c : Blocks) → IsRefusedOrImageOf (t ∷ tables_left s.stops.now) c → IsRefusedOrImageOf (t ∷ s.stops.so_far) c
+  unfolding Represents
+  left_more store s t represents c here = left_among (t ∷ tables_left s.stops.now) (t ∷ s.stops.so_far) c (either_among t (tables_left s.stops.now) s.stops.so_far represents.2.among) here
 
   -- and what it is found to have left
   pub found_by_closing : (store : Store D A m) (s : SessionState) (t : Table) (device : D) → Represents store s → LeavesOnly m.moment m.left_since m.recovery (device_in store) device (IsRefusedOrImageOf (t ∷ tables_left s.stops.now))

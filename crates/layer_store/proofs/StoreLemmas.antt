@@ -23,13 +23,14 @@ use Rattle.plain_table.specs.Table.{Table}
 use Rattle.plain_table.specs.declared.refusal.Refusal.{Refusal}
 use Rattle.plain_table.specs.declared.refusal.Refusal.TheVariants as refusal
 use Rattle.store_law.specs.Lawful.{IsEnd, IsFault, Lawful, LawfulFrom, RefusedBy, blames_device}
+use Rattle.layer_store.specs.Checked.{LawfulReply, Standing}
 use Rattle.store_law.specs.Sessions.{LawfulStep, Reaches, SessionState}
 use Rattle.store_law.specs.States.{StoreState}
 use Rattle.store_law.specs.States.Request.{Asks}
 use Rattle.store_law.specs.States.StoreState.{Alive, Dead}
 use Rattle.store_law.specs.Stops.{Stops, after_command, after_request, is_end}
-use Rattle.layer_store.specs.Commands.{TakesStep, TellsOfEnd}
-use Rattle.layer_store.specs.Representation.{BeginsWith, HasFailed, IsInState, IsOfStore, IsSettled, Represents, RepresentsTable, cache_in, closed_since, device_in}
+use Rattle.layer_store.specs.Commands.{TakesReply, TakesStep, TellsOfEnd}
+use Rattle.layer_store.specs.Representation.{BeginsWith, HasFailed, IsInState, IsOfStore, IsSettled, Represents, RepresentsTable, StandsAs, cache_in, closed_since, device_in}
 use Rattle.layer_store.specs.declared.store.Store.{Store}
 
 pub not_both : (b : Bool) → b ≡ true → b ≡ false → ⊥
@@ -86,6 +87,11 @@ blamed_grows false before fits = omega arith
 pub no_fewer_faults : {T : Type 0} (before now : ℕ) (result : Result T Refusal) → before < 2 ^ 64 → HasRefusalCause before now result → before ≤ now
 no_fewer_faults before now (Ok v) fits cause = omega (arith, cause.ok)
 no_fewer_faults before now (Err r) fits cause = let more = blamed_grows (blames_device r) before fits in omega (arith, more, cause.refused)
+
+-- what a question is answered is lawful
+lawful_answer : (rose : Type 0) (t : Table) (c : Command) (a : Answer) → MayGiveUp c → after t c ≡ t → (a ≡ reply_of t c) ⊎ RefusedBy (IsFault rose) a → LawfulFrom rose t c a (Alive t)
+lawful_answer rose t c a may stays (inl as_table) = inl (as_table, ap Alive (sym stays))
+lawful_answer rose t c a may stays (inr faulty) = inr (inl (faulty, may, refl))
 
 module _ {D A : Type 0} {m : _} where
   -- ---- states
@@ -170,7 +176,7 @@ module _ {D A : Type 0} {m : _} where
   abbrev pub NoFewer : Store D A m → Store D A m → Type 0
   NoFewer old new = m.faults (device_in old) ≤ m.faults (device_in new)
 
-  abbrev Rose : Store D A m → Store D A m → Type 0
+  abbrev pub Rose : Store D A m → Store D A m → Type 0
   Rose old new = HasRisen (m.faults (device_in old)) (m.faults (device_in new))
 
   -- a lawful step from a state to another
@@ -250,17 +256,74 @@ module _ {D A : Type 0} {m : _} where
       → ((t : Table) → IsSound old.layers t → IsAnswered old.layers new.layers t c a) → ((t : Table) (stops : Stops) → IsSound old.layers t → Leaves (cache_in old) stops → Leaves (cache_in new) stops) → NoFewer old new
       → TakesStep old new c a
   takes_question old new c a going goes may stays quiet answered leaves more =
-      takes_asked old new c a going goes quiet (λ t sound. let h = answered t sound in (h.0, lawful t h.1)) leaves more
-    where
-      lawful : (t : Table) → (a ≡ reply_of t c) ⊎ RefusedBy (IsFault (Rose old new)) a → LawfulFrom (Rose old new) t c a (Alive t)
-      lawful t (inl as_table) = inl (as_table, ap Alive (sym (stays t)))
-      lawful t (inr faulty) = inr (inl (faulty, may, refl))
+      takes_asked old new c a going goes quiet (λ t sound. let h = answered t sound in (h.0, lawful_answer (Rose old new) t c a may (stays t) h.1)) leaves more
 
   -- a command that the store answers as the table does, without a call
   pub takes_reply : (store : Store D A m) (c : Command) (a : Answer) → store.failed ≡ false → ((t : Table) → after t c ≡ t) → ((t : Table) (stops : Stops) → after_command t stops c a ≡ stops)
       → ((t : Table) → IsSound store.layers t → a ≡ reply_of t c) → TakesStep store store c a
   takes_reply store c a going stays quiet replied =
       takes_asked store store c a going going quiet (λ t sound. (sound, inl (replied t sound, ap Alive (sym (stays t))))) (λ t stops sound was. was) (omega arith)
+
+module _ {D A : Type 0} {m : _} where
+  -- ---- lawful answers, whatever stops leave
+
+  -- one from a state to another
+  replies : (old new : Store D A m) (c : Command) (a : Answer) (s : Standing) (was now : StoreState) → s.state ≡ was → StandsAs old s → IsInState new now → IsHonest (cache_in new)
+      → Lawful (Rose old new) was (Asks c) a now → NoFewer old new → Reaches StandsAs new (λ s'. LawfulReply s (Asks c) a s')
+  replies old new c a s was now e stands is honest lawful more =
+      let s' : Standing = record { state = now; faults = m.faults (device_in new) } in
+      record {
+        next = s';
+        represents = record { state = is; honest = honest; faults = refl };
+        so = record {
+          answer = subst (λ (x : StoreState). Lawful (HasRisen s.faults s'.faults) x (Asks c) a now) (sym e)
+              (subst (λ (n : ℕ). Lawful (HasRisen n s'.faults) was (Asks c) a now) (sym stands.faults) lawful);
+          faults = omega (arith, stands.faults, more);
+        };
+      }
+
+  -- of a store that failed
+  pub replies_nothing : (store : Store D A m) (c : Command) → store.failed ≡ true → TakesReply store store c (Refused (refusal.StoreFailed 19))
+  replies_nothing store c failed = λ s stands. go s stands s.state refl stands.state
+    where
+      go : (s : Standing) → StandsAs store s → (state : StoreState) → s.state ≡ state → IsInState store state → Reaches StandsAs store (λ s'. LawfulReply s (Asks c) (Refused (refusal.StoreFailed 19)) s')
+      go s stands (Alive t) e alive = absurd (not_both store.failed failed (is_alive store t alive).0)
+      go s stands Dead e dead = replies store store c (Refused (refusal.StoreFailed 19)) s Dead Dead e stands dead stands.honest (refl, refl) (omega arith)
+
+  -- of a change of a live store
+  pub replies_change : (old new : Store D A m) (c : Command) (made : Result (Unit {0}) Unmade) (a : Answer) → old.failed ≡ false → MayGiveUp c → a ≡ done_answer (told made) → new.failed ≡ is_broken made
+      → ((t : Table) → IsSound old.layers t → IsChanged old.layers new.layers t c made) → ((t : Table) → IsSound old.layers t → NoFewer old new) → TakesReply old new c a
+  replies_change old new c made a going may answered failed changed more = λ s stands. go s stands s.state refl stands.state
+    where
+      go : (s : Standing) → StandsAs old s → (state : StoreState) → s.state ≡ state → IsInState old state → Reaches StandsAs new (λ s'. LawfulReply s (Asks c) a s')
+      go s stands Dead e dead = absurd (not_both old.failed (is_dead old dead) going)
+      go s stands (Alive t) e alive =
+          let sound = (is_alive old t alive).1 in
+          let led = leads old new t c made may failed (changed t sound) in
+          subst (λ (x : Answer). Reaches StandsAs new (λ s'. LawfulReply s (Asks c) x s')) (sym answered)
+          (replies old new c (done_answer (told made)) s (Alive t) led.state e stands led.is led.honest led.lawful (more t sound))
+
+  -- of a command that leaves the table of a live store
+  replies_asked : (old new : Store D A m) (c : Command) (a : Answer) → old.failed ≡ false → new.failed ≡ false
+      → ((t : Table) → IsSound old.layers t → IsSound new.layers t × LawfulFrom (Rose old new) t c a (Alive t)) → NoFewer old new → TakesReply old new c a
+  replies_asked old new c a going goes lawful more = λ s stands. go s stands s.state refl stands.state
+    where
+      go : (s : Standing) → StandsAs old s → (state : StoreState) → s.state ≡ state → IsInState old state → Reaches StandsAs new (λ s'. LawfulReply s (Asks c) a s')
+      go s stands Dead e dead = absurd (not_both old.failed (is_dead old dead) going)
+      go s stands (Alive t) e alive =
+          let h = lawful t (is_alive old t alive).1 in
+          replies old new c a s (Alive t) (Alive t) e stands (alive_so new t goes h.0) h.0.map.honest h.1 more
+
+  -- of a question
+  pub replies_question : (old new : Store D A m) (c : Command) (a : Answer) → old.failed ≡ false → new.failed ≡ false → MayGiveUp c → ((t : Table) → after t c ≡ t)
+      → ((t : Table) → IsSound old.layers t → IsAnswered old.layers new.layers t c a) → NoFewer old new → TakesReply old new c a
+  replies_question old new c a going goes may stays answered more =
+      replies_asked old new c a going goes (λ t sound. let h = answered t sound in (h.0, lawful_answer (Rose old new) t c a may (stays t) h.1)) more
+
+  -- of one that is answered as the table does, without a call
+  pub replies_reply : (store : Store D A m) (c : Command) (a : Answer) → store.failed ≡ false → ((t : Table) → after t c ≡ t) → ((t : Table) → IsSound store.layers t → a ≡ reply_of t c) → TakesReply store store c a
+  replies_reply store c a going stays replied =
+      replies_asked store store c a going going (λ t sound. (sound, inl (replied t sound, ap Alive (sym (stays t))))) (omega arith)
 
 -- a refusal that is not the table's is no end of the store
 pub change_goes_on : (rose : Type 0) (t : Table) (c : Command) (r : Refusal) → (Refused r ≡ reply_of t c → after t c ≡ t → ⊥) → ((Refused r ≡ reply_of t c) × (after t c ≡ t)) ⊎ IsFault rose r → is_end r ≡ false

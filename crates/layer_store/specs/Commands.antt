@@ -5,7 +5,7 @@ use Rattle.live_layers.specs.Image.{IsRefusedOrImageOf, MayRemain}
 use Rattle.live_layers.specs.Staying.{KeepsEachTree, KeepsPagesAndRecords}
 use Rattle.live_layers.specs.Unmade.{is_broken, told}
 use Rattle.live_layers.specs.declared.unmade.Unmade.{Unmade}
-use Rattle.page_cache.specs.Cache.{gate_of}
+use Rattle.page_cache.specs.Cache.{IsHonest, gate_of}
 use Rattle.page_file.specs.declared.gate.Gate.TheVariants.{Shut}
 use Rattle.plain_table.specs.Answers.{done_answer}
 use Rattle.plain_table.specs.Commands.{Command}
@@ -15,16 +15,25 @@ use Rattle.plain_table.specs.Step.Answer.{Refused}
 use Rattle.plain_table.specs.Table.{Table}
 use Rattle.plain_table.specs.declared.refusal.Refusal.{Refusal}
 use Rattle.plain_table.specs.declared.refusal.Refusal.TheVariants as refusal
+use Rattle.layer_store.specs.Checked.{LawfulReply}
 use Rattle.store_law.specs.Sessions.{LawfulStep, SessionState, Takes}
 use Rattle.store_law.specs.States.Request.{Asks}
 use Rattle.store_law.specs.States.StoreState.{Alive, Dead}
 use Rattle.store_law.specs.Stops.{is_end, tables_left}
-use Rattle.layer_store.specs.Representation.{IsInState, IsSettled, KeepsStore, Represents, RepresentsTable, StopsLeave, cache_in, device_in, layers_in}
+use Rattle.layer_store.specs.Representation.{IsInState, IsSettled, KeepsStore, Represents, RepresentsTable, StandsAs, StopsLeave, cache_in, device_in, layers_in}
 use Rattle.layer_store.specs.declared.store.Store.{Store}
 
 -- the command was answered so, by one lawful step from whatever state of a session the store was in
 abbrev pub TakesStep : {D A : Type 0} {m : _} → Store D A m → Store D A m → Command → Answer → Type 0
 TakesStep old new c a = Takes Represents old new (λ s s'. LawfulStep s (Asks c) a s')
+
+-- and lawfully from whatever state the store was in, whatever stops leave of it, as after a check that was answered ok
+abbrev pub TakesReply : {D A : Type 0} {m : _} → Store D A m → Store D A m → Command → Answer → Type 0
+TakesReply old new c a = Takes StandsAs old new (λ s s'. LawfulReply s (Asks c) a s')
+
+-- its device stays honest
+abbrev pub StaysHonest : {D A : Type 0} {m : _} → Store D A m → Store D A m → Type 0
+StaysHonest old new = IsHonest (cache_in old) → IsHonest (cache_in new)
 
 -- a store that had failed answers so, and stays as it was, on any device
 abbrev pub StaysDead : {D A : Type 0} {m : _} {T : Type 0} → Store D A m → Store D A m → Result T Refusal → Type 0
@@ -42,6 +51,9 @@ TellsOfEnd store r = (is_end r ≡ true) ↔ IsInState store Dead
 pub record Changes {D A : Type 0} {m : _} (old new : Store D A m) (c : Command) (result : Result (Unit {0}) Refusal) : Type 0 where
   -- it was answered by one lawful step
   pub step : TakesStep old new c (done_answer result)
+  -- and lawfully of each store that is alive with a table or dead, whatever stops leave of it
+  pub reply : TakesReply old new c (done_answer result)
+  pub honest : StaysHonest old new
   -- a stop leaves what one before the call leaves, or blocks that opening refuses
   pub stops : (s : SessionState) (t : Table) → Represents old s → s.state ≡ Alive t → StopsLeave old new (IsRefusedOrImageOf (tables_left s.stops.now))
   -- where the table stays, it leaves nothing else than before
@@ -61,6 +73,8 @@ pub record Changes {D A : Type 0} {m : _} (old new : Store D A m) (c : Command) 
 pub record Answers {D A : Type 0} {m : _} {T : Type 0} (old new : Store D A m) (c : Command) (answer : Result T Refusal → Answer) (result : Result T Refusal) : Type 0 where
   -- it was answered by one lawful step
   pub step : TakesStep old new c (answer result)
+  -- and lawfully of each store that is alive with a table or dead, whatever stops leave of it
+  pub reply : TakesReply old new c (answer result)
   -- the gate stays with its moment, pages and records, so each tree, and what was settled is so still
   pub kept : KeepsStore old new
   -- a stop leaves nothing else than before

@@ -8,6 +8,7 @@ use Rattle.live_layers.specs.declared.layers.Layers.{Layers}
 use Rattle.page_cache.specs.Cache.{IsHonest, KeepsGate, blocks_of, device_of, looks_of}
 use Rattle.page_cache.specs.declared.cache.PageCache.{PageCache}
 use Rattle.plain_table.specs.Table.{Table}
+use Rattle.layer_store.specs.Checked.{Standing}
 use Rattle.store_law.specs.Sessions.{Reaches, SessionState}
 use Rattle.store_law.specs.States.{StoreState}
 use Rattle.store_law.specs.States.StoreState.{Alive, Dead}
@@ -50,6 +51,12 @@ pub record IsOfStore {D A : Type 0} {m : _} (store : Store D A m) (s : SessionSt
 -- The session's state is the store's, its device is honest, and stops leave what the session's state says.
 unfoldable pub Represents : {D A : Type 0} {m : _} → Store D A m → SessionState → Type 0
 Represents store s = IsOfStore store s × IsHonest (cache_in store) × Leaves (cache_in store) s.stops
+
+-- The store is in this state, on an honest device that has failed so often, whatever stops leave of it.
+pub record StandsAs {D A : Type 0} {m : _} (store : Store D A m) (s : Standing) : Type 0 where
+  pub state : IsInState store s.state
+  pub honest : IsHonest (cache_in store)
+  pub faults : s.faults ≡ m.faults (device_in store)
 
 -- the store is sound and alive, and represents the table
 abbrev pub RepresentsTable : {D A : Type 0} {m : _} → Store D A m → Table → Type 0

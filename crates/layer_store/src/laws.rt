@@ -1,15 +1,18 @@
 //! What follows from the definitions of images and of what a store represents: each law is the contract of a function
 //! that does nothing.
-ghost use Rattle.std.specs.Prelude.{◌≡◌, ◌∷◌, ℕ};
+ghost use Rattle.std.specs.Prelude.{◌≡◌, ◌∷◌, ℕ, List};
 ghost use Rattle.block_device.specs.Device.{Begins, BeginsOne, Blocks, LeavesOnly};
 ghost use Rattle.live_layers.specs.Image.{CommitsWhatOpens, IsImage, IsImageOfOne, IsRefusedOrImageOf, MayRemain};
 ghost use Rattle.live_layers.specs.Image.{OpeningRefuses};
 ghost use Rattle.page_file.specs.declared.fault.Fault.{Fault};
 ghost use Rattle.plain_table.specs.Table.{Table};
-ghost use Rattle.store_law.specs.Sessions.{SessionState};
-ghost use Rattle.store_law.specs.States.{StoreState};
+ghost use Rattle.plain_table.specs.Step.{Answer};
+ghost use Rattle.layer_store.specs.Checked.{LawfulOnceChecked, LawfulReply, standing_of};
+ghost use Rattle.store_law.specs.Sessions.{LawfulStep, Session, SessionState, Takes};
+ghost use Rattle.store_law.specs.States.{Request, StoreState};
 ghost use Rattle.store_law.specs.Stops.{tables_left};
-ghost use Rattle.layer_store.specs.Representation.{IsInState, IsOfStore, Represents};
+ghost use Rattle.layer_store.specs.Calls.{Calls};
+ghost use Rattle.layer_store.specs.Representation.{IsInState, IsOfStore, Represents, StandsAs, StopsLeave};
 ghost use Rattle.layer_store.specs.Representation.{blocks_in, device_in, from_now, resting_on};
 ghost use Rattle.layer_store.specs.declared.store.Store.{Store};
 
@@ -94,4 +97,25 @@ pub fn an_image_rests_on_its_table<D: BlockDevice, A: Allocator>()
     ensures { (store : Store D A ⟦<D as BlockDevice>⟧) (s : SessionState) (t : Table) → Represents store s →
         IsImage (blocks_in store) t →
         Represents store (resting_on s (D.moment (device_in store)) t) }
+{}
+
+/// Calls in turn, of which each promises what [`crate::Store`] says, are a lawful session from each state that the
+/// store was in, and a stop at any moment of them left what one before might have left, blocks that opening refuses, or
+/// an image of one of the tables so far. And on an honest device, whatever file was opened, the calls after a check that
+/// was answered ok were answered lawfully, from some table on.
+pub fn calls_in_turn_are_a_session<D: BlockDevice, A: Allocator>()
+    ensures session { (old new : Store D A ⟦<D as BlockDevice>⟧) (rs : List Request) (xs : List Answer) →
+        Calls old new rs xs →
+        Takes Represents old new (λ s s'. Session s rs xs s' × StopsLeave old new (IsRefusedOrImageOf s'.stops.so_far)) }
+    ensures checked { (old new : Store D A ⟦<D as BlockDevice>⟧) (rs : List Request) (xs : List Answer) →
+        Calls old new rs xs → D.honest (device_in old) → LawfulOnceChecked (StandsAs new) rs xs }
+    ensures honest { (old new : Store D A ⟦<D as BlockDevice>⟧) (rs : List Request) (xs : List Answer) →
+        Calls old new rs xs → D.honest (device_in old) → D.honest (device_in new) }
+{}
+
+/// A lawful step is a lawful answer, whatever stops leave.
+#[tactic(auto, using(crate::proofs::SessionLemmas::a_step_is_a_reply))]
+pub fn a_step_is_a_reply()
+    ensures { (old new : SessionState) (r : Request) (a : Answer) → LawfulStep old r a new →
+        LawfulReply (standing_of old) r a (standing_of new) }
 {}

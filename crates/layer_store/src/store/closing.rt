@@ -14,9 +14,10 @@ ghost use Rattle.plain_table.specs.declared.refusal.Refusal.TheVariants as refus
 ghost use Rattle.store_law.specs.Sessions.{SessionState};
 ghost use Rattle.store_law.specs.States.StoreState.{Alive, Dead};
 ghost use Rattle.store_law.specs.Stops.{tables_left};
-ghost use Rattle.layer_store.specs.Commands.{CountsFaults, IsUnfinished, StaysDead, TakesStep, TellsOfEnd};
+ghost use Rattle.layer_store.specs.Commands.{CountsFaults, IsUnfinished, StaysDead, StaysHonest, TakesReply};
+ghost use Rattle.layer_store.specs.Commands.{TakesStep, TellsOfEnd};
 ghost use Rattle.layer_store.specs.Faults.{IsMemoryOrDevice};
-ghost use Rattle.layer_store.specs.Representation.{HasFailed, IsInState, IsSettled, Represents, RepresentsTable};
+ghost use Rattle.layer_store.specs.Representation.{HasFailed, IsInState, IsSettled, Represents};
 ghost use Rattle.layer_store.specs.Representation.{StopsLeave, blocks_in, cache_in, device_in, layers_in};
 
 use crate::store::changes::tell;
@@ -34,21 +35,23 @@ impl<D: BlockDevice, A: Allocator + Copy> Store<D, A> {
     /// `StoreFailed` with the number of the fault, the store has failed, and the blocks are an image of its table.
     pub fn reopen(&mut self) -> Result<(), Refusal>
         ensures step { TakesStep self.old self.new Reopen (done_answer result) }
-        ensures closed { (t : Table) → RepresentsTable self.old t → IsOk result ⊎ HasFailed self.new →
+        ensures reply { TakesReply self.old self.new Reopen (done_answer result) }
+        ensures honest { StaysHonest self.old self.new }
+        ensures closed { (t : Table) → IsInState self.old (Alive t) → IsOk result ⊎ IsInState self.new Dead →
             IsImage (blocks_in self.new) t }
-        ensures trees { (t : Table) → RepresentsTable self.old t →
+        ensures trees { (t : Table) → IsInState self.old (Alive t) →
             KeepsEachTree (layers_in self.old) (layers_in self.new) }
 
         // A stop leaves what one before the call leaves, or an image of the table; and after a closing that is finished
         // nothing but what is read.
         ensures stops { (s : SessionState) (t : Table) → Represents self.old s → s.state ≡ Alive t →
             StopsLeave self.old self.new (IsRefusedOrImageOf (t ∷ tables_left s.stops.now)) }
-        ensures durable { (t : Table) → RepresentsTable self.old t → IsOk result ⊎ HasFailed self.new →
+        ensures durable { (t : Table) → IsInState self.old (Alive t) → IsOk result ⊎ IsInState self.new Dead →
             Only (blocks_in self.new) (D.may_leave (device_in self.new)) }
 
         // One that is settled is only read: a stop leaves the blocks as they are.
         ensures now_settled { IsOk result → IsSettled self.new }
-        ensures quiet { (t : Table) → RepresentsTable self.old t → IsSettled self.old →
+        ensures quiet { (t : Table) → IsInState self.old (Alive t) → IsSettled self.old →
             StopsLeave self.old self.new (λ c. c ≡ blocks_in self.old) }
 
         // One that is refused has failed, or was not finished: its gate is not shut. One that has failed stays so, on any
@@ -72,8 +75,8 @@ impl<D: BlockDevice, A: Allocator + Copy> Store<D, A> {
     /// the device comes back: then a stop leaves of it blocks that opening refuses, or an image of a table that was
     /// closed before, or of this one. A store that failed answers `StoreFailed(19)`, with the device as it is.
     pub fn close(self) -> Result<D, (Refusal, D)>
-        ensures closed { (t : Table) → RepresentsTable self t → IfOk result (λ device. IsImage (D.shown device) t) }
-        ensures trees { (t : Table) → RepresentsTable self t →
+        ensures closed { (t : Table) → IsInState self (Alive t) → IfOk result (λ device. IsImage (D.shown device) t) }
+        ensures trees { (t : Table) → IsInState self (Alive t) →
             IfOk result (λ device. LeavesTreesIn (layers_in self) (D.shown device)) }
 
         // A stop leaves what one before the call leaves, or an image of the table; and after a closing that is finished
@@ -84,16 +87,16 @@ impl<D: BlockDevice, A: Allocator + Copy> Store<D, A> {
         ensures refused_stops { (s : SessionState) (t : Table) → Represents self s → s.state ≡ Alive t →
             IfErr result (λ e.
             LeavesOnly D.moment D.left_since D.recovery (device_in self) e.1 (IsRefusedOrImageOf (t ∷ tables_left s.stops.now))) }
-        ensures durable { (t : Table) → RepresentsTable self t →
+        ensures durable { (t : Table) → IsInState self (Alive t) →
             IfOk result (λ device. Only (D.shown device) (D.may_leave device)) }
 
         // Of one that is settled already the device comes back as it is.
         ensures quiet { IsSettled self → IsInState self Dead ⊎ (result ≡ Ok (device_in self)) }
 
-        ensures refused { (t : Table) → RepresentsTable self t → IfErr result (λ e. IsMemoryOrDevice e.0) }
+        ensures refused { (t : Table) → IsInState self (Alive t) → IfErr result (λ e. IsMemoryOrDevice e.0) }
 
         // One that is refused was not finished: what is left is what a refused reopening leaves, and its gate is not shut.
-        ensures unfinished { (t : Table) → RepresentsTable self t → IfErr result (λ e. IsUnfinished self e.0 e.1) }
+        ensures unfinished { (t : Table) → IsInState self (Alive t) → IfErr result (λ e. IsUnfinished self e.0 e.1) }
 
         ensures dead { IsInState self Dead → result ≡ Err (refusal.StoreFailed 19, device_in self) }
         ensures failed { HasFailed self → result ≡ Err (refusal.StoreFailed 19, device_in self) }

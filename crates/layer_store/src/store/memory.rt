@@ -6,7 +6,7 @@ ghost use Rattle.plain_table.specs.Commands.{Command, MayGiveUp};
 ghost use Rattle.plain_table.specs.Step.Answer.{Refused};
 ghost use Rattle.plain_table.specs.declared.refusal.Refusal.TheVariants as refusal;
 ghost use Rattle.store_law.specs.States.StoreState.{Dead};
-ghost use Rattle.layer_store.specs.Commands.{TakesStep};
+ghost use Rattle.layer_store.specs.Commands.{TakesReply, TakesStep};
 ghost use Rattle.layer_store.specs.Representation.{IsInState, layers_in};
 
 use crate::store::{FAILED, Store};
@@ -26,6 +26,7 @@ impl<D: BlockDevice, A: Allocator + Copy> Store<D, A> {
     /// failed. The store stays as it is.
     pub fn out_of_memory(&mut self) -> Refusal
         ensures step { (c : Command) → MayGiveUp c → TakesStep self.old self.new c (Refused result) }
+        ensures reply { (c : Command) → MayGiveUp c → TakesReply self.old self.new c (Refused result) }
         ensures same { self.new ≡ self.old }
         ensures dead { IsInState self.old Dead → result ≡ refusal.StoreFailed 19 }
     {

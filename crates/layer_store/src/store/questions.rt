@@ -13,8 +13,9 @@ ghost use Rattle.plain_table.specs.Table.{Table, layer_at};
 ghost use Rattle.plain_table.specs.declared.refusal.Refusal.TheVariants as refusal;
 ghost use Rattle.tree_node.specs.Joins.{admitted_pairs};
 ghost use Rattle.tree_node.specs.Searches.{admitted};
+ghost use Rattle.store_law.specs.States.StoreState.{Alive};
 ghost use Rattle.layer_store.specs.Commands.{Answers};
-ghost use Rattle.layer_store.specs.Representation.{RepresentsTable, layers_in, looks_in};
+ghost use Rattle.layer_store.specs.Representation.{IsInState, layers_in, looks_in};
 
 use crate::store::{FAILED, Store};
 use block_device::BlockDevice;
@@ -60,7 +61,7 @@ impl<D: BlockDevice, A: Allocator + Copy> Store<D, A> {
         tag: Option<u32>,
     ) -> Result<Vec<(u64, AnyBox, u32), A>, Refusal>
         ensures answers { Answers self.old self.new (Range layer.now query tag) boxes_answer result }
-        ensures looks { (t : Table) → RepresentsTable self.old t →
+        ensures looks { (t : Table) → IsInState self.old (Alive t) →
             OnOk result (LooksAtTree (layers_in self.old) (layers_in self.new) layer.now
             (admitted (is_admitted (layer_at t layer.now).dims query))) }
     {
@@ -82,7 +83,7 @@ impl<D: BlockDevice, A: Allocator + Copy> Store<D, A> {
         point: RawPoint,
     ) -> Result<Vec<(u64, u128), A>, Refusal>
         ensures answers { Answers self.old self.new (Nearest layer.now k point) distances_answer result }
-        ensures looks { (t : Table) → RepresentsTable self.old t →
+        ensures looks { (t : Table) → IsInState self.old (Alive t) →
             OnOk result (LooksAtTree (layers_in self.old) (layers_in self.new) layer.now
             (admitted (is_searched (point_dims point) k (given_point point)
             (nearest_rows (layer_at t layer.now) k point)))) }
@@ -104,7 +105,7 @@ impl<D: BlockDevice, A: Allocator + Copy> Store<D, A> {
         tag: Option<u32>,
     ) -> Result<Vec<(u64, AnyBox, u32), A>, Refusal>
         ensures answers { Answers self.old self.new (Range layer.now (RawQuery.Window bounds) tag) boxes_answer result }
-        ensures looks { (t : Table) → RepresentsTable self.old t →
+        ensures looks { (t : Table) → IsInState self.old (Alive t) →
             OnOk result (LooksAtTree (layers_in self.old) (layers_in self.new) layer.now
             (admitted (is_admitted (layer_at t layer.now).dims (RawQuery.Window bounds)))) }
     {
@@ -122,7 +123,7 @@ impl<D: BlockDevice, A: Allocator + Copy> Store<D, A> {
         tag: Option<u32>,
     ) -> Result<Vec<(u64, AnyBox, u32), A>, Refusal>
         ensures answers { Answers self.old self.new (Range layer.now (RawQuery.Inside bounds) tag) boxes_answer result }
-        ensures looks { (t : Table) → RepresentsTable self.old t →
+        ensures looks { (t : Table) → IsInState self.old (Alive t) →
             OnOk result (LooksAtTree (layers_in self.old) (layers_in self.new) layer.now
             (admitted (is_admitted (layer_at t layer.now).dims (RawQuery.Inside bounds)))) }
     {
@@ -140,7 +141,7 @@ impl<D: BlockDevice, A: Allocator + Copy> Store<D, A> {
         tag: Option<u32>,
     ) -> Result<Vec<(u64, AnyBox, u32), A>, Refusal>
         ensures answers { Answers self.old self.new (Range layer.now (RawQuery.Around bounds) tag) boxes_answer result }
-        ensures looks { (t : Table) → RepresentsTable self.old t →
+        ensures looks { (t : Table) → IsInState self.old (Alive t) →
             OnOk result (LooksAtTree (layers_in self.old) (layers_in self.new) layer.now
             (admitted (is_admitted (layer_at t layer.now).dims (RawQuery.Around bounds)))) }
     {
@@ -158,7 +159,7 @@ impl<D: BlockDevice, A: Allocator + Copy> Store<D, A> {
         tag: Option<u32>,
     ) -> Result<Vec<(u64, AnyBox, u32), A>, Refusal>
         ensures answers { Answers self.old self.new (Range layer.now (RawQuery.Point point) tag) boxes_answer result }
-        ensures looks { (t : Table) → RepresentsTable self.old t →
+        ensures looks { (t : Table) → IsInState self.old (Alive t) →
             OnOk result (LooksAtTree (layers_in self.old) (layers_in self.new) layer.now
             (admitted (is_admitted (layer_at t layer.now).dims (RawQuery.Point point)))) }
     {
@@ -178,7 +179,7 @@ impl<D: BlockDevice, A: Allocator + Copy> Store<D, A> {
         within: u64,
     ) -> Result<Vec<(u64, u64), A>, Refusal>
         ensures answers { Answers self.old self.new (Join first.now second.now within) pairs_answer result }
-        ensures looks { (t : Table) → RepresentsTable self.old t →
+        ensures looks { (t : Table) → IsInState self.old (Alive t) →
             OnOk result (LooksAtTrees (layers_in self.old) (layers_in self.new) first.now second.now
             (λ tree other. 2 * admitted_pairs (layer_at t first.now).dims within tree other)) }
     {

@@ -8,6 +8,7 @@ returns-then-not-options-clause-served g c = record {
   kept = λ create. absurd (true≢false (sym create ∙ c.if-not-options.true));
   made = λ create. absurd (true≢false (sym create ∙ c.if-not-options.true));
   opened = λ create honest t image. c.serve_opened.ensures.serves t honest image;
+  checked = λ create honest. c.serve_opened.ensures.checked honest;
   refused = λ create honest f refuses. c.serve_opened.ensures.refuses f honest refuses;
 }
 
@@ -16,6 +17,7 @@ returns-then-blocks-ne0-clause-served g c = record {
   kept = λ create some. (record { failed = refl; unread = refl; unwritten = refl }, refl);
   made = λ create honest none. absurd (c.if-blocks-ne0.true (c.blocks-2.ensures.is ∙ none));
   opened = λ create. absurd (true≢false (sym c.if-not-options.false ∙ create));
+  checked = λ create. absurd (true≢false (sym c.if-not-options.false ∙ create));
   refused = λ create. absurd (true≢false (sym c.if-not-options.false ∙ create));
 }
 
@@ -26,5 +28,6 @@ returns-clause-served g c =
       kept = λ create some. absurd (omega (arith, some, none));
       made = λ create honest none. c.serve_new.ensures.serves honest;
       opened = λ create. absurd (true≢false (sym c.if-not-options.false ∙ create));
+      checked = λ create. absurd (true≢false (sym c.if-not-options.false ∙ create));
       refused = λ create. absurd (true≢false (sym c.if-not-options.false ∙ create));
     }

@@ -13,8 +13,8 @@ all_read xs left more text e none so = sym (append-nil text) ∙ sym so ∙ sym 
 pub returns-in-Finished : goal.returns-in-Finished
 returns-in-Finished c =
     let begun = c.in-Ok.ensures.made c.new.ensures.honest in
-    let end = c.in-Finished.ensures begun.next begun.represents in
-    let serves = end.so in
+    let end = c.in-Finished.ensures.session begun.next begun.represents in
+    let serves = end.so.0 in
     let reads = serves.reads in
     let same : serves.text ≡ c.args.text.now = all_read c.args.text.now c.run-end.new.input.now reads.read.more serves.text reads.read.read reads.stops.1 reads.read.so in
     record {

@@ -1,25 +1,29 @@
 -- A closing that is finished leaves an image of the session's table.
 use Rattle.std.proofs.Common.{◌≡◌, ◌∙◌, ap, ℕ, Bool, true, false, List, ◌∷◌, Option, Result, Ok, Err, inl, inr, refl, sym, subst, arith}
 use Rattle.std.proofs.KnownBytes.{Keeps-refl}
+use Rattle.layer_store.specs.Checked.{Standing}
 use Rattle.store_law.specs.Sessions.{SessionState}
 use Rattle.store_law.specs.States.{StoreState}
 use Rattle.store_law.specs.States.StoreState.{Alive, Dead}
 use Rattle.plain_table.specs.Table.{Table}
 use Rattle.block_device.specs.Device.{Blocks, LeavesOnly}
-use Rattle.layer_store.specs.Representation.{HasFailed, Represents, RepresentsTable, device_in}
+use Rattle.block_device.specs.Moments.{leaves_then, leaves_weaker}
+use Rattle.layer_store.specs.Representation.{HasFailed, IsInState, Represents, StandsAs, StopsLeave, device_in}
 use Rattle.store_law.specs.Stops.{tables_left}
 use Rattle.layer_store.specs.declared.store.Store.{Store}
-use Rattle.layer_store.proofs.StopLemmas.{found_by_closing, found_of_store, left_by_closing, left_so_far, session_state_is}
+use Rattle.layer_store.proofs.StopLemmas.{found_by_closing, found_of_store, left_by_closing, left_more, left_so_far, session_state_is}
 use Rattle.layer_store.proofs.StoreLemmas.{no_fewer_faults}
-use Rattle.live_layers.specs.Image.{IsRefusedOrImageOf, IsImageOfOne}
+use Rattle.live_layers.proofs.StopLemmas.{or_this}
+use Rattle.live_layers.specs.Image.{IsImage, IsRefusedOrImageOf, IsImageOfOne}
 use Rattle.store_law.specs.Laws.{a_session_keeps_its_beginning}
-use Rattle.command_shell.specs.Runs.{Runs, TellsEnd, with_last, FoundSince}
+use Rattle.layer_store.proofs.SessionLemmas.{once_checked_so}
+use Rattle.command_shell.specs.Runs.{EndsInImage, FoundSince, LeavesTablesOf, Runs, TellsEnd, with_last}
 use Rattle.command_shell.specs.declared.session.RunEnd.{RunEnd}
 use Rattle.command_shell.specs.declared.session.RunEnd.TheVariants.{Finished, ReadFault, WriteFault}
-use Rattle.command_shell.specs.Serving.{RunState, run_state}
+use Rattle.command_shell.specs.Serving.{IsSession, RunState, run_state}
 use Rattle.command_shell.specs.Texts.{told_fault}
 use Rattle.command_shell.specs.Writing.{Writes}
-use Rattle.command_shell.proofs.SessionLemmas.{runs_kept}
+use Rattle.command_shell.proofs.SessionLemmas.{runs_kept, runs_so, served_by}
 use Rattle.command_shell.proofs.WriteLemmas.{some_written}
 use Rattle.command_shell.proofs.program.run_and_close.Goals.{then-not-went_well, else-not-went_well}
 use Rattle.command_shell.proofs.program.run_and_close.Goals as goal
@@ -28,13 +32,13 @@ use Rattle.command_shell.proofs.program.run_and_close.Goals as goal
 record HasTable {D A : Type 0} {m : _} (store : Store D A m) (s : SessionState) : Type 0 where
   table : Table
   alive : s.state ≡ Alive table
-  represents : RepresentsTable store table
+  state : IsInState store (Alive table)
 
 has_table : {D A : Type 0} {m : _} (store : Store D A m) (s : SessionState) → Represents store s → (HasFailed store → ⊥) → HasTable store s
 has_table store s represents going = at s.state refl
   where
     at : (state : StoreState) → s.state ≡ state → HasTable store s
-    at (Alive t) e = record { table = t; alive = e; represents = record { next = s; represents = represents; so = e } }
+    at (Alive t) e = record { table = t; alive = e; state = subst (IsInState store) e (session_state_is store s represents).state }
     at Dead e = absurd (going (record { next = s; represents = represents; so = e }))
 
 false_is_not_true : false ≡ true → ⊥
@@ -76,60 +80,105 @@ found_when_refused {m = m} store s device represents refused failed Dead is c fo
 
 -- stops are told from the same moment on through a run
 same_beginning : (end : RunEnd) (before after : RunState) → Runs end before after → after.session.stops.since ≡ before.session.stops.since
-same_beginning Finished before after h = a_session_keeps_its_beginning before.session after.session h.requests h.answers h.lawful
-same_beginning ReadFault before after h = let serves = h.2 in a_session_keeps_its_beginning before.session after.session serves.requests serves.answers serves.lawful
-same_beginning WriteFault before after (inl h) = let serves = h.2 in a_session_keeps_its_beginning before.session after.session serves.requests serves.answers serves.lawful
-same_beginning WriteFault before after (inr h) = let serves = h.2 in a_session_keeps_its_beginning before.session after.session serves.requests serves.answers serves.lawful
+same_beginning end before after h =
+    let served = served_by (IsSession before.session after.session) end before.unread after.unread before.written after.written h in
+    a_session_keeps_its_beginning before.session after.session served.requests served.answers served.lawful
+
+-- within a run and the closing after it a stop left blocks that opening refuses, or an image of one of the tables
+run_leaves : {D A : Type 0} {m : _} (first store : Store D A m) (s : SessionState) (t : Table) (device : D) → Represents store s → s.state ≡ Alive t → StopsLeave first store (IsRefusedOrImageOf s.stops.so_far)
+    → LeavesOnly m.moment m.left_since m.recovery (device_in store) device (IsRefusedOrImageOf (t ∷ tables_left s.stops.now)) → LeavesTablesOf m.moment m.left_since m.recovery s (device_in first) device
+run_leaves {m = m} first store s t device represents alive run closing =
+    let all = IsRefusedOrImageOf (t ∷ s.stops.so_far) in
+    subst (λ (state : StoreState). LeavesOnly m.moment m.left_since m.recovery (device_in first) device (IsRefusedOrImageOf (with_last state s.stops.so_far))) (sym alive)
+    (leaves_then m.moment m.left_since m.recovery (device_in first) (device_in store) device all
+    (leaves_weaker m.moment m.left_since m.recovery (device_in first) (device_in store) (IsRefusedOrImageOf s.stops.so_far) all (or_this s.stops.so_far t) run)
+    (leaves_weaker m.moment m.left_since m.recovery (device_in store) device (IsRefusedOrImageOf (t ∷ tables_left s.stops.now)) all (left_more store s t represents) closing))
+
+-- of a store that failed, which hands its device back
+dead_leaves : {D A : Type 0} {m : _} (first store : Store D A m) (s : SessionState) (device : D) → s.state ≡ Dead → device ≡ device_in store → StopsLeave first store (IsRefusedOrImageOf s.stops.so_far)
+    → LeavesTablesOf m.moment m.left_since m.recovery s (device_in first) device
+dead_leaves {m = m} first store s device dead same run =
+    subst (λ (state : StoreState). LeavesOnly m.moment m.left_since m.recovery (device_in first) device (IsRefusedOrImageOf (with_last state s.stops.so_far))) (sym dead)
+    (subst (λ d. LeavesOnly m.moment m.left_since m.recovery (device_in first) d (IsRefusedOrImageOf s.stops.so_far)) (sym same) run)
+
+-- of one whose closing was refused, in either state
+refused_leaves : {D A : Type 0} {m : _} (first store : Store D A m) (s : SessionState) (device : D) → Represents store s → StopsLeave first store (IsRefusedOrImageOf s.stops.so_far)
+    → ((t : Table) → s.state ≡ Alive t → LeavesOnly m.moment m.left_since m.recovery (device_in store) device (IsRefusedOrImageOf (t ∷ tables_left s.stops.now)))
+    → (HasFailed store → device ≡ device_in store) → (state : StoreState) → s.state ≡ state → LeavesTablesOf m.moment m.left_since m.recovery s (device_in first) device
+refused_leaves first store s device represents run refused failed (Alive t) is = run_leaves first store s t device represents is run (refused t is)
+refused_leaves first store s device represents run refused failed Dead is = dead_leaves first store s device is (failed (record { next = s; represents = represents; so = is })) run
+
+-- a store that was closed has the table of which the blocks are an image
+closed_in_image : {D A : Type 0} {m : _} (store : Store D A m) (blocks : Blocks) (went_well : Bool) → ((t : Table) → IsInState store (Alive t) → IsImage blocks t) → (IsInState store Dead → ⊥)
+    → (s : Standing) → StandsAs store s → EndsInImage went_well blocks s
+closed_in_image store blocks went_well closed going s stands well = at s.state refl stands.state
+  where
+    at : (state : StoreState) → s.state ≡ state → IsInState store state → (t : Table) × (s.state ≡ Alive t) × IsImage blocks t
+    at (Alive t) e is = (t, e, closed t is)
+    at Dead e is = absurd (going is)
 
 pub returns-after-not-went_well-clause-run : goal.returns-after-not-went_well-clause-run
 returns-after-not-went_well-clause-run g c = λ s represents.
-    let left = c.run-end.ensures s represents in
+    let left = c.run-end.ensures.session s represents in
     let closed = c.in-Ok.ensures in
     let of_table = has_table c.run-end.new.store left.next left.represents (λ failed. ok_is_no_refusal (closed.failed failed)) in (
       left.next,
       record {
         end = c.run-end.result;
-        runs = runs_kept c.run-end.result (run_state s (g.R.Read.remaining c.args.input.now) (g.W.Write.contents c.args.output.now)) (run_state left.next (g.R.Read.remaining c.run-end.new.input) (g.W.Write.contents c.run-end.new.output)) (g.W.Write.contents c.flush_out-flushed.new.self) left.so c.flush_out-flushed.ensures.bytes;
-        well = λ well. ((c.is_whole-went_well.ensures well).0, of_table.table, of_table.alive, closed.closed of_table.table of_table.represents);
+        runs = runs_kept _ c.run-end.result (g.R.Read.remaining c.args.input.now) (g.R.Read.remaining c.run-end.new.input) (g.W.Write.contents c.args.output.now) (g.W.Write.contents c.run-end.new.output) (g.W.Write.contents c.flush_out-flushed.new.self) left.so.0 c.flush_out-flushed.ensures.bytes;
+        well = λ well. ((c.is_whole-went_well.ensures well).0, of_table.table, of_table.alive, closed.closed of_table.table of_table.state);
         stops = λ b stop.
-            let since = same_beginning c.run-end.result _ _ left.so in
+            let since = same_beginning c.run-end.result (run_state s (g.R.Read.remaining c.args.input.now) (g.W.Write.contents c.args.output.now)) (run_state left.next (g.R.Read.remaining c.run-end.new.input) (g.W.Write.contents c.run-end.new.output)) left.so.0 in
             let tables = left.next.stops.so_far in
             subst (λ (state : StoreState). IsRefusedOrImageOf (with_last state tables) b) (sym of_table.alive)
             (left_by_closing c.run-end.new.store left.next of_table.table c.in-Ok.device left.represents (closed.stops left.next of_table.table left.represents of_table.alive) b
             (subst (λ k. g.D.BlockDevice.left_since c.in-Ok.device k b) (sym since) stop));
         kept = λ b found.
-            let since = same_beginning c.run-end.result _ _ left.so in
+            let since = same_beginning c.run-end.result (run_state s (g.R.Read.remaining c.args.input.now) (g.W.Write.contents c.args.output.now)) (run_state left.next (g.R.Read.remaining c.run-end.new.input) (g.W.Write.contents c.run-end.new.output)) left.so.0 in
             let tables = left.next.stops.kept_so_far in
             subst (λ (state : StoreState). IsImageOfOne (with_last state tables) b) (sym of_table.alive)
             (found_by_closing c.run-end.new.store left.next of_table.table c.in-Ok.device left.represents (closed.stops left.next of_table.table left.represents of_table.alive) found.0 b
             (subst (λ k. g.D.BlockDevice.recovery.found_since c.in-Ok.device k b) (sym since) found.1));
         counted = let of_store = (session_state_is c.run-end.new.store left.next left.represents).faults in let kept = closed.no_fault in omega (arith, of_store, kept);
       },
+      run_leaves c.args.store c.run-end.new.store left.next of_table.table c.in-Ok.device left.represents of_table.alive left.so.1 (closed.stops left.next of_table.table left.represents of_table.alive),
     )
+
+pub returns-after-not-went_well-clause-checked : goal.returns-after-not-went_well-clause-checked
+returns-after-not-went_well-clause-checked g c = λ honest.
+    let closed = c.in-Ok.ensures in
+    let store = c.run-end.new.store in
+    record {
+      end = c.run-end.result;
+      runs = runs_kept _ c.run-end.result (g.R.Read.remaining c.args.input.now) (g.R.Read.remaining c.run-end.new.input) (g.W.Write.contents c.args.output.now) (g.W.Write.contents c.run-end.new.output) (g.W.Write.contents c.flush_out-flushed.new.self)
+          (runs_so _ _ (λ rs xs once. once_checked_so _ _ (closed_in_image store (g.D.BlockDevice.shown c.in-Ok.device) c.is_whole-went_well.result closed.closed (λ dead. ok_is_no_refusal (closed.dead dead))) rs xs once) c.run-end.result
+          (g.R.Read.remaining c.args.input.now) (g.R.Read.remaining c.run-end.new.input) (g.W.Write.contents c.args.output.now) (g.W.Write.contents c.run-end.new.output) (c.run-end.ensures.checked honest)) c.flush_out-flushed.ensures.bytes;
+      well = λ well. (c.is_whole-went_well.ensures well).0;
+    }
 
 pub returns-after-not-went_well-clause-durable : goal.returns-after-not-went_well-clause-durable
 returns-after-not-went_well-clause-durable g c = λ s represents well.
-    let left = c.run-end.ensures s represents in
+    let left = c.run-end.ensures.session s represents in
     let closed = c.in-Ok.ensures in
     let of_table = has_table c.run-end.new.store left.next left.represents (λ failed. ok_is_no_refusal (closed.failed failed)) in
-    closed.durable of_table.table of_table.represents
+    closed.durable of_table.table of_table.state
 
 pub returns-in-Err-clause-run : goal.returns-in-Err-clause-run
 returns-in-Err-clause-run g c = λ s represents.
-    let left = c.run-end.ensures s represents in (
+    let left = c.run-end.ensures.session s represents in (
       left.next,
       record {
         end = c.run-end.result;
-        runs = runs_kept c.run-end.result (run_state s (g.R.Read.remaining c.args.input.now) (g.W.Write.contents c.args.output.now)) (run_state left.next (g.R.Read.remaining c.run-end.new.input) (g.W.Write.contents c.run-end.new.output)) (g.W.Write.contents c.flush_out-flushed.new.self) left.so c.flush_out-flushed.ensures.bytes;
+        runs = runs_kept _ c.run-end.result (g.R.Read.remaining c.args.input.now) (g.R.Read.remaining c.run-end.new.input) (g.W.Write.contents c.args.output.now) (g.W.Write.contents c.run-end.new.output) (g.W.Write.contents c.flush_out-flushed.new.self) left.so.0 c.flush_out-flushed.ensures.bytes;
         well = λ well. absurd (false_is_not_true well);
         stops = λ b stop.
-            let since = same_beginning c.run-end.result _ _ left.so in
+            let since = same_beginning c.run-end.result (run_state s (g.R.Read.remaining c.args.input.now) (g.W.Write.contents c.args.output.now)) (run_state left.next (g.R.Read.remaining c.run-end.new.input) (g.W.Write.contents c.run-end.new.output)) left.so.0 in
             let told = subst (λ k. g.D.BlockDevice.left_since c.in-Err.device k b) (sym since) stop in
             left_when_refused c.run-end.new.store left.next c.in-Err.device left.represents
             (λ t alive. c.in-Err.ensures.refused_stops left.next t left.represents alive)
             (λ failed. refused_device _ _ _ _ _ _ refl refl (c.in-Err.ensures.failed failed)) left.next.state refl b told;
         kept = λ b found.
-            let since = same_beginning c.run-end.result _ _ left.so in
+            let since = same_beginning c.run-end.result (run_state s (g.R.Read.remaining c.args.input.now) (g.W.Write.contents c.args.output.now)) (run_state left.next (g.R.Read.remaining c.run-end.new.input) (g.W.Write.contents c.run-end.new.output)) left.so.0 in
             found_when_refused c.run-end.new.store left.next c.in-Err.device left.represents
             (λ t alive. c.in-Err.ensures.refused_stops left.next t left.represents alive)
             (λ failed. refused_device _ _ _ _ _ _ refl refl (c.in-Err.ensures.failed failed)) left.next.state refl b
@@ -140,7 +189,19 @@ returns-in-Err-clause-run g c = λ s represents.
             let grows = no_fewer_faults {T = Unit {0}} _ _ (Err c.in-Err.refusal) fits (record { ok = tt; refused = c.in-Err.ensures.cause }) in
             omega (arith, of_store, grows);
       },
+      refused_leaves c.args.store c.run-end.new.store left.next c.in-Err.device left.represents left.so.1
+      (λ t alive. c.in-Err.ensures.refused_stops left.next t left.represents alive)
+      (λ failed. refused_device _ _ _ _ _ _ refl refl (c.in-Err.ensures.failed failed)) left.next.state refl,
     )
+
+pub returns-in-Err-clause-checked : goal.returns-in-Err-clause-checked
+returns-in-Err-clause-checked g c = λ honest. record {
+  end = c.run-end.result;
+  runs = runs_kept _ c.run-end.result (g.R.Read.remaining c.args.input.now) (g.R.Read.remaining c.run-end.new.input) (g.W.Write.contents c.args.output.now) (g.W.Write.contents c.run-end.new.output) (g.W.Write.contents c.flush_out-flushed.new.self)
+      (runs_so _ _ (λ rs xs once. once_checked_so _ _ (λ s stands well. absurd (false_is_not_true well)) rs xs once) c.run-end.result
+      (g.R.Read.remaining c.args.input.now) (g.R.Read.remaining c.run-end.new.input) (g.W.Write.contents c.args.output.now) (g.W.Write.contents c.run-end.new.output) (c.run-end.ensures.checked honest)) c.flush_out-flushed.ensures.bytes;
+  well = λ well. absurd (false_is_not_true well);
+}
 
 -- a line was written where the run did not go well, or nothing where it did
 told : {E T : Type 0} (went_well : Bool) (a b : Option (List ℕ)) (r : Result T E) → went_well ≡ false → Writes a b r told_fault → TellsEnd went_well a b

@@ -1,17 +1,16 @@
 -- The goals of `step` that are proved by hand.
-use Rattle.std.proofs.Common.{◌≡◌, ℕ, List, Option, [], ◌∷◌, ◌++◌, true, false, subst, ap, sym, ◌∙◌}
+use Rattle.std.proofs.Common.{◌≡◌, ℕ, List, Option, [], ◌∷◌, ◌++◌, true, false, refl, subst, ap, sym, ◌∙◌}
 use Rattle.std.specs.Io.KnownBytes.{IsAtEnd}
 use Rattle.command_shell.specs.Lines.{newline}
 use Rattle.command_shell.specs.Meanings.{meaning_of}
 use Rattle.command_shell.specs.Pending.{Finds, pending}
 use Rattle.command_shell.specs.Reading.{BeginsLine, Reads, ReadsTo}
-use Rattle.command_shell.specs.Serving.{run_state}
 use Rattle.command_shell.specs.TextCommands.{AreCommands}
 use Rattle.command_shell.specs.declared.lines.Found.TheVariants as Found
 use Rattle.command_shell.specs.TextCommands.IsUnfinished.{in_line}
 use Rattle.command_shell.proofs.CommandLemmas.{lines_of-line, long_meaning}
 use Rattle.command_shell.proofs.ReadLemmas.{begun_read, last_read, last_front, last_left, last_line, long_read, long_last_read, long_last_line, end_read}
-use Rattle.command_shell.proofs.SessionLemmas.{steps_after, steps_line, takes_end, takes_fault, takes_on}
+use Rattle.command_shell.proofs.SessionLemmas.{ends_there, fails_there, steps_after, steps_line}
 use Rattle.command_shell.proofs.session.step.Goals as goal
 
 -- what was found is pending
@@ -45,9 +44,9 @@ returns-in-Ok-Last-clause-steps g c =
     let found = rw c.in-Ok-Last.field-0-is at c.in-Ok-Last.ensures.found in
     let line = last_line r r' bytes mid n at_end found in
     let reads = last_read r r' bytes mid left n found (c.take.ensures.pending ∙ last_left r r' bytes mid n at_end found) in
-    takes_on (c.answer_last-written.ensures mid (c.parse_line.ensures ∙ ap meaning_of (c.front.ensures ∙ last_front r r' bytes mid n at_end found)))
-    (λ s s' a. steps_after (run_state s r w) (run_state s' r' w') bytes left mid a.requests a.answers true c.end_after.result c.answer_last-written.result c.end_after.ensures reads
-    (subst (λ (ls : List (List ℕ)). AreCommands true ls a.requests) (sym line) a.asked) a.lawful a.written)
+    let a = c.answer_last-written.ensures mid (c.parse_line.ensures ∙ ap meaning_of (c.front.ensures ∙ last_front r r' bytes mid n at_end found)) in
+    steps_after _ r r' w w' bytes left mid a.requests a.answers true c.end_after.result c.answer_last-written.result c.end_after.ensures reads
+    (subst (λ (ls : List (List ℕ)). AreCommands true ls a.requests) (sym line) a.asked) a.lawful a.written
 
 pub returns-in-Ok-TooLong-clause-steps : goal.returns-in-Ok-TooLong-clause-steps
 returns-in-Ok-TooLong-clause-steps g c =
@@ -55,7 +54,7 @@ returns-in-Ok-TooLong-clause-steps g c =
     let bytes = pending c.args.lines.now in
     let at_end = IsAtEnd (g.R.Read.remaining c.find.new.reader) in
     let found = rw c.in-Ok-TooLong.field-0-is at c.in-Ok-TooLong.ensures.found in
-    steps_line (g.R.Read.remaining c.args.input.now) (g.R.Read.remaining c.find.new.reader) (g.W.Write.contents c.args.output.now) (g.W.Write.contents c.answer.new.output) bytes left (found.so.0 ++ newline ∷ []) found.so.0 _ false c.end_after-in-Ok-TooLong.result c.answer.result c.end_after-in-Ok-TooLong.ensures
+    steps_line _ (g.R.Read.remaining c.args.input.now) (g.R.Read.remaining c.find.new.reader) (g.W.Write.contents c.args.output.now) (g.W.Write.contents c.answer.new.output) bytes left (found.so.0 ++ newline ∷ []) found.so.0 _ false c.end_after-in-Ok-TooLong.result c.answer.result c.end_after-in-Ok-TooLong.ensures
     (long_read (g.R.Read.remaining c.args.input.now) (g.R.Read.remaining c.find.new.reader) bytes left at_end found)
     (lines_of-line found.so.0 found.so.2)
     (long_meaning found.so.0 found.so.1) c.answer.ensures
@@ -66,7 +65,7 @@ returns-in-Ok-LastTooLong-clause-steps g c =
     let bytes = pending c.args.lines.now in
     let found = rw c.in-Ok-LastTooLong.field-0-is at c.in-Ok-LastTooLong.ensures.found in
     let line = bytes ++ found.more in
-    steps_line (g.R.Read.remaining c.args.input.now) (g.R.Read.remaining c.find.new.reader) (g.W.Write.contents c.args.output.now) (g.W.Write.contents c.answer-in-Ok-LastTooLong.new.output) bytes left line line _ true c.end_after-in-Ok-LastTooLong.result c.answer-in-Ok-LastTooLong.result c.end_after-in-Ok-LastTooLong.ensures
+    steps_line _ (g.R.Read.remaining c.args.input.now) (g.R.Read.remaining c.find.new.reader) (g.W.Write.contents c.args.output.now) (g.W.Write.contents c.answer-in-Ok-LastTooLong.new.output) bytes left line line _ true c.end_after-in-Ok-LastTooLong.result c.answer-in-Ok-LastTooLong.result c.end_after-in-Ok-LastTooLong.ensures
     (long_last_read (g.R.Read.remaining c.args.input.now) (g.R.Read.remaining c.find.new.reader) bytes left found)
     (long_last_line line found.so.0 found.so.1)
     (long_meaning line found.so.0) c.answer-in-Ok-LastTooLong.ensures
@@ -76,9 +75,9 @@ returns-in-Ok-End-clause-steps g c =
     let bytes = pending c.args.lines.now in
     let found = rw c.in-Ok-End.field-0-is at c.in-Ok-End.ensures.found in
     let left = pending c.find.new.self in
-    takes_end (g.R.Read.remaining c.args.input.now) (g.R.Read.remaining c.find.new.reader) (g.W.Write.contents c.args.output.now) bytes left (subst (λ l. Reads true (g.R.Read.remaining c.args.input.now) (g.R.Read.remaining c.find.new.reader) bytes l []) found.so.0 (end_read (g.R.Read.remaining c.args.input.now) (g.R.Read.remaining c.find.new.reader) bytes left found))
+    ends_there _ refl (g.R.Read.remaining c.args.input.now) (g.R.Read.remaining c.find.new.reader) (g.W.Write.contents c.args.output.now) bytes left (subst (λ l. Reads true (g.R.Read.remaining c.args.input.now) (g.R.Read.remaining c.find.new.reader) bytes l []) found.so.0 (end_read (g.R.Read.remaining c.args.input.now) (g.R.Read.remaining c.find.new.reader) bytes left found))
 
 pub returns-in-Err-clause-steps : goal.returns-in-Err-clause-steps
 returns-in-Err-clause-steps g c =
     let bytes = pending c.args.lines.now in
-    takes_fault (g.R.Read.remaining c.args.input.now) (g.R.Read.remaining c.find.new.reader) (g.W.Write.contents c.args.output.now) bytes (pending c.find.new.self) _ (in_line c.in-Err.ensures.found.so) (begun_read (g.R.Read.remaining c.args.input.now) (g.R.Read.remaining c.find.new.reader) bytes c.in-Err.ensures.found)
+    fails_there _ refl (g.R.Read.remaining c.args.input.now) (g.R.Read.remaining c.find.new.reader) (g.W.Write.contents c.args.output.now) bytes (pending c.find.new.self) _ (in_line c.in-Err.ensures.found.so) (begun_read (g.R.Read.remaining c.args.input.now) (g.R.Read.remaining c.find.new.reader) bytes c.in-Err.ensures.found)

@@ -34,7 +34,7 @@ returns-clause-steps g c = λ before unread reads.
     let n = c.args.len in
     let left = pending c.take-2.new.self in
     let found = found_line before r (IsAtEnd r) unread mid n reads c.requires in
-    steps_line before r (g.W.Write.contents c.args.output.now) (g.W.Write.contents c.answer-written.new.output) unread left (take n mid ++ newline ∷ []) (take n mid) _ false c.end_after.result c.answer-written.result c.end_after.ensures
+    steps_line _ before r (g.W.Write.contents c.args.output.now) (g.W.Write.contents c.answer-written.new.output) unread left (take n mid ++ newline ∷ []) (take n mid) _ false c.end_after.result c.answer-written.result c.end_after.ensures
     (line_read before r unread mid left n (IsAtEnd r) found c.take-2.ensures.pending)
     (lines_of-line (take n mid) (one_line before r unread mid left n (IsAtEnd r) found))
     (c.parse_line-line.ensures ∙ ap meaning_of c.front.ensures) c.answer-written.ensures

@@ -6,8 +6,9 @@ ghost use Rattle.live_layers.specs.Creating.{BringsTree};
 ghost use Rattle.live_layers.specs.Dropping.{KeepsOtherTrees};
 ghost use Rattle.plain_table.specs.Commands.Command.{Create, Drop};
 ghost use Rattle.plain_table.specs.Table.{Table};
+ghost use Rattle.store_law.specs.States.StoreState.{Alive};
 ghost use Rattle.layer_store.specs.Commands.{Changes};
-ghost use Rattle.layer_store.specs.Representation.{RepresentsTable, layers_in};
+ghost use Rattle.layer_store.specs.Representation.{IsInState, layers_in};
 
 use crate::store::changes::tell;
 use crate::store::{FAILED, Store};
@@ -22,7 +23,7 @@ impl<D: BlockDevice, A: Allocator + Copy> Store<D, A> {
     /// Refused, in this order, by BadName, BadDims, BadFanout, LayerExists and TooManyLayers.
     pub fn create(&mut self, layer: &[u8], dims: u64, fanout: u64) -> Result<(), Refusal>
         ensures changes { Changes self.old self.new (Create layer.now dims fanout) result }
-        ensures tree { (t : Table) → RepresentsTable self.old t →
+        ensures tree { (t : Table) → IsInState self.old (Alive t) →
             OnOk result (BringsTree (layers_in self.old) (layers_in self.new) layer.now IsEmptyLeaf) }
     {
         if self.failed {
@@ -37,7 +38,7 @@ impl<D: BlockDevice, A: Allocator + Copy> Store<D, A> {
     /// Refused, in this order, by BadName and NoLayer.
     pub fn drop_layer(&mut self, layer: &[u8]) -> Result<(), Refusal>
         ensures changes { Changes self.old self.new (Drop layer.now) result }
-        ensures others { (t : Table) → RepresentsTable self.old t →
+        ensures others { (t : Table) → IsInState self.old (Alive t) →
             OnOk result (KeepsOtherTrees (layers_in self.old) (layers_in self.new) layer.now) }
     {
         if self.failed {

@@ -8,8 +8,9 @@ ghost use Rattle.plain_table.specs.Commands.Command.{Load};
 ghost use Rattle.plain_table.specs.Loads.{given_object};
 ghost use Rattle.plain_table.specs.Step.{changes};
 ghost use Rattle.plain_table.specs.Table.{Table, layer_at};
+ghost use Rattle.store_law.specs.States.StoreState.{Alive};
 ghost use Rattle.layer_store.specs.Commands.{Changes};
-ghost use Rattle.layer_store.specs.Representation.{RepresentsTable, layers_in};
+ghost use Rattle.layer_store.specs.Representation.{IsInState, layers_in};
 
 use crate::store::changes::tell;
 use crate::store::{FAILED, Store};
@@ -24,10 +25,10 @@ impl<D: BlockDevice, A: Allocator + Copy> Store<D, A> {
     /// Refused, in this order, by BadName, NoLayer, WrongDims, BadBox, NotEmpty, DuplicateInLoad and TooManyObjects.
     pub fn load(&mut self, layer: &[u8], objects: &[(u64, RawBox, u32)]) -> Result<(), Refusal>
         ensures changes { Changes self.old self.new (Load layer.now objects.now) result }
-        ensures tree { (t : Table) → RepresentsTable self.old t → changes t (Load layer.now objects.now) ≡ true →
+        ensures tree { (t : Table) → IsInState self.old (Alive t) → changes t (Load layer.now objects.now) ≡ true →
             OnOk result (ChangesTree (layers_in self.old) (layers_in self.new) layer.now
             (HasFilled (layer_at t layer.now) (map given_object objects.now))) }
-        ensures same { (t : Table) → RepresentsTable self.old t → changes t (Load layer.now objects.now) ≡ false →
+        ensures same { (t : Table) → IsInState self.old (Alive t) → changes t (Load layer.now objects.now) ≡ false →
             KeepsPagesAndRecords (layers_in self.old) (layers_in self.new) }
     {
         if self.failed {

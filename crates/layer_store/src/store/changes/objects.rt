@@ -8,8 +8,9 @@ ghost use Rattle.plain_table.specs.Boxes.{given_bounds};
 ghost use Rattle.plain_table.specs.Commands.Command.{Delete, Insert, Move};
 ghost use Rattle.plain_table.specs.Step.{changes};
 ghost use Rattle.plain_table.specs.Table.{Table, layer_at};
+ghost use Rattle.store_law.specs.States.StoreState.{Alive};
 ghost use Rattle.layer_store.specs.Commands.{Changes};
-ghost use Rattle.layer_store.specs.Representation.{RepresentsTable, layers_in};
+ghost use Rattle.layer_store.specs.Representation.{IsInState, layers_in};
 
 use crate::store::changes::tell;
 use crate::store::{FAILED, Store};
@@ -23,7 +24,7 @@ impl<D: BlockDevice, A: Allocator + Copy> Store<D, A> {
     /// Refused, in this order, by BadName, NoLayer, WrongDims, BadBox, Duplicate and TooManyObjects.
     pub fn insert(&mut self, layer: &[u8], id: u64, bounds: RawBox, tag: u32) -> Result<(), Refusal>
         ensures changes { Changes self.old self.new (Insert layer.now id bounds tag) result }
-        ensures tree { (t : Table) → RepresentsTable self.old t →
+        ensures tree { (t : Table) → IsInState self.old (Alive t) →
             OnOk result (ChangesTree (layers_in self.old) (layers_in self.new) layer.now
             (HasGained (layer_at t layer.now) id (given_bounds bounds, tag))) }
     {
@@ -40,10 +41,10 @@ impl<D: BlockDevice, A: Allocator + Copy> Store<D, A> {
     /// Refused, in this order, by BadName, NoLayer, WrongDims, BadBox and NoObject.
     pub fn move_object(&mut self, layer: &[u8], id: u64, bounds: RawBox) -> Result<(), Refusal>
         ensures changes { Changes self.old self.new (Move layer.now id bounds) result }
-        ensures tree { (t : Table) → RepresentsTable self.old t → changes t (Move layer.now id bounds) ≡ true →
+        ensures tree { (t : Table) → IsInState self.old (Alive t) → changes t (Move layer.now id bounds) ≡ true →
             OnOk result (ChangesTree (layers_in self.old) (layers_in self.new) layer.now
             (HasMoved (layer_at t layer.now) id (given_bounds bounds))) }
-        ensures same { (t : Table) → RepresentsTable self.old t → changes t (Move layer.now id bounds) ≡ false →
+        ensures same { (t : Table) → IsInState self.old (Alive t) → changes t (Move layer.now id bounds) ≡ false →
             KeepsPagesAndRecords (layers_in self.old) (layers_in self.new) }
     {
         if self.failed {
@@ -58,7 +59,7 @@ impl<D: BlockDevice, A: Allocator + Copy> Store<D, A> {
     /// Refused, in this order, by BadName, NoLayer and NoObject.
     pub fn delete(&mut self, layer: &[u8], id: u64) -> Result<(), Refusal>
         ensures changes { Changes self.old self.new (Delete layer.now id) result }
-        ensures tree { (t : Table) → RepresentsTable self.old t →
+        ensures tree { (t : Table) → IsInState self.old (Alive t) →
             OnOk result (ChangesTree (layers_in self.old) (layers_in self.new) layer.now
             (HasLost (layer_at t layer.now) id)) }
     {

@@ -2,7 +2,7 @@
 use Rattle.std.proofs.Common.{refl}
 use Rattle.layer_store.specs.Representation.{device_in}
 use Rattle.layer_store.proofs.ChangeLemmas.{failed_changes, on_told, refused_written, told_changes}
-use Rattle.layer_store.proofs.StoreLemmas.{alive_with}
+use Rattle.layer_store.proofs.StoreLemmas.{is_alive}
 use Rattle.layer_store.proofs.store.Store.insert.Goals as goal
 
 pub returns-then-self-clause-changes : goal.returns-then-self-clause-changes
@@ -16,4 +16,4 @@ returns-clause-changes g c =
     made.change (refused_written made.change (λ t. (refl, refl)))
 
 pub returns-clause-tree : goal.returns-clause-tree
-returns-clause-tree g c = λ t represents. on_told _ c.tell.ensures (c.insert-made.ensures.tree t (alive_with c.args.self.now t represents).1)
+returns-clause-tree g c = λ t alive. on_told _ c.tell.ensures (c.insert-made.ensures.tree t (is_alive c.args.self.now t alive).1)

@@ -2,7 +2,7 @@
 use Rattle.std.proofs.Common.{refl}
 use Rattle.layer_store.specs.Representation.{device_in}
 use Rattle.layer_store.proofs.ChangeLemmas.{failed_changes, on_told, told_changes}
-use Rattle.layer_store.proofs.StoreLemmas.{alive_with, not_both}
+use Rattle.layer_store.proofs.StoreLemmas.{is_alive, not_both}
 use Rattle.layer_store.proofs.store.Store.load.Goals as goal
 
 pub returns-then-self-clause-changes : goal.returns-then-self-clause-changes
@@ -16,10 +16,10 @@ returns-clause-changes g c =
     made.change (λ t sound unchanged. (made.same t sound unchanged).written)
 
 pub returns-clause-tree : goal.returns-clause-tree
-returns-clause-tree g c = λ t represents changed. on_told _ c.tell.ensures (c.load-made.ensures.tree t (alive_with c.args.self.now t represents).1 changed)
+returns-clause-tree g c = λ t alive changed. on_told _ c.tell.ensures (c.load-made.ensures.tree t (is_alive c.args.self.now t alive).1 changed)
 
 pub returns-then-self-clause-same : goal.returns-then-self-clause-same
-returns-then-self-clause-same g c = λ t represents unchanged. absurd (not_both _ c.if-self.true (alive_with c.args.self.now t represents).0)
+returns-then-self-clause-same g c = λ t alive unchanged. absurd (not_both _ c.if-self.true (is_alive c.args.self.now t alive).0)
 
 pub returns-clause-same : goal.returns-clause-same
-returns-clause-same g c = λ t represents unchanged. c.load-made.ensures.same t (alive_with c.args.self.now t represents).1 unchanged
+returns-clause-same g c = λ t alive unchanged. c.load-made.ensures.same t (is_alive c.args.self.now t alive).1 unchanged

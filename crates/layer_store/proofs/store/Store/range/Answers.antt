@@ -2,7 +2,7 @@
 use Rattle.std.proofs.Common.{refl}
 use Rattle.layer_store.specs.Representation.{device_in}
 use Rattle.layer_store.proofs.QuestionLemmas.{asked_answers, failed_answers}
-use Rattle.layer_store.proofs.StoreLemmas.{alive_with}
+use Rattle.layer_store.proofs.StoreLemmas.{is_alive}
 use Rattle.layer_store.proofs.store.Store.range.Goals as goal
 
 pub returns-then-self-clause-answers : goal.returns-then-self-clause-answers
@@ -16,4 +16,4 @@ returns-clause-answers g c =
     asked.answered asked.keeps
 
 pub returns-clause-looks : goal.returns-clause-looks
-returns-clause-looks g c = λ t represents. c.range.ensures.looks t (alive_with c.args.self.now t represents).1
+returns-clause-looks g c = λ t alive. c.range.ensures.looks t (is_alive c.args.self.now t alive).1

@@ -2,10 +2,10 @@
 use Rattle.std.proofs.Common.{inl}
 use Rattle.plain_table.specs.Commands.Command.{Reopen}
 use Rattle.layer_store.specs.Representation.{device_in}
-use Rattle.layer_store.proofs.ChangeLemmas.{cause_told, not_refused, refused_goes_on, step_told, told_end}
+use Rattle.layer_store.proofs.ChangeLemmas.{cause_told, not_refused, refused_goes_on, reply_told, step_told, told_end}
 use Rattle.layer_store.proofs.ClosingLemmas.{durable_closed, ends_closed, image_closed, quiet_closed, settled_closed, stops_closed}
 use Rattle.layer_store.proofs.StopLemmas.{reopening_leaves}
-use Rattle.layer_store.proofs.StoreLemmas.{alive_in, alive_with, dead_so, dead_tells, is_dead, not_both, takes_nothing}
+use Rattle.layer_store.proofs.StoreLemmas.{alive_in, dead_so, dead_tells, is_alive, is_dead, not_both, replies_nothing, takes_nothing}
 use Rattle.layer_store.proofs.store.Store.reopen.Goals as goal
 
 pub returns-then-self-clause-step : goal.returns-then-self-clause-step
@@ -21,8 +21,19 @@ returns-clause-step g c =
     (made.ensures.honest.0 sound.map.honest) (λ k only takes. g.met.D.BlockDevice.committed _ k (made.ensures.honest.0 sound.map.honest) only takes) was)
     (g.met.D.BlockDevice.faults_fit (device_in old)) made.ensures.cause
 
+pub returns-then-self-clause-reply : goal.returns-then-self-clause-reply
+returns-then-self-clause-reply g c = replies_nothing c.args.self.now Reopen c.if-self.true
+
+pub returns-clause-reply : goal.returns-clause-reply
+returns-clause-reply g c =
+    let made = c.reopen-closed in
+    reply_told _ _ c.if-self.false c.tell.ensures tt made.ensures.changed (g.met.D.BlockDevice.faults_fit (device_in c.args.self.now)) made.ensures.cause
+
+pub returns-clause-honest : goal.returns-clause-honest
+returns-clause-honest g c = λ honest. c.reopen-closed.ensures.honest.0 honest
+
 pub returns-then-self-clause-closed : goal.returns-then-self-clause-closed
-returns-then-self-clause-closed g c = λ t represents end. absurd (not_both _ c.if-self.true (alive_with c.args.self.now t represents).0)
+returns-then-self-clause-closed g c = λ t alive end. absurd (not_both _ c.if-self.true (is_alive c.args.self.now t alive).0)
 
 pub returns-clause-closed : goal.returns-clause-closed
 returns-clause-closed g c = image_closed _ _ c.if-self.false c.tell.ensures c.reopen-closed.ensures.leaves
@@ -34,7 +45,7 @@ pub returns-clause-stops : goal.returns-clause-stops
 returns-clause-stops g c = stops_closed c.args.self.now (record c.args.self.now { layers = c.reopen-closed.new.self; failed = c.tell.new.failed }) c.if-self.false c.tell.ensures c.reopen-closed.ensures.leaves
 
 pub returns-then-self-clause-durable : goal.returns-then-self-clause-durable
-returns-then-self-clause-durable g c = λ t represents end. absurd (not_both _ c.if-self.true (alive_with c.args.self.now t represents).0)
+returns-then-self-clause-durable g c = λ t alive end. absurd (not_both _ c.if-self.true (is_alive c.args.self.now t alive).0)
 
 pub returns-clause-durable : goal.returns-clause-durable
 returns-clause-durable g c = durable_closed _ _ c.if-self.false c.tell.ensures c.reopen-closed.ensures.leaves c.reopen-closed.ensures.honest.0
@@ -43,7 +54,7 @@ pub returns-clause-now_settled : goal.returns-clause-now_settled
 returns-clause-now_settled g c = settled_closed c.args.self.now _ c.if-self.false c.tell.ensures c.reopen-closed.ensures.settled
 
 pub returns-then-self-clause-quiet : goal.returns-then-self-clause-quiet
-returns-then-self-clause-quiet g c = λ t represents settled. absurd (not_both _ c.if-self.true (alive_with c.args.self.now t represents).0)
+returns-then-self-clause-quiet g c = λ t alive settled. absurd (not_both _ c.if-self.true (is_alive c.args.self.now t alive).0)
 
 pub returns-clause-quiet : goal.returns-clause-quiet
 returns-clause-quiet g c = quiet_closed c.args.self.now (record c.args.self.now { layers = c.reopen-closed.new.self; failed = c.tell.new.failed }) c.if-self.false c.tell.ensures c.reopen-closed.ensures.leaves (λ honest b left. g.met.D.BlockDevice.only_now (device_in c.args.self.now) b honest left)
@@ -67,7 +78,7 @@ pub returns-clause-ended : goal.returns-clause-ended
 returns-clause-ended g c = told_end c.args.self.now _ c.if-self.false c.tell.ensures c.reopen-closed.ensures.goes_on
 
 pub returns-then-self-clause-trees : goal.returns-then-self-clause-trees
-returns-then-self-clause-trees g c = λ t represents. absurd (not_both _ c.if-self.true (alive_with c.args.self.now t represents).0)
+returns-then-self-clause-trees g c = λ t alive. absurd (not_both _ c.if-self.true (is_alive c.args.self.now t alive).0)
 
 pub returns-clause-trees : goal.returns-clause-trees
-returns-clause-trees g c = λ t represents. c.reopen-closed.ensures.trees t (alive_with c.args.self.now t represents).1
+returns-clause-trees g c = λ t alive. c.reopen-closed.ensures.trees t (is_alive c.args.self.now t alive).1

@@ -4,6 +4,8 @@ use Rattle.std.specs.Prelude.{option_and_then}
 use Rattle.catalog_page.specs.Layout.{records_at}
 use Rattle.live_layers.specs.Catalog.{is_good_catalog}
 use Rattle.live_layers.specs.Keeping.{records_in}
+use Rattle.layer_store.specs.Faults.{IsMemoryOrDevice}
+use Rattle.layer_store.proofs.ClosingLemmas.{memory_or_device}
 use Rattle.layer_store.proofs.StoreLemmas.{alive_so, not_both, settled_so}
 use Rattle.layer_store.proofs.store.start.begin.Goals as goal
 
@@ -28,3 +30,9 @@ returns-in-Ok-open-clause-settled g c =
 pub returns-in-Ok-open-clause-trees : goal.returns-in-Ok-open-clause-trees
 returns-in-Ok-open-clause-trees g c = λ blocks honest lies.
     let over = c.in-Ok.ensures in c.in-Ok-open.ensures.trees blocks (subst g.D.BlockDevice.honest (sym over.device) honest) ((over.lies blocks).1 lies)
+
+pub returns-in-Err-open-clause-not_refused : goal.returns-in-Err-open-clause-not_refused
+returns-in-Err-open-clause-not_refused g c = λ t blocks honest lies image.
+    let over = c.in-Ok.ensures in
+    subst IsMemoryOrDevice (sym c.as_refusal-in-Err-open.ensures)
+    (memory_or_device _ (c.in-Err-open.ensures.not_refused t blocks (subst g.D.BlockDevice.honest (sym over.device) honest) ((over.lies blocks).1 lies) image))
