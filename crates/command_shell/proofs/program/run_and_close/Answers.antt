@@ -190,8 +190,8 @@ returns-in-Err-clause-run g c = λ s represents.
             omega (arith, of_store, grows);
       },
       refused_leaves c.args.store c.run-end.new.store left.next c.in-Err.device left.represents left.so.1
-      (λ t alive. c.in-Err.ensures.refused_stops left.next t left.represents alive)
-      (λ failed. refused_device _ _ _ _ _ _ refl refl (c.in-Err.ensures.failed failed)) left.next.state refl,
+          (λ t alive. c.in-Err.ensures.refused_stops left.next t left.represents alive)
+          (λ failed. refused_device _ _ _ _ _ _ refl refl (c.in-Err.ensures.failed failed)) left.next.state refl,
     )
 
 pub returns-in-Err-clause-checked : goal.returns-in-Err-clause-checked
