@@ -45,7 +45,7 @@ returns-in-Ok-open-clause-stops g c = λ h t a e le left.
     let le2 : t ≤ p.moment p2 = omega (arith, le1, second.later) in
     let base : p.base p2 ≡ p.base c.args.pair = c.in-Ok-over.ensures.base h1 ∙ c.in-Ok.ensures.base h in
     let journal : untitled (p.journal p2) ≡ untitled (p.journal c.args.pair) =
-        c.in-Ok-over.ensures.journal h1 ∙ ap untitled (c.in-Ok.ensures.journal h) in
+    c.in-Ok-over.ensures.journal h1 ∙ ap untitled (c.in-Ok.ensures.journal h) in
     subst (λ blocks. LeavesRead (p.left_since c.args.pair t) blocks a e)
     (ap (λ x. recovered (unmarked x) (untitled (p.journal p2))) base
     ∙ ap (recovered (unmarked (p.base c.args.pair))) journal)
@@ -76,7 +76,7 @@ returns-in-Err-Malformed-default-clause-refused_stops g c = λ h t a e le left.
     let le2 : t ≤ p.moment p2 = omega (arith, le1, second.later) in
     let base : p.base p2 ≡ p.base c.args.pair = c.in-Ok-over.ensures.base h1 ∙ c.in-Ok.ensures.base h in
     let journal : untitled (p.journal p2) ≡ untitled (p.journal c.args.pair) =
-        c.in-Ok-over.ensures.journal h1 ∙ ap untitled (c.in-Ok.ensures.journal h) in
+    c.in-Ok-over.ensures.journal h1 ∙ ap untitled (c.in-Ok.ensures.journal h) in
     subst (λ blocks. LeavesRead (p.left_since c.args.pair t) blocks a e)
     (ap (λ x. recovered (unmarked x) (untitled (p.journal p2))) base
     ∙ ap (recovered (unmarked (p.base c.args.pair))) journal)
@@ -108,7 +108,7 @@ returns-in-Err-Device-default-clause-refused_stops g c = λ h t a e le left.
     let le2 : t ≤ p.moment p2 = omega (arith, le1, second.later) in
     let base : p.base p2 ≡ p.base c.args.pair = c.in-Ok-over.ensures.base h1 ∙ c.in-Ok.ensures.base h in
     let journal : untitled (p.journal p2) ≡ untitled (p.journal c.args.pair) =
-        c.in-Ok-over.ensures.journal h1 ∙ ap untitled (c.in-Ok.ensures.journal h) in
+    c.in-Ok-over.ensures.journal h1 ∙ ap untitled (c.in-Ok.ensures.journal h) in
     subst (λ blocks. LeavesRead (p.left_since c.args.pair t) blocks a e)
     (ap (λ x. recovered (unmarked x) (untitled (p.journal p2))) base
     ∙ ap (recovered (unmarked (p.base c.args.pair))) journal)
