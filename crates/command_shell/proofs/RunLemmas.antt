@@ -1,9 +1,7 @@
 -- A run that made calls of its store in turn is a lawful session from each state that the store was in.
 use Rattle.std.proofs.Common.{ℕ, List, Option}
 use Rattle.live_layers.specs.Image.{IsRefusedOrImageOf}
-use Rattle.plain_table.specs.Step.{Answer}
-use Rattle.store_law.specs.Sessions.{Reaches, Session, SessionState}
-use Rattle.store_law.specs.States.{Request}
+use Rattle.store_law.specs.Sessions.{Reaches, SessionState}
 use Rattle.layer_store.specs.Calls.{Calls}
 use Rattle.layer_store.specs.Representation.{Represents, StopsLeave}
 use Rattle.layer_store.specs.declared.store.Store.{Store}

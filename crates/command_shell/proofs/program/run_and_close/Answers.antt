@@ -19,7 +19,6 @@ use Rattle.store_law.specs.Laws.{a_session_keeps_its_beginning}
 use Rattle.layer_store.proofs.SessionLemmas.{once_checked_so}
 use Rattle.command_shell.specs.Runs.{EndsInImage, FoundSince, LeavesTablesOf, Runs, TellsEnd, with_last}
 use Rattle.command_shell.specs.declared.session.RunEnd.{RunEnd}
-use Rattle.command_shell.specs.declared.session.RunEnd.TheVariants.{Finished, ReadFault, WriteFault}
 use Rattle.command_shell.specs.Serving.{IsSession, RunState, run_state}
 use Rattle.command_shell.specs.Texts.{told_fault}
 use Rattle.command_shell.specs.Writing.{Writes}
