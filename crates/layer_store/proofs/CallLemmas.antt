@@ -37,7 +37,7 @@ remains_so (Surely t) c image = this_one [] t c image
 remains_so (Perhaps ts) c there = there
 
 -- one command is the other
-asked_so : Request → Command → Command
+abbrev asked_so : Request → Command → Command
 asked_so (Asks c) other = c
 asked_so BadCommand other = other
 
