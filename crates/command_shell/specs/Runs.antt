@@ -3,7 +3,7 @@ use Rattle.std.specs.Prelude.{ℕ, ◌≡◌, ◌≤◌, ◌⊎◌, Bool, true, 
 use Rattle.std.specs.Io.KnownBytes.{Keeps}
 use Rattle.block_device.specs.Device.{Blocks, LeavesOnly, Recovery}
 use Rattle.live_layers.specs.Image.{CommitsWhatOpens, IsImage, IsImageOfOne, IsRefusedOrImageOf}
-use Rattle.store_law.specs.Checked.{LawfulOnceChecked, Standing}
+use Rattle.layer_store.specs.Checked.{LawfulOnceChecked, Standing}
 use Rattle.store_law.specs.Sessions.{SessionState}
 use Rattle.store_law.specs.States.{Request, StoreState}
 use Rattle.store_law.specs.States.StoreState.{Alive, Dead}

@@ -16,8 +16,9 @@ use Rattle.plain_table.specs.Step.Answer.{Done, Refused}
 use Rattle.plain_table.specs.Table.{Table}
 use Rattle.plain_table.specs.declared.refusal.Refusal.{Refusal}
 use Rattle.plain_table.specs.declared.refusal.Refusal.TheVariants as refusal
-use Rattle.store_law.specs.Checked.{IsPassedCheck, LawfulOnceChecked, LawfulReplies, LawfulReply, LawfulTo, Standing}
-use Rattle.store_law.specs.Laws.{a_bad_line_is_a_lawful_reply, a_bad_line_is_lawful, a_session_keeps_its_tables, a_step_keeps_its_tables}
+use Rattle.layer_store.specs.Checked.{IsPassedCheck, LawfulOnceChecked, LawfulReplies, LawfulReply, LawfulTo, Standing}
+use Rattle.store_law.specs.Laws.{a_bad_line_is_lawful}
+use Rattle.layer_store.proofs.SessionLemmas.{a_bad_line_is_a_lawful_reply, a_session_keeps_its_tables, a_step_keeps_its_tables}
 use Rattle.store_law.specs.Sessions.{LawfulStep, Reaches, Session, SessionState, Takes}
 use Rattle.store_law.specs.States.{Request, StoreState}
 use Rattle.store_law.specs.States.Request.{Asks, BadCommand}

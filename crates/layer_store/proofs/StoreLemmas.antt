@@ -23,7 +23,7 @@ use Rattle.plain_table.specs.Table.{Table}
 use Rattle.plain_table.specs.declared.refusal.Refusal.{Refusal}
 use Rattle.plain_table.specs.declared.refusal.Refusal.TheVariants as refusal
 use Rattle.store_law.specs.Lawful.{IsEnd, IsFault, Lawful, LawfulFrom, RefusedBy, blames_device}
-use Rattle.store_law.specs.Checked.{LawfulReply, Standing}
+use Rattle.layer_store.specs.Checked.{LawfulReply, Standing}
 use Rattle.store_law.specs.Sessions.{LawfulStep, Reaches, SessionState}
 use Rattle.store_law.specs.States.{StoreState}
 use Rattle.store_law.specs.States.Request.{Asks}

@@ -3,8 +3,8 @@ use Rattle.std.specs.Prelude.{List}
 use Rattle.live_layers.specs.Image.{IsRefusedOrImageOf}
 use Rattle.page_cache.specs.Cache.{IsHonest}
 use Rattle.plain_table.specs.Step.{Answer}
-use Rattle.store_law.specs.Checked.{IsPassedCheck, LawfulReply}
-use Rattle.store_law.specs.Sessions.{LawfulStep, StepsBy, Takes}
+use Rattle.layer_store.specs.Checked.{IsPassedCheck, LawfulReply, StepsBy}
+use Rattle.store_law.specs.Sessions.{LawfulStep, Takes}
 use Rattle.store_law.specs.States.{Request}
 use Rattle.layer_store.specs.Commands.{StaysHonest}
 use Rattle.layer_store.specs.Representation.{BeginsWithSome, IsAliveWithSome, IsSettled, Represents, StandsAs, StopsLeave, cache_in, device_in}

@@ -15,7 +15,7 @@ use Rattle.plain_table.specs.Step.Answer.{Refused}
 use Rattle.plain_table.specs.Table.{Table}
 use Rattle.plain_table.specs.declared.refusal.Refusal.{Refusal}
 use Rattle.plain_table.specs.declared.refusal.Refusal.TheVariants as refusal
-use Rattle.store_law.specs.Checked.{LawfulReply}
+use Rattle.layer_store.specs.Checked.{LawfulReply}
 use Rattle.store_law.specs.Sessions.{LawfulStep, SessionState, Takes}
 use Rattle.store_law.specs.States.Request.{Asks}
 use Rattle.store_law.specs.States.StoreState.{Alive, Dead}

@@ -1,5 +1,6 @@
 -- The files of definitions.
 pub mod Faults
+pub mod Checked
 pub mod Starting
 pub mod Representation
 pub mod Commands

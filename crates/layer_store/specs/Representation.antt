@@ -8,7 +8,7 @@ use Rattle.live_layers.specs.declared.layers.Layers.{Layers}
 use Rattle.page_cache.specs.Cache.{IsHonest, KeepsGate, blocks_of, device_of, looks_of}
 use Rattle.page_cache.specs.declared.cache.PageCache.{PageCache}
 use Rattle.plain_table.specs.Table.{Table}
-use Rattle.store_law.specs.Checked.{Standing}
+use Rattle.layer_store.specs.Checked.{Standing}
 use Rattle.store_law.specs.Sessions.{Reaches, SessionState}
 use Rattle.store_law.specs.States.{StoreState}
 use Rattle.store_law.specs.States.StoreState.{Alive, Dead}

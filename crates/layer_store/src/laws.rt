@@ -7,8 +7,8 @@ ghost use Rattle.live_layers.specs.Image.{OpeningRefuses};
 ghost use Rattle.page_file.specs.declared.fault.Fault.{Fault};
 ghost use Rattle.plain_table.specs.Table.{Table};
 ghost use Rattle.plain_table.specs.Step.{Answer};
-ghost use Rattle.store_law.specs.Checked.{LawfulOnceChecked};
-ghost use Rattle.store_law.specs.Sessions.{Session, SessionState, Takes};
+ghost use Rattle.layer_store.specs.Checked.{LawfulOnceChecked, LawfulReply, standing_of};
+ghost use Rattle.store_law.specs.Sessions.{LawfulStep, Session, SessionState, Takes};
 ghost use Rattle.store_law.specs.States.{Request, StoreState};
 ghost use Rattle.store_law.specs.Stops.{tables_left};
 ghost use Rattle.layer_store.specs.Calls.{Calls};
@@ -111,4 +111,11 @@ pub fn calls_in_turn_are_a_session<D: BlockDevice, A: Allocator>()
         Calls old new rs xs → D.honest (device_in old) → LawfulOnceChecked (StandsAs new) rs xs }
     ensures honest { (old new : Store D A ⟦<D as BlockDevice>⟧) (rs : List Request) (xs : List Answer) →
         Calls old new rs xs → D.honest (device_in old) → D.honest (device_in new) }
+{}
+
+/// A lawful step is a lawful answer, whatever stops leave.
+#[tactic(auto, using(crate::proofs::SessionLemmas::a_step_is_a_reply))]
+pub fn a_step_is_a_reply()
+    ensures { (old new : SessionState) (r : Request) (a : Answer) → LawfulStep old r a new →
+        LawfulReply (standing_of old) r a (standing_of new) }
 {}

@@ -3,5 +3,4 @@ pub mod States
 pub mod Stops
 pub mod Lawful
 pub mod Sessions
-pub mod Checked
 pub mod Laws

@@ -24,16 +24,12 @@ pub record LawfulStep (old : SessionState) (r : Request) (a : Answer) (new : Ses
   pub stops : new.stops ≡ after_request old.state old.stops r a
   pub faults : old.faults ≤ new.faults
 
--- steps, each from what the one before left
-abbrev pub StepsBy : {T : Type 0} → (T → Request → Answer → T → Type 0) → T → List Request → List Answer → T → Type 0
-StepsBy Step old [] [] new = new ≡ old
-StepsBy {T = T} Step old (r ∷ rs) (a ∷ as') new = (mid : T) × Step old r a mid × StepsBy Step mid rs as' new
-StepsBy Step old [] (a ∷ as') new = ⊥
-StepsBy Step old (r ∷ rs) [] new = ⊥
-
 -- lawful steps, each from what the one before left
 abbrev pub Session : SessionState → List Request → List Answer → SessionState → Type 0
-Session = StepsBy LawfulStep
+Session old [] [] new = new ≡ old
+Session old (r ∷ rs) (a ∷ as') new = (mid : SessionState) × LawfulStep old r a mid × Session mid rs as' new
+Session old [] (a ∷ as') new = ⊥
+Session old (r ∷ rs) [] new = ⊥
 
 -- the requests were so answered, one lawful step each, by a store that began with this table
 pub record IsSessionFrom (t : Table) (requests : List Request) (answers : List Answer) : Type 0 where

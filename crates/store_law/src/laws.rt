@@ -1,13 +1,11 @@
 //! What follows from the law of a store: each law is the contract of a function that does nothing.
 ghost use Rattle.std.specs.Prelude.{◌≡◌, ◌≤◌, ◌++◌, false, List};
-ghost use Rattle.std.specs.List.{Contains};
 ghost use Rattle.plain_table.specs.Commands.{Command};
 ghost use Rattle.plain_table.specs.Step.{Answer, reply_of};
 ghost use Rattle.plain_table.specs.Step.Answer.{Refused};
 ghost use Rattle.plain_table.specs.Table.{Table};
 ghost use Rattle.plain_table.specs.declared.refusal.Refusal.{Refusal};
 ghost use Rattle.plain_table.specs.declared.refusal.Refusal.TheVariants as refusal;
-ghost use Rattle.store_law.specs.Checked.{LawfulReply, standing_of};
 ghost use Rattle.store_law.specs.Lawful.{blames_device};
 ghost use Rattle.store_law.specs.Sessions.{LawfulStep, Session, SessionState};
 ghost use Rattle.store_law.specs.States.{Request};
@@ -52,18 +50,4 @@ pub fn a_dead_store_stays_dead()
 pub fn a_session_keeps_its_beginning()
     ensures { (old new : SessionState) (rs : List Request) (xs : List Answer) → Session old rs xs new →
         new.stops.since ≡ old.stops.since }
-{}
-
-/// The tables of which a stop since its beginning may have left an image stay among them through a session.
-
-pub fn a_session_keeps_its_tables()
-    ensures { (old new : SessionState) (rs : List Request) (xs : List Answer) → Session old rs xs new →
-        (t : Table) → Contains old.stops.so_far t → Contains new.stops.so_far t }
-{}
-
-/// A lawful step is a lawful answer, whatever stops leave.
-#[tactic(auto, using(crate::specs::Laws::a_step_is_a_reply))]
-pub fn a_step_is_a_reply()
-    ensures { (old new : SessionState) (r : Request) (a : Answer) → LawfulStep old r a new →
-        LawfulReply (standing_of old) r a (standing_of new) }
 {}

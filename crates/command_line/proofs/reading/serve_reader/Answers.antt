@@ -1,6 +1,6 @@
 -- The session over the store that a reader has.
 use Rattle.std.proofs.Common.{◌∙◌, ◌==◌, ap, inl, inr, refl, subst, sym}
-use Rattle.store_law.specs.Laws.{once_checked_so}
+use Rattle.layer_store.proofs.SessionLemmas.{once_checked_so}
 use Rattle.command_shell.proofs.SessionLemmas.{runs_so}
 use Rattle.live_layers.specs.Image.{IsImage, OpeningRefuses}
 use Rattle.command_line.proofs.reading.serve_reader.Goals as goal

@@ -1,7 +1,7 @@
 -- A closing that is finished leaves an image of the session's table.
 use Rattle.std.proofs.Common.{◌≡◌, ◌∙◌, ap, ℕ, Bool, true, false, List, ◌∷◌, Option, Result, Ok, Err, inl, inr, refl, sym, subst, arith}
 use Rattle.std.proofs.KnownBytes.{Keeps-refl}
-use Rattle.store_law.specs.Checked.{Standing}
+use Rattle.layer_store.specs.Checked.{Standing}
 use Rattle.store_law.specs.Sessions.{SessionState}
 use Rattle.store_law.specs.States.{StoreState}
 use Rattle.store_law.specs.States.StoreState.{Alive, Dead}
@@ -15,7 +15,8 @@ use Rattle.layer_store.proofs.StopLemmas.{found_by_closing, found_of_store, left
 use Rattle.layer_store.proofs.StoreLemmas.{no_fewer_faults}
 use Rattle.live_layers.proofs.StopLemmas.{or_this}
 use Rattle.live_layers.specs.Image.{IsImage, IsRefusedOrImageOf, IsImageOfOne}
-use Rattle.store_law.specs.Laws.{a_session_keeps_its_beginning, once_checked_so}
+use Rattle.store_law.specs.Laws.{a_session_keeps_its_beginning}
+use Rattle.layer_store.proofs.SessionLemmas.{once_checked_so}
 use Rattle.command_shell.specs.Runs.{EndsInImage, FoundSince, LeavesTablesOf, Runs, TellsEnd, with_last}
 use Rattle.command_shell.specs.declared.session.RunEnd.{RunEnd}
 use Rattle.command_shell.specs.declared.session.RunEnd.TheVariants.{Finished, ReadFault, WriteFault}

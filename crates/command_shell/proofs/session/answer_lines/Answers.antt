@@ -1,6 +1,6 @@
 -- The goals of `answer_lines` that are proved by hand.
 use Rattle.std.proofs.Common.{ℕ, List, [], true, false, inr, refl, sym, subst}
-use Rattle.store_law.specs.Laws.{steps_join}
+use Rattle.layer_store.proofs.SessionLemmas.{steps_join}
 use Rattle.layer_store.specs.Calls.{Calls, IsAsked}
 use Rattle.layer_store.specs.declared.store.Store.{Store}
 use Rattle.command_shell.specs.Pending.{pending}

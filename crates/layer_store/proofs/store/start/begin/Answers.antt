@@ -5,6 +5,8 @@ use Rattle.catalog_page.specs.Layout.{records_at}
 use Rattle.live_layers.specs.Catalog.{is_good_catalog}
 use Rattle.live_layers.specs.Keeping.{cache_of, records_in}
 use Rattle.live_layers.proofs.KeepLemmas.{kept_catalog}
+use Rattle.layer_store.specs.Faults.{IsMemoryOrDevice}
+use Rattle.layer_store.proofs.ClosingLemmas.{memory_or_device}
 use Rattle.layer_store.proofs.StoreLemmas.{alive_so, not_both, settled_so}
 use Rattle.layer_store.proofs.store.start.begin.Goals as goal
 
@@ -36,3 +38,9 @@ returns-in-Ok-open-clause-spelled g c = λ honest.
     let opened = c.in-Ok-open.ensures in
     let inside = subst g.D.BlockDevice.honest (sym over.device) honest in
     kept_catalog _ (cache_of c.in-Ok-open.layers) (records_in c.in-Ok-open.layers) inside opened.asks.map (opened.catalog inside)
+
+pub returns-in-Err-open-clause-not_refused : goal.returns-in-Err-open-clause-not_refused
+returns-in-Err-open-clause-not_refused g c = λ t blocks honest lies image.
+    let over = c.in-Ok.ensures in
+    subst IsMemoryOrDevice (sym c.as_refusal-in-Err-open.ensures)
+    (memory_or_device _ (c.in-Err-open.ensures.not_refused t blocks (subst g.D.BlockDevice.honest (sym over.device) honest) ((over.lies blocks).1 lies) image))

@@ -7,10 +7,17 @@ use Rattle.plain_table.specs.Step.{Answer}
 use Rattle.plain_table.specs.Step.Answer.{Done}
 use Rattle.plain_table.specs.Table.{Table}
 use Rattle.store_law.specs.Lawful.{Lawful}
-use Rattle.store_law.specs.Sessions.{SessionState, StepsBy}
+use Rattle.store_law.specs.Sessions.{SessionState}
 use Rattle.store_law.specs.States.{Request, StoreState}
 use Rattle.store_law.specs.States.Request.{Asks}
 use Rattle.store_law.specs.States.StoreState.{Alive}
+
+-- steps, each from what the one before left
+abbrev pub StepsBy : {T : Type 0} → (T → Request → Answer → T → Type 0) → T → List Request → List Answer → T → Type 0
+StepsBy Step old [] [] new = new ≡ old
+StepsBy {T = T} Step old (r ∷ rs) (a ∷ as') new = (mid : T) × Step old r a mid × StepsBy Step mid rs as' new
+StepsBy Step old [] (a ∷ as') new = ⊥
+StepsBy Step old (r ∷ rs) [] new = ⊥
 
 -- What is known of a store between two requests where a stop may leave anything: its state, and how often the device has
 -- failed so far.
