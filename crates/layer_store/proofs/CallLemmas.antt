@@ -54,6 +54,10 @@ done_is_ok (Ok u) P e p = p
 done_is_ok (Err r) P e p = absurd (cc)
 
 module _ {D A : Type 0} {m : _} where
+  -- since its moment an honest device leaves nothing but what it may leave now
+  abbrev pub LeavesNow : Store D A m → Type 0
+  LeavesNow store = IsHonest (cache_in store) → OnlyNow (cache_in store)
+
   -- what a stop within a step leaves is an image of one of the tables so far, or refused
   within : (old new : Store D A m) (s s' : SessionState) (r : Request) (a : Answer) (P : Blocks → Type 0) → Represents old s → LawfulStep s r a s'
       → ((c : Blocks) → P c → IsRefusedOrImageOf (tables_left s.stops.now) c) → StopsLeave old new P → StopsLeave old new (IsRefusedOrImageOf s'.stops.so_far)
@@ -62,13 +66,13 @@ module _ {D A : Type 0} {m : _} where
       (λ c p. left_among (tables_left s.stops.now) s'.stops.so_far c (λ u there. a_step_keeps_its_tables s s' r a step u ((what_is_kept old s represents).leaves.among u there)) (weaker c p)) leaves
 
   -- where no call was made
-  still : (store : Store D A m) (s : SessionState) → (IsHonest (cache_in store) → OnlyNow (cache_in store)) → Represents store s → StopsLeave store store (MayRemain s.stops.now)
+  still : (store : Store D A m) (s : SessionState) → LeavesNow store → Represents store s → StopsLeave store store (MayRemain s.stops.now)
   still store s now represents =
       let kept = what_is_kept store s represents in
       kept_leaves (cache_in store) (cache_in store) s.stops.now kept.honest (now kept.honest) kept.leaves.now (no_call_keeps_the_gate (cache_in store))
 
   -- in each state of a session
-  by_state : {old new : Store D A m} {r : Request} {a : Answer} → (IsHonest (cache_in old) → OnlyNow (cache_in old)) → (IsInState old Dead → new ≡ old)
+  by_state : {old new : Store D A m} {r : Request} {a : Answer} → LeavesNow old → (IsInState old Dead → new ≡ old)
       → ((s s' : SessionState) (t : Table) → Represents old s → LawfulStep s r a s' → s.state ≡ Alive t → StopsLeave old new (IsRefusedOrImageOf s'.stops.so_far))
       → Takes Represents old new (λ s s'. LawfulStep s r a s') → Takes Represents old new (λ s s'. LawfulStep s r a s' × StopsLeave old new (IsRefusedOrImageOf s'.stops.so_far))
   by_state {old = old} {new = new} {r = r} {a = a} now dead alive takes = λ s represents.
@@ -84,7 +88,7 @@ module _ {D A : Type 0} {m : _} where
 
   -- ---- each kind of call
 
-  pub asked_by_change : {old new : Store D A m} {c : Command} {result : Result (Unit {0}) Refusal} → (IsHonest (cache_in old) → OnlyNow (cache_in old)) → (c ≡ Check → ⊥) → Changes old new c result
+  pub asked_by_change : {old new : Store D A m} {c : Command} {result : Result (Unit {0}) Refusal} → LeavesNow old → (c ≡ Check → ⊥) → Changes old new c result
       → IsAsked old (Asks c) (done_answer result) new
   asked_by_change {old = old} {new = new} {c = c} {result = result} now other h = record {
     step = by_state now (λ dead. (h.dead dead).1)
@@ -127,7 +131,7 @@ module _ {D A : Type 0} {m : _} where
   }
 
   -- a reopening may leave its table too
-  pub asked_by_reopening : {old new : Store D A m} {result : Result (Unit {0}) Refusal} → (IsHonest (cache_in old) → OnlyNow (cache_in old)) → TakesStep old new Reopen (done_answer result) → TakesReply old new Reopen (done_answer result) → StaysHonest old new
+  pub asked_by_reopening : {old new : Store D A m} {result : Result (Unit {0}) Refusal} → LeavesNow old → TakesStep old new Reopen (done_answer result) → TakesReply old new Reopen (done_answer result) → StaysHonest old new
       → ((s : SessionState) (t : Table) → Represents old s → s.state ≡ Alive t → StopsLeave old new (IsRefusedOrImageOf (t ∷ tables_left s.stops.now))) → StaysDead old new result → IsAsked old (Asks Reopen) (done_answer result) new
   asked_by_reopening {old = old} {new = new} {result = result} now step reply honest stops dead = record {
     step = by_state now (λ is. (dead is).1) closing step;
@@ -150,7 +154,7 @@ module _ {D A : Type 0} {m : _} where
           (stops s t represents alive))
 
   -- what makes no call of the store
-  asked_still : (store : Store D A m) (r : Request) (a : Answer) → (IsHonest (cache_in store) → OnlyNow (cache_in store)) → (IsPassedCheck r a → ⊥) → Takes Represents store store (λ s s'. LawfulStep s r a s') → Takes StandsAs store store (λ s s'. LawfulReply s r a s')
+  asked_still : (store : Store D A m) (r : Request) (a : Answer) → LeavesNow store → (IsPassedCheck r a → ⊥) → Takes Represents store store (λ s s'. LawfulStep s r a s') → Takes StandsAs store store (λ s s'. LawfulReply s r a s')
       → IsAsked store r a store
   asked_still store r a now other step reply = record {
     step = λ s represents.
@@ -165,14 +169,14 @@ module _ {D A : Type 0} {m : _} where
     checked = λ passed honest. absurd (other passed);
   }
 
-  pub asked_badly : (store : Store D A m) (a : Answer) → (IsHonest (cache_in store) → OnlyNow (cache_in store)) → a ≡ Refused refusal.BadLine → IsAsked store BadCommand a store
+  pub asked_badly : (store : Store D A m) (a : Answer) → LeavesNow store → a ≡ Refused refusal.BadLine → IsAsked store BadCommand a store
   asked_badly store a now is =
       asked_still store BadCommand a now (λ passed. bad_is_no_check passed.0)
       (λ s represents. record { next = s; represents = represents; so = subst (λ (x : Answer). LawfulStep s BadCommand x s) (sym is) (a_bad_line_is_lawful s) })
       (λ s stands. record { next = s; represents = stands; so = subst (λ (x : Answer). LawfulReply s BadCommand x s) (sym is) (a_bad_line_is_a_lawful_reply s) })
 
   -- a command for which memory was wanting
-  pub asked_in_want : {old new : Store D A m} (c : Command) (r : Refusal) → (IsHonest (cache_in old) → OnlyNow (cache_in old)) → new ≡ old → TakesStep old new c (Refused r) → TakesReply old new c (Refused r) → IsAsked old (Asks c) (Refused r) new
+  pub asked_in_want : {old new : Store D A m} (c : Command) (r : Refusal) → LeavesNow old → new ≡ old → TakesStep old new c (Refused r) → TakesReply old new c (Refused r) → IsAsked old (Asks c) (Refused r) new
   asked_in_want {old = old} c r now same step reply =
       subst (λ (x : Store D A m). IsAsked old (Asks c) (Refused r) x) (sym same)
       (asked_still old (Asks c) (Refused r) now (λ passed. refused_is_not_done passed.1)
@@ -185,7 +189,7 @@ module _ {D A : Type 0} {m : _} where
 
   -- They are a session from each state that the store was in, and a stop within them leaves blocks that opening refuses, or
   -- an image of one of the tables so far.
-  pub calls_are_a_session : ((store : Store D A m) → IsHonest (cache_in store) → OnlyNow (cache_in store)) → (old new : Store D A m) (rs : List Request) (as' : List Answer) → Calls old new rs as'
+  pub calls_are_a_session : ((store : Store D A m) → LeavesNow store) → (old new : Store D A m) (rs : List Request) (as' : List Answer) → Calls old new rs as'
       → Takes Represents old new (λ s s'. Session s rs as' s' × StopsLeave old new (IsRefusedOrImageOf s'.stops.so_far))
   calls_are_a_session now old new [] [] same = λ s represents. record {
     next = s;
