@@ -42,18 +42,18 @@ pub served_since_making : {D : Type 0} (shown : D → Blocks) (moment : D → �
     → HasServed shown moment left_since recovery may_leave faults P t device unread unread' written written' left
 served_since_making shown moment left_since recovery may_leave faults P Q t device made unread unread' written written' left making weaker same h =
     let opening = leaves_then moment left_since recovery device made h.opened P making (leaves_weaker moment left_since recovery made h.opened Q P weaker h.opening) in record {
-  opened = h.opened;
-  opening = opening;
-  old = h.old;
-  new = h.new;
-  begins = h.begins;
-  stops = h.stops;
-  counted = h.counted ∙ same;
-  runs = h.runs;
-  durable = h.durable;
-  since = h.since;
-  whole = whole_run moment left_since recovery device h.opened left.device h.new P opening h.since;
-}
+      opened = h.opened;
+      opening = opening;
+      old = h.old;
+      new = h.new;
+      begins = h.begins;
+      stops = h.stops;
+      counted = h.counted ∙ same;
+      runs = h.runs;
+      durable = h.durable;
+      since = h.since;
+      whole = whole_run moment left_since recovery device h.opened left.device h.new P opening h.since;
+    }
 
 -- a run to the closing answers what it read, and blames no device where it had no fault
 has_answered : {D : Type 0} (shown : D → Blocks) (moment : D → ℕ) (left_since : D → ℕ → Blocks → Type 0) (recovery : Recovery D) (may_leave : D → Blocks → Type 0) (faults : D → ℕ) (P : Blocks → Type 0) (t : Table) (device : D)

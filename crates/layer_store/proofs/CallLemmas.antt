@@ -1,7 +1,6 @@
 -- A call of a store is a request that was made of it; and calls in turn are a session.
 use Rattle.std.proofs.Common.{◌≡◌, List, [], ◌∷◌, refl, sym, ap, subst}
 use Rattle.std.specs.Prelude.{Result, Ok, Err, OnOk}
-use Rattle.std.specs.List.{Contains}
 use Rattle.block_device.specs.Device.{Blocks}
 use Rattle.block_device.specs.Moments.{leaves_then, leaves_weaker}
 use Rattle.live_layers.specs.Image.{IsRefusedOrImageOf, MayRemain}
@@ -9,7 +8,7 @@ use Rattle.live_layers.proofs.StopLemmas.{this_one}
 use Rattle.page_cache.specs.Cache.{IsHonest}
 use Rattle.page_cache.specs.Laws.{no_call_keeps_the_gate}
 use Rattle.plain_table.specs.Answers.{done_answer}
-use Rattle.plain_table.specs.Commands.{Command, MayGiveUp}
+use Rattle.plain_table.specs.Commands.{Command}
 use Rattle.plain_table.specs.Commands.Command.{Check, Reopen}
 use Rattle.plain_table.specs.Step.{Answer}
 use Rattle.plain_table.specs.Step.Answer.{Done, Refused}
@@ -19,7 +18,7 @@ use Rattle.plain_table.specs.declared.refusal.Refusal.TheVariants as refusal
 use Rattle.layer_store.specs.Checked.{IsPassedCheck, LawfulOnceChecked, LawfulReplies, LawfulReply, LawfulTo, Standing}
 use Rattle.store_law.specs.Laws.{a_bad_line_is_lawful}
 use Rattle.layer_store.proofs.SessionLemmas.{a_bad_line_is_a_lawful_reply, a_session_keeps_its_tables, a_step_keeps_its_tables}
-use Rattle.store_law.specs.Sessions.{LawfulStep, Reaches, Session, SessionState, Takes}
+use Rattle.store_law.specs.Sessions.{LawfulStep, Session, SessionState, Takes}
 use Rattle.store_law.specs.States.{Request, StoreState}
 use Rattle.store_law.specs.States.Request.{Asks, BadCommand}
 use Rattle.store_law.specs.States.StoreState.{Alive, Dead}

@@ -2,10 +2,8 @@
 use Rattle.std.proofs.Common.{◌≡◌, [], ◌∷◌, refl}
 use Rattle.std.specs.Prelude.{⊤}
 use Rattle.plain_table.specs.Commands.Command.{Check}
-use Rattle.plain_table.specs.Step.{Answer}
 use Rattle.plain_table.specs.Step.Answer.{Done, Refused}
 use Rattle.plain_table.specs.declared.refusal.Refusal.TheVariants as refusal
-use Rattle.store_law.specs.States.{Request}
 use Rattle.store_law.specs.States.Request.{Asks, BadCommand}
 use Rattle.layer_store.specs.Checked.{LawfulOnceChecked, Standing}
 

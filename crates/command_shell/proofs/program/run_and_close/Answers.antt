@@ -19,7 +19,6 @@ use Rattle.store_law.specs.Laws.{a_session_keeps_its_beginning}
 use Rattle.layer_store.proofs.SessionLemmas.{once_checked_so}
 use Rattle.command_shell.specs.Runs.{EndsInImage, FoundSince, LeavesTablesOf, Runs, TellsEnd, with_last}
 use Rattle.command_shell.specs.declared.session.RunEnd.{RunEnd}
-use Rattle.command_shell.specs.declared.session.RunEnd.TheVariants.{Finished, ReadFault, WriteFault}
 use Rattle.command_shell.specs.Serving.{IsSession, RunState, run_state}
 use Rattle.command_shell.specs.Texts.{told_fault}
 use Rattle.command_shell.specs.Writing.{Writes}
@@ -190,8 +189,8 @@ returns-in-Err-clause-run g c = λ s represents.
             omega (arith, of_store, grows);
       },
       refused_leaves c.args.store c.run-end.new.store left.next c.in-Err.device left.represents left.so.1
-      (λ t alive. c.in-Err.ensures.refused_stops left.next t left.represents alive)
-      (λ failed. refused_device _ _ _ _ _ _ refl refl (c.in-Err.ensures.failed failed)) left.next.state refl,
+          (λ t alive. c.in-Err.ensures.refused_stops left.next t left.represents alive)
+          (λ failed. refused_device _ _ _ _ _ _ refl refl (c.in-Err.ensures.failed failed)) left.next.state refl,
     )
 
 pub returns-in-Err-clause-checked : goal.returns-in-Err-clause-checked

@@ -21,5 +21,5 @@ pub returns-clause-honest : goal.returns-clause-honest
 returns-clause-honest g c = λ honest.
     let lines = c.answer_lines in
     let calls = served_by _ lines.result
-        (g.R.Read.remaining c.args.input.now) (g.R.Read.remaining lines.new.input) (g.W.Write.contents c.args.output.now) (g.W.Write.contents lines.new.output) lines.ensures in
+    (g.R.Read.remaining c.args.input.now) (g.R.Read.remaining lines.new.input) (g.W.Write.contents c.args.output.now) (g.W.Write.contents lines.new.output) lines.ensures in
     calls_stay_honest c.args.store.now lines.new.store calls.requests calls.answers calls.lawful honest
