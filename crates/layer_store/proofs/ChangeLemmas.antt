@@ -24,7 +24,7 @@ use Rattle.plain_table.specs.Step.Answer.{Done, Refused}
 use Rattle.plain_table.specs.Table.{Table}
 use Rattle.plain_table.specs.declared.refusal.Refusal.{Refusal}
 use Rattle.plain_table.specs.declared.refusal.Refusal.TheVariants as refusal
-use Rattle.store_law.specs.States.StoreState.{Alive, Dead}
+use Rattle.store_law.specs.States.StoreState.{Dead}
 use Rattle.store_law.specs.Stops.{Stops, after_change, after_command, is_end, tables_left, with_now}
 use Rattle.layer_store.specs.Commands.{Changes, TakesReply, TakesStep, Tells, TellsOfEnd}
 use Rattle.layer_store.specs.Representation.{IsInState, cache_in, device_in}
@@ -83,8 +83,8 @@ ok_any P (Err why) p = tt
 
 -- where pages and records stay, page 2 spells the records still, if an open gate stays open
 pub kept_spelled : {D A : Type 0} {m : _} (old new : Layers D A m) → IsHonest old.cache → KeepsPagesAndRecords old new → (gate_of old.cache ≡ Open → gate_of new.cache ≡ Open) → keeping.SpellsUnchanged old → keeping.SpellsUnchanged new
-kept_spelled old new honest keeps open was = λ unopened.
-    subst (λ (rs : List Record). catalog_in (pages new.cache) ≡ Some rs) (sym keeps.records) (kept_catalog old.cache new.cache (records_in old) honest keeps.map (was (λ opened. unopened (open opened))))
+kept_spelled old new honest keeps stays was = λ unopened.
+    subst (λ (rs : List Record). catalog_in (pages new.cache) ≡ Some rs) (sym keeps.records) (kept_catalog old.cache new.cache (records_in old) honest keeps.map (was (λ opened. unopened (stays opened))))
 
 -- and so after a change, but where it broke off half way
 spelled_so : {D A : Type 0} {m : _} (old new : Store D A m) (t : Table) (c : Command) (made : Result (Unit {0}) Unmade) → new.failed ≡ is_broken made → IsSound old.layers t → KeepsInChange old.layers new.layers made → ChangeLeaves old.layers new.layers t c made
