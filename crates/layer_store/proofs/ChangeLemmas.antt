@@ -1,16 +1,20 @@
 -- A change of layers is a change of their store.
-use Rattle.std.proofs.Common.{◌≡◌, ◌∙◌, ◌^◌, ◌<◌, ◌⊎◌, ℕ, Bool, true, false, not, cond, inl, inr, refl, sym, ap, subst}
+use Rattle.std.proofs.Common.{◌≡◌, ◌∙◌, ◌^◌, ◌<◌, ◌⊎◌, ℕ, List, Bool, true, false, not, cond, inl, inr, refl, sym, ap, subst}
 use Rattle.std.specs.Prelude.{Option, Some, None, is_some, Result, Ok, Err, OnErr, OnOk, IfErr}
-use Rattle.live_layers.specs.Changes.{GoesOn, IsChangeBy, IsChanged, OnRefused}
+use Rattle.catalog_page.specs.Layout.{Record}
+use Rattle.live_layers.specs.Changes.{ChangeLeaves, GoesOn, IsChangeBy, IsChanged, KeepsInChange, OnRefused}
 use Rattle.live_layers.specs.Faults.{HasRefusalCause, HasUnmadeCause}
-use Rattle.live_layers.specs.Keeping.{IsSound, IsWritten, Leaves}
+use Rattle.live_layers.specs.Keeping as keeping
+use Rattle.live_layers.specs.Keeping.{IsSound, IsWritten, Leaves, records_in}
+use Rattle.live_layers.specs.Layers.{catalog_in}
 use Rattle.live_layers.specs.Staying.{KeepsPagesAndRecords}
 use Rattle.live_layers.specs.Unmade.{is_broken, told}
 use Rattle.live_layers.specs.declared.layers.Layers.{Layers}
 use Rattle.live_layers.specs.declared.unmade.Unmade.{Unmade}
 use Rattle.live_layers.specs.declared.unmade.Unmade.TheVariants as unmade
-use Rattle.live_layers.proofs.KeepLemmas.{nothing_moved}
-use Rattle.page_cache.specs.Cache.{IsHonest}
+use Rattle.live_layers.proofs.KeepLemmas.{kept_catalog, nothing_moved}
+use Rattle.page_cache.specs.Cache.{IsHonest, gate_of, pages}
+use Rattle.page_file.specs.declared.gate.Gate.TheVariants.{Open}
 use Rattle.page_file.specs.Fault.{number_of}
 use Rattle.plain_table.specs.Answers.{done_answer}
 use Rattle.plain_table.specs.Commands.{Command, MayGiveUp}
@@ -26,7 +30,7 @@ use Rattle.layer_store.specs.Commands.{Changes, TakesReply, TakesStep, Tells, Te
 use Rattle.layer_store.specs.Representation.{IsInState, cache_in, device_in}
 use Rattle.layer_store.specs.declared.store.Store.{Store}
 use Rattle.layer_store.proofs.StopLemmas.{OnlyNow, change_leaves, kept_leaves, left_rests}
-use Rattle.layer_store.proofs.StoreLemmas.{alive_in, alive_with, blames_none, change_goes_on, dead_so, dead_tells, goes_on_tells, is_dead, is_settled, no_fewer_faults, not_both, replies_change, replies_nothing, settled_so, takes_change, takes_nothing, told_cause, what_is_kept}
+use Rattle.layer_store.proofs.StoreLemmas.{alive_in, alive_with, blames_none, change_goes_on, dead_so, dead_tells, goes_on_tells, is_alive, is_dead, is_settled, no_fewer_faults, not_both, replies_change, replies_nothing, settled_so, takes_change, takes_nothing, told_cause, what_is_kept}
 
 -- ---- one of a store that failed
 
@@ -38,6 +42,7 @@ failed_changes {m = m} {store = store} {c = c} failed = record {
   stops = λ s t represents alive. absurd (not_both store.failed failed (alive_in store s t represents alive).0);
   quiet = λ s t represents alive unchanged. absurd (not_both store.failed failed (alive_in store s t represents alive).0);
   settled = λ t represents unchanged was. was;
+  spelled = λ t alive was. inr was;
   refused = inr (nothing_moved store.layers);
   ended = dead_tells store 19 failed;
   dead = λ dead. (refl, refl);
@@ -60,6 +65,34 @@ pub refused_written : {D A : Type 0} {m : _} {old mid : Layers D A m} {c : Comma
 refused_written {old = old} {mid = mid} {c = c} {made = made} change done t sound unchanged =
     let no_change = λ (u : Unit {0}) (is : made ≡ Ok u). not_made (refusal_of t c) (sym (done t).0 ∙ unchanged) ((subst (λ (r : Result (Unit {0}) Unmade). IsChanged old mid t c r) is (change.lawful t sound).changed).0 ∙ (done t).1) in
     unless_made (IsWritten old → IsWritten mid) made no_change change.keeps.written
+
+-- and no page and no record moves where it was made so
+ok_unless : (P : Type 0) (made : Result (Unit {0}) Unmade) → ((u : Unit {0}) → made ≡ Ok u → ⊥) → OnOk made P
+ok_unless P (Ok u) refused = absurd (refused u (λ i. Ok u))
+ok_unless P (Err why) refused = tt
+
+pub refused_same : {D A : Type 0} {m : _} {old mid : Layers D A m} {c : Command} {made : Result (Unit {0}) Unmade} → IsChangeBy old mid c made
+    → ((t : Table) → (changes t c ≡ not (is_some (refusal_of t c))) × (reply_of t c ≡ refused_or (refusal_of t c) Done)) → (t : Table) → IsSound old t → changes t c ≡ false → OnOk made (KeepsPagesAndRecords old mid)
+refused_same {old = old} {mid = mid} {c = c} {made = made} change done t sound unchanged =
+    ok_unless (KeepsPagesAndRecords old mid) made
+    (λ u is. not_made (refusal_of t c) (sym (done t).0 ∙ unchanged) ((subst (λ (r : Result (Unit {0}) Unmade). IsChanged old mid t c r) is (change.lawful t sound).changed).0 ∙ (done t).1))
+
+pub ok_any : (P : Type 0) (made : Result (Unit {0}) Unmade) → P → OnOk made P
+ok_any P (Ok u) p = p
+ok_any P (Err why) p = tt
+
+-- where pages and records stay, page 2 spells the records still, if an open gate stays open
+pub kept_spelled : {D A : Type 0} {m : _} (old new : Layers D A m) → IsHonest old.cache → KeepsPagesAndRecords old new → (gate_of old.cache ≡ Open → gate_of new.cache ≡ Open) → keeping.SpellsUnchanged old → keeping.SpellsUnchanged new
+kept_spelled old new honest keeps stays was = λ unopened.
+    subst (λ (rs : List Record). catalog_in (pages new.cache) ≡ Some rs) (sym keeps.records) (kept_catalog old.cache new.cache (records_in old) honest keeps.map (was (λ opened. unopened (stays opened))))
+
+-- and so after a change, but where it broke off half way
+spelled_so : {D A : Type 0} {m : _} (old new : Store D A m) (t : Table) (c : Command) (made : Result (Unit {0}) Unmade) → new.failed ≡ is_broken made → IsSound old.layers t → KeepsInChange old.layers new.layers made → ChangeLeaves old.layers new.layers t c made
+    → (changes t c ≡ false → OnOk made (KeepsPagesAndRecords old.layers new.layers)) → keeping.SpellsUnchanged old.layers → (b : Bool) → changes t c ≡ b → IsInState new Dead ⊎ keeping.SpellsUnchanged new.layers
+spelled_so old new t c (Ok u) failed sound keeps leaves same was true e = inr (λ unopened. absurd (unopened (leaves.opened (a_change_makes_another_table t c e) tt)))
+spelled_so old new t c (Ok u) failed sound keeps leaves same was false e = inr (kept_spelled old.layers new.layers sound.map.honest (same e) (λ opened. (leaves.quiet (no_change_leaves_the_table t c e)).gate ∙ opened) was)
+spelled_so old new t c (Err (unmade.Refused r)) failed sound keeps leaves same was b e = inr (kept_spelled old.layers new.layers sound.map.honest keeps.refused keeps.stays_open was)
+spelled_so old new t c (Err (unmade.Broken f)) failed sound keeps leaves same was b e = inl (dead_so new failed)
 
 -- a refusal where the table is not asked does not end the store
 pub refused_goes_on : {D A : Type 0} {m : _} (old mid : Layers D A m) (t : Table) (c : Command) (made : Result (Unit {0}) Unmade) (r : Refusal) → (Refused r ≡ reply_of t c → after t c ≡ t → ⊥) → IsChanged old mid t c made → made ≡ Err (unmade.Refused r) → is_end r ≡ false
@@ -114,8 +147,9 @@ module _ {D A : Type 0} {m : _} (old new : Store D A m) {made : Result (Unit {0}
   -- what the layers keep of a change is what their store does
   pub told_changes : {c : Command} → MayGiveUp c → ((t : Table) (stops : Stops) (a : Answer) → after_command t stops c a ≡ cond (changes t c) (with_now (after_change stops.now a) stops) stops)
       → m.faults (device_in old) < 2 ^ 64 → (IsHonest (cache_in old) → OnlyNow (cache_in old))
-      → IsChangeBy old.layers new.layers c made → ((t : Table) → IsSound old.layers t → changes t c ≡ false → IsWritten old.layers → IsWritten new.layers) → Changes old new c result
-  told_changes {c = c} may by_change fits now change written = record {
+      → IsChangeBy old.layers new.layers c made → ((t : Table) → IsSound old.layers t → changes t c ≡ false → IsWritten old.layers → IsWritten new.layers)
+      → ((t : Table) → IsSound old.layers t → changes t c ≡ false → OnOk made (KeepsPagesAndRecords old.layers new.layers)) → Changes old new c result
+  told_changes {c = c} may by_change fits now change written same = record {
     step = step_told may (λ t sound. (change.lawful t sound).changed)
         (λ t stops sound was. subst (Leaves (cache_in new)) (sym (by_change t stops (done_answer (told made))))
         (change_leaves old.layers new.layers t c stops sound.map.honest was (changes t c) made (change.lawful t sound).leaves (no_change_leaves_the_table t c) (a_change_makes_another_table t c)
@@ -131,6 +165,9 @@ module _ {D A : Type 0} {m : _} (old new : Store D A m) {made : Result (Unit {0}
         let sound = (alive_with old t represents).1 in
         let settled = is_settled old was in
         settled_so new (((change.lawful t sound).leaves.quiet (no_change_leaves_the_table t c unchanged)).gate ∙ settled.0, written t sound unchanged settled.1);
+    spelled = λ t alive was.
+        let sound = (is_alive old t alive).1 in
+        spelled_so old new t c made (tells.failed going) sound change.keeps (change.lawful t sound).leaves (same t sound) was (changes t c) refl;
     refused = subst (λ (r : Result (Unit {0}) Refusal). OnErr r (IsInState new Dead ⊎ KeepsPagesAndRecords old.layers new.layers)) (sym tells.answer)
         (refused_so new (KeepsPagesAndRecords old.layers new.layers) made (tells.failed going) change.keeps.refused);
     ended = told_end change.keeps.goes_on;
@@ -145,3 +182,11 @@ ok_told P (Err why) h = tt
 
 pub on_told : (P : Type 0) {was now : Bool} {made : Result (Unit {0}) Unmade} {result : Result (Unit {0}) Refusal} → Tells was now made result → OnOk made P → OnOk result P
 on_told P {made = made} tells h = subst (λ (r : Result (Unit {0}) Refusal). OnOk r P) (sym tells.answer) (ok_told P made h)
+
+-- and of what was not made where that is told
+err_so_told : (P : Type 0) (made : Result (Unit {0}) Unmade) → OnErr made P → OnErr (told made) P
+err_so_told P (Ok u) h = tt
+err_so_told P (Err why) h = h
+
+pub err_told : (P : Type 0) {was now : Bool} {made : Result (Unit {0}) Unmade} {result : Result (Unit {0}) Refusal} → Tells was now made result → OnErr made P → OnErr result P
+err_told P {made = made} tells h = subst (λ (r : Result (Unit {0}) Refusal). OnErr r P) (sym tells.answer) (err_so_told P made h)

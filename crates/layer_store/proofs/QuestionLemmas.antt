@@ -23,6 +23,7 @@ use Rattle.store_law.specs.Stops.{Stops, after_command}
 use Rattle.layer_store.specs.Commands.{Answers, TakesReply, TakesStep}
 use Rattle.layer_store.specs.Representation.{KeepsStore, Represents, StopsLeave, cache_in, device_in}
 use Rattle.layer_store.specs.declared.store.Store.{Store}
+use Rattle.layer_store.proofs.ChangeLemmas.{kept_spelled}
 use Rattle.layer_store.proofs.StopLemmas.{OnlyNow, kept_leaves}
 use Rattle.layer_store.proofs.StoreLemmas.{blames_none, dead_tells, err_so, goes_on_tells, is_dead, is_settled, no_fewer_faults, not_both, replies_nothing, replies_question, replies_reply, settled_so, takes_nothing, takes_question, takes_reply, what_is_kept}
 
@@ -33,11 +34,12 @@ module _ {D A : Type 0} {m : _} where
     gate = keeps.gate;
     trees = keeps.trees;
     settled = λ was. let settled = is_settled old was in settled_so (record old { layers = mid }) (keeps.gate.gate ∙ settled.0, keeps.trees.written settled.1);
+    spelled = λ honest was. kept_spelled old.layers mid honest keeps.trees (λ opened. keeps.gate.gate ∙ opened) was;
   }
 
   -- nothing was asked
   nothing_asked : (store : Store D A m) → KeepsStore store store
-  nothing_asked store = record { gate = no_call_keeps_the_gate (cache_in store); trees = nothing_moved store.layers; settled = λ was. was }
+  nothing_asked store = record { gate = no_call_keeps_the_gate (cache_in store); trees = nothing_moved store.layers; settled = λ was. was; spelled = λ honest was. was }
 
   -- what stops leave of one
   stops_asked : (old new : Store D A m) → (IsHonest (cache_in old) → OnlyNow (cache_in old)) → KeepsStore old new → (s : SessionState) → Represents old s → StopsLeave old new (MayRemain s.stops.now)

@@ -20,7 +20,7 @@ use Rattle.store_law.specs.Sessions.{LawfulStep, SessionState, Takes}
 use Rattle.store_law.specs.States.Request.{Asks}
 use Rattle.store_law.specs.States.StoreState.{Alive, Dead}
 use Rattle.store_law.specs.Stops.{is_end, tables_left}
-use Rattle.layer_store.specs.Representation.{IsInState, IsSettled, KeepsStore, Represents, RepresentsTable, StandsAs, StopsLeave, cache_in, device_in, layers_in}
+use Rattle.layer_store.specs.Representation.{IsInState, IsSettled, KeepsStore, Represents, RepresentsTable, SpellsUnchanged, StandsAs, StopsLeave, cache_in, device_in, layers_in}
 use Rattle.layer_store.specs.declared.store.Store.{Store}
 
 -- the command was answered so, by one lawful step from whatever state of a session the store was in
@@ -60,6 +60,8 @@ pub record Changes {D A : Type 0} {m : _} (old new : Store D A m) (c : Command) 
   pub quiet : (s : SessionState) (t : Table) → Represents old s → s.state ≡ Alive t → changes t c ≡ false → StopsLeave old new (MayRemain s.stops.now)
   -- and what was settled is so still
   pub settled : (t : Table) → RepresentsTable old t → changes t c ≡ false → IsSettled old → IsSettled new
+  -- where nothing was changed since the last closing, or the last that was tried, page 2 spells the records still
+  pub spelled : (t : Table) → IsInState old (Alive t) → SpellsUnchanged old → IsInState new Dead ⊎ SpellsUnchanged new
   -- refused, it keeps pages and records, so each tree, but where the store has failed
   pub refused : OnErr result (IsInState new Dead ⊎ KeepsPagesAndRecords (layers_in old) (layers_in new))
   -- by StoreFailed exactly then

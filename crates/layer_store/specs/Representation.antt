@@ -38,6 +38,14 @@ looks_in store = looks_of (cache_in store)
 unfoldable pub IsSettled : {D A : Type 0} {m : _} → Store D A m → Type 0
 IsSettled store = keeping.IsSettled store.layers
 
+-- Page 2, of the catalog, spells the records of its layers; and so it is where nothing was changed since the last closing, or
+-- the last that was tried.
+abbrev pub SpellsRecords : {D A : Type 0} {m : _} → Store D A m → Type 0
+SpellsRecords store = keeping.SpellsRecords (layers_in store)
+
+abbrev pub SpellsUnchanged : {D A : Type 0} {m : _} → Store D A m → Type 0
+SpellsUnchanged store = keeping.SpellsUnchanged (layers_in store)
+
 -- The store is in this state: dead once it failed, else alive with the table that its layers hold.
 unfoldable pub IsInState : {D A : Type 0} {m : _} → Store D A m → StoreState → Type 0
 IsInState store (Alive t) = (store.failed ≡ false) × IsSound store.layers t
@@ -104,8 +112,10 @@ HasFailed store = Reaches Represents store (λ s. s.state ≡ Dead)
 abbrev pub StopsLeave : {D A : Type 0} {m : _} → Store D A m → Store D A m → (Blocks → Type 0) → Type 0
 StopsLeave {m = m} old new P = LeavesOnly m.moment m.left_since m.recovery (device_in old) (device_in new) P
 
--- a question keeps the gate with its moment, and pages and records, so each tree; what was settled is so still
+-- a question keeps the gate with its moment, and pages and records, so each tree; what was settled is so still, and where page
+-- 2 spelled the records, it does so still
 pub record KeepsStore {D A : Type 0} {m : _} (old new : Store D A m) : Type 0 where
   pub gate : KeepsGate (cache_in old) (cache_in new)
   pub trees : KeepsPagesAndRecords (layers_in old) (layers_in new)
   pub settled : IsSettled old → IsSettled new
+  pub spelled : IsHonest (cache_in old) → SpellsUnchanged old → SpellsUnchanged new

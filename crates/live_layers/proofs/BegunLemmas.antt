@@ -41,6 +41,7 @@ module _ {D A : Type 0} {m : _} {T : Type 0} where
     rests = λ ts honest rests. rests;
     opened = tt;
     broke_open = λ (never : false ≡ true). absurd (cc);
+    stays_open = λ open'. open';
     honest = (λ h. h, λ h. h);
     next = omega arith;
     faults = sym (ap (λ (g : Fault). faults_after g (m.faults (device_of cache))) memory);
@@ -55,6 +56,7 @@ module _ {D A : Type 0} {m : _} {T : Type 0} where
     rests = λ ts there rests closed c same. rests (λ open'. closed ((was_open open').gate ∙ open')) c (same ∙ blocks there);
     opened = opened;
     broke_open = if_err result (λ b quiet touched. absurd (let no : true ≡ false = sym touched ∙ quiet in cc)) untouched;
+    stays_open = λ open'. (was_open open').gate ∙ open';
     honest = honest;
     next = omega (arith, map.next);
     faults = faults;
@@ -67,6 +69,7 @@ module _ {D A : Type 0} {m : _} {T : Type 0} where
     rests = λ ts honest rests closed. absurd (closed (changes.gate.gate ∙ begun.opened));
     opened = changes.gate.gate ∙ begun.opened;
     broke_open = tt;
+    stays_open = λ open'. changes.gate.gate ∙ begun.opened;
     honest = (λ h. changes.gate.honest.0 (begun.honest.0 h), λ h. begun.honest.1 (changes.gate.honest.1 h));
     next = omega (arith, begun.next, changes.next);
     faults = changes.faults ∙ begun.faults;
@@ -79,6 +82,7 @@ module _ {D A : Type 0} {m : _} {T : Type 0} where
     rests = λ ts honest rests closed. absurd (closed (alters.changes.gate.gate ∙ begun.opened));
     opened = tt;
     broke_open = λ touched. alters.changes.gate.gate ∙ begun.opened;
+    stays_open = λ open'. alters.changes.gate.gate ∙ begun.opened;
     honest = (λ h. alters.changes.gate.honest.0 (begun.honest.0 h), λ h. begun.honest.1 (alters.changes.gate.honest.1 h));
     next = omega (arith, begun.next, alters.changes.next);
     faults = alters.changes.faults ∙ ap (faults_after b.cause) begun.faults;

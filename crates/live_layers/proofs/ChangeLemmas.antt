@@ -56,6 +56,7 @@ module _ {D A : Type 0} {m : _} {T : Type 0} (old new : Layers D A m) where
     refused = keeps.trees;
     goes_on = keeps.goes_on;
     written = keeps.trees.written;
+    stays_open = λ open'. keeps.gate.gate ∙ open';
     honest = keeps.gate.honest.0;
     cause = record { made = tt; unmade = keeps.cause.refused };
   }
@@ -68,7 +69,7 @@ module _ {D A : Type 0} {m : _} {T : Type 0} (old new : Layers D A m) where
 
   -- one that the table does not refuse and that leaves it as it is
   pub unbegun_keeps : {x : T} → KeepsInQuestion old new (Ok x) → KeepsInChange old new (Ok tt)
-  unbegun_keeps keeps = record { refused = tt; goes_on = tt; written = tt; honest = keeps.gate.honest.0; cause = record { made = keeps.cause.ok; unmade = tt } }
+  unbegun_keeps keeps = record { refused = tt; goes_on = tt; written = tt; stays_open = λ open'. keeps.gate.gate ∙ open'; honest = keeps.gate.honest.0; cause = record { made = keeps.cause.ok; unmade = tt } }
 
   pub unbegun_change : (t : Table) (c : Command) {x : T} → OnlyNow old → KeepsInQuestion old new (Ok x) → IsSound old t → refusal_of t c ≡ None → Done ≡ answer_of t c → after t c ≡ t → IsChange old new t c (Ok tt)
   unbegun_change t c now keeps sound none done same = record {
@@ -136,6 +137,7 @@ module _ {D A : Type 0} {m : _} {T : Type 0} (old mid new : Layers D A m) {x : T
     refused = refused_so (KeepsPagesAndRecords mid new) (KeepsPagesAndRecords old new) made (stays_in_turn old mid new asked.gate.honest.0 asked.trees) begun.kept;
     goes_on = begun_goes_on made;
     written = unmade_so (IsWritten mid → IsWritten new) (IsWritten old → IsWritten new) made (λ kept was. kept (asked.trees.written was)) begun.written;
+    stays_open = λ open'. begun.begins.stays_open (asked.gate.gate ∙ open');
     honest = λ honest. begun.begins.honest.0 (asked.gate.honest.0 honest);
     cause = begun_cause _ _ made counted;
   })

@@ -80,6 +80,14 @@ module _ {D A : Type 0} {m : _} where
   pub rests_on_more : (cache : PageCache D A m) (ts : List Table) (t : Table) → RestLeavesOneOf cache ts → RestLeavesOneOf cache (t ∷ ts)
   rests_on_more cache ts t rests = λ closed c same. or_this ts t c (rests closed c same)
 
+  -- pages that stay, and then all but that of the catalog
+  pub beside_catalog : (old begun new : PageCache D A m) → IsHonest old → KeepsMap old begun → SameBut 2 (pages begun) (pages new) → SameBut 2 (pages old) (pages new)
+  beside_catalog old begun new honest keeps same = λ n other. same n other ∙ keeps.pages_stay honest n
+
+  -- all but that of the catalog, and then all
+  pub catalog_beside : (old mid new : PageCache D A m) → IsHonest mid → SameBut 2 (pages old) (pages mid) → KeepsMap mid new → SameBut 2 (pages old) (pages new)
+  catalog_beside old mid new honest same keeps = λ n other. keeps.pages_stay honest n ∙ same n other
+
   -- the catalog of the same map
   pub catalog_before : (old new : PageCache D A m) (records : List Record) → IsHonest old → KeepsMap old new → catalog_in (pages new) ≡ Some records → catalog_in (pages old) ≡ Some records
   catalog_before old new records honest keeps spelled = ap (option_and_then records_at) (sym (keeps.pages_stay honest 2)) ∙ spelled

@@ -14,7 +14,7 @@ use Rattle.live_layers.specs.Staying.{KeepsPagesAndRecords}
 use Rattle.live_layers.specs.declared.layers.Layers.{Layers}
 
 -- A change was begun, and then made or broken off. A stop leaves what one at rest leaves. Where pages may be changed the
--- gate is open. Honesty stays, no page number is taken back, and the count of the device's faults rises by one where it was
+-- gate is open, and one that was open stays so. Honesty stays, no page number is taken back, and the count of the device's faults rises by one where it was
 -- the cause.
 pub record Begins {D A : Type 0} {m : _} {T : Type 0} (old new : PageCache D A m) (result : Result T Broken) : Type 0 where
   pub stops : (ts : List Table) → IsHonest old → RestLeavesOneOf old ts
@@ -22,6 +22,7 @@ pub record Begins {D A : Type 0} {m : _} {T : Type 0} (old new : PageCache D A m
   pub rests : (ts : List Table) → IsHonest old → RestLeavesOneOf old ts → RestLeavesOneOf new ts
   pub opened : OnOk result (gate_of new ≡ Open)
   pub broke_open : IfErr result (λ b. b.touched ≡ true → gate_of new ≡ Open)
+  pub stays_open : gate_of old ≡ Open → gate_of new ≡ Open
   pub honest : IsHonest old ↔ IsHonest new
   pub next : next_of old ≤ next_of new
   pub faults : m.faults (device_of new) ≡ faults_behind (cause_in result) (m.faults (device_of old))

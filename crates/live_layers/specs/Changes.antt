@@ -68,12 +68,13 @@ GoesOn (Err (unmade.Refused r)) = is_end r ≡ false
 GoesOn result = Unit {0}
 
 -- What a change keeps of any layers: pages and records, so each tree, where it was refused, which is not as by a store that
--- failed; what was written, where it was not made; honesty; and the count of the device's faults, which rises by one where
+-- failed; what was written, where it was not made; an open gate; honesty; and the count of the device's faults, which rises by one where
 -- its failure ended the change.
 pub record KeepsInChange {D A : Type 0} {m : _} (old new : Layers D A m) (result : Result (Unit {0}) Unmade) : Type 0 where
   pub refused : OnRefused result (KeepsPagesAndRecords old new)
   pub goes_on : GoesOn result
   pub written : OnErr result (IsWritten old → IsWritten new)
+  pub stays_open : gate_of old.cache ≡ Open → gate_of new.cache ≡ Open
   pub honest : IsHonest old.cache → IsHonest new.cache
   pub cause : HasUnmadeCause (m.faults (device_of old.cache)) (m.faults (device_of new.cache)) result
 

@@ -35,6 +35,14 @@ records_in kept = records_of kept.records
 abbrev pub IsWritten : {D A : Type 0} {m : _} → Layers D A m → Type 0
 IsWritten kept = kept.written ≡ true
 
+-- page 2 spells them
+abbrev pub SpellsRecords : {D A : Type 0} {m : _} → Layers D A m → Type 0
+SpellsRecords kept = catalog_in (pages (cache_of kept)) ≡ Some (records_in kept)
+
+-- It does so where nothing was changed since the last closing, or the last that was tried: behind a gate that is not open.
+abbrev pub SpellsUnchanged : {D A : Type 0} {m : _} → Layers D A m → Type 0
+SpellsUnchanged kept = ¬ (gate_of (cache_of kept) ≡ Open) → SpellsRecords kept
+
 -- nothing is to be written at all: the gate is shut, too
 abbrev pub IsSettled : {D A : Type 0} {m : _} → Layers D A m → Type 0
 IsSettled kept = (gate_of kept.cache ≡ Shut) × IsWritten kept

@@ -1,11 +1,13 @@
 //! The closing of a store, and its reopening.
 
-ghost use Rattle.std.specs.Prelude.{◌≡◌, ◌⊎◌, ◌∷◌, Ok, Err, IsOk, IfOk, IfErr, OnErr};
+ghost use Rattle.std.specs.Prelude.{◌≡◌, ◌⊎◌, ◌∷◌, Ok, Err, IsOk, IfOk, IfErr, OnErr, OnOk};
 ghost use Rattle.block_device.specs.Device.{LeavesOnly, Only};
 ghost use Rattle.live_layers.specs.Faults.{faults_after_refusal};
 ghost use Rattle.live_layers.specs.Image.{IsImage, IsRefusedOrImageOf};
 ghost use Rattle.live_layers.specs.Staying.{KeepsEachTree, LeavesTreesIn};
-ghost use Rattle.page_cache.specs.Cache.{gate_of};
+ghost use Rattle.live_layers.specs.Keeping.{records_in};
+ghost use Rattle.page_cache.specs.Cache.{gate_of, pages};
+ghost use Rattle.page_file.specs.Pages.{SameBut};
 ghost use Rattle.page_file.specs.declared.gate.Gate.TheVariants.{Shut};
 ghost use Rattle.plain_table.specs.Answers.{done_answer};
 ghost use Rattle.plain_table.specs.Commands.Command.{Reopen};
@@ -18,7 +20,8 @@ ghost use Rattle.layer_store.specs.Commands.{CountsFaults, IsUnfinished, StaysDe
 ghost use Rattle.layer_store.specs.Commands.{TakesStep, TellsOfEnd};
 ghost use Rattle.layer_store.specs.Faults.{IsMemoryOrDevice};
 ghost use Rattle.layer_store.specs.Representation.{HasFailed, IsInState, IsSettled, Represents};
-ghost use Rattle.layer_store.specs.Representation.{StopsLeave, blocks_in, cache_in, device_in, layers_in};
+ghost use Rattle.layer_store.specs.Representation.{SpellsRecords, SpellsUnchanged, StopsLeave};
+ghost use Rattle.layer_store.specs.Representation.{blocks_in, cache_in, device_in, layers_in};
 
 use crate::store::changes::tell;
 use crate::store::{FAILED, Store};
@@ -59,6 +62,14 @@ impl<D: BlockDevice, A: Allocator + Copy> Store<D, A> {
         ensures ends { OnErr result (IsInState self.new Dead ⊎ ¬ (gate_of (cache_in self.new) ≡ Shut)) }
         // It is refused by StoreFailed exactly where it is dead afterwards, also one that is not sound.
         ensures ended { IfErr result (TellsOfEnd self.new) }
+        // On any honest device all pages but that of the catalog stay, which then spells the records. Refused, it keeps the
+        // records, which that page spells where nothing was changed since the last closing or its try.
+        ensures beside { D.honest (device_in self.old) →
+            SameBut 2 (pages (cache_in self.old)) (pages (cache_in self.new)) }
+        ensures records { OnErr result (records_in (layers_in self.new) ≡ records_in (layers_in self.old)) }
+        ensures read { D.honest (device_in self.old) → OnOk result (SpellsRecords self.new) }
+        ensures spelled { (t : Table) → IsInState self.old (Alive t) →
+            SpellsUnchanged self.old → SpellsUnchanged self.new }
         ensures dead { StaysDead self.old self.new result }
         ensures cause { CountsFaults self.old self.new result }
     {

@@ -15,7 +15,8 @@ ghost use Rattle.plain_table.specs.Table.{Table};
 ghost use Rattle.plain_table.specs.declared.refusal.Refusal.TheVariants as refusal;
 ghost use Rattle.store_law.specs.States.StoreState.{Alive};
 ghost use Rattle.layer_store.specs.Faults.{IsMemoryOrDevice};
-ghost use Rattle.layer_store.specs.Representation.{BeginsWith, IsInState, IsSettled, blocks_in, device_in, layers_in};
+ghost use Rattle.layer_store.specs.Representation.{BeginsWith, IsInState, IsSettled, SpellsRecords};
+ghost use Rattle.layer_store.specs.Representation.{blocks_in, device_in, layers_in};
 ghost use Rattle.layer_store.specs.Starting.{OpeningRefusesAs, is_cache};
 
 use crate::store::Store;
@@ -52,6 +53,7 @@ pub fn create_store<D: BlockDevice, A: Allocator + Copy>(
         BeginsWith store (D.moment (device_in store)) empty) }
     ensures closed { IfOk result (λ store. D.honest device → IsImage (blocks_in store) empty) }
     ensures now_settled { IfOk result IsSettled }
+    ensures spelled { IfOk result (λ store. D.honest device → SpellsRecords store) }
 
     // A stop leaves blocks that opening refuses, or an image of the empty table; and once the store is made nothing but
     // what is read.
@@ -113,6 +115,7 @@ pub fn open_store<D: BlockDevice, A: Allocator + Copy>(
     ensures durable { IfOk result (λ store. D.honest device → Only (blocks_in store) (D.may_leave (device_in store))) }
 
     ensures now_settled { IfOk result IsSettled }
+    ensures spelled { IfOk result (λ store. D.honest device → SpellsRecords store) }
     ensures blocks { IfOk result (λ store. D.honest device → blocks_in store ≡ D.shown device) }
     ensures refused_blocks { IfErr result (λ e. D.honest device → D.shown e.1 ≡ D.shown device) }
     ensures no_fault { IfOk result (λ store. D.faults (device_in store) ≡ D.faults device) }
@@ -147,6 +150,7 @@ fn begin<D: BlockDevice, A: Allocator + Copy>(
     ensures refused { IfErr result (λ e. IsHonest file → IsMemoryOrDevice e.0 ⊎
         ((e.0 ≡ refusal.Damaged 2) × HasNoCatalog (pages file) (next_of file))) }
     ensures settled { IfOk result IsSettled }
+    ensures spelled { IfOk result (λ store. IsHonest file → SpellsRecords store) }
     ensures stops { IfOk result (λ store. IsHonest file →
         AddsOnly D.moment D.left_since D.recovery (device_of file) (device_in store) (StopSince Shut (blocks_of file))) }
     ensures refused_stops { IfErr result (λ e. IsHonest file →

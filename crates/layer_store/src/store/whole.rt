@@ -10,6 +10,7 @@ ghost use Rattle.plain_table.specs.declared.refusal.Refusal.TheVariants as refus
 ghost use Rattle.store_law.specs.States.StoreState.{Dead};
 ghost use Rattle.layer_store.specs.Commands.{Answers};
 ghost use Rattle.layer_store.specs.Representation.{BeginsWithSome, IsAliveWithSome, IsInState, IsSettled};
+ghost use Rattle.layer_store.specs.Representation.{SpellsRecords};
 ghost use Rattle.layer_store.specs.Representation.{cache_in, device_in, layers_in, looks_in};
 
 use crate::store::{FAILED, Store};
@@ -54,6 +55,8 @@ impl<D: BlockDevice, A: Allocator + Copy> Store<D, A> {
         ensures sound { D.honest (device_in self.old) → OnOk result (IsAliveWithSome self.new) }
         ensures begins { D.honest (device_in self.old) → IsSettled self.old →
             OnOk result (BeginsWithSome self.new (D.moment (device_in self.new))) }
+        ensures spelled { D.honest (device_in self.old) → IsSettled self.old →
+            OnOk result (SpellsRecords self.new) }
         ensures looks { looks_in self.new ≤ looks_in self.old +
             (1 + 2 * (length (records_in (layers_in self.old)) * next_of (cache_in self.old))) }
         ensures refused { IsInState self.old Dead ⊎ IfErr result IsCheckRefusal }

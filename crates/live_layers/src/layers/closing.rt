@@ -4,10 +4,13 @@ ghost use Rattle.std.specs.Prelude.{◌≡◌, ◌⊎◌, ◌↔◌, List, ◌�
 ghost use Rattle.block_device.specs.Device.{LeavesOnly};
 ghost use Rattle.page_file.specs.Fault.{HasCause, IsDamage, IsOfDevice};
 ghost use Rattle.page_file.specs.declared.gate.Gate.TheVariants.{Shut};
+ghost use Rattle.page_file.specs.Pages.{SameBut};
 ghost use Rattle.page_cache.specs.Cache.{IsHonest, IsPageMap, IsUnchanged, blocks_of, device_of, gate_of, next_of};
+ghost use Rattle.page_cache.specs.Cache.{pages};
 ghost use Rattle.plain_table.specs.Table.{Table};
 ghost use Rattle.live_layers.specs.Image.{IsImage, IsRefusedOrImageOf};
-ghost use Rattle.live_layers.specs.Keeping.{IsSettled, IsSound, IsWritten, RestLeavesOneOf, cache_of};
+ghost use Rattle.live_layers.specs.Keeping.{IsSettled, IsSound, IsWritten, RestLeavesOneOf, SpellsUnchanged};
+ghost use Rattle.live_layers.specs.Keeping.{cache_of, records_in};
 ghost use Rattle.live_layers.specs.Staying.{KeepsEachTree, LeavesTreesIn};
 
 use crate::layers::{CATALOG, Layers};
@@ -32,6 +35,10 @@ impl<B: BlockDevice, A: Allocator + Copy> Layers<B, A> {
         ensures written { OnOk result (IsWritten self.new) }
         ensures was_written { IsWritten self.old → (self.new ≡ self.old) × IsOk result }
         ensures refused { OnErr result (¬ (gate_of (cache_of self.new) ≡ Shut)) }
+        ensures beside { IsHonest (cache_of self.old) →
+            SameBut 2 (pages (cache_of self.old)) (pages (cache_of self.new)) }
+        ensures records { records_in self.new ≡ records_in self.old }
+        ensures spelled { IsHonest (cache_of self.old) → SpellsUnchanged self.old → SpellsUnchanged self.new }
         ensures next { next_of (cache_of self.new) ≡ next_of (cache_of self.old) }
         ensures honest { IsHonest (cache_of self.old) ↔ IsHonest (cache_of self.new) }
         ensures faults { IsPageMap (cache_of self.old) → IfErr result IsOfDevice }
@@ -73,6 +80,14 @@ impl<B: BlockDevice, A: Allocator + Copy> Layers<B, A> {
         ensures shut { OnOk result (gate_of (cache_of self.new) ≡ Shut) }
         ensures refused { OnErr result (¬ (gate_of (cache_of self.new) ≡ Shut)) }
         ensures written { OnOk result (IsWritten self.new) }
+
+        // All pages but that of the catalog stay, and the records, which that page spells where nothing was changed since
+        // the last closing or its try.
+        ensures beside { IsHonest (cache_of self.old) →
+            SameBut 2 (pages (cache_of self.old)) (pages (cache_of self.new)) }
+        ensures records { records_in self.new ≡ records_in self.old }
+        ensures spelled { (t : Table) → IsSound self.old t → SpellsUnchanged self.old → SpellsUnchanged self.new }
+
         ensures next { next_of (cache_of self.new) ≡ next_of (cache_of self.old) }
         ensures honest { IsHonest (cache_of self.old) ↔ IsHonest (cache_of self.new) }
         ensures faults { (t : Table) → IsSound self.old t → IfErr result IsOfDevice }

@@ -1,15 +1,17 @@
 //! The layers closed, and read again from the same device.
 
-ghost use Rattle.std.specs.Prelude.{◌≡◌, ◌⊎◌, ◌↔◌, IfErr, IsOk};
+ghost use Rattle.std.specs.Prelude.{◌≡◌, ◌⊎◌, ◌↔◌, IfErr, IsOk, OnErr, OnOk};
 ghost use Rattle.page_file.specs.Fault.{HasCause, IsOfDevice};
 ghost use Rattle.page_file.specs.declared.fault.Fault.TheVariants as fault;
 ghost use Rattle.page_file.specs.declared.gate.Gate.TheVariants.{Shut};
-ghost use Rattle.page_cache.specs.Cache.{IsHonest, KeepsGate, device_of, gate_of, next_of};
+ghost use Rattle.page_file.specs.Pages.{SameBut};
+ghost use Rattle.page_cache.specs.Cache.{IsHonest, KeepsGate, KeepsMap, device_of, gate_of, next_of, pages};
 ghost use Rattle.plain_table.specs.Commands.Command.{Reopen};
 ghost use Rattle.plain_table.specs.Table.{Table};
 ghost use Rattle.live_layers.specs.Changes.{GoesOn, IsBegun, IsChanged};
 ghost use Rattle.live_layers.specs.Closings.{ClosingLeaves};
-ghost use Rattle.live_layers.specs.Keeping.{IsSettled, IsSound, IsWritten, cache_of};
+ghost use Rattle.live_layers.specs.Keeping.{IsSettled, IsSound, IsWritten, SpellsRecords, SpellsUnchanged, cache_of};
+ghost use Rattle.live_layers.specs.Keeping.{records_in};
 ghost use Rattle.live_layers.specs.Faults.{HasUnmadeCause};
 ghost use Rattle.live_layers.specs.Staying.{KeepsEachTree};
 
@@ -32,6 +34,14 @@ impl<B: BlockDevice, A: Allocator + Copy> Layers<B, A> {
         ensures leaves { (t : Table) → IsSound self.old t → ClosingLeaves self.old self.new t result }
         ensures trees { (t : Table) → IsSound self.old t → KeepsEachTree self.old self.new }
         ensures settled { IsOk result → IsSettled self.new }
+
+        // All pages but that of the catalog stay, which then spells the records. Refused, it keeps the records, which that
+        // page spells where nothing was changed since the last closing or its try.
+        ensures beside { IsHonest (cache_of self.old) →
+            SameBut 2 (pages (cache_of self.old)) (pages (cache_of self.new)) }
+        ensures records { OnErr result (records_in self.new ≡ records_in self.old) }
+        ensures read { IsHonest (cache_of self.old) → OnOk result (SpellsRecords self.new) }
+        ensures spelled { (t : Table) → IsSound self.old t → SpellsUnchanged self.old → SpellsUnchanged self.new }
 
         // Where it was not finished the gate is not shut.
         ensures refused { IsBegun result ⊎ ¬ (gate_of (cache_of self.new) ≡ Shut) }
@@ -59,6 +69,9 @@ impl<B: BlockDevice, A: Allocator + Copy> Layers<B, A> {
         ensures sound { (t : Table) → IsSound self.old t → IsWritten self.old → IsSound self.new t }
         ensures trees { (t : Table) → IsSound self.old t → IsWritten self.old → KeepsEachTree self.old self.new }
         ensures written { IsWritten self.old → IsWritten self.new }
+        ensures map { IsHonest (cache_of self.old) → KeepsMap (cache_of self.old) (cache_of self.new) }
+        ensures records { OnErr result (records_in self.new ≡ records_in self.old) }
+        ensures read { IsHonest (cache_of self.old) → OnOk result (SpellsRecords self.new) }
         ensures next { IsHonest (cache_of self.old) →
             next_of (cache_of self.new) ≡ next_of (cache_of self.old) }
         ensures faults { (t : Table) → IsSound self.old t → IsWritten self.old → IfErr result IsOfDevice }

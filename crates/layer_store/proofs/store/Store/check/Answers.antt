@@ -5,7 +5,7 @@ use Rattle.layer_store.specs.Representation.{device_in}
 use Rattle.layer_store.specs.declared.store.Store.{Store}
 use Rattle.layer_store.proofs.QuestionLemmas.{asked_answers, failed_answers, keeps_asked}
 use Rattle.layer_store.proofs.StartLemmas.{settled_begins}
-use Rattle.layer_store.proofs.StoreLemmas.{alive_so, dead_so}
+use Rattle.layer_store.proofs.StoreLemmas.{alive_so, dead_so, is_settled}
 use Rattle.layer_store.proofs.store.Store.check.Goals as goal
 
 pub returns-then-self-clause-answers : goal.returns-then-self-clause-answers
@@ -37,3 +37,8 @@ returns-then-self-clause-refused g c = inl (dead_so c.args.self.now c.if-self.tr
 
 pub returns-clause-refused : goal.returns-clause-refused
 returns-clause-refused g c = inr c.check.ensures.refused
+
+pub returns-clause-spelled : goal.returns-clause-spelled
+returns-clause-spelled g c = λ honest settled.
+    let kept = keeps_asked c.args.self.now c.check.new.self c.check.ensures.keeps in
+    on_ok c.check.result (λ found. found.1.catalog (is_settled (record c.args.self.now { layers = c.check.new.self }) (kept.settled settled)).1) (c.check.ensures.sound honest)

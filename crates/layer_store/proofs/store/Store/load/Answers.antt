@@ -1,7 +1,7 @@
 -- A change of the layers is a change of the store.
 use Rattle.std.proofs.Common.{refl}
 use Rattle.layer_store.specs.Representation.{device_in}
-use Rattle.layer_store.proofs.ChangeLemmas.{failed_changes, on_told, told_changes}
+use Rattle.layer_store.proofs.ChangeLemmas.{failed_changes, ok_any, on_told, told_changes}
 use Rattle.layer_store.proofs.StoreLemmas.{is_alive, not_both}
 use Rattle.layer_store.proofs.store.Store.load.Goals as goal
 
@@ -13,7 +13,7 @@ returns-clause-changes g c =
     let d = g.met.D.BlockDevice in
     let made = c.load-made.ensures in
     told_changes _ _ c.if-self.false c.tell.ensures tt (λ t stops a. refl) (d.faults_fit (device_in c.args.self.now)) (λ honest b left. d.only_now (device_in c.args.self.now) b honest left)
-    made.change (λ t sound unchanged. (made.same t sound unchanged).written)
+    made.change (λ t sound unchanged. (made.same t sound unchanged).written) (λ t sound unchanged. ok_any _ _ (made.same t sound unchanged))
 
 pub returns-clause-tree : goal.returns-clause-tree
 returns-clause-tree g c = λ t alive changed. on_told _ c.tell.ensures (c.load-made.ensures.tree t (is_alive c.args.self.now t alive).1 changed)

@@ -1,8 +1,8 @@
 -- A reopening of the layers is a step of the store, and a closing.
-use Rattle.std.proofs.Common.{inl}
+use Rattle.std.proofs.Common.{inl, refl}
 use Rattle.plain_table.specs.Commands.Command.{Reopen}
 use Rattle.layer_store.specs.Representation.{device_in}
-use Rattle.layer_store.proofs.ChangeLemmas.{cause_told, not_refused, refused_goes_on, reply_told, step_told, told_end}
+use Rattle.layer_store.proofs.ChangeLemmas.{cause_told, err_told, not_refused, on_told, refused_goes_on, reply_told, step_told, told_end}
 use Rattle.layer_store.proofs.ClosingLemmas.{durable_closed, ends_closed, image_closed, quiet_closed, settled_closed, stops_closed}
 use Rattle.layer_store.proofs.StopLemmas.{reopening_leaves}
 use Rattle.layer_store.proofs.StoreLemmas.{alive_in, dead_so, dead_tells, is_alive, is_dead, not_both, replies_nothing, takes_nothing}
@@ -82,3 +82,21 @@ returns-then-self-clause-trees g c = λ t alive. absurd (not_both _ c.if-self.tr
 
 pub returns-clause-trees : goal.returns-clause-trees
 returns-clause-trees g c = λ t alive. c.reopen-closed.ensures.trees t (is_alive c.args.self.now t alive).1
+
+pub returns-then-self-clause-beside : goal.returns-then-self-clause-beside
+returns-then-self-clause-beside g c = λ honest n other. refl
+
+pub returns-clause-beside : goal.returns-clause-beside
+returns-clause-beside g c = λ honest. c.reopen-closed.ensures.beside honest
+
+pub returns-clause-records : goal.returns-clause-records
+returns-clause-records g c = err_told _ c.tell.ensures c.reopen-closed.ensures.records
+
+pub returns-clause-read : goal.returns-clause-read
+returns-clause-read g c = λ honest. on_told _ c.tell.ensures (c.reopen-closed.ensures.read honest)
+
+pub returns-then-self-clause-spelled : goal.returns-then-self-clause-spelled
+returns-then-self-clause-spelled g c = λ t alive was. was
+
+pub returns-clause-spelled : goal.returns-clause-spelled
+returns-clause-spelled g c = λ t alive was. c.reopen-closed.ensures.spelled t (is_alive c.args.self.now t alive).1 was

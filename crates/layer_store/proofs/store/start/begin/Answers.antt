@@ -3,7 +3,8 @@ use Rattle.std.proofs.Common.{◌≡◌, ◌∙◌, ℕ, true, false, refl, sym,
 use Rattle.std.specs.Prelude.{option_and_then}
 use Rattle.catalog_page.specs.Layout.{records_at}
 use Rattle.live_layers.specs.Catalog.{is_good_catalog}
-use Rattle.live_layers.specs.Keeping.{records_in}
+use Rattle.live_layers.specs.Keeping.{cache_of, records_in}
+use Rattle.live_layers.proofs.KeepLemmas.{kept_catalog}
 use Rattle.layer_store.specs.Faults.{IsMemoryOrDevice}
 use Rattle.layer_store.proofs.ClosingLemmas.{memory_or_device}
 use Rattle.layer_store.proofs.StoreLemmas.{alive_so, not_both, settled_so}
@@ -30,6 +31,13 @@ returns-in-Ok-open-clause-settled g c =
 pub returns-in-Ok-open-clause-trees : goal.returns-in-Ok-open-clause-trees
 returns-in-Ok-open-clause-trees g c = λ blocks honest lies.
     let over = c.in-Ok.ensures in c.in-Ok-open.ensures.trees blocks (subst g.D.BlockDevice.honest (sym over.device) honest) ((over.lies blocks).1 lies)
+
+pub returns-in-Ok-open-clause-spelled : goal.returns-in-Ok-open-clause-spelled
+returns-in-Ok-open-clause-spelled g c = λ honest.
+    let over = c.in-Ok.ensures in
+    let opened = c.in-Ok-open.ensures in
+    let inside = subst g.D.BlockDevice.honest (sym over.device) honest in
+    kept_catalog _ (cache_of c.in-Ok-open.layers) (records_in c.in-Ok-open.layers) inside opened.asks.map (opened.catalog inside)
 
 pub returns-in-Err-open-clause-not_refused : goal.returns-in-Err-open-clause-not_refused
 returns-in-Err-open-clause-not_refused g c = λ t blocks honest lies image.

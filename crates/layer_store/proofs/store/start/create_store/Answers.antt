@@ -80,3 +80,6 @@ returns-in-Ok-clause-durable g c = ok_case c.begin.result (λ store is honest.
 
 pub returns-in-Err-clause-refused_stops : goal.returns-in-Err-clause-refused_stops
 returns-in-Err-clause-refused_stops g c = λ cache honest. new_left _ _ _ _ _ _ (c.in-Err.ensures.refused_stops honest)
+
+pub returns-in-Ok-clause-spelled : goal.returns-in-Ok-clause-spelled
+returns-in-Ok-clause-spelled g c = ok_case c.begin.result (λ store is honest. at_ok _ c.begin.result store is c.begin.ensures.spelled (c.in-Ok.ensures.honest.0 honest))

@@ -79,3 +79,6 @@ returns-in-Ok-clause-durable g c = ok_case c.begin.result (λ store is honest.
 pub returns-in-Ok-clause-trees : goal.returns-in-Ok-clause-trees
 returns-in-Ok-clause-trees g c = ok_case c.begin.result (λ store is honest.
     let opened = c.in-Ok.ensures in at_ok _ c.begin.result store is (c.begin.ensures.trees (g.D.BlockDevice.shown c.args.device) (opened.honest.0 honest) (opened.lies honest)))
+
+pub returns-in-Ok-clause-spelled : goal.returns-in-Ok-clause-spelled
+returns-in-Ok-clause-spelled g c = ok_case c.begin.result (λ store is honest. at_ok _ c.begin.result store is c.begin.ensures.spelled (c.in-Ok.ensures.honest.0 honest))

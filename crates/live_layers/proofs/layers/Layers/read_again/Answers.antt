@@ -7,7 +7,7 @@ use Rattle.page_cache.specs.Laws.{numbers_are_few, the_map_is_kept_in_turn}
 use Rattle.live_layers.specs.Catalog.{objects_named}
 use Rattle.live_layers.proofs.CatalogGood.{layers_may_be}
 use Rattle.live_layers.proofs.ClosingLemmas.{catalog_before, read_sound, trees_kept, trees_read_again}
-use Rattle.live_layers.proofs.KeepLemmas.{sound_kept}
+use Rattle.live_layers.proofs.KeepLemmas.{kept_catalog, sound_kept}
 use Rattle.live_layers.proofs.layers.Layers.read_again.Goals as goal
 
 pub returns-in_err-check_again-clause-sound : goal.returns-in_err-check_again-clause-sound
@@ -53,3 +53,16 @@ returns-clause-trees g c = λ t sound written.
     let checked = c.check_again.ensures.map sound.map.honest in
     let keeps = the_map_is_kept_in_turn old.cache mid c.read_catalog.new.cache c.check_again.ensures.gate.honest.0 checked c.read_catalog.ensures.asks.map in
     trees_read_again old c.read_catalog.new.cache rs t sound written keeps (catalog_before old.cache mid rs sound.map.honest checked (c.in_ok-records.ensures.catalog (c.check_again.ensures.gate.honest.0 sound.map.honest)))
+
+pub returns-in_err-records-clause-map : goal.returns-in_err-records-clause-map
+returns-in_err-records-clause-map g c = λ honest.
+    the_map_is_kept_in_turn c.args.self.now.cache c.check_again.new.self c.read_catalog.new.cache c.check_again.ensures.gate.honest.0 (c.check_again.ensures.map honest) c.read_catalog.ensures.asks.map
+
+pub returns-clause-map : goal.returns-clause-map
+returns-clause-map g c = λ honest.
+    the_map_is_kept_in_turn c.args.self.now.cache c.check_again.new.self c.read_catalog.new.cache c.check_again.ensures.gate.honest.0 (c.check_again.ensures.map honest) c.read_catalog.ensures.asks.map
+
+pub returns-clause-read : goal.returns-clause-read
+returns-clause-read g c = λ honest.
+    let there = c.check_again.ensures.gate.honest.0 honest in
+    kept_catalog c.check_again.new.self c.read_catalog.new.cache (records_of c.in_ok-records.records) there c.read_catalog.ensures.asks.map (c.in_ok-records.ensures.catalog there)

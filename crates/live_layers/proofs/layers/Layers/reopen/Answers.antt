@@ -1,7 +1,11 @@
 -- A closing that is finished, or refused, and what is read after it.
-use Rattle.std.proofs.Common.{◌∙◌, ap}
+use Rattle.std.proofs.Common.{◌≡◌, ◌∙◌, List, Some, ap, subst, sym}
+use Rattle.catalog_page.specs.Layout.{Record, records_of}
+use Rattle.page_cache.specs.Cache.{pages}
 use Rattle.page_cache.specs.Laws.{the_gate_is_kept_in_turn}
-use Rattle.live_layers.proofs.ClosingLemmas.{read_image, rests_on_closed, then_read, unchanged_keeps_gate}
+use Rattle.live_layers.proofs.ClosingLemmas.{catalog_beside, read_image, rests_on_closed, then_read, unchanged_keeps_gate}
+use Rattle.live_layers.specs.Layers.{catalog_in}
+use Rattle.live_layers.proofs.KeepLemmas.{kept_catalog}
 use Rattle.live_layers.proofs.QuestionLemmas.{fault_goes_on}
 use Rattle.store_law.specs.Stops.{is_end}
 use Rattle.live_layers.proofs.layers.Layers.reopen.Goals as goal
@@ -58,3 +62,33 @@ returns-in-Ok-clause-trees g c = λ t sound name s there.
 pub returns-in-Err-read_again-clause-trees : goal.returns-in-Err-read_again-clause-trees
 returns-in-Err-read_again-clause-trees g c = λ t sound name s there.
     let settled = c.in_default.ensures in c.in-Err-read_again.ensures.trees t (settled.sound t sound) settled.written name s (settled.trees t sound name s there)
+
+pub returns-in-Ok-clause-beside : goal.returns-in-Ok-clause-beside
+returns-in-Ok-clause-beside g c = λ honest.
+    let settled = c.settle.ensures in
+    let there = settled.honest.0 honest in
+    catalog_beside c.args.self.now.cache c.settle.new.self.cache c.read_again.new.self.cache there (settled.beside honest) (c.read_again.ensures.map there)
+
+pub returns-in-Err-read_again-clause-beside : goal.returns-in-Err-read_again-clause-beside
+returns-in-Err-read_again-clause-beside g c = λ honest.
+    let settled = c.settle.ensures in
+    let there = settled.honest.0 honest in
+    catalog_beside c.args.self.now.cache c.settle.new.self.cache c.read_again.new.self.cache there (settled.beside honest) (c.read_again.ensures.map there)
+
+pub returns-in-Err-read_again-clause-records : goal.returns-in-Err-read_again-clause-records
+returns-in-Err-read_again-clause-records g c = c.in-Err-read_again.ensures.records ∙ c.settle.ensures.records
+
+pub returns-in-Ok-clause-read : goal.returns-in-Ok-clause-read
+returns-in-Ok-clause-read g c = λ honest. c.in-Ok.ensures.read (c.settle.ensures.honest.0 honest)
+
+pub returns-in-Ok-clause-spelled : goal.returns-in-Ok-clause-spelled
+returns-in-Ok-clause-spelled g c = λ t sound was unopened. c.in-Ok.ensures.read (c.settle.ensures.honest.0 sound.map.honest)
+
+pub returns-in-Err-read_again-clause-spelled : goal.returns-in-Err-read_again-clause-spelled
+returns-in-Err-read_again-clause-spelled g c = λ t sound was unopened.
+    let mid = c.settle.new.self in
+    let new = c.read_again.new.self in
+    let settled = c.in_default.ensures in
+    let there = settled.sound t sound in
+    subst (λ (rs : List Record). catalog_in (pages new.cache) ≡ Some rs) (sym c.in-Err-read_again.ensures.records)
+    (kept_catalog mid.cache new.cache (records_of mid.records) there.map.honest (c.read_again.ensures.map there.map.honest) (there.catalog settled.written))

@@ -6,7 +6,7 @@ use Rattle.page_cache.specs.Cache.{blocks_of, device_of}
 use Rattle.page_file.specs.Stops.{SameButGate}
 use Rattle.live_layers.specs.Image.{IsRefusedOrImageOf}
 use Rattle.live_layers.proofs.KeepLemmas.{kept_catalog, kept_table, sound_kept}
-use Rattle.live_layers.proofs.ClosingLemmas.{not_shut, rests_on_more, trees_in_blocks, trees_kept}
+use Rattle.live_layers.proofs.ClosingLemmas.{catalog_beside, not_shut, rests_on_more, trees_in_blocks, trees_kept}
 use Rattle.live_layers.proofs.StopLemmas.{image_of, or_this, rests_on_table, table_closed}
 use Rattle.live_layers.proofs.Results.{on_any_err, on_err, on_ok}
 use Rattle.live_layers.proofs.layers.Layers.settle.Goals as goal
@@ -72,3 +72,15 @@ returns-clause-left g c = λ t sound.
     let keeps = c.settle.ensures.map in
     let spelled = kept_catalog mid.cache new rs before.map.honest keeps (before.catalog c.in_ok-write.ensures.written) in
     on_ok c.settle.result (λ lies name s there. trees_in_blocks mid.cache new rs (blocks_of new) before.map.honest keeps lies spelled name s (c.write.ensures.trees t sound name s there)) (c.settle.ensures.lies before.map.honest)
+
+pub returns-clause-beside : goal.returns-clause-beside
+returns-clause-beside g c = λ honest. catalog_beside c.args.self.now.cache c.write.new.self.cache c.settle.new.self (c.write.ensures.honest.0 honest) (c.write.ensures.beside honest) c.settle.ensures.map
+
+pub returns-in_err-write-clause-spelled : goal.returns-in_err-write-clause-spelled
+returns-in_err-write-clause-spelled g c = λ t sound was. c.write.ensures.spelled sound.map.honest was
+
+pub returns-clause-spelled : goal.returns-clause-spelled
+returns-clause-spelled g c = λ t sound was unopened.
+    let mid = c.write.new.self in
+    let before = c.write.ensures.sound t sound in
+    kept_catalog mid.cache c.settle.new.self (records_of mid.records) before.map.honest c.settle.ensures.map (before.catalog c.in_ok-write.ensures.written)

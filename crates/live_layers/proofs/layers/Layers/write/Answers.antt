@@ -5,8 +5,8 @@ use Rattle.catalog_page.specs.Layout.{records_at, records_of}
 use Rattle.page_cache.specs.Cache.{device_of}
 use Rattle.page_file.specs.Fault.{IsOfDevice}
 use Rattle.page_cache.specs.Laws.{numbers_are_few, the_catalog_is_live}
-use Rattle.live_layers.proofs.KeepLemmas.{sound_kept, sound_written}
-use Rattle.live_layers.proofs.ClosingLemmas.{open_is_not_shut, trees_beside_catalog, trees_kept, unsure_is_not_shut}
+use Rattle.live_layers.proofs.KeepLemmas.{kept_catalog, sound_kept, sound_written}
+use Rattle.live_layers.proofs.ClosingLemmas.{beside_catalog, open_is_not_shut, trees_beside_catalog, trees_kept, unsure_is_not_shut}
 use Rattle.live_layers.proofs.StopLemmas.{gate_opened, none_made, pages_written}
 use Rattle.live_layers.proofs.Results.{on_any_err, the_err}
 use Rattle.live_layers.proofs.layers.Layers.write.Goals as goal
@@ -97,3 +97,36 @@ returns-clause-trees g c = λ t sound.
     let begun = c.begin_change.new.self in
     let keeps = c.begin_change.ensures.map in
     trees_beside_catalog c.args.self.now begun c.put.new.self t sound keeps (c.put.ensures.others (keeps.sound.0 sound.map).honest (the_catalog_is_live begun))
+
+pub returns-then-self-clause-spelled : goal.returns-then-self-clause-spelled
+returns-then-self-clause-spelled g c = λ honest was. was
+
+pub returns-then-self-clause-beside : goal.returns-then-self-clause-beside
+returns-then-self-clause-beside g c = λ honest n other. refl
+
+pub returns-in_err-begin_change-clause-beside : goal.returns-in_err-begin_change-clause-beside
+returns-in_err-begin_change-clause-beside g c = λ honest n other. c.begin_change.ensures.map.pages_stay honest n
+
+pub returns-in_err-put-clause-beside : goal.returns-in_err-put-clause-beside
+returns-in_err-put-clause-beside g c = λ honest.
+    let begun = c.begin_change.ensures in
+    beside_catalog c.args.self.now.cache c.begin_change.new.self c.put.new.self honest begun.map (c.put.ensures.others (begun.honest.0 honest) (the_catalog_is_live c.begin_change.new.self))
+
+pub returns-clause-beside : goal.returns-clause-beside
+returns-clause-beside g c = λ honest.
+    let begun = c.begin_change.ensures in
+    beside_catalog c.args.self.now.cache c.begin_change.new.self c.put.new.self honest begun.map (c.put.ensures.others (begun.honest.0 honest) (the_catalog_is_live c.begin_change.new.self))
+
+-- the gate was not open where it could not be opened
+pub returns-in_err-begin_change-clause-spelled : goal.returns-in_err-begin_change-clause-spelled
+returns-in_err-begin_change-clause-spelled g c = λ honest was unopened.
+    let old = c.args.self.now in
+    let begun = c.in_err-begin_change.ensures in
+    kept_catalog old.cache c.begin_change.new.self (records_of old.records) honest c.begin_change.ensures.map
+    (was (λ opened. let no : false ≡ true = (begun.was_open opened).1 in absurd (cc)))
+
+pub returns-in_err-put-clause-spelled : goal.returns-in_err-put-clause-spelled
+returns-in_err-put-clause-spelled g c = λ honest was unopened. absurd (unopened (c.put.ensures.changes.gate.gate ∙ c.in_ok-begin_change.ensures.open))
+
+pub returns-clause-spelled : goal.returns-clause-spelled
+returns-clause-spelled g c = λ honest was unopened. absurd (unopened (c.put.ensures.changes.gate.gate ∙ c.in_ok-begin_change.ensures.open))
