@@ -1,0 +1,19 @@
+//! The identifier table of a layer as a tree of pages: the box and the tag of each identifier, in leaves that are found
+//! by the keys of forks (docs/FORMAT.md).
+#![tactic(auto)]
+
+mod adding;
+mod broken;
+mod giving;
+mod halving;
+mod looks;
+mod making;
+mod parting;
+mod pushing;
+mod rooting;
+mod search;
+mod splitting;
+
+pub use adding::add;
+pub use making::make;
+pub use search::get;

@@ -1,0 +1,78 @@
+//! The root of a table: its first object, and one level more.
+
+ghost use Rattle.std.specs.Prelude.{◌≡◌, ◌<◌, ◌⊎◌, Some, [], ◌∷◌, IfErr, OnOk};
+ghost use Rattle.box_math.specs.Bounds.{IsDims};
+ghost use Rattle.page_file.specs.Fault.{IsDamage};
+ghost use Rattle.page_file.specs.declared.gate.Gate.TheVariants.{Open};
+ghost use Rattle.page_cache.specs.Cache.{Grows, IsLive, IsPageMap, gate_of, pages};
+ghost use Rattle.page_cache.specs.Calls.{Changes};
+ghost use Rattle.node_page.specs.Faults.{IsNoDamage};
+ghost use Rattle.id_page.specs.Fork.{fork_at};
+ghost use Rattle.id_tree.specs.Writes.{NamesNew, Starts};
+
+use crate::giving::give_page;
+use block_bytes::zero_block;
+use block_device::BlockDevice;
+use id_page::{fill_leaf, push_link, start_fork};
+use box_math::BBox;
+use page_cache::PageCache;
+use page_file::Fault;
+use std::alloc::Allocator;
+
+// Gives out a page with these bytes, and makes the live page of a root a fork of that level with that page as its only
+// child.
+#[tactic(auto, using(page_cache::specs::Calls::turns))]
+pub(crate) fn name_new<const D: usize, B: BlockDevice, A: Allocator + Copy>(
+    cache: &mut PageCache<B, A>,
+    root: u32,
+    level: u8,
+    bytes: &[u8; 4096],
+) -> Result<(), Fault>
+    requires dims { IsDims D }
+    requires open { gate_of cache.old ≡ Open }
+    requires high { 0 < level }
+    ensures changes { Changes cache.old cache.new result }
+    ensures named { IsPageMap cache.old → IsLive cache.old root
+        → OnOk result (NamesNew D (pages cache.old) (pages cache.new) root level bytes.now) }
+    ensures sound { IsPageMap cache.old → IsLive cache.old root → IsPageMap cache.new }
+    ensures grows { Grows 1 cache.old cache.new }
+    ensures faults { IsPageMap cache.old → IsLive cache.old root → IfErr result (IsNoDamage cache.new) }
+    ensures other_faults { IfErr result (λ f. IsNoDamage cache.new f ⊎ IsDamage f) }
+{
+    let number = give_page(cache, bytes)?;
+    let fork = only_child::<D>(level, number);
+    cache.put(root, &fork)
+}
+
+// The fork of that level with a page as its only child.
+fn only_child<const D: usize>(level: u8, number: u32) -> [u8; 4096]
+    requires dims { IsDims D }
+    requires high { 0 < level }
+    ensures { fork_at D result ≡ Some (record { level = level; links = (0, number) ∷ [] }) }
+{
+    let mut fork = zero_block();
+    start_fork::<D>(&mut fork, level);
+    push_link(&mut fork, 0, number);
+    fork
+}
+
+// Makes the live page of a root, which has no children, one with a leaf of this object.
+pub(crate) fn start<const D: usize, B: BlockDevice, A: Allocator + Copy>(
+    cache: &mut PageCache<B, A>,
+    root: u32,
+    object: &(u64, (BBox<D>, u32)),
+) -> Result<(), Fault>
+    requires dims { IsDims D }
+    requires open { gate_of cache.old ≡ Open }
+    ensures changes { Changes cache.old cache.new result }
+    ensures started { IsPageMap cache.old → IsLive cache.old root
+        → OnOk result (Starts D (pages cache.old) (pages cache.new) root object.now) }
+    ensures sound { IsPageMap cache.old → IsLive cache.old root → IsPageMap cache.new }
+    ensures grows { Grows 1 cache.old cache.new }
+    ensures faults { IsPageMap cache.old → IsLive cache.old root → IfErr result (IsNoDamage cache.new) }
+    ensures other_faults { IfErr result (λ f. IsNoDamage cache.new f ⊎ IsDamage f) }
+{
+    let mut leaf = zero_block();
+    fill_leaf::<D>(&mut leaf, &[*object]);
+    name_new::<D, B, A>(cache, root, 1, &leaf)
+}
