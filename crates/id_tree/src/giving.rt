@@ -1,6 +1,6 @@
 //! Pages given out with what they are to hold.
 
-ghost use Rattle.std.specs.Prelude.{◌≡◌, ◌<◌, ◌⊎◌, IfErr, IfOk};
+ghost use Rattle.std.specs.Prelude.{◌≡◌, ◌<◌, ◌≤◌, ◌⊎◌, IfErr, IfOk};
 ghost use Rattle.page_file.specs.Fault.{IsDamage};
 ghost use Rattle.page_file.specs.declared.gate.Gate.TheVariants.{Open};
 ghost use Rattle.page_cache.specs.Cache.{Grows, IsLive, IsPageMap, gate_of, next_of, pages};
@@ -23,7 +23,7 @@ pub(crate) fn give_page<B: BlockDevice, A: Allocator + Copy>(
     ensures changes { Changes cache.old cache.new result }
     ensures given { IsPageMap cache.old
         → IfOk result (λ number. Gives (pages cache.old) (pages cache.new) number bytes.now) }
-    ensures number { IfOk result (λ number. number < next_of cache.new) }
+    ensures number { IfOk result (λ number. (3 ≤ number) × (number < next_of cache.new)) }
     ensures sound { IsPageMap cache.old → IsPageMap cache.new }
     ensures grows { Grows 1 cache.old cache.new }
     ensures faults { IsPageMap cache.old → IfErr result (IsNoDamage cache.new) }

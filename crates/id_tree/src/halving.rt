@@ -50,13 +50,16 @@ pub(crate) fn plan<const D: usize, B: BlockDevice, A: Allocator + Copy>(
 {
     let bytes = copy_page(cache, page)?;
     let count = count_at(&bytes);
-    if level == 0 && count == objects_that_fit::<D>() {
+    if level == 0 {
+        if count != objects_that_fit::<D>() {
+            return Err(Fault::Damaged(page));
+        }
         return Ok(cut_leaf::<D>(&bytes, edge, id));
     }
-    if level > 0 && count == MOST_CHILDREN {
-        return Ok(cut_fork::<D>(&bytes, level, edge));
+    if count != MOST_CHILDREN {
+        return Err(Fault::Damaged(page));
     }
-    Err(Fault::Damaged(page))
+    Ok(cut_fork::<D>(&bytes, level, edge))
 }
 
 // Cuts a full leaf.

@@ -8,13 +8,14 @@ ghost use Rattle.page_cache.specs.Cache.{Grows, IsLive, IsPageMap, gate_of, page
 ghost use Rattle.page_cache.specs.Calls.{Changes};
 ghost use Rattle.node_page.specs.Faults.{IsNoDamage};
 ghost use Rattle.id_page.specs.Fork.{fork_at};
+ghost use Rattle.id_page.specs.Leaf.{leaf_at};
 ghost use Rattle.id_tree.specs.Writes.{NamesNew, Starts};
 
 use crate::giving::give_page;
 use block_bytes::zero_block;
 use block_device::BlockDevice;
-use id_page::{fill_leaf, push_link, start_fork};
 use box_math::BBox;
+use id_page::{push_link, push_object, start_fork, start_leaf};
 use page_cache::PageCache;
 use page_file::Fault;
 use std::alloc::Allocator;
@@ -72,7 +73,17 @@ pub(crate) fn start<const D: usize, B: BlockDevice, A: Allocator + Copy>(
     ensures faults { IsPageMap cache.old → IsLive cache.old root → IfErr result (IsNoDamage cache.new) }
     ensures other_faults { IfErr result (λ f. IsNoDamage cache.new f ⊎ IsDamage f) }
 {
-    let mut leaf = zero_block();
-    fill_leaf::<D>(&mut leaf, &[*object]);
+    let leaf = leaf_of::<D>(object);
     name_new::<D, B, A>(cache, root, 1, &leaf)
+}
+
+// The leaf of one object.
+fn leaf_of<const D: usize>(object: &(u64, (BBox<D>, u32))) -> [u8; 4096]
+    requires dims { IsDims D }
+    ensures { leaf_at D result ≡ Some (object.now ∷ []) }
+{
+    let mut leaf = zero_block();
+    start_leaf::<D>(&mut leaf);
+    push_object::<D>(&mut leaf, object);
+    leaf
 }

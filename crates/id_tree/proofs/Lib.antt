@@ -1,0 +1,11 @@
+-- The files of lemmas.
+pub mod ObjectLemmas
+pub mod RowLemmas
+pub mod NodeLemmas
+pub mod SwapLemmas
+pub mod WayLemmas
+pub mod LeafLemmas
+pub mod HalvingLemmas
+pub mod PartingLemmas
+pub mod CutLemmas
+pub mod WriteLemmas
