@@ -1,5 +1,6 @@
 -- The files of lemmas.
 pub mod ObjectLemmas
+pub mod ResultLemmas
 pub mod RowLemmas
 pub mod NodeLemmas
 pub mod SwapLemmas
@@ -9,3 +10,5 @@ pub mod HalvingLemmas
 pub mod PartingLemmas
 pub mod CutLemmas
 pub mod WriteLemmas
+pub mod SplitLemmas
+pub mod RootLemmas

@@ -3,10 +3,12 @@ use Rattle.std.specs.Prelude.{◌≡◌, ℕ, ◌+◌, ◌-◌, ◌<◌, ◌≤�
 use Rattle.bucket_page.specs.Layout.{Entry}
 use Rattle.id_page.specs.Fork.{ForkContent, Link, fork_at, with_links}
 use Rattle.id_page.specs.Leaf.{leaf_at, most_objects}
+use Rattle.page_file.specs.Pages.{SameBut}
 use Rattle.node_page.specs.Standing.{PageMap}
 use Rattle.id_tree.specs.Halving.{from_key, under_key}
 use Rattle.id_tree.specs.Rows.{HasRoom}
 use Rattle.id_tree.specs.Steps.{Keeps}
+use Rattle.id_tree.specs.Writes.{GivesAndPuts}
 use Rattle.id_tree.specs.Tree.{IsFilled, IsLarge, IsParted, Row, RowStands, fork_in, least_objects, links_of, objects_in, occurs}
 
 -- a full leaf was cut at a key into these pages
@@ -55,11 +57,9 @@ pub record Cuts (dims level : ℕ) (edge : Bool) (row : Row) (key : ℕ) (first 
   pub keeps : Keeps (objects_in row) (objects_in left ++ objects_in right)
   pub counts : (n : ℕ) → occurs n left + occurs n right ≡ occurs n row
 
--- A page that was not live has the second half, the page of the node the first, and its fork names both.
+-- A page that was not live has the second half and the page of the node the first, and then its fork names both.
 pub record Splits (dims : ℕ) (old new : PageMap) (page child number place key : ℕ) (fork first second : List ℕ) : Type 0 where
-  pub low : 2 < number
-  pub fresh : old number ≡ None
-  pub others : (n : ℕ) → ¬ (n ≡ number) → ¬ (n ≡ child) → ¬ (n ≡ page) → new n ≡ old n
-  pub there_first : new child ≡ Some first
-  pub there_second : new number ≡ Some second
+  pub mid : PageMap
+  pub given : GivesAndPuts old mid child number first second
+  pub others : SameBut page mid new
   pub named : (c : ForkContent) → fork_at dims fork ≡ Some c → fork_in dims (new page) ≡ Some (with_links c (insert c.links place (key, number)))
