@@ -12,3 +12,4 @@ pub mod CutLemmas
 pub mod WriteLemmas
 pub mod SplitLemmas
 pub mod RootLemmas
+pub mod SeekLemmas

@@ -6,6 +6,7 @@ use Rattle.page_cache.specs.Calls.{ChangesUntil, changes_in_turn}
 use Rattle.page_cache.specs.declared.cache.PageCache.{PageCache}
 use Rattle.node_page.specs.Broken.{Alters, cause_in, midway}
 use Rattle.node_page.specs.declared.broken.Broken.{Broken}
+use Rattle.id_table.specs.Faults.{broken_of}
 use Rattle.id_tree.specs.Steps.{begun_of}
 
 pub if_ok : {T E : Type 0} (r : Result T E) (P Q : T → Type 0) → ((x : T) → P x → Q x) → IfOk r P → IfOk r Q
@@ -32,3 +33,8 @@ module _ {T : Type 0} where
       after : (r : Result T Broken) → Alters mid new r → Alters old new (begun_of r)
       after (Ok x) a = record { changes = changes_in_turn old mid new None before a.changes; untouched = tt }
       after (Err e) a = record { changes = changes_in_turn old mid new (cause_in {T = T} (Err e)) before a.changes; untouched = λ (never : true ≡ false). absurd (cc) }
+
+-- the answer of calls, as that of the change that they make
+pub broken_ok_if : {T : Type 0} (r : Result T Fault) (b : Result T Broken) (P Q : T → Type 0) → b ≡ broken_of r → ((x : T) → P x → Q x) → IfOk r P → IfOk b Q
+broken_ok_if {T} (Ok x) b P Q is f p = subst (λ (b : Result T Broken). IfOk b Q) (sym is) (f x p)
+broken_ok_if {T} (Err e) b P Q is f p = subst (λ (b : Result T Broken). IfOk b Q) (sym is) tt

@@ -10,7 +10,7 @@ use Rattle.id_page.specs.Fork.{ForkContent, Link, fork_at, route_place, with_lin
 use Rattle.page_file.specs.Pages.{SameBut}
 use Rattle.node_page.specs.Parts.{Moves}
 use Rattle.node_page.specs.Standing.{PageMap}
-use Rattle.node_page.proofs.PartLemmas.{there_not_missing}
+use Rattle.node_page.proofs.PartLemmas.{moves_from, there_not_missing}
 use Rattle.id_table.specs.Table.{times_in}
 use Rattle.id_tree.specs.Cutting.{Cuts, Splits, SpellsNode}
 use Rattle.id_tree.specs.Rows.{At, NodeStands, joined, part_at}
@@ -269,3 +269,33 @@ place_within dims pages page level edge row id p place last may =
     let at = place_here dims pages page level edge id p row may.high may.stands may.way in
     let long = ap length (links_here dims pages page level edge id p row may.high may.stands may.way) in
     omega (arith, at, may.place_is, long, length-append (links_of may.way.front) ((may.way.key, p) ∷ links_of may.way.rest))
+
+pub live_same : (old was : PageMap) (page : ℕ) → ((n : ℕ) → was n ≡ old n) → IsSome (old page) → IsSome (was page)
+live_same old was page same live = subst IsSome (sym (same page)) live
+
+-- ---- the same pages
+
+-- with the same way, as it computes
+abbrev pub split_again : (dims : ℕ) (old new : PageMap) (page level : ℕ) (edge : Bool) (row : Row) (id p place : ℕ) (last : Bool) → ((n : ℕ) → new n ≡ old n) → MaySplit dims old page level edge row id p place last → MaySplit dims new page level edge row id p place last
+split_again dims old new page level edge row id p place last same s = record {
+  stands = stands_same dims old new page level edge row same s.stands;
+  high = s.high;
+  room = s.room;
+  single = s.single;
+  way = s.way;
+  full = s.full;
+  place_is = s.place_is;
+  last_is = s.last_is;
+}
+
+pub makes_from : (dims : ℕ) (old mid new : PageMap) (page level : ℕ) (edge : Bool) (row : Row) (id below : ℕ) (last : Bool) → ((n : ℕ) → mid n ≡ old n) → MakesRoom dims mid new page level edge row id below last → MakesRoom dims old new page level edge row id below last
+makes_from dims old mid new page level edge row id below last same m = record {
+  now = m.now;
+  stands = m.stands;
+  keeps = m.keeps;
+  wide = m.wide;
+  moves = moves_from old mid new (part_at page row) (part_at page m.now) same m.moves;
+  way = m.way;
+  room = m.room;
+  last_is = m.last_is;
+}

@@ -9,6 +9,3 @@ gives_apart old new number page bytes g live is = there_not_missing (old page) l
 
 pub still_live : (old new : PageMap) (number page : ℕ) (bytes : List ℕ) → Gives old new number bytes → IsSome (old page) → IsSome (new page)
 still_live old new number page bytes g live = subst IsSome (sym (g.others page (λ is. gives_apart old new number page bytes g live (sym is)))) live
-
-pub live_same : (old was : PageMap) (page : ℕ) → ((n : ℕ) → was n ≡ old n) → IsSome (old page) → IsSome (was page)
-live_same old was page same live = subst IsSome (sym (same page)) live

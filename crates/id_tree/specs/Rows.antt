@@ -2,7 +2,7 @@
 use Rattle.std.specs.Prelude.{◌≡◌, ℕ, ◌+◌, ◌-◌, ◌<◌, ◌≤◌, Bool, false, List, [], ◌∷◌, ◌++◌, length, slice_index_or, All, Option, Some, None, ⊤, if◌then◌else◌, ◌==◌}
 use Rattle.box_math.specs.Objects.{Object}
 use Rattle.bucket_page.specs.Layout.{Entry}
-use Rattle.id_table.specs.Table.{kept_in}
+use Rattle.id_table.specs.Table.{kept_in, times_in}
 use Rattle.id_page.specs.Leaf.{most_objects}
 use Rattle.node_page.specs.Parts.{Part}
 use Rattle.node_page.specs.Standing.{PageMap}
@@ -86,12 +86,17 @@ pub data Reaches (id : ℕ) : ℕ → ℕ → Row → ℕ → Row → Type 0 whe
   down : (level page below leaf : ℕ) (row last : Row) → 0 < level → (way : At id below row) → Reaches id (level - 1) below way.below leaf last → Reaches id level page row leaf last
 
 -- where an identifier is below a node: its leaf, its place there and what is kept of its object, if it is there
-pub record IsBelow (dims : ℕ) (pages : PageMap) (page level id : ℕ) (row : Row) (leaf place : ℕ) (kept : Object) : Type 0 where
+pub record IsBelow (page level id : ℕ) (row : Row) (leaf place : ℕ) (kept : Object) : Type 0 where
   pub last : Row
   pub way : Reaches id level page row leaf last
   pub has : HasAt id (objects_in last) place kept
   pub is : kept_in id (objects_in row) ≡ Some kept
 
-abbrev pub IsFoundBelow : ℕ → PageMap → ℕ → ℕ → ℕ → Row → Option (ℕ × ℕ × Object) → Type 0
-IsFoundBelow dims pages page level id row None = kept_in id (objects_in row) ≡ None
-IsFoundBelow dims pages page level id row (Some found) = IsBelow dims pages page level id row found.0 found.1 found.2
+abbrev pub IsFoundBelow : ℕ → ℕ → ℕ → Row → Option (ℕ × ℕ × Object) → Type 0
+IsFoundBelow page level id row None = kept_in id (objects_in row) ≡ None
+IsFoundBelow page level id row (Some found) = IsBelow page level id row found.0 found.1 found.2
+
+-- a node that stands, without an identifier twice
+pub record MaySeek (dims : ℕ) (pages : PageMap) (page level : ℕ) (edge : Bool) (row : Row) : Type 0 where
+  pub stands : NodeStands dims pages page level edge row
+  pub single : (q : ℕ) → times_in q (objects_in row) ≤ 1

@@ -6,8 +6,8 @@ ghost use Rattle.box_math.specs.Bounds.{IsDims};
 ghost use Rattle.page_file.specs.Fault.{IsDamage, IsOfDevice};
 ghost use Rattle.page_cache.specs.Cache.{IsHonest, pages};
 ghost use Rattle.page_cache.specs.Calls.{Asks};
-ghost use Rattle.id_tree.specs.Rows.{IsFoundBelow, NodeStands};
-ghost use Rattle.id_tree.specs.Tree.{HasNode, IdTree, Row, TreeStands, objects_of};
+ghost use Rattle.id_tree.specs.Rows.{IsFoundBelow, MaySeek};
+ghost use Rattle.id_tree.specs.Tree.{IdTree, Row, TreeStands, objects_of};
 
 use crate::looks::{look, step};
 use block_device::BlockDevice;
@@ -49,7 +49,7 @@ pub(crate) fn find<const D: usize, B: BlockDevice, A: Allocator + Copy>(
     requires dims { IsDims D }
     ensures asks { Asks cache.old cache.new result }
     ensures found { IsHonest cache.old → (t : IdTree) → t.page ≡ root → TreeStands D (pages cache.old) t
-        → IfOk result (IsFoundBelow D (pages cache.old) root t.level id t.row) }
+        → IfOk result (IsFoundBelow root t.level id t.row) }
     ensures stands { IsHonest cache.old → (t : IdTree) → t.page ≡ root → TreeStands D (pages cache.old) t
         → IfErr result IsOfDevice }
     ensures other_faults { IfErr result (λ f. IsOfDevice f ⊎ IsDamage f) }
@@ -73,9 +73,9 @@ fn seek<const D: usize, B: BlockDevice, A: Allocator + Copy>(
 ) -> Result<Option<(u32, usize, (BBox<D>, u32))>, Fault>
     requires dims { IsDims D }
     ensures asks { Asks cache.old cache.new result }
-    ensures found { IsHonest cache.old → (edge : Bool) (row : Row) → NodeStands D (pages cache.old) page level edge row
-        → IfOk result (IsFoundBelow D (pages cache.old) page level id row) }
-    ensures stands { IsHonest cache.old → (edge : Bool) (row : Row) → NodeStands D (pages cache.old) page level edge row
+    ensures found { IsHonest cache.old → (edge : Bool) (row : Row) → MaySeek D (pages cache.old) page level edge row
+        → IfOk result (IsFoundBelow page level id row) }
+    ensures stands { IsHonest cache.old → (edge : Bool) (row : Row) → MaySeek D (pages cache.old) page level edge row
         → IfErr result IsOfDevice }
     ensures other_faults { IfErr result (λ f. IsOfDevice f ⊎ IsDamage f) }
 {
@@ -101,9 +101,9 @@ fn seek_leaf<const D: usize, B: BlockDevice, A: Allocator + Copy>(
 ) -> Result<Option<(u32, usize, (BBox<D>, u32))>, Fault>
     requires dims { IsDims D }
     ensures asks { Asks cache.old cache.new result }
-    ensures found { IsHonest cache.old → (row : Row) → HasNode D (pages cache.old) page 0 row
-        → IfOk result (IsFoundBelow D (pages cache.old) page 0 id row) }
-    ensures stands { IsHonest cache.old → (row : Row) → HasNode D (pages cache.old) page 0 row
+    ensures found { IsHonest cache.old → (edge : Bool) (row : Row) → MaySeek D (pages cache.old) page 0 edge row
+        → IfOk result (IsFoundBelow page 0 id row) }
+    ensures stands { IsHonest cache.old → (edge : Bool) (row : Row) → MaySeek D (pages cache.old) page 0 edge row
         → IfErr result IsOfDevice }
     ensures other_faults { IfErr result (λ f. IsOfDevice f ⊎ IsDamage f) }
 {
