@@ -13,3 +13,4 @@ pub mod WriteLemmas
 pub mod SplitLemmas
 pub mod RootLemmas
 pub mod SeekLemmas
+pub mod AddLemmas
