@@ -1,5 +1,5 @@
 -- An object added at or below a node.
-use Rattle.std.proofs.Common.{◌≡◌, ◌∙◌, ℕ, ◌+◌, ◌-◌, ◌<◌, ◌≤◌, ◌++◌, ◌∷◌, [], Bool, true, false, Option, Some, None, List, length, refl, sym, ap, subst, inl, inr, arith, length-append}
+use Rattle.std.proofs.Common.{◌≡◌, ◌∙◌, ℕ, ◌+◌, ◌-◌, ◌<◌, ◌≤◌, ◌++◌, ◌∷◌, [], Bool, true, false, cond, eqb, Option, Some, None, List, length, refl, sym, ap, subst, inl, inr, arith, length-append}
 use Rattle.box_math.specs.Objects.{Object}
 use Rattle.block_bytes.specs.Numbers.{number_at}
 use Rattle.bucket_page.specs.Layout.{Entry}
@@ -14,7 +14,7 @@ use Rattle.id_page.proofs.LeafReading.{count_of_leaf}
 use Rattle.id_table.specs.Table.{kept_in, times_in}
 use Rattle.id_tree.specs.Changes.{Sets}
 use Rattle.id_tree.specs.Rows.{At, HasRoom, IsFull, NodeStands, part_at}
-use Rattle.id_tree.specs.Steps.{Becomes, IsFullTree, Keeps, MakesRoom, MayGrow, MaySplit, Step, adds, Turns}
+use Rattle.id_tree.specs.Steps.{Becomes, IsBeneath, IsFullTree, Keeps, MakesRoom, MayGrow, MaySplit, Step, adds, Turns}
 use Rattle.id_tree.specs.Writes.{NamesNew, Starts}
 use Rattle.id_tree.specs.Tree.{HasNode, IdTree, IsLarge, Row, end, more, object, child, RowStands, TreeStands, at_edge, fork_in, leaf_in, least_objects, links_of, objects_in, occurs}
 use Rattle.id_tree.proofs.LeafLemmas.{leaf_becomes}
@@ -148,10 +148,7 @@ module _ (dims : ℕ) (old mid : PageMap) (t : IdTree) (bytes : List ℕ) (s : T
   stays : RowStands dims mid t.level t.row
   stays = row_stays dims old mid t.level t.row (λ n at. w.others n
       (λ is. there_not_missing (old n) (part_there dims old t.page t.level true t.row n (root_stands dims old t s) (omega (arith, at))) (ap old is ∙ w.fresh))
-      (λ is. let one = ap (λ k. occurs_of t.page k) is ∙ occurs_here t.page in omega (arith, one, at, s.once n))) s.below
-    where
-      occurs_of : ℕ → ℕ → ℕ
-      occurs_of page n = part_at page end n
+      (λ is. let one : ◌≡◌ {A = ℕ} (cond (eqb t.page n) 1 0) 1 = ap (λ k. cond (eqb t.page k) 1 0) is ∙ occurs_here t.page in omega (arith, one, at, s.once n))) s.below
 
   some : 0 < length (objects_in t.row)
   some = some_objects dims old t.level t.row s.high s.below (omega (arith, full))
@@ -174,3 +171,34 @@ module _ (dims : ℕ) (old mid : PageMap) (t : IdTree) (bytes : List ℕ) (s : T
     absent = deeper_keeps.kept id ∙ absent;
     single = λ q. omega (arith, deeper_keeps.times q, s.single q);
   }
+
+-- ---- the child where the identifier is
+
+module _ (dims : ℕ) (old mid : PageMap) (page level : ℕ) (edge : Bool) (row : Row) (id p place : ℕ) (last room : Bool) (high : 0 < level) (same : (n : ℕ) → mid n ≡ old n) (may : MayGrow dims old page level edge row id)
+    (beneath : IsBeneath dims level edge row id p place last room) where
+  pub grow_beneath : room ≡ true → MayGrow dims mid p (level - 1) last beneath.way.below id
+  grow_beneath has = subst (λ e. MayGrow dims mid p (level - 1) e beneath.way.below id) (sym beneath.last_is)
+      (may_grow_below dims mid page level edge row id p high (stands_same dims old mid page level edge row same may.stands) may.absent may.single beneath.way (beneath.has_room has))
+
+  pub becomes_beneath : (new : PageMap) (kept : Object) → Becomes dims mid new p (level - 1) last beneath.way.below id (adds kept) → Becomes dims old new page level edge row id (adds kept)
+  becomes_beneath new kept b = becomes_from dims old mid new page level edge row id (adds kept) same
+      (by_child dims mid page level edge id p row high (stands_same dims old mid page level edge row same may.stands) beneath.way new (adds kept) may.large
+      (subst (λ e. Becomes dims mid new p (level - 1) e beneath.way.below id (adds kept)) beneath.last_is b))
+
+  pub split_beneath : room ≡ false → MaySplit dims mid page level edge row id p place last
+  split_beneath none = record {
+    stands = stands_same dims old mid page level edge row same may.stands;
+    high = high;
+    room = may.room.fork high;
+    single = may.single;
+    way = beneath.way;
+    full = beneath.is_full none;
+    place_is = beneath.place_is;
+    last_is = beneath.last_is;
+  }
+
+-- a node of objects has children, if it is a fork
+pub some_links : (dims : ℕ) (pages : PageMap) (level : ℕ) (row : Row) → 0 < level → RowStands dims pages level row → 0 < length (objects_in row) → 0 < length (links_of row)
+some_links dims pages level end high stands some = some
+some_links dims pages level (more (object i o) rest) high stands some = absurd (omega (arith, high, stands.0))
+some_links dims pages level (more (child key page below) rest) high stands some = omega arith

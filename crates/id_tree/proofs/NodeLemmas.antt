@@ -161,3 +161,11 @@ pub no_links : (dims : ℕ) (pages : PageMap) (level : ℕ) (row : Row) → 0 < 
 no_links dims pages level end high stands none = refl
 no_links dims pages level (more (object i b) rest) high stands none = absurd (omega (arith, high, stands.0))
 no_links dims pages level (more (child k p b) rest) high stands none = absurd (omega (arith, none))
+
+-- the bytes of a node that is there
+pub there_bytes : (dims : ℕ) (pages : PageMap) (page level : ℕ) (row : Row) → HasNode dims pages page level row → (bytes : List ℕ) × (pages page ≡ Some bytes)
+there_bytes dims pages page level row node = some_bytes (pages page) (node_there dims pages page level row node)
+  where
+    some_bytes : (o : Option (List ℕ)) → IsSome o → (bytes : List ℕ) × (o ≡ Some bytes)
+    some_bytes None is = absurd (cc)
+    some_bytes (Some bytes) is = (bytes, refl)

@@ -5,7 +5,7 @@ use Rattle.std.proofs.lemmas.Bool.{cases_eq}
 use Rattle.std.proofs.lemmas.Bool.Decides.{nat_tests}
 use Rattle.box_math.specs.Objects.{Object}
 use Rattle.bucket_page.specs.Layout.{Entry}
-use Rattle.id_page.specs.Fork.{AreAscending, ForkContent, route}
+use Rattle.id_page.specs.Fork.{AreAscending, ForkContent, Link, route}
 use Rattle.node_page.specs.Standing.{PageMap}
 use Rattle.id_table.specs.Table.{kept_in, times_in}
 use Rattle.id_tree.specs.Rows.{At, HasAt, IsBelow, IsFoundAt, IsFoundBelow, MaySeek, NodeStands, Reaches, here, down}
@@ -74,3 +74,7 @@ keys_ascend dims pages page level edge row high s = ascending dims pages level r
 -- a search from the root
 pub may_seek_root : (dims : ℕ) (pages : PageMap) (root : ℕ) (t : IdTree) → t.page ≡ root → TreeStands dims pages t → MaySeek dims pages root t.level true t.row
 may_seek_root dims pages root t at s = subst (λ p. MaySeek dims pages p t.level true t.row) at (record { stands = root_stands dims pages t s; single = s.single })
+
+pub no_route : (id : ℕ) (links : List Link) → None ≡ route id links → length links ≡ 0
+no_route id [] none = refl
+no_route id (x ∷ xs) none = absurd (cc)

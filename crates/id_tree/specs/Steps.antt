@@ -1,5 +1,5 @@
 -- What the steps of a change make of nodes and of their objects.
-use Rattle.std.specs.Prelude.{◌≡◌, ℕ, ◌+◌, ◌-◌, ◌<◌, ◌≤◌, Bool, false, List, ◌++◌, length, All, Option, Some, None, ⊤, if◌then◌else◌, ◌==◌, Result, Ok, Err}
+use Rattle.std.specs.Prelude.{◌≡◌, ℕ, ◌+◌, ◌-◌, ◌<◌, ◌≤◌, Bool, true, false, List, ◌++◌, length, All, Option, Some, None, ⊤, if◌then◌else◌, ◌==◌, Result, Ok, Err}
 use Rattle.box_math.specs.Objects.{Object}
 use Rattle.bucket_page.specs.Layout.{Entry}
 use Rattle.id_page.specs.Fork.{route, route_place}
@@ -77,6 +77,14 @@ pub record MayGrow (dims : ℕ) (pages : PageMap) (page level : ℕ) (edge : Boo
   pub large : edge ≡ false → IsLarge dims level row
   pub absent : kept_in id (objects_in row) ≡ None
   pub single : (q : ℕ) → times_in q (objects_in row) ≤ 1
+
+-- a row has a child where an identifier is, with this page, in this place, at the edge or not, and with room or full
+pub record IsBeneath (dims level : ℕ) (edge : Bool) (row : Row) (id child place : ℕ) (last room : Bool) : Type 0 where
+  pub way : At id child row
+  pub place_is : place ≡ route_place id (links_of row)
+  pub last_is : last ≡ at_edge edge way.rest
+  pub has_room : room ≡ true → HasRoom dims (level - 1) way.below
+  pub is_full : room ≡ false → IsFull dims (level - 1) way.below
 
 -- a fork with room for a child more, and the page and the place of its full child where the identifier is
 pub record MaySplit (dims : ℕ) (pages : PageMap) (page level : ℕ) (edge : Bool) (row : Row) (id child place : ℕ) (last : Bool) : Type 0 where

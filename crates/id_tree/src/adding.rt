@@ -1,28 +1,27 @@
 //! An object added.
 
-ghost use Rattle.std.specs.Prelude.{◌≡◌, ◌<◌, ◌⊎◌, ◌&&◌, ◌==◌, ◌+◌, ◌≤◌, Bool, Some, false, true, IfErr, IfOk, OnOk};
+ghost use Rattle.std.specs.Prelude.{◌≡◌, ◌<◌, ◌⊎◌, false, IfErr, OnOk};
 ghost use Rattle.std.specs.FinMap as map;
 ghost use Rattle.box_math.specs.Bounds.{IsDims};
 ghost use Rattle.page_file.specs.Fault.{IsDamage, IsOfDevice};
 ghost use Rattle.page_file.specs.declared.gate.Gate.TheVariants.{Open};
-ghost use Rattle.page_cache.specs.Cache.{Grows, IsHonest, IsPageMap, gate_of, pages};
-ghost use Rattle.page_cache.specs.Calls.{Asks};
+ghost use Rattle.page_cache.specs.Cache.{Grows, IsPageMap, gate_of, pages};
 ghost use Rattle.node_page.specs.Broken.{Alters};
 ghost use Rattle.node_page.specs.Faults.{IsNoDamage};
 ghost use Rattle.id_tree.specs.Changes.{Sets, most_added_pages};
-ghost use Rattle.id_tree.specs.Rows.{HasRoom, IsFull};
 ghost use Rattle.id_tree.specs.Steps.{Becomes, IsFullTree, MayGrow};
 ghost use Rattle.id_tree.specs.Steps.Step.{adds};
-ghost use Rattle.id_tree.specs.Tree.{HasNode, IdTree, Row, TreeStands, objects_of};
+ghost use Rattle.id_tree.specs.Tree.{IdTree, Row, TreeStands, objects_of};
 
 use crate::broken::{after_begun, midway};
-use crate::looks::{copy_page, count_in, step};
+use crate::below::look_below;
+use crate::looks::{copy_page, step};
 use crate::pushing::push;
 use crate::rooting::{name_new, start};
 use crate::splitting::split;
 use block_device::BlockDevice;
 use box_math::BBox;
-use id_page::{MOST_CHILDREN, objects_that_fit};
+use id_page::MOST_CHILDREN;
 use node_page::Broken;
 use page_cache::PageCache;
 use page_file::Fault;
@@ -143,52 +142,38 @@ pub(crate) fn add_below<const D: usize, B: BlockDevice, A: Allocator + Copy>(
     ensures other_faults { IfErr result (λ b. IsNoDamage cache.new b.cause ⊎ IsDamage b.cause) }
 {
     if level == 0 {
-        push(cache, page, object)?;
-        return Ok(());
+        return push_in(cache, page, edge, object);
     }
-    let way = step::<D, B, A>(cache, page, object.0)?;
-    if way.level != level {
-        return Err(Broken::from(Fault::Damaged(page)));
+    let below = look_below::<D, B, A>(cache, page, level, edge, object.0)?;
+    if below.room {
+        return add_below(cache, below.child, level - 1, below.last, object);
     }
-    let Some(child) = way.child else {
-        return Err(Broken::from(Fault::Damaged(page)));
-    };
-    let last = is_last(edge, way.place, way.count);
-    let room = has_room::<D, B, A>(cache, child, level - 1)?;
-    if room {
-        return add_below(cache, child, level - 1, last, object);
-    }
-    let (half, half_last) = split::<D, B, A>(cache, page, level, way.place, child, last, object.0)?;
+    let (half, half_last) =
+        split::<D, B, A>(cache, page, level, below.place, below.child, below.last, object.0)?;
     after_begun(add_below(cache, half, level - 1, half_last, object))
 }
 
-// Whether the child in a place, of so many, is at the edge of the tree.
-fn is_last(edge: bool, place: usize, count: usize) -> bool
-    requires within { place ≤ count }
-    requires few { count < 65536 }
-    ensures { result ≡ (edge && (place + 1 == count)) }
-{
-    edge && place + 1 == count
-}
-
-// Whether the node of that level at a page has room for an object or a child more, in one look.
-fn has_room<const D: usize, B: BlockDevice, A: Allocator + Copy>(
+// Adds an object to the leaf at a page, which has room.
+#[tactic(auto, using(node_page::specs::Broken::breaks))]
+fn push_in<const D: usize, B: BlockDevice, A: Allocator + Copy>(
     cache: &mut PageCache<B, A>,
-    number: u32,
-    level: u8,
-) -> Result<bool, Fault>
-    ensures asks { Asks cache.old cache.new result }
-    ensures room { IsHonest cache.old → (row : Row) → HasNode D (pages cache.old) number level row
-        → IfOk result (λ room. room ≡ true → HasRoom D level row) }
-    ensures full { IsHonest cache.old → (row : Row) → HasNode D (pages cache.old) number level row
-        → IfOk result (λ room. room ≡ false → IsFull D level row) }
-    ensures there { IsHonest cache.old → (row : Row) → HasNode D (pages cache.old) number level row
-        → IfErr result IsOfDevice }
-    ensures other_faults { IfErr result (λ f. IsOfDevice f ⊎ IsDamage f) }
+    page: u32,
+    edge: bool,
+    object: &(u64, (BBox<D>, u32)),
+) -> Result<(), Broken>
+    requires dims { IsDims D }
+    requires open { gate_of cache.old ≡ Open }
+    ensures alters { Alters cache.old cache.new result }
+    ensures grown { IsPageMap cache.old → (row : Row) → MayGrow D (pages cache.old) page 0 edge row object.now.0
+        → OnOk result (Becomes D (pages cache.old) (pages cache.new) page 0 edge row object.now.0
+        (adds object.now.1)) }
+    ensures sound { IsPageMap cache.old → (row : Row) → MayGrow D (pages cache.old) page 0 edge row object.now.0
+        → IsPageMap cache.new }
+    ensures grows { Grows 0 cache.old cache.new }
+    ensures faults { IsPageMap cache.old → (row : Row) → MayGrow D (pages cache.old) page 0 edge row object.now.0
+        → IfErr result (λ b. IsOfDevice b.cause) }
+    ensures other_faults { IfErr result (λ b. IsOfDevice b.cause ⊎ IsDamage b.cause) }
 {
-    let count = count_in(cache, number)?;
-    if level == 0 {
-        return Ok(count < objects_that_fit::<D>());
-    }
-    Ok(count < MOST_CHILDREN)
+    push(cache, page, object)?;
+    Ok(())
 }

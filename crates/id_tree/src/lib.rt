@@ -3,6 +3,7 @@
 #![tactic(auto)]
 
 mod adding;
+mod below;
 mod broken;
 mod giving;
 mod halving;

@@ -42,6 +42,7 @@ fn way_on(page: &[u8; 4096], id: u64) -> Way
     ensures place { (dims : ℕ) (c : ForkContent) → fork_at dims page.now ≡ Some c → AreAscending c.links
         → result.place ≡ route_place id c.links }
     ensures within { result.place ≤ result.count }
+    ensures few { result.count ≤ 340 }
 {
     let level = level_at(page);
     let count = count_at(page);
@@ -79,6 +80,7 @@ pub(crate) fn step<const D: usize, B: BlockDevice, A: Allocator + Copy>(
     ensures place { IsHonest cache.old → (c : ForkContent) → fork_in D (pages cache.old number) ≡ Some c
         → AreAscending c.links → IfOk result (λ way. way.place ≡ route_place id c.links) }
     ensures within { IfOk result (λ way. way.place ≤ way.count) }
+    ensures few { IfOk result (λ way. way.count ≤ 340) }
     ensures there { IsHonest cache.old → (c : ForkContent) → fork_in D (pages cache.old number) ≡ Some c
         → IfErr result IsOfDevice }
     ensures other_faults { IfErr result (λ f. IsOfDevice f ⊎ IsDamage f) }
