@@ -14,3 +14,4 @@ pub mod SplitLemmas
 pub mod RootLemmas
 pub mod SeekLemmas
 pub mod AddLemmas
+pub mod CountLemmas

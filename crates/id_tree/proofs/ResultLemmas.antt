@@ -1,10 +1,11 @@
 -- What the answers of calls say, said in another way.
-use Rattle.std.proofs.Common.{◌≡◌, ◌∙◌, None, true, false, sym, ap, subst}
-use Rattle.std.specs.Prelude.{Result, Ok, Err, IfOk, IfErr, OnOk}
+use Rattle.std.proofs.Common.{◌≡◌, ◌∙◌, None, Some, true, false, sym, ap, subst}
+use Rattle.std.specs.Prelude.{Result, Ok, Err, IfOk, IfErr, IsErrAnd, OnOk}
 use Rattle.page_file.specs.declared.fault.Fault.{Fault}
-use Rattle.page_cache.specs.Calls.{ChangesUntil, changes_in_turn}
+use Rattle.page_cache.specs.Calls.{AsksUntil, ChangesUntil, asks_changes, changes_in_turn}
+use Rattle.page_cache.specs.Laws.{the_map_is_kept_in_turn}
 use Rattle.page_cache.specs.declared.cache.PageCache.{PageCache}
-use Rattle.node_page.specs.Broken.{Alters, cause_in, midway}
+use Rattle.node_page.specs.Broken.{Alters, alters_so, cause_in, midway}
 use Rattle.node_page.specs.declared.broken.Broken.{Broken}
 use Rattle.id_table.specs.Faults.{broken_of}
 use Rattle.id_tree.specs.Steps.{begun_of}
@@ -38,3 +39,9 @@ module _ {T : Type 0} where
 pub broken_ok_if : {T : Type 0} (r : Result T Fault) (b : Result T Broken) (P Q : T → Type 0) → b ≡ broken_of r → ((x : T) → P x → Q x) → IfOk r P → IfOk b Q
 broken_ok_if {T} (Ok x) b P Q is f p = subst (λ (b : Result T Broken). IfOk b Q) (sym is) (f x p)
 broken_ok_if {T} (Err e) b P Q is f p = subst (λ (b : Result T Broken). IfOk b Q) (sym is) tt
+
+-- why a change of another answer broke off, handed on after calls that only asked
+pub alters_passed : {S T D A : Type 0} {m : _} (old mid new : PageCache D A m) (b : Broken) (r : Result T Broken) → IsErrAnd r (λ e. e ≡ b) → AsksUntil old mid None → Alters {T = S} mid new (Err b) → Alters old new r
+alters_passed old mid new b r is asks alters = alters_so old new b r is
+    (changes_in_turn old mid new (Some b.cause) (asks_changes old mid None asks) alters.changes)
+    (λ untouched. the_map_is_kept_in_turn old mid new asks.gate.honest.0 asks.map (alters.untouched untouched))

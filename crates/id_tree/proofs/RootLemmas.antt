@@ -233,3 +233,14 @@ module _ (dims : ℕ) (old new : PageMap) (root level was : ℕ) (bytes : List �
         (cases_eq n root);
     once = once;
   }
+
+pub names_from : (dims : ℕ) (old mid new : PageMap) (root level : ℕ) (bytes : List ℕ) → ((n : ℕ) → mid n ≡ old n) → NamesNew dims mid new root level bytes → NamesNew dims old new root level bytes
+names_from dims old mid new root level bytes same w = record {
+  number = w.number;
+  low = w.low;
+  fresh = sym (same w.number) ∙ w.fresh;
+  apart = w.apart;
+  others = λ n off other. w.others n off other ∙ same n;
+  there = w.there;
+  named = w.named;
+}

@@ -1,5 +1,5 @@
 -- What is written into pages that are given out.
-use Rattle.std.specs.Prelude.{◌≡◌, ℕ, ◌<◌, List, [], ◌∷◌, Some, None}
+use Rattle.std.specs.Prelude.{◌≡◌, ℕ, ◌+◌, ◌<◌, List, [], ◌∷◌, Some, None}
 use Rattle.page_file.specs.Pages.{SameBut}
 use Rattle.node_page.specs.Standing.{PageMap}
 use Rattle.bucket_page.specs.Layout.{Entry}
@@ -37,3 +37,9 @@ pub record Starts (dims : ℕ) (old new : PageMap) (root : ℕ) (object : Entry)
   pub bytes : List ℕ
   pub named : NamesNew dims old new root 1 bytes
   pub leaf : leaf_at dims bytes ≡ Some (object ∷ [])
+
+-- such a page has what the root had, which is on the next level then
+pub record Deepens (dims : ℕ) (old new : PageMap) (root level : ℕ) : Type 0 where
+  pub bytes : List ℕ
+  pub was : old root ≡ Some bytes
+  pub named : NamesNew dims old new root (level + 1) bytes

@@ -15,9 +15,9 @@ ghost use Rattle.id_tree.specs.Tree.{IdTree, Row, TreeStands, objects_of};
 
 use crate::broken::{after_begun, midway};
 use crate::below::look_below;
-use crate::looks::{copy_page, step};
+use crate::looks::step;
 use crate::pushing::push;
-use crate::rooting::{name_new, start};
+use crate::rooting::{deepen, start};
 use crate::splitting::split;
 use block_device::BlockDevice;
 use box_math::BBox;
@@ -114,8 +114,7 @@ fn add_deeper<const D: usize, B: BlockDevice, A: Allocator + Copy>(
     if level >= MOST_LEVELS {
         return Err(Broken::from(Fault::Damaged(root)));
     }
-    let bytes = copy_page(cache, root)?;
-    midway(name_new::<D, B, A>(cache, root, level + 1, &bytes))?;
+    deepen::<D, B, A>(cache, root, level)?;
     after_begun(add_below(cache, root, level + 1, true, object))
 }
 

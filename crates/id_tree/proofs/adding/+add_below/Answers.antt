@@ -8,11 +8,11 @@ use Rattle.node_page.specs.Broken.{asks_and_alters, asks_and_breaks}
 use Rattle.node_page.specs.Faults.{IsNoDamage}
 use Rattle.node_page.specs.declared.broken.Broken.{Broken}
 use Rattle.node_page.proofs.NodeLemmas.{on_ok}
-use Rattle.id_table.proofs.Results.{alters_handed, refused_before, refused_so}
+use Rattle.id_table.proofs.Results.{refused_before, refused_so}
 use Rattle.id_tree.specs.Steps.{Becomes, MayGrow}
 use Rattle.id_tree.specs.Steps.Step.{adds}
 use Rattle.id_tree.proofs.AddLemmas.{becomes_after, becomes_beneath, becomes_from, grow_beneath, grow_same, may_grow_after, some_links, split_beneath}
-use Rattle.id_tree.proofs.ResultLemmas.{begun_alters, begun_err, begun_ok, if_err}
+use Rattle.id_tree.proofs.ResultLemmas.{alters_passed, begun_alters, begun_err, begun_ok, if_err}
 use Rattle.id_tree.proofs.adding.+add_below.Goals as goal
 
 pub returns-then-level-eq0-clause-grown : goal.returns-then-level-eq0-clause-grown
@@ -91,7 +91,7 @@ returns-then-below-clause-faults g t c = λ map row may.
 
 pub returns-in_err-half-clause-alters : goal.returns-in_err-half-clause-alters
 returns-in_err-half-clause-alters g t c =
-    alters_handed c.args.cache.now c.look_below.new.cache c.split.new.cache c.in_err-half.field-0.0 c.from_residual-in_err-half.result c.from_residual-in_err-half.ensures.1 c.in_ok-below.ensures.asks c.in_err-half.ensures.alters
+    alters_passed c.args.cache.now c.look_below.new.cache c.split.new.cache c.in_err-half.field-0.0 c.from_residual-in_err-half.result c.from_residual-in_err-half.ensures.1 c.in_ok-below.ensures.asks c.in_err-half.ensures.alters
 
 pub returns-in_err-half-clause-sound : goal.returns-in_err-half-clause-sound
 returns-in_err-half-clause-sound g t c = λ map row may.
