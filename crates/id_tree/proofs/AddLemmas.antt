@@ -14,8 +14,8 @@ use Rattle.id_page.proofs.LeafReading.{count_of_leaf}
 use Rattle.id_table.specs.Table.{kept_in, times_in}
 use Rattle.id_tree.specs.Changes.{Sets}
 use Rattle.id_tree.specs.Rows.{At, HasRoom, IsFull, NodeStands, part_at}
-use Rattle.id_tree.specs.Steps.{Becomes, IsBeneath, IsFullTree, Keeps, MakesRoom, MayGrow, MaySplit, Step, adds, Turns}
-use Rattle.id_tree.specs.Writes.{NamesNew, Starts}
+use Rattle.id_tree.specs.Steps.{Becomes, IsBeneath, IsFullBelow, IsFullTree, Keeps, MakesRoom, MayGrow, MaySplit, Step, adds, Turns, Widens}
+use Rattle.id_tree.specs.Writes.{Deepens, NamesNew, Starts}
 use Rattle.id_tree.specs.Tree.{HasNode, IdTree, IsLarge, Row, end, more, object, child, RowStands, TreeStands, at_edge, fork_in, leaf_in, least_objects, links_of, objects_in, occurs}
 use Rattle.id_tree.proofs.LeafLemmas.{leaf_becomes}
 use Rattle.id_tree.proofs.NodeLemmas.{fork_bytes, leaf_bytes, no_links, objects_of_row, occurs_here, part_there, row_of, row_stays, some_objects, stands_same}
@@ -66,7 +66,7 @@ pub becomes_after : (dims : ℕ) (old mid new : PageMap) (page level : ℕ) (edg
 becomes_after dims old mid new page level edge row id below last kept high large made b =
     let larger : edge ≡ false → IsLarge dims level made.now = λ off. record {
       leaf = λ low. absurd (omega (arith, low, high));
-      fork = λ up. let before = (large off).fork up in omega (arith, before, made.wide);
+      fork = λ up. let before = (large off).fork up in omega (arith, before, made.wider);
     } in
     let then = by_child dims mid page level edge id below made.now high made.stands made.way new (adds kept) larger
     (subst (λ e. Becomes dims mid new below (level - 1) e made.way.below id (adds kept)) made.last_is b) in
@@ -76,7 +76,7 @@ becomes_after dims old mid new page level edge row id below last kept high large
       turns = turns_after id (adds kept) (objects_in row) (objects_in made.now) (objects_in then.now) made.keeps then.turns;
       some = then.some;
       large = then.large;
-      wide = omega (arith, made.wide, then.wide);
+      wide = omega (arith, made.wider, then.wide);
       moves = moves_in_turn old mid new (part_at page row) (part_at page made.now) (part_at page then.now) made.moves then.moves;
     }
 
@@ -101,17 +101,17 @@ fork_counted dims pages page level row bytes node high there =
 pub started : (dims : ℕ) (old new : PageMap) (t : IdTree) (id : ℕ) (kept : Object) → TreeStands dims old t → length (links_of t.row) ≡ 0 → Starts dims old new t.page (id, kept) → Sets dims old new t id kept
 started dims old new t id kept s none w =
     let empty : t.row ≡ end = no_links dims old t.level t.row s.high s.below none in
-    let there : leaf_in dims (new w.named.number) ≡ Some ((id, kept) ∷ []) = ap (leaf_in dims) w.named.there ∙ w.leaf in
-    let node : HasNode dims new w.named.number 0 leaf = record { leaf = λ low. there; fork = λ high. absurd (omega (arith, high)) } in
+    let there : leaf_in dims (new w.number) ≡ Some ((id, kept) ∷ []) = ap (leaf_in dims) w.named.there ∙ w.leaf in
+    let node : HasNode dims new w.number 0 leaf = record { leaf = λ low. there; fork = λ high. absurd (omega (arith, high)) } in
     let counts : (n : ℕ) → occurs n leaf ≡ occurs n t.row = λ n. ap (occurs n) (sym empty) in
     let absent : kept_in id (objects_in t.row) ≡ None = ap (λ (r : Row). kept_in id (objects_in r)) empty in
     let root = root_stands dims old t s in
-    sets_of dims old new t 1 id (adds kept) kept (more (child 0 w.named.number leaf) end) refl s (inr absent) (record {
+    sets_of dims old new t 1 id (adds kept) kept (more (child 0 w.number leaf) end) refl s (inr absent) (record {
       high = omega arith;
       bounded = omega arith;
-      stands = rooted dims old new t.page 0 t.level w.bytes t.row leaf root w.named node (refl, tt) counts (omega arith) tt tt;
+      stands = rooted dims old new t.page 0 t.level w.number w.bytes t.row leaf root w.named node (refl, tt) counts (omega arith) tt tt;
       turns = subst (λ (r : Row). Turns id (adds kept) (objects_in r) ((id, kept) ∷ [])) (sym empty) (adds_last id kept [] refl);
-      moves = rooted_moves dims old new t.page 0 t.level w.bytes t.row leaf root w.named node (refl, tt) counts (omega arith) tt tt;
+      moves = rooted_moves dims old new t.page 0 t.level w.number w.bytes t.row leaf root w.named node (refl, tt) counts (omega arith) tt tt;
       wide = λ up. absurd (omega (arith, up));
     })
   where
@@ -135,11 +135,8 @@ may_grow_root dims pages t id s some room absent = record {
 
 -- ---- one level more
 
-module _ (dims : ℕ) (old mid : PageMap) (t : IdTree) (bytes : List ℕ) (s : TreeStands dims old t) (full : 340 ≤ length (links_of t.row)) (there : old t.page ≡ Some bytes) (w : NamesNew dims old mid t.page (t.level + 1) bytes) where
-  now : Row
-  now = more (child 0 w.number t.row) end
-
-  node : HasNode dims mid w.number t.level t.row
+module _ (dims : ℕ) (old mid : PageMap) (t : IdTree) (number : ℕ) (bytes : List ℕ) (s : TreeStands dims old t) (full : 340 ≤ length (links_of t.row)) (there : old t.page ≡ Some bytes) (w : NamesNew dims old mid t.page (t.level + 1) number bytes) where
+  node : HasNode dims mid number t.level t.row
   node = record {
     leaf = λ low. absurd (omega (arith, low, s.high));
     fork = λ up. ap (fork_in dims) (w.there ∙ sym there) ∙ s.root.fork up;
@@ -153,24 +150,87 @@ module _ (dims : ℕ) (old mid : PageMap) (t : IdTree) (bytes : List ℕ) (s : T
   some : 0 < length (objects_in t.row)
   some = some_objects dims old t.level t.row s.high s.below (omega (arith, full))
 
-  pub deeper_stands : NodeStands dims mid t.page (t.level + 1) true (more (child 0 w.number t.row) end)
-  deeper_stands = rooted dims old mid t.page t.level t.level bytes t.row t.row (root_stands dims old t s) w node stays (λ n. refl) some s.parted s.filled
+  deeper_stands : NodeStands dims mid t.page (t.level + 1) true (more (child 0 number t.row) end)
+  deeper_stands = rooted dims old mid t.page t.level t.level number bytes t.row t.row (root_stands dims old t s) w node stays (λ n. refl) some s.parted s.filled
 
-  pub deeper_moves : Moves old mid (part_at t.page t.row) (part_at t.page (more (child 0 w.number t.row) end))
-  deeper_moves = rooted_moves dims old mid t.page t.level t.level bytes t.row t.row (root_stands dims old t s) w node stays (λ n. refl) some s.parted s.filled
+  deeper_moves : Moves old mid (part_at t.page t.row) (part_at t.page (more (child 0 number t.row) end))
+  deeper_moves = rooted_moves dims old mid t.page t.level t.level number bytes t.row t.row (root_stands dims old t s) w node stays (λ n. refl) some s.parted s.filled
 
-  pub deeper_keeps : Keeps (objects_in t.row) (objects_in (more (child 0 w.number t.row) end))
+  deeper_keeps : Keeps (objects_in t.row) (objects_in (more (child 0 number t.row) end))
   deeper_keeps = keeps_equal (objects_in t.row) (objects_in t.row ++ []) (append-nil (objects_in t.row))
 
-  pub may_grow_deeper : (id : ℕ) → kept_in id (objects_in t.row) ≡ None → MayGrow dims mid t.page (t.level + 1) true (more (child 0 w.number t.row) end) id
-  may_grow_deeper id absent = record {
-    stands = deeper_stands;
-    room = record { leaf = λ low. absurd (omega (arith, low)); fork = λ up. omega arith };
-    some = some_kept (objects_in t.row) (objects_in t.row ++ []) some deeper_keeps;
-    large = λ (never : true ≡ false). absurd (cc);
+  -- its only child is full
+  pub full_below : (id : ℕ) → kept_in id (objects_in t.row) ≡ None → IsFullBelow dims mid t.page (t.level + 1) (more (child 0 number t.row) end) id number
+  full_below id absent = record {
+    split = record {
+      stands = deeper_stands;
+      high = omega arith;
+      room = omega arith;
+      single = λ q. omega (arith, deeper_keeps.times q, s.single q);
+      way = record { front = end; key = 0; below = t.row; rest = end; is = refl; passes = tt; stops = tt };
+      full = record { leaf = λ low. absurd (omega (arith, low, s.high)); fork = λ up. full };
+      place_is = refl;
+      last_is = refl;
+    };
     absent = deeper_keeps.kept id ∙ absent;
-    single = λ q. omega (arith, deeper_keeps.times q, s.single q);
   }
+
+  -- and once that one was split and took the object, the table has it
+  pub sets_deeper : (new : PageMap) (id : ℕ) (kept : Object) → t.level < 6 → kept_in id (objects_in t.row) ≡ None → Widens dims mid new t.page (t.level + 1) (more (child 0 number t.row) end) id (adds kept) → Sets dims old new t id kept
+  sets_deeper new id kept low absent w2 = sets_of dims old new t (t.level + 1) id (adds kept) kept w2.becomes.now refl s (inr absent) (record {
+    high = omega arith;
+    bounded = omega (arith, low);
+    stands = w2.becomes.stands;
+    turns = turns_after id (adds kept) (objects_in t.row) (objects_in t.row ++ []) (objects_in w2.becomes.now) deeper_keeps w2.becomes.turns;
+    moves = moves_in_turn old mid new (part_at t.page t.row) (part_at t.page (more (child 0 number t.row) end)) (part_at t.page w2.becomes.now) deeper_moves w2.becomes.moves;
+    wide = λ up. omega (arith, w2.wider);
+  })
+
+-- the same at the root as the code names it
+module _ (dims : ℕ) (old mid : PageMap) (t : IdTree) (root level number : ℕ) (at : t.page ≡ root) (full : IsFullTree dims old t level) (d : Deepens dims old mid root level number) where
+  there : old t.page ≡ Some d.bytes
+  there = ap old at ∙ d.was
+
+  named : NamesNew dims old mid t.page (t.level + 1) number d.bytes
+  named = subst (λ l. NamesNew dims old mid t.page (l + 1) number d.bytes) full.level_is (subst (λ p. NamesNew dims old mid p (level + 1) number d.bytes) (sym at) d.named)
+
+  pub full_below_root : (id : ℕ) → kept_in id (objects_in t.row) ≡ None → IsFullBelow dims mid root (level + 1) (more (child 0 number t.row) end) id number
+  full_below_root id absent =
+      subst (λ l. IsFullBelow dims mid root (l + 1) (more (child 0 number t.row) end) id number) (sym full.level_is)
+      (subst (λ p. IsFullBelow dims mid p (t.level + 1) (more (child 0 number t.row) end) id number) at
+      (full_below dims old mid t number d.bytes full.stands full.full there named id absent))
+
+  pub sets_deep : (new : PageMap) (id : ℕ) (kept : Object) → level < 6 → kept_in id (objects_in t.row) ≡ None → Widens dims mid new root (level + 1) (more (child 0 number t.row) end) id (adds kept) → Sets dims old new t id kept
+  sets_deep new id kept low absent w =
+      sets_deeper dims old mid t number d.bytes full.stands full.full there named new id kept (omega (arith, low, full.level_is)) absent
+      (subst (λ l. Widens dims mid new t.page (l + 1) (more (child 0 number t.row) end) id (adds kept)) full.level_is
+      (subst (λ p. Widens dims mid new p (level + 1) (more (child 0 number t.row) end) id (adds kept)) (sym at) w))
+
+-- an only child that was split and took an object
+pub widens_after : (dims : ℕ) (old mid new : PageMap) (page level : ℕ) (row : Row) (id below : ℕ) (last : Bool) (kept : Object) → 0 < level → (made : MakesRoom dims old mid page level true row id below last)
+    → Becomes dims mid new below (level - 1) last made.way.below id (adds kept) → Widens dims old new page level row id (adds kept)
+widens_after dims old mid new page level row id below last kept high made b =
+    let then = by_child dims mid page level true id below made.now high made.stands made.way new (adds kept) (λ (never : true ≡ false). absurd (cc))
+    (subst (λ e. Becomes dims mid new below (level - 1) e made.way.below id (adds kept)) made.last_is b) in
+    record {
+      becomes = record {
+        now = then.now;
+        stands = then.stands;
+        turns = turns_after id (adds kept) (objects_in row) (objects_in made.now) (objects_in then.now) made.keeps then.turns;
+        some = then.some;
+        large = then.large;
+        wide = omega (arith, made.wider, then.wide);
+        moves = moves_in_turn old mid new (part_at page row) (part_at page made.now) (part_at page then.now) made.moves then.moves;
+      };
+      wider = omega (arith, made.wider, then.wide);
+    }
+
+-- the half takes the object
+pub may_grow_half : (dims : ℕ) (old mid : PageMap) (page level : ℕ) (row : Row) (id child below : ℕ) (last : Bool) → (full : IsFullBelow dims old page level row id child) → (made : MakesRoom dims old mid page level true row id below last)
+    → MayGrow dims mid below (level - 1) last made.way.below id
+may_grow_half dims old mid page level row id p below last full made =
+    subst (λ e. MayGrow dims mid below (level - 1) e made.way.below id) (sym made.last_is)
+    (may_grow_below dims mid page level true made.now id below full.split.high made.stands (made.keeps.kept id ∙ full.absent) (λ q. omega (arith, made.keeps.times q, full.split.single q)) made.way made.room)
 
 -- ---- the child where the identifier is
 

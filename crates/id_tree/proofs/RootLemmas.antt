@@ -177,68 +177,67 @@ tree_same dims old new t same s = record {
 
 -- ---- a new page below the root
 
-module _ (dims : ℕ) (old new : PageMap) (root level was : ℕ) (bytes : List ℕ) (row below : Row) (s : NodeStands dims old root was true row) (w : NamesNew dims old new root (level + 1) bytes)
-    (node : HasNode dims new w.number level below) (stands : RowStands dims new level below) (same : (n : ℕ) → occurs n below ≡ occurs n row) (some : 0 < length (objects_in below)) (parted : IsParted below) (filled : IsFilled dims level true below) where
+module _ (dims : ℕ) (old new : PageMap) (root level was number : ℕ) (bytes : List ℕ) (row below : Row) (s : NodeStands dims old root was true row) (w : NamesNew dims old new root (level + 1) number bytes)
+    (node : HasNode dims new number level below) (stands : RowStands dims new level below) (same : (n : ℕ) → occurs n below ≡ occurs n row) (some : 0 < length (objects_in below)) (parted : IsParted below) (filled : IsFilled dims level true below) where
   now : Row
-  now = more (child 0 w.number below) end
+  now = more (child 0 number below) end
 
-  unused : part_at root row w.number ≡ 0
+  unused : part_at root row number ≡ 0
   unused = ⊎_elim
-      (λ (e : part_at root row w.number ≡ 0). e)
-      (λ (here : ¬ (part_at root row w.number ≡ 0)). absurd (there_not_missing (old w.number) (part_there dims old root was true row w.number s (omega (arith, here))) w.fresh))
-      (cases_eq (part_at root row w.number) 0)
+      (λ (e : part_at root row number ≡ 0). e)
+      (λ (here : ¬ (part_at root row number ≡ 0)). absurd (there_not_missing (old number) (part_there dims old root was true row number s (omega (arith, here))) w.fresh))
+      (cases_eq (part_at root row number) 0)
 
-  counts : (n : ℕ) → part_at root now n ≡ part_at root row n + cond (eqb w.number n) 1 0
+  counts : (n : ℕ) → part_at root now n ≡ part_at root row n + cond (eqb number n) 1 0
   unfolding now
   counts n = omega (arith, same n)
 
   once : (n : ℕ) → part_at root now n ≤ 1
   once n = ⊎_elim
-      (λ (is : w.number ≡ n). let none : part_at root row n ≡ 0 = ap (part_at root row) (sym is) ∙ unused in let one : ◌≡◌ {A = ℕ} (cond (eqb w.number n) 1 0) 1 = ap (λ k. cond (eqb w.number k) 1 0) (sym is) ∙ occurs_here w.number in omega (arith, counts n, none, one))
-      (λ (other : ¬ (w.number ≡ n)). let no = not_there w.number n other in omega (arith, counts n, no, s.once n))
-      (cases_eq w.number n)
+      (λ (is : number ≡ n). let none : part_at root row n ≡ 0 = ap (part_at root row) (sym is) ∙ unused in let one : ◌≡◌ {A = ℕ} (cond (eqb number n) 1 0) 1 = ap (λ k. cond (eqb number k) 1 0) (sym is) ∙ occurs_here number in omega (arith, counts n, none, one))
+      (λ (other : ¬ (number ≡ n)). let no = not_there number n other in omega (arith, counts n, no, s.once n))
+      (cases_eq number n)
 
-  pub rooted : NodeStands dims new root (level + 1) true (more (child 0 w.number below) end)
+  pub rooted : NodeStands dims new root (level + 1) true (more (child 0 number below) end)
   unfolding now
   rooted =
       let down : level + 1 - 1 ≡ level = omega arith in
       record {
         low = s.low;
         node = record { leaf = λ low. absurd (omega (arith, low)); fork = λ high. w.named };
-        below = (omega arith, w.low, some, subst (λ l. HasNode dims new w.number l below) (sym down) node, subst (λ l. RowStands dims new l below) (sym down) stands, tt);
+        below = (omega arith, w.low, some, subst (λ l. HasNode dims new number l below) (sym down) node, subst (λ l. RowStands dims new l below) (sym down) stands, tt);
         parted = (parted, tt, tt);
         filled = ((λ (never : true ≡ false). absurd (cc)), subst (λ l. IsFilled dims l true below) (sym down) filled, tt);
         once = once;
       }
 
-  pub rooted_moves : Moves old new (part_at root row) (part_at root (more (child 0 w.number below) end))
+  pub rooted_moves : Moves old new (part_at root row) (part_at root (more (child 0 number below) end))
   unfolding now
   rooted_moves = record {
     outside = λ n none gone. w.others n
-        (λ is. let one : ◌≡◌ {A = ℕ} (cond (eqb w.number n) 1 0) 1 = ap (λ k. cond (eqb w.number k) 1 0) is ∙ occurs_here w.number in omega (arith, one, gone, counts n))
+        (λ is. let one : ◌≡◌ {A = ℕ} (cond (eqb number n) 1 0) 1 = ap (λ k. cond (eqb number k) 1 0) is ∙ occurs_here number in omega (arith, one, gone, counts n))
         (λ is. let one : ◌≡◌ {A = ℕ} (cond (eqb root n) 1 0) 1 = ap (λ k. cond (eqb root k) 1 0) is ∙ occurs_here root in omega (arith, one, none));
     came = λ n none here. ⊎_elim
-        (λ (is : w.number ≡ n). ap old (sym is) ∙ w.fresh)
-        (λ (other : ¬ (w.number ≡ n)). let no = not_there w.number n other in absurd (omega (arith, none, here, no, counts n)))
-        (cases_eq w.number n);
+        (λ (is : number ≡ n). ap old (sym is) ∙ w.fresh)
+        (λ (other : ¬ (number ≡ n)). let no = not_there number n other in absurd (omega (arith, none, here, no, counts n)))
+        (cases_eq number n);
     went = λ n here none. absurd (omega (arith, here, none, counts n));
     live = λ n here. ⊎_elim
         (λ (is : n ≡ root). subst (λ k. IsSome (new k)) (sym is) (there_of_fork dims (new root) _ w.named))
         (λ (off : ¬ (n ≡ root)). ⊎_elim
-        (λ (is : n ≡ w.number). subst (λ k. IsSome (new k)) (sym is) (node_there dims new w.number level below node))
-        (λ (off_new : ¬ (n ≡ w.number)).
-        let none = not_there w.number n (λ is. off_new (sym is)) in
+        (λ (is : n ≡ number). subst (λ k. IsSome (new k)) (sym is) (node_there dims new number level below node))
+        (λ (off_new : ¬ (n ≡ number)).
+        let none = not_there number n (λ is. off_new (sym is)) in
         subst IsSome (sym (w.others n off_new off)) (part_there dims old root was true row n s (omega (arith, here, counts n, none))))
-        (cases_eq n w.number))
+        (cases_eq n number))
         (cases_eq n root);
     once = once;
   }
 
-pub names_from : (dims : ℕ) (old mid new : PageMap) (root level : ℕ) (bytes : List ℕ) → ((n : ℕ) → mid n ≡ old n) → NamesNew dims mid new root level bytes → NamesNew dims old new root level bytes
-names_from dims old mid new root level bytes same w = record {
-  number = w.number;
+pub names_from : (dims : ℕ) (old mid new : PageMap) (root level number : ℕ) (bytes : List ℕ) → ((n : ℕ) → mid n ≡ old n) → NamesNew dims mid new root level number bytes → NamesNew dims old new root level number bytes
+names_from dims old mid new root level number bytes same w = record {
   low = w.low;
-  fresh = sym (same w.number) ∙ w.fresh;
+  fresh = sym (same number) ∙ w.fresh;
   apart = w.apart;
   others = λ n off other. w.others n off other ∙ same n;
   there = w.there;

@@ -204,7 +204,7 @@ module _ (dims : ℕ) (old mid new : PageMap) (page level : ℕ) (edge : Bool) (
     renamed = swapped_written dims old mid new page level edge row whole may.high may.stands split_swapped others
         (named (record { level = level; links = links_of row }) fork_is ∙ ap (λ (xs : List Link). Some (record { level = level; links = xs })) split_links)
 
-    wider : length (links_of row) ≤ length (links_of whole)
+    wider : length (links_of row) + 1 ≤ length (links_of whole)
     unfolding now whole
     wider =
         let before = ap length (links_here dims old page level edge id p row may.high may.stands may.way) in
@@ -218,7 +218,7 @@ module _ (dims : ℕ) (old mid new : PageMap) (page level : ℕ) (edge : Bool) (
       now = whole;
       stands = renamed.stands;
       keeps = split_keeps;
-      wide = wider;
+      wider = wider;
       moves = renamed.moves;
       way = record {
         front = may.way.front;
@@ -239,7 +239,7 @@ module _ (dims : ℕ) (old mid new : PageMap) (page level : ℕ) (edge : Bool) (
       now = whole;
       stands = renamed.stands;
       keeps = split_keeps;
-      wide = wider;
+      wider = wider;
       moves = renamed.moves;
       way = record {
         front = joined may.way.front (more (child may.way.key p cut.left) end);
@@ -293,7 +293,7 @@ makes_from dims old mid new page level edge row id below last same m = record {
   now = m.now;
   stands = m.stands;
   keeps = m.keeps;
-  wide = m.wide;
+  wider = m.wider;
   moves = moves_from old mid new (part_at page row) (part_at page m.now) same m.moves;
   way = m.way;
   room = m.room;

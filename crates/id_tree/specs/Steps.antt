@@ -63,7 +63,7 @@ pub record MakesRoom (dims : ℕ) (old new : PageMap) (page level : ℕ) (edge :
   pub now : Row
   pub stands : NodeStands dims new page level edge now
   pub keeps : Keeps (objects_in row) (objects_in now)
-  pub wide : length (links_of row) ≤ length (links_of now)
+  pub wider : length (links_of row) + 1 ≤ length (links_of now)
   pub moves : Moves old new (part_at page row) (part_at page now)
   pub way : At id below now
   pub room : HasRoom dims (level - 1) way.below
@@ -96,6 +96,16 @@ pub record MaySplit (dims : ℕ) (pages : PageMap) (page level : ℕ) (edge : Bo
   pub full : IsFull dims (level - 1) way.below
   pub place_is : place ≡ route_place id (links_of row)
   pub last_is : last ≡ at_edge edge way.rest
+
+-- a root with a full first child, where the identifier is that it does not have
+pub record IsFullBelow (dims : ℕ) (pages : PageMap) (page level : ℕ) (row : Row) (id child : ℕ) : Type 0 where
+  pub split : MaySplit dims pages page level true row id child 0 true
+  pub absent : kept_in id (objects_in row) ≡ None
+
+-- a root became another one by such a step, with a child more
+pub record Widens (dims : ℕ) (old new : PageMap) (page level : ℕ) (row : Row) (id : ℕ) (step : Step) : Type 0 where
+  pub becomes : Becomes dims old new page level true row id step
+  pub wider : length (links_of row) + 1 ≤ length (links_of becomes.now)
 
 -- a full node, without an identifier twice
 pub record MayHalve (dims : ℕ) (pages : PageMap) (page level : ℕ) (edge : Bool) (row : Row) : Type 0 where

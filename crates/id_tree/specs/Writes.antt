@@ -23,8 +23,7 @@ pub record GivesAndPuts (old new : PageMap) (page number : ℕ) (first second : 
   pub there_second : new number ≡ Some second
 
 -- such a page has these bytes, and a root names it as its only child
-pub record NamesNew (dims : ℕ) (old new : PageMap) (root level : ℕ) (bytes : List ℕ) : Type 0 where
-  pub number : ℕ
+pub record NamesNew (dims : ℕ) (old new : PageMap) (root level number : ℕ) (bytes : List ℕ) : Type 0 where
   pub low : 2 < number
   pub fresh : old number ≡ None
   pub apart : ¬ (number ≡ root)
@@ -34,12 +33,13 @@ pub record NamesNew (dims : ℕ) (old new : PageMap) (root level : ℕ) (bytes :
 
 -- such a page is the leaf of this object
 pub record Starts (dims : ℕ) (old new : PageMap) (root : ℕ) (object : Entry) : Type 0 where
+  pub number : ℕ
   pub bytes : List ℕ
-  pub named : NamesNew dims old new root 1 bytes
+  pub named : NamesNew dims old new root 1 number bytes
   pub leaf : leaf_at dims bytes ≡ Some (object ∷ [])
 
 -- such a page has what the root had, which is on the next level then
-pub record Deepens (dims : ℕ) (old new : PageMap) (root level : ℕ) : Type 0 where
+pub record Deepens (dims : ℕ) (old new : PageMap) (root level number : ℕ) : Type 0 where
   pub bytes : List ℕ
   pub was : old root ≡ Some bytes
-  pub named : NamesNew dims old new root (level + 1) bytes
+  pub named : NamesNew dims old new root (level + 1) number bytes

@@ -9,7 +9,7 @@ ghost use Rattle.page_cache.specs.Cache.{Grows, IsPageMap, gate_of, pages};
 ghost use Rattle.node_page.specs.Broken.{Alters};
 ghost use Rattle.node_page.specs.Faults.{IsNoDamage};
 ghost use Rattle.id_tree.specs.Changes.{Sets, most_added_pages};
-ghost use Rattle.id_tree.specs.Steps.{Becomes, IsFullTree, MayGrow};
+ghost use Rattle.id_tree.specs.Steps.{Becomes, IsFullBelow, IsFullTree, MayGrow, Widens};
 ghost use Rattle.id_tree.specs.Steps.Step.{adds};
 ghost use Rattle.id_tree.specs.Tree.{IdTree, Row, TreeStands, objects_of};
 
@@ -114,8 +114,35 @@ fn add_deeper<const D: usize, B: BlockDevice, A: Allocator + Copy>(
     if level >= MOST_LEVELS {
         return Err(Broken::from(Fault::Damaged(root)));
     }
-    deepen::<D, B, A>(cache, root, level)?;
-    after_begun(add_below(cache, root, level + 1, true, object))
+    let child = deepen::<D, B, A>(cache, root, level)?;
+    after_begun(add_split(cache, root, level + 1, child, object))
+}
+
+// Adds an object to the table at a root of that level whose only child is full: that one is split first.
+fn add_split<const D: usize, B: BlockDevice, A: Allocator + Copy>(
+    cache: &mut PageCache<B, A>,
+    root: u32,
+    level: u8,
+    child: u32,
+    object: &(u64, (BBox<D>, u32)),
+) -> Result<(), Broken>
+    requires dims { IsDims D }
+    requires open { gate_of cache.old ≡ Open }
+    requires high { 0 < level }
+    ensures alters { Alters cache.old cache.new result }
+    ensures grown { IsPageMap cache.old → (row : Row) → IsFullBelow D (pages cache.old) root level row object.now.0 child
+        → OnOk result (Widens D (pages cache.old) (pages cache.new) root level row object.now.0
+        (adds object.now.1)) }
+    ensures sound { IsPageMap cache.old → (row : Row) → IsFullBelow D (pages cache.old) root level row object.now.0 child
+        → IsPageMap cache.new }
+    ensures grows { Grows level cache.old cache.new }
+    ensures faults { IsPageMap cache.old → (row : Row) → IsFullBelow D (pages cache.old) root level row object.now.0 child
+        → IfErr result (λ b. IsNoDamage cache.new b.cause) }
+    ensures other_faults { IfErr result (λ b. IsNoDamage cache.new b.cause ⊎ IsDamage b.cause) }
+{
+    let (half, half_last) =
+        split::<D, B, A>(cache, root, level, 0, child, true, object.0)?;
+    after_begun(add_below(cache, half, level - 1, half_last, object))
 }
 
 // Adds an object at or below the node of that level at a page, which has room and some object: on the way down each full

@@ -1,6 +1,6 @@
 //! The root of a table: its first object, and one level more.
 
-ghost use Rattle.std.specs.Prelude.{◌≡◌, ◌<◌, ◌⊎◌, Some, [], ◌∷◌, IfErr, OnOk};
+ghost use Rattle.std.specs.Prelude.{◌≡◌, ◌<◌, ◌⊎◌, Some, [], ◌∷◌, IfErr, IfOk, OnOk};
 ghost use Rattle.box_math.specs.Bounds.{IsDims};
 ghost use Rattle.page_file.specs.Fault.{IsDamage};
 ghost use Rattle.page_file.specs.declared.gate.Gate.TheVariants.{Open};
@@ -32,13 +32,13 @@ pub(crate) fn name_new<const D: usize, B: BlockDevice, A: Allocator + Copy>(
     root: u32,
     level: u8,
     bytes: &[u8; 4096],
-) -> Result<(), Fault>
+) -> Result<u32, Fault>
     requires dims { IsDims D }
     requires open { gate_of cache.old ≡ Open }
     requires high { 0 < level }
     ensures changes { Changes cache.old cache.new result }
     ensures named { IsPageMap cache.old → IsLive cache.old root
-        → OnOk result (NamesNew D (pages cache.old) (pages cache.new) root level bytes.now) }
+        → IfOk result (λ number. NamesNew D (pages cache.old) (pages cache.new) root level number bytes.now) }
     ensures sound { IsPageMap cache.old → IsLive cache.old root → IsPageMap cache.new }
     ensures grows { Grows 1 cache.old cache.new }
     ensures faults { IsPageMap cache.old → IsLive cache.old root → IfErr result (IsNoDamage cache.new) }
@@ -46,7 +46,8 @@ pub(crate) fn name_new<const D: usize, B: BlockDevice, A: Allocator + Copy>(
 {
     let number = give_page(cache, bytes)?;
     let fork = only_child::<D>(level, number);
-    cache.put(root, &fork)
+    cache.put(root, &fork)?;
+    Ok(number)
 }
 
 // The fork of that level with a page as its only child.
@@ -62,6 +63,7 @@ fn only_child<const D: usize>(level: u8, number: u32) -> [u8; 4096]
 }
 
 // Makes the live page of a root, which has no children, one with a leaf of this object.
+#[tactic(auto, using(page_cache::specs::Calls::turns))]
 pub(crate) fn start<const D: usize, B: BlockDevice, A: Allocator + Copy>(
     cache: &mut PageCache<B, A>,
     root: u32,
@@ -78,7 +80,8 @@ pub(crate) fn start<const D: usize, B: BlockDevice, A: Allocator + Copy>(
     ensures other_faults { IfErr result (λ f. IsNoDamage cache.new f ⊎ IsDamage f) }
 {
     let leaf = leaf_of::<D>(object);
-    name_new::<D, B, A>(cache, root, 1, &leaf)
+    name_new::<D, B, A>(cache, root, 1, &leaf)?;
+    Ok(())
 }
 
 // The leaf of one object.
@@ -93,18 +96,18 @@ fn leaf_of<const D: usize>(object: &(u64, (BBox<D>, u32))) -> [u8; 4096]
 }
 
 // Makes the live page of a root, a fork of that level, one on the next level, with what it had in a new page as its only
-// child.
+// child. Answers that page.
 pub(crate) fn deepen<const D: usize, B: BlockDevice, A: Allocator + Copy>(
     cache: &mut PageCache<B, A>,
     root: u32,
     level: u8,
-) -> Result<(), Broken>
+) -> Result<u32, Broken>
     requires dims { IsDims D }
     requires open { gate_of cache.old ≡ Open }
     requires low { level < 255 }
     ensures alters { Alters cache.old cache.new result }
     ensures deepened { IsPageMap cache.old → IsLive cache.old root
-        → OnOk result (Deepens D (pages cache.old) (pages cache.new) root level) }
+        → IfOk result (λ number. Deepens D (pages cache.old) (pages cache.new) root level number) }
     ensures sound { IsPageMap cache.old → IsLive cache.old root → IsPageMap cache.new }
     ensures grows { Grows 1 cache.old cache.new }
     ensures faults { IsPageMap cache.old → IsLive cache.old root

@@ -5,9 +5,9 @@ use Rattle.page_cache.specs.Cache.{pages}
 use Rattle.page_cache.specs.Calls.{no_call_asks}
 use Rattle.node_page.specs.Broken.{asks_and_breaks}
 use Rattle.node_page.specs.Faults.{IsNoDamage}
-use Rattle.node_page.proofs.NodeLemmas.{on_ok}
-use Rattle.id_table.proofs.Results.{alters_after, broken_err, broken_ok, refused_before}
+use Rattle.id_table.proofs.Results.{alters_after, broken_err, refused_before}
 use Rattle.id_tree.specs.Writes.{Deepens, NamesNew}
+use Rattle.id_tree.proofs.ResultLemmas.{broken_ok_if}
 use Rattle.id_tree.proofs.RootLemmas.{names_from}
 use Rattle.id_tree.proofs.SplitLemmas.{live_same}
 use Rattle.id_tree.proofs.rooting.deepen.Goals as goal
@@ -31,12 +31,13 @@ returns-clause-deepened g c = λ map live.
     let new = pages c.name_new.new.cache in
     let asks = c.in_ok-bytes.ensures.asks in
     let same = asks.map.pages_stay map.honest in
-    broken_ok c.name_new.result c.midway.result (Deepens D old new c.args.root c.args.level) c.midway.ensures
-    (on_ok c.name_new.result (λ named. record {
+    broken_ok_if c.name_new.result c.midway.result
+    (λ number. NamesNew D mid new c.args.root (c.args.level + 1) number c.in_ok-bytes.bytes) (λ number. Deepens D old new c.args.root c.args.level number) c.midway.ensures
+    (λ number named. record {
       bytes = c.in_ok-bytes.bytes;
       was = c.in_ok-bytes.ensures.bytes map.honest live;
-      named = names_from D old mid new c.args.root (c.args.level + 1) c.in_ok-bytes.bytes same named;
-    }) (c.name_new.ensures.named (asks.map.sound.0 map) (live_same old mid c.args.root same live)))
+      named = names_from D old mid new c.args.root (c.args.level + 1) number c.in_ok-bytes.bytes same named;
+    }) (c.name_new.ensures.named (asks.map.sound.0 map) (live_same old mid c.args.root same live))
 
 pub returns-clause-sound : goal.returns-clause-sound
 returns-clause-sound g c = λ map live.

@@ -1,7 +1,6 @@
 -- The page given out is not that of the root.
 use Rattle.std.proofs.Common.{◌≡◌, ◌∙◌, sym, ap}
 use Rattle.page_cache.specs.Cache.{pages}
-use Rattle.node_page.proofs.NodeLemmas.{on_ok}
 use Rattle.id_tree.specs.Tree.{fork_in}
 use Rattle.id_tree.proofs.WriteLemmas.{gives_apart, still_live}
 use Rattle.id_tree.proofs.rooting.name_new.Goals as goal
@@ -15,15 +14,14 @@ returns-clause-named g c = λ map live.
     let apart = gives_apart old mid c.in_ok-number.number c.args.root c.args.bytes.now given live in
     let there = still_live old mid c.in_ok-number.number c.args.root c.args.bytes.now given live in
     let others = c.put.ensures.others map1.honest there in
-    on_ok c.put.result (λ written. record {
-      number = c.in_ok-number.number;
+    record {
       low = given.low;
       fresh = given.fresh;
       apart = apart;
       others = λ n off other. others n other ∙ given.others n off;
       there = others c.in_ok-number.number apart ∙ given.there;
-      named = ap (fork_in g.row.D) written ∙ c.only_child-fork.ensures;
-    }) (c.put.ensures.written map1.honest there)
+      named = ap (fork_in g.row.D) (c.in_ok-put.ensures.written map1.honest there) ∙ c.only_child-fork.ensures;
+    }
 
 pub returns-clause-sound : goal.returns-clause-sound
 returns-clause-sound g c = λ map live.
