@@ -262,3 +262,17 @@ pub some_links : (dims : ℕ) (pages : PageMap) (level : ℕ) (row : Row) → 0 
 some_links dims pages level end high stands some = some
 some_links dims pages level (more (object i o) rest) high stands some = absurd (omega (arith, high, stands.0))
 some_links dims pages level (more (child key page below) rest) high stands some = omega arith
+
+-- ---- the root as the code names it
+
+pub started_root : (dims : ℕ) (old new : PageMap) (t : IdTree) (root id : ℕ) (kept : Object) → t.page ≡ root → TreeStands dims old t → length (links_of t.row) ≡ 0 → Starts dims old new root (id, kept) → Sets dims old new t id kept
+started_root dims old new t root id kept at s none w = started dims old new t id kept s none (subst (λ p. Starts dims old new p (id, kept)) (sym at) w)
+
+pub grow_root : (dims : ℕ) (pages : PageMap) (t : IdTree) (root level id : ℕ) → t.page ≡ root → level ≡ t.level → TreeStands dims pages t → 0 < length (links_of t.row) → length (links_of t.row) < 340 → kept_in id (objects_in t.row) ≡ None
+    → MayGrow dims pages root level true t.row id
+grow_root dims pages t root level id at is s some room absent =
+    subst (λ l. MayGrow dims pages root l true t.row id) (sym is) (subst (λ p. MayGrow dims pages p t.level true t.row id) at (may_grow_root dims pages t id s some room absent))
+
+pub sets_root : (dims : ℕ) (old new : PageMap) (t : IdTree) (root level id : ℕ) (kept : Object) → t.page ≡ root → level ≡ t.level → TreeStands dims old t → kept_in id (objects_in t.row) ≡ None → Becomes dims old new root level true t.row id (adds kept) → Sets dims old new t id kept
+sets_root dims old new t root level id kept at is s absent b =
+    sets_here dims old new t id kept s absent (subst (λ p. Becomes dims old new p t.level true t.row id (adds kept)) (sym at) (subst (λ l. Becomes dims old new root l true t.row id (adds kept)) is b))

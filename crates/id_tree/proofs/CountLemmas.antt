@@ -1,5 +1,5 @@
 -- How many pages a tree has, and so how many levels.
-use Rattle.std.proofs.Common.{◌≡◌, ◌∙◌, ℕ, zero, suc, ◌+◌, ◌-◌, ◌*◌, ◌<◌, ◌≤◌, ◌||◌, Bool, true, false, cond, eqb, Option, IsSome, List, [], ◌∷◌, ◌++◌, length, refl, sym, ap, subst, ⊎_elim, arith, length-append}
+use Rattle.std.proofs.Common.{◌≡◌, ◌∙◌, ℕ, zero, suc, ◌+◌, ◌-◌, ◌*◌, ◌^◌, ◌<◌, ◌≤◌, ◌||◌, Bool, true, false, cond, eqb, Option, IsSome, List, [], ◌∷◌, ◌++◌, length, refl, sym, ap, subst, ⊎_elim, arith, length-append}
 use Rattle.std.proofs.lemmas.Bool.{cases_eq}
 use Rattle.std.proofs.lemmas.Bool.Decides.{nat_tests}
 use Rattle.std.proofs.lemmas.Map.Steps.{length-le_from_distinct_below}
@@ -144,3 +144,9 @@ not_so_high dims pages t level numbers full high =
     let most = too_wide dims pages t.row stands filled (omega (arith, full.full)) in
     let few = nodes_few t.row 2147483648 (λ n. omega (arith, full.stands.once n)) (λ n some. numbers n (below_there dims pages t.level t.row n full.stands.below some)) in
     omega (arith, most, few)
+
+pub below_limit : (n next : ℕ) → n < next → next ≤ 2 ^ 31 → n < 2147483648
+below_limit n next lt le =
+    let big : 2 ^ 31 ≡ 2147483648 = refl in
+    let under : next ≤ 2147483648 = subst (λ (k : ℕ). next ≤ k) big le in
+    omega (arith, lt, under)
