@@ -14,4 +14,5 @@ pub mod SplitLemmas
 pub mod RootLemmas
 pub mod SeekLemmas
 pub mod AddLemmas
+pub mod PutLemmas
 pub mod CountLemmas

@@ -16,7 +16,7 @@ use Rattle.id_tree.proofs.RootLemmas.{root_stands}
 use Rattle.id_tree.proofs.RowLemmas.{ascending}
 use Rattle.id_tree.proofs.WayLemmas.{child_stands, same_below, times_below}
 
-some_times : (id place : ℕ) (xs : List Entry) (none : Entry) → place < length xs → (get_or xs place none).0 ≡ id → 0 < times_in id xs
+pub some_times : (id place : ℕ) (xs : List Entry) (none : Entry) → place < length xs → (get_or xs place none).0 ≡ id → 0 < times_in id xs
 some_times id place [] none lt is = absurd (omega (arith, lt))
 some_times id zero (x ∷ xs) none lt is = let one : ◌≡◌ {A = ℕ} (cond (eqb x.0 id) 1 0) 1 = ap (λ b. cond b 1 0) (is_same x.0 id is) in omega (arith, one)
 some_times id (suc place) (x ∷ xs) none lt is = let later = some_times id place xs none (omega (arith, lt)) is in omega (arith, later)

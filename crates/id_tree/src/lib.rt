@@ -9,12 +9,15 @@ mod giving;
 mod halving;
 mod looks;
 mod making;
+mod moving;
 mod parting;
 mod pushing;
 mod rooting;
 mod search;
 mod splitting;
+mod updating;
 
 pub use adding::add;
 pub use making::make;
 pub use search::get;
+pub use updating::update;
