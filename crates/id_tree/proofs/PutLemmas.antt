@@ -1,5 +1,5 @@
 -- An object put in place of one that is there.
-use Rattle.std.proofs.Common.{◌≡◌, ◌∙◌, ℕ, zero, suc, ◌+◌, ◌-◌, ◌<◌, ◌≤◌, Bool, true, false, cond, eqb, Option, Some, None, IsSome, List, [], ◌∷◌, ◌++◌, length, get_or, set, All, refl, sym, ap, subst, inl, arith}
+use Rattle.std.proofs.Common.{◌≡◌, ◌∙◌, ℕ, zero, suc, ◌+◌, ◌-◌, ◌<◌, ◌≤◌, Bool, true, false, cond, eqb, is_some, Option, Some, None, IsSome, List, [], ◌∷◌, ◌++◌, length, get_or, set, All, refl, sym, ap, subst, inl, arith}
 use Rattle.std.proofs.lemmas.Bool.Decides.{nat_tests}
 use Rattle.std.proofs.lemmas.List.{append-nil, length-set}
 use Rattle.std.proofs.lemmas.List.Elements.{All-cons, All-tail}
@@ -18,13 +18,13 @@ use Rattle.id_tree.proofs.NodeLemmas.{stands_same}
 use Rattle.id_tree.proofs.ObjectLemmas.{is_other, turns_within}
 use Rattle.id_tree.proofs.RootLemmas.{becomes_root, has, root_stands, sets_from, sets_of, tree_same}
 use Rattle.id_tree.proofs.SeekLemmas.{some_times}
-use Rattle.id_tree.proofs.WayLemmas.{child_stands}
+use Rattle.id_tree.proofs.WayLemmas.{child_stands, times_below}
 
 -- one that is there, in the first place
 puts_first : (id : ℕ) (kept : Object) (x : Entry) (xs : List Entry) → x.0 ≡ id → Turns id (puts kept) (x ∷ xs) ((id, kept) ∷ xs)
 puts_first id kept x xs is = record {
   kept = λ q. step (eqb id q) (eqb x.0 q) (kept_in q xs) (ap (λ k. eqb k q) is);
-  times = λ q. omega (arith, ap (λ k. cond (eqb k q) 1 0) is);
+  times = λ q. let same : ◌≡◌ {A = ℕ} (cond (eqb x.0 q) 1 0) (cond (eqb id q) 1 0) = ap (λ k. cond (eqb k q) 1 0) is in omega (arith, same);
   below = λ key all less. All-cons (λ (o : Entry). o.0 < key) (id, kept) xs less (All-tail (λ (o : Entry). o.0 < key) x xs all);
   from = λ key all le. All-cons (λ (o : Entry). key ≤ o.0) (id, kept) xs le (All-tail (λ (o : Entry). key ≤ o.0) x xs all);
 }
@@ -56,15 +56,36 @@ puts_at id kept none (x ∷ xs) (suc place) lt is single =
 
 -- ---- in a table
 
--- the leaf that a way leads to stands
-pub record IsLast (dims : ℕ) (pages : PageMap) (leaf : ℕ) (last : Row) : Type 0 where
+-- the leaf that a way leads to stands, and has no identifier more often than the node
+pub record IsLast (dims : ℕ) (pages : PageMap) (row : Row) (leaf : ℕ) (last : Row) : Type 0 where
   pub edge : Bool
   pub stands : NodeStands dims pages leaf 0 edge last
+  pub few : (q : ℕ) → times_in q (objects_in last) ≤ times_in q (objects_in row)
 
-pub last_stands : (dims : ℕ) (pages : PageMap) (id level page : ℕ) (row : Row) (leaf : ℕ) (last : Row) (edge : Bool) → Reaches id level page row leaf last → NodeStands dims pages page level edge row → IsLast dims pages leaf last
-last_stands dims pages id level page row leaf last edge (here p r) s = record { edge = edge; stands = s }
+pub last_stands : (dims : ℕ) (pages : PageMap) (id level page : ℕ) (row : Row) (leaf : ℕ) (last : Row) (edge : Bool) → Reaches id level page row leaf last → NodeStands dims pages page level edge row → IsLast dims pages row leaf last
+last_stands dims pages id level page row leaf last edge (here p r) s = record { edge = edge; stands = s; few = λ q. omega arith }
 last_stands dims pages id level page row leaf last edge (down _ _ below _ _ _ high way rest) s =
-    last_stands dims pages id (level - 1) below way.below leaf last _ rest (child_stands dims pages page level edge id below row high s way)
+    let later = last_stands dims pages id (level - 1) below way.below leaf last _ rest (child_stands dims pages page level edge id below row high s way) in
+    record { edge = later.edge; stands = later.stands; few = λ q. omega (arith, later.few q, times_below dims pages page level edge id below row high s way q) }
+
+-- the leaf of a table
+pub last_of : (dims : ℕ) (pages : PageMap) (t : IdTree) (root id leaf place : ℕ) (kept : Object) → t.page ≡ root → TreeStands dims pages t → (b : IsBelow root t.level id t.row leaf place kept) → IsLast dims pages t.row leaf b.last
+last_of dims pages t root id leaf place kept at s b =
+    last_stands dims pages id t.level root t.row leaf b.last true b.way (subst (λ p. NodeStands dims pages p t.level true t.row) at (root_stands dims pages t s))
+
+-- an identifier that the table has is found
+pub not_missing : (t : IdTree) (id : ℕ) → map.contains_key (objects_of t) id ≡ true → kept_in id (objects_in t.row) ≡ None → ⊥
+not_missing t id there none = let no : is_some (map.get (objects_of t) id) ≡ false = ap is_some (has t id ∙ none) in absurd (differ (map.contains_key (objects_of t) id) there no)
+  where
+    differ : (b : Bool) → b ≡ true → b ≡ false → ⊥
+    differ true a d = cc
+    differ false a d = cc
+
+same_kept : (a b : Object) → ◌≡◌ {A = Option Object} (Some a) (Some b) → a ≡ b
+same_kept a b e = cc
+
+pub kept_is : (t : IdTree) (root id leaf place : ℕ) (kept was : Object) → map.get (objects_of t) id ≡ Some kept → (b : IsBelow root t.level id t.row leaf place was) → was ≡ kept
+kept_is t root id leaf place kept was is b = same_kept was kept (sym b.is ∙ sym (has t id) ∙ is)
 
 -- a table of which an object was put in its leaf
 pub sets_put : (dims : ℕ) (old new : PageMap) (t : IdTree) (root id leaf place : ℕ) (was kept : Object) → t.page ≡ root → TreeStands dims old t → (b : IsBelow root t.level id t.row leaf place was)

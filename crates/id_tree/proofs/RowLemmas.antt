@@ -80,8 +80,7 @@ parted-front (more (child key page below) end) behind parted = (parted.0, tt, tt
 parted-front (more (child key page below) (more (object id kept) rest)) behind parted = (parted.0, tt, parted-front (more (object id kept) rest) behind parted.2)
 parted-front (more (child key page below) (more (child key' page' below') rest)) behind parted =
     let P = λ (o : Entry). key' ≤ o.0 in
-    let whole : All P ((objects_in below' ++ objects_in rest) ++ objects_in behind) = subst (λ xs. All P xs) (objects-joined (more (child key' page' below') rest) behind) parted.1.1 in
-    (
+    let whole : All P ((objects_in below' ++ objects_in rest) ++ objects_in behind) = subst (λ xs. All P xs) (objects-joined (more (child key' page' below') rest) behind) parted.1.1 in (
       parted.0,
       (parted.1.0, all_left P (objects_in below' ++ objects_in rest) (objects_in behind) whole),
       parted-front (more (child key' page' below') rest) behind parted.2,
@@ -129,8 +128,7 @@ parted-joined dims pages level key (more (object id kept) l) behind high stands 
 parted-joined dims pages level key (more (child k p b) end) end high stands begins on_front on_behind apart = absurd begins
 parted-joined dims pages level key (more (child k p b) end) (more (object id kept) r) high stands begins on_front on_behind apart = absurd begins
 parted-joined dims pages level key (more (child k p b) end) (more (child k' p' b') r) high stands begins on_front on_behind apart =
-    let both = apart k p b end refl in
-    (
+    let both = apart k p b end refl in (
       on_front.0,
       (
         subst (λ n. All (λ o. o.0 < n) (objects_in b)) (sym begins) (all_left (λ (o : Entry). o.0 < key) (objects_in b) [] both.lesser),
@@ -148,8 +146,7 @@ parted-joined dims pages level key (more (child k p b) (more (child k' p' b') l)
     (all_left P (objects_in b') (objects_in l) on_front.1.1)
     (all_left (λ (o : Entry). o.0 < key) (objects_in b') (objects_in l) lesser) in
     let beyond : All P (objects_in behind) = All-weaker (λ (o : Entry). key ≤ o.0) P (λ o le. omega (arith, le, under)) (objects_in behind) both.from in
-    let whole : All P (objects_in (joined rest behind)) = subst (λ xs. All P xs) (sym (objects-joined rest behind)) (All-append P (objects_in b' ++ objects_in l) (objects_in behind) on_front.1.1 beyond) in
-    (
+    let whole : All P (objects_in (joined rest behind)) = subst (λ xs. All P xs) (sym (objects-joined rest behind)) (All-append P (objects_in b' ++ objects_in l) (objects_in behind) on_front.1.1 beyond) in (
       on_front.0,
       (on_front.1.0, whole),
       parted-joined dims pages level key (more (child k' p' b') l) behind high stands.5 begins on_front.2 on_behind (λ k2 p2 b2 l2 is. record { lesser = lesser; from = both.from }),

@@ -13,8 +13,8 @@ ghost use Rattle.id_tree.specs.Steps.{Becomes, IsFullBelow, IsFullTree, MayGrow,
 ghost use Rattle.id_tree.specs.Steps.Step.{adds};
 ghost use Rattle.id_tree.specs.Tree.{IdTree, Row, TreeStands, objects_of};
 
-use crate::broken::{after_begun, midway};
 use crate::below::look_below;
+use crate::broken::{after_begun, midway};
 use crate::looks::step;
 use crate::pushing::push;
 use crate::rooting::{deepen, start};
@@ -140,8 +140,7 @@ fn add_split<const D: usize, B: BlockDevice, A: Allocator + Copy>(
         → IfErr result (λ b. IsNoDamage cache.new b.cause) }
     ensures other_faults { IfErr result (λ b. IsNoDamage cache.new b.cause ⊎ IsDamage b.cause) }
 {
-    let (half, half_last) =
-        split::<D, B, A>(cache, root, level, 0, child, true, object.0)?;
+    let (half, half_last) = split::<D, B, A>(cache, root, level, 0, child, true, object.0)?;
     after_begun(add_below(cache, half, level - 1, half_last, object))
 }
 
@@ -174,8 +173,15 @@ pub(crate) fn add_below<const D: usize, B: BlockDevice, A: Allocator + Copy>(
     if below.room {
         return add_below(cache, below.child, level - 1, below.last, object);
     }
-    let (half, half_last) =
-        split::<D, B, A>(cache, page, level, below.place, below.child, below.last, object.0)?;
+    let (half, half_last) = split::<D, B, A>(
+        cache,
+        page,
+        level,
+        below.place,
+        below.child,
+        below.last,
+        object.0,
+    )?;
     after_begun(add_below(cache, half, level - 1, half_last, object))
 }
 

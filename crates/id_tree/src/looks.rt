@@ -16,7 +16,8 @@ ghost use Rattle.id_tree.specs.Tree.{fork_in, leaf_in};
 use block_device::BlockDevice;
 use box_math::BBox;
 use id_page::{
-    count_at, has_fork_head, has_leaf_head, level_at, object_at, page_at, place_of_child, place_of_id,
+    count_at, has_fork_head, has_leaf_head, level_at, object_at, page_at, place_of_child,
+    place_of_id,
 };
 use page_cache::PageCache;
 use page_file::Fault;

@@ -51,7 +51,11 @@ pub(crate) fn move_at<const D: usize, B: BlockDevice, A: Allocator + Copy>(
 }
 
 // Writes another object into a place of a leaf page that has one there.
-fn set_where_there<const D: usize>(page: &mut [u8; 4096], place: usize, object: &(u64, (BBox<D>, u32)))
+fn set_where_there<const D: usize>(
+    page: &mut [u8; 4096],
+    place: usize,
+    object: &(u64, (BBox<D>, u32)),
+)
     requires { IsDims D }
     ensures { (objects : List Entry) → leaf_at D page.old ≡ Some objects → place < length objects
         → leaf_at D page.new ≡ Some (slice_set objects place object.now) }

@@ -13,7 +13,8 @@ ghost use Rattle.id_tree.specs.Halving.{from_key, under_key};
 
 use block_bytes::zero_block;
 use id_page::{
-    append_links, count_at, id_at, keep_links, object_at, objects_that_fit, push_object, start_fork, start_leaf,
+    append_links, count_at, id_at, keep_links, object_at, objects_that_fit, push_object,
+    start_fork, start_leaf,
 };
 
 // How many objects of a leaf page have an identifier below a key.

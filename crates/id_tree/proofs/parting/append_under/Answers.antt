@@ -17,15 +17,16 @@ loop-place-preserved g c = λ objects more is there room.
     let read = c.id_at.ensures.of_leaf more some_object there within in
     let so_far = under_key key (take place more) in
     elim c.if-id_at-key.branch [
-      then-id_at-key w ↦
-        let less : (get_or more place some_object).0 < key = omega (arith, read, w.if-id_at-key) in
-        let fits = under_room key place more within less in
-        ap (leaf_at g.row.D) w.page-is
-        ∙ w.push_from.ensures.pushed (objects ++ so_far) more some_object before there within (omega (arith, room, fits, length-append objects so_far))
-        ∙ ap (λ (xs : List Entry). Some xs) (append_assoc objects so_far (get_or more place some_object ∷ []) ∙ ap (λ (xs : List Entry). objects ++ xs) (sym (under_next key place more within less)))
-    | else-id_at-key w ↦
-        ap (leaf_at g.row.D) w.page-is ∙ before
-        ∙ ap (λ (xs : List Entry). Some (objects ++ xs)) (sym (under_skip key place more within (omega (arith, read, w.if-id_at-key)))) ]
+      | then-id_at-key w ↦
+          let less : (get_or more place some_object).0 < key = omega (arith, read, w.if-id_at-key) in
+          let fits = under_room key place more within less in
+          ap (leaf_at g.row.D) w.page-is
+          ∙ w.push_from.ensures.pushed (objects ++ so_far) more some_object before there within (omega (arith, room, fits, length-append objects so_far))
+          ∙ ap (λ (xs : List Entry). Some xs) (append_assoc objects so_far (get_or more place some_object ∷ []) ∙ ap (λ (xs : List Entry). objects ++ xs) (sym (under_next key place more within less)))
+      | else-id_at-key w ↦
+          ap (leaf_at g.row.D) w.page-is ∙ before
+          ∙ ap (λ (xs : List Entry). Some (objects ++ xs)) (sym (under_skip key place more within (omega (arith, read, w.if-id_at-key))))
+    ]
 
 pub returns : goal.returns
 returns g c = record {

@@ -17,15 +17,17 @@ loop-place-preserved g c =
           let before = c.loop-place.invariant.counted objects is in
           let read = c.id_at.ensures.of_leaf objects some_object is within in
           elim c.if-id_at-key.branch [
-            then-id_at-key w ↦
-              let more = ap length (under_next key place objects within (omega (arith, read, w.if-id_at-key))) in
-              omega (arith, before, more, w.count-is, length-append (under_key key (take place objects)) (get_or objects place some_object ∷ []))
-          | else-id_at-key w ↦
-              let same = ap length (under_skip key place objects within (omega (arith, read, w.if-id_at-key))) in
-              omega (arith, before, same, w.count-is) ];
+            | then-id_at-key w ↦
+                let more = ap length (under_next key place objects within (omega (arith, read, w.if-id_at-key))) in
+                omega (arith, before, more, w.count-is, length-append (under_key key (take place objects)) (get_or objects place some_object ∷ []))
+            | else-id_at-key w ↦
+                let same = ap length (under_skip key place objects within (omega (arith, read, w.if-id_at-key))) in
+                omega (arith, before, same, w.count-is)
+          ];
       few = elim c.if-id_at-key.branch [
-        then-id_at-key w ↦ omega (arith, w.count-is, c.loop-place.invariant.few)
-      | else-id_at-key w ↦ omega (arith, w.count-is, c.loop-place.invariant.few) ];
+        | then-id_at-key w ↦ omega (arith, w.count-is, c.loop-place.invariant.few)
+        | else-id_at-key w ↦ omega (arith, w.count-is, c.loop-place.invariant.few)
+      ];
     }
 
 pub returns-clause-count : goal.returns-clause-count
