@@ -15,4 +15,5 @@ pub mod RootLemmas
 pub mod SeekLemmas
 pub mod AddLemmas
 pub mod PutLemmas
+pub mod DropLemmas
 pub mod CountLemmas

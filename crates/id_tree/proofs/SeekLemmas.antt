@@ -22,7 +22,7 @@ some_times id zero (x ∷ xs) none lt is = let one : ◌≡◌ {A = ℕ} (cond (
 some_times id (suc place) (x ∷ xs) none lt is = let later = some_times id place xs none (omega (arith, lt)) is in omega (arith, later)
 
 -- what is kept of an object that is in a place
-kept_there : (id place : ℕ) (kept : Object) (xs : List Entry) (none : Entry) → place < length xs → get_or xs place none ≡ (id, kept) → times_in id xs ≤ 1 → kept_in id xs ≡ Some kept
+pub kept_there : (id place : ℕ) (kept : Object) (xs : List Entry) (none : Entry) → place < length xs → get_or xs place none ≡ (id, kept) → times_in id xs ≤ 1 → kept_in id xs ≡ Some kept
 kept_there id place kept [] none lt is single = absurd (omega (arith, lt))
 kept_there id zero kept (x ∷ xs) none lt is single =
     ap (λ b. cond b (Some x.1) (kept_in id xs)) (is_same x.0 id (ap (λ (o : Entry). o.0) is)) ∙ ap (λ (o : Entry). Some o.1) is
