@@ -16,4 +16,5 @@ pub mod SeekLemmas
 pub mod AddLemmas
 pub mod PutLemmas
 pub mod DropLemmas
+pub mod FillLemmas
 pub mod CountLemmas

@@ -58,7 +58,7 @@ pub fn add<const D: usize, B: BlockDevice, A: Allocator + Copy>(
 }
 
 // Adds an object to the table at a root.
-fn add_object<const D: usize, B: BlockDevice, A: Allocator + Copy>(
+pub(crate) fn add_object<const D: usize, B: BlockDevice, A: Allocator + Copy>(
     cache: &mut PageCache<B, A>,
     root: u32,
     object: &(u64, (BBox<D>, u32)),

@@ -1,6 +1,6 @@
 //! Changes that broke off once they had begun.
 
-ghost use Rattle.std.specs.Prelude.{◌≡◌};
+ghost use Rattle.std.specs.Prelude.{◌≡◌, false};
 ghost use Rattle.id_table.specs.Faults.{broken_of};
 ghost use Rattle.id_tree.specs.Steps.{begun_of};
 
@@ -25,4 +25,15 @@ pub(crate) fn after_begun<T>(done: Result<T, Broken>) -> Result<T, Broken>
         Ok(answer) => Ok(answer),
         Err(broken) => Err(Broken::midway(broken.cause)),
     }
+}
+
+// A change that broke off, as that of a longer one that had begun before it or not.
+pub(crate) fn broken_after(begun: bool, broken: Broken) -> Broken
+    ensures cause { result.cause ≡ broken.cause }
+    ensures untouched { result.touched ≡ false → (begun ≡ false) × (broken.touched ≡ false) }
+{
+    if begun {
+        return Broken::midway(broken.cause);
+    }
+    broken
 }

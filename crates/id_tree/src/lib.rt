@@ -5,6 +5,7 @@
 mod adding;
 mod below;
 mod broken;
+mod filling;
 mod giving;
 mod halving;
 mod looks;
@@ -18,6 +19,7 @@ mod splitting;
 mod updating;
 
 pub use adding::add;
+pub use filling::fill;
 pub use making::make;
 pub use search::get;
 pub use updating::update;
