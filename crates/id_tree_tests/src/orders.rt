@@ -7,7 +7,7 @@ ghost use Rattle.page_cache.specs.Cache.{gate_of};
 
 use block_device::MemoryDevice;
 use box_math::BBox;
-use id_tree::{add, get, make, update};
+use id_tree::{add, fill, get, make, update};
 use page_file::Fault;
 use std::alloc::Global;
 use std::collections::BTreeMap;
@@ -91,6 +91,24 @@ fn add_all<const D: usize>(
         let _ = plain.insert(id, (7, tag_of(number))).map_err(|_| Fault::Memory)?;
     }
     Ok(())
+}
+
+// So many objects in that order, which are noted in a plain map.
+fn objects_of<const D: usize>(
+    alloc: Global,
+    plain: &mut Plain,
+    order: Order,
+    count: u32,
+) -> Result<Vec<(u64, (BBox<D>, u32))>, Fault>
+    requires dims { IsDims D }
+{
+    let mut objects = Vec::new(alloc);
+    for number in 0..count {
+        let id = id_of(order, number);
+        objects.push((id, (point::<D>(7)?, tag_of(number))))?;
+        let _ = plain.insert(id, (7, tag_of(number))).map_err(|_| Fault::Memory)?;
+    }
+    Ok(objects)
 }
 
 // Moves every third object, and notes where to.
@@ -185,5 +203,18 @@ fn clustered_identifiers_are_found(rt: HostRuntime) -> Result<(), Fail> {
     let (alike, pages) = round::<3>(rt.alloc(), Order::Clustered, 8000)?;
     assert_eq!(rt; alike, 16000);
     assert!(rt; pages <= 150, "{pages}");
+    Ok(())
+}
+
+#[test]
+fn many_objects_are_added_at_once(rt: HostRuntime) -> Result<(), Fail> {
+    let mut cache = bare(rt.alloc())?;
+    let table = new_table::<2>(&mut cache)?;
+    let mut plain = BTreeMap::new(rt.alloc());
+    let objects = objects_of::<2>(rt.alloc(), &mut plain, Order::Ascending, 6000)?;
+    fill(&mut cache, table, objects.as_slice()).map_err(|broken| broken.cause)?;
+    let alike = count_alike::<2>(&mut cache, table, &plain, Order::Ascending, 12000)?;
+    assert_eq!(rt; alike, 12000);
+    assert!(rt; cache.next_number() <= 48);
     Ok(())
 }
