@@ -17,4 +17,5 @@ pub mod AddLemmas
 pub mod PutLemmas
 pub mod DropLemmas
 pub mod FillLemmas
+pub mod FreeLemmas
 pub mod CountLemmas

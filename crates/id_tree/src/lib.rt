@@ -6,6 +6,7 @@ mod adding;
 mod below;
 mod broken;
 mod filling;
+mod freeing;
 mod giving;
 mod halving;
 mod looks;
@@ -20,6 +21,7 @@ mod updating;
 
 pub use adding::add;
 pub use filling::fill;
+pub use freeing::free_all;
 pub use making::make;
 pub use search::get;
 pub use updating::update;
