@@ -1,28 +1,25 @@
 -- An object added at or below a node.
-use Rattle.std.proofs.Common.{◌≡◌, ◌∙◌, ℕ, ◌+◌, ◌-◌, ◌<◌, ◌≤◌, ◌++◌, ◌∷◌, [], Bool, true, false, cond, eqb, Option, Some, None, List, length, refl, sym, ap, subst, inl, inr, arith, length-append}
+use Rattle.std.proofs.Common.{◌≡◌, ◌∙◌, ℕ, ◌+◌, ◌-◌, ◌<◌, ◌≤◌, ◌++◌, ◌∷◌, [], Bool, true, false, cond, eqb, Some, None, List, length, refl, sym, ap, subst, inr, arith, length-append}
 use Rattle.box_math.specs.Objects.{Object}
 use Rattle.block_bytes.specs.Numbers.{number_at}
-use Rattle.bucket_page.specs.Layout.{Entry}
 use Rattle.page_file.specs.Pages.{SameBut}
 use Rattle.node_page.specs.Parts.{Moves}
 use Rattle.node_page.specs.Standing.{PageMap}
 use Rattle.node_page.proofs.PartLemmas.{moves_from, moves_in_turn}
-use Rattle.id_page.specs.Fork.{ForkContent, route, route_place}
-use Rattle.id_page.specs.Leaf.{most_objects}
 use Rattle.id_page.proofs.ForkReading.{count_of_fork}
 use Rattle.id_page.proofs.LeafReading.{count_of_leaf}
 use Rattle.id_table.specs.Table.{kept_in, times_in}
 use Rattle.id_tree.specs.Changes.{Sets}
-use Rattle.id_tree.specs.Rows.{At, HasRoom, IsFull, NodeStands, part_at}
+use Rattle.id_tree.specs.Rows.{At, HasRoom, NodeStands, part_at}
 use Rattle.id_tree.specs.Steps.{Becomes, IsBeneath, IsFullBelow, IsFullTree, Keeps, MakesRoom, MayGrow, MaySplit, Step, adds, Turns, Widens}
 use Rattle.id_tree.specs.Writes.{Deepens, NamesNew, Starts}
-use Rattle.id_tree.specs.Tree.{HasNode, IdTree, IsLarge, Row, end, more, object, child, RowStands, TreeStands, at_edge, fork_in, leaf_in, least_objects, links_of, objects_in, occurs}
+use Rattle.id_tree.specs.Tree.{HasNode, IdTree, IsLarge, Row, end, more, object, child, RowStands, TreeStands, at_edge, fork_in, leaf_in, links_of, objects_in, occurs}
 use Rattle.id_tree.proofs.LeafLemmas.{leaf_becomes}
-use Rattle.id_tree.proofs.NodeLemmas.{fork_bytes, leaf_bytes, no_links, objects_of_row, occurs_here, part_there, row_of, row_stays, some_objects, stands_same}
-use Rattle.id_tree.proofs.ObjectLemmas.{adds_last, keeps_equal, some_kept, turns_after}
+use Rattle.id_tree.proofs.NodeLemmas.{fork_bytes, leaf_bytes, no_links, occurs_here, part_there, row_stays, some_objects, stands_same}
+use Rattle.id_tree.proofs.ObjectLemmas.{adds_last, keeps_equal, turns_after}
 use Rattle.std.proofs.lemmas.List.{append-nil}
 use Rattle.node_page.proofs.PartLemmas.{there_not_missing}
-use Rattle.id_tree.proofs.RootLemmas.{IsRoot, becomes_root, root_stands, rooted, rooted_moves, sets_of}
+use Rattle.id_tree.proofs.RootLemmas.{becomes_root, root_stands, rooted, rooted_moves, sets_of}
 use Rattle.id_tree.proofs.WayLemmas.{by_child, child_large, child_stands, same_below, some_below, times_below}
 
 -- a leaf that got an object more

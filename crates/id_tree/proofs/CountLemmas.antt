@@ -1,5 +1,5 @@
 -- How many pages a tree has, and so how many levels.
-use Rattle.std.proofs.Common.{◌≡◌, ◌∙◌, ℕ, zero, suc, ◌+◌, ◌-◌, ◌*◌, ◌^◌, ◌<◌, ◌≤◌, ◌||◌, Bool, true, false, cond, eqb, Option, IsSome, List, [], ◌∷◌, ◌++◌, length, refl, sym, ap, subst, ⊎_elim, arith, length-append}
+use Rattle.std.proofs.Common.{◌≡◌, ◌∙◌, ℕ, suc, ◌+◌, ◌-◌, ◌*◌, ◌^◌, ◌<◌, ◌≤◌, ◌||◌, Bool, true, false, cond, eqb, IsSome, List, [], ◌∷◌, ◌++◌, length, refl, ap, subst, ⊎_elim, arith, length-append}
 use Rattle.std.proofs.lemmas.Bool.{cases_eq}
 use Rattle.std.proofs.lemmas.Bool.Decides.{nat_tests}
 use Rattle.std.proofs.lemmas.Map.Steps.{length-le_from_distinct_below}
@@ -7,7 +7,7 @@ use Rattle.std.specs.List.{IsDistinct, AllByRecursion, list_any}
 use Rattle.node_page.specs.Standing.{PageMap}
 use Rattle.id_tree.specs.Steps.{IsFullTree}
 use Rattle.id_tree.specs.Tree.{IdTree, IsFilled, IsLarge, Row, end, more, object, child, RowStands, at_edge, links_of, occurs}
-use Rattle.id_tree.proofs.NodeLemmas.{below_there, not_there, occurs_here}
+use Rattle.id_tree.proofs.NodeLemmas.{below_there, occurs_here}
 
 -- how many pages are below a node, and which
 nodes : Row → ℕ

@@ -1,7 +1,5 @@
 -- A full node cut in two, as bytes and as rows.
-use Rattle.std.proofs.Common.{◌≡◌, ◌∙◌, ℕ, zero, suc, ◌+◌, ◌-◌, ◌<◌, ◌≤◌, Bool, true, false, cond, eqb, Option, Some, None, IsSome, List, [], ◌∷◌, ◌++◌, length, get_or, take, drop, All, refl, sym, ap, subst, ⊎_elim, arith, length-append, length-drop}
-use Rattle.std.proofs.lemmas.Bool.{cases_eq}
-use Rattle.std.proofs.lemmas.Bool.Decides.{nat_tests}
+use Rattle.std.proofs.Common.{◌≡◌, ◌∙◌, ℕ, zero, suc, ◌+◌, ◌<◌, ◌≤◌, Bool, true, false, cond, eqb, Some, None, List, [], ◌∷◌, ◌++◌, length, get_or, take, drop, All, refl, sym, ap, subst, arith, length-drop}
 use Rattle.std.proofs.lemmas.List.{drop_more, length-take-le}
 use Rattle.bucket_page.specs.Layout.{Entry}
 use Rattle.block_bytes.specs.Numbers.{number_at}

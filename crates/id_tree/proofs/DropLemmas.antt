@@ -1,7 +1,6 @@
 -- An object taken from a leaf: the last one fills its place.
-use Rattle.std.proofs.Common.{◌≡◌, ◌∙◌, ℕ, zero, suc, ◌+◌, ◌-◌, ◌<◌, ◌≤◌, Bool, true, false, cond, eqb, Option, Some, None, List, [], ◌∷◌, ◌++◌, length, get_or, set, take, All, refl, sym, ap, subst, ⊎_elim, arith}
+use Rattle.std.proofs.Common.{◌≡◌, ◌∙◌, ℕ, suc, ◌+◌, ◌-◌, ◌<◌, ◌≤◌, Bool, true, false, cond, eqb, Option, Some, None, List, [], ◌∷◌, length, get_or, set, refl, sym, ap, ⊎_elim, arith}
 use Rattle.std.proofs.lemmas.Bool.{cases_eq, cases_lt}
-use Rattle.std.proofs.lemmas.Bool.Decides.{nat_tests}
 use Rattle.std.proofs.lemmas.List.{get_or-set_other, get_or-set_same, get_or-take, length-set, length-take-le}
 use Rattle.std.proofs.lemmas.List.Elements.{All-get_or, All-set, All-take}
 use Rattle.std.proofs.lemmas.List.Sums.{sum_by-cons, sum_by-swap_remove}
@@ -11,7 +10,7 @@ use Rattle.box_math.specs.Objects.{Object}
 use Rattle.bucket_page.specs.Layout.{Entry}
 use Rattle.id_table.specs.Table.{kept_in, times_in}
 use Rattle.id_table.proofs.AddLemmas.{none_times}
-use Rattle.id_tree.specs.Steps.{Step, drops, Turns}
+use Rattle.id_tree.specs.Steps.{drops, Turns}
 use Rattle.id_tree.proofs.ObjectLemmas.{is_other, is_same}
 use Rattle.id_tree.proofs.SeekLemmas.{kept_there}
 

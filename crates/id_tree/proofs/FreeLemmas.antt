@@ -1,5 +1,5 @@
 -- Nodes freed one after the other.
-use Rattle.std.proofs.Common.{◌≡◌, ◌∙◌, ℕ, ◌+◌, ◌-◌, ◌<◌, ◌≤◌, Bool, true, cond, eqb, Option, Some, None, IsSome, List, [], ◌∷◌, ◌++◌, length, get_or, refl, sym, ap, subst, ⊎_elim, arith, length-append}
+use Rattle.std.proofs.Common.{◌≡◌, ◌∙◌, ℕ, ◌+◌, ◌-◌, ◌<◌, ◌≤◌, Bool, true, cond, eqb, None, IsSome, List, [], ◌∷◌, length, get_or, refl, sym, ap, subst, arith, length-append}
 use Rattle.std.proofs.lemmas.List.{get_or_at}
 use Rattle.page_file.specs.Pages.{SameBut}
 use Rattle.page_cache.specs.Cache.{Grows, IsPageMap, next_of, pages}
@@ -7,10 +7,10 @@ use Rattle.page_cache.specs.Calls.{ChangesUntil}
 use Rattle.page_cache.specs.declared.cache.PageCache.{PageCache}
 use Rattle.node_page.specs.Parts.{Moves, Part, both, no_page, one_page}
 use Rattle.node_page.specs.Standing.{PageMap}
-use Rattle.node_page.proofs.PartLemmas.{moves_beside, moves_from, moves_in_turn, moves_same, one_page_moves, the_rest_stays}
+use Rattle.node_page.proofs.PartLemmas.{moves_beside, moves_in_turn, moves_same, one_page_moves, the_rest_stays}
 use Rattle.id_page.specs.Fork.{Link}
 use Rattle.id_tree.specs.Rows.{NodeStands, joined, part_at}
-use Rattle.id_tree.specs.Tree.{HasNode, IdTree, TreeStands, IsFilled, IsParted, Row, end, more, object, child, RowStands, at_edge, links_of, occurs}
+use Rattle.id_tree.specs.Tree.{IdTree, TreeStands, IsFilled, IsParted, Row, end, more, object, child, RowStands, at_edge, links_of, occurs}
 use Rattle.id_tree.proofs.NodeLemmas.{leaf_pages, no_links, node_stays, occurs_here, part_there, row_stays, stands_same}
 use Rattle.id_tree.proofs.RootLemmas.{root_stands}
 use Rattle.id_tree.proofs.RowLemmas.{filled-behind, joined-end, joined-joined, links-joined, occurs-joined, parted-behind, stands-behind}

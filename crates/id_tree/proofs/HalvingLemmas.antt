@@ -1,9 +1,7 @@
 -- The objects of a leaf on both sides of a key.
-use Rattle.std.proofs.Common.{◌≡◌, ◌∙◌, ℕ, zero, suc, ◌+◌, ◌-◌, ◌<◌, ◌≤◌, Bool, true, false, cond, eqb, nat_lt, Option, Some, None, List, [], ◌∷◌, ◌++◌, length, All, rules, refl, sym, ap, subst, ⊎_elim, arith}
+use Rattle.std.proofs.Common.{◌≡◌, ◌∙◌, ℕ, ◌+◌, ◌<◌, ◌≤◌, Bool, cond, eqb, Some, None, List, [], ◌∷◌, ◌++◌, length, All, rules, refl, sym, ap, subst, ⊎_elim, arith}
 use Rattle.std.proofs.lemmas.Bool.{cases_eq, cases_lt}
-use Rattle.std.proofs.lemmas.Bool.Decides.{nat_tests}
 use Rattle.std.proofs.lemmas.List.Elements.{All-append, All-cons, All-head, All-tail}
-use Rattle.box_math.specs.Objects.{Object}
 use Rattle.bucket_page.specs.Layout.{Entry}
 use Rattle.id_page.proofs.Ways.{is_from, is_less}
 use Rattle.id_table.proofs.CheckLemmas.{times-append}

@@ -1,13 +1,13 @@
 -- Leaves that change, and the nodes above them.
-use Rattle.std.proofs.Common.{◌≡◌, ◌∙◌, ℕ, ◌+◌, ◌-◌, ◌<◌, ◌≤◌, Bool, true, false, cond, eqb, Option, Some, None, IsSome, List, [], ◌∷◌, ◌++◌, length, All, refl, sym, ap, subst, ⊎_elim, arith}
+use Rattle.std.proofs.Common.{◌≡◌, ◌∙◌, ℕ, ◌-◌, ◌<◌, ◌≤◌, Bool, false, Some, List, length, sym, ap, subst, arith}
 use Rattle.bucket_page.specs.Layout.{Entry}
 use Rattle.page_file.specs.Pages.{SameBut}
-use Rattle.node_page.specs.Parts.{Moves, Part, one_page}
+use Rattle.node_page.specs.Parts.{Moves, one_page}
 use Rattle.node_page.specs.Standing.{PageMap}
 use Rattle.node_page.proofs.PartLemmas.{moves_same, one_page_moves}
 use Rattle.id_tree.specs.Rows.{NodeStands, Reaches, here, down, part_at}
-use Rattle.id_tree.specs.Steps.{Becomes, Step, Turns, gone}
-use Rattle.id_tree.specs.Tree.{IsLarge, Row, leaf_in, least_objects, links_of, objects_in, occurs}
+use Rattle.id_tree.specs.Steps.{Becomes, Step, Turns}
+use Rattle.id_tree.specs.Tree.{IsLarge, Row, leaf_in, least_objects, objects_in}
 use Rattle.id_tree.proofs.NodeLemmas.{leaf_links, leaf_pages, objects_of_row, row_of, row_of_filled, row_of_parted, row_of_stands, there_of_leaf}
 use Rattle.id_tree.proofs.WayLemmas.{by_child, child_large, child_stands}
 

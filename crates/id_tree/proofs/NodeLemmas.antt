@@ -1,18 +1,13 @@
 -- Nodes in their pages, and those below them.
-use Rattle.std.proofs.Common.{◌≡◌, ◌∙◌, ℕ, ◌+◌, ◌-◌, ◌<◌, ◌≤◌, Bool, true, false, cond, eqb, Option, Some, None, IsSome, List, [], ◌∷◌, ◌++◌, length, All, refl, sym, ap, subst, ⊎_elim, arith, length-append}
+use Rattle.std.proofs.Common.{◌≡◌, ◌∙◌, ℕ, ◌-◌, ◌<◌, Bool, cond, eqb, Option, Some, None, IsSome, List, [], ◌∷◌, length, refl, sym, ap, subst, ⊎_elim, arith, length-append}
 use Rattle.std.proofs.lemmas.Bool.{cases_eq}
 use Rattle.std.proofs.lemmas.Bool.Decides.{nat_tests}
-use Rattle.block_bytes.specs.Numbers.{number_at}
 use Rattle.bucket_page.specs.Layout.{Entry}
-use Rattle.id_page.specs.Fork.{ForkContent, Link, fork_at, route}
+use Rattle.id_page.specs.Fork.{ForkContent, fork_at, route}
 use Rattle.id_page.specs.Leaf.{leaf_at}
-use Rattle.node_page.specs.Parts.{Moves, Part}
 use Rattle.node_page.specs.Standing.{PageMap}
-use Rattle.node_page.proofs.PartLemmas.{there_not_missing}
-use Rattle.id_table.specs.Table.{kept_in, times_in}
-use Rattle.id_tree.specs.Rows.{At, HasRoom, IsFull, NodeStands, joined, part_at}
-use Rattle.id_tree.specs.Tree.{HasNode, IsFilled, IsParted, Row, end, more, object, child, RowStands, at_edge, fork_in, leaf_in, links_of, objects_in, occurs}
-use Rattle.id_tree.proofs.RowLemmas.{links-joined, objects-joined, occurs-joined, parted-behind, stands-behind, stands-front}
+use Rattle.id_tree.specs.Rows.{NodeStands, part_at}
+use Rattle.id_tree.specs.Tree.{HasNode, IsFilled, IsParted, Row, end, more, object, child, RowStands, fork_in, leaf_in, links_of, objects_in, occurs}
 
 -- ---- pages of a map
 

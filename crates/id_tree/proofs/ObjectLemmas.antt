@@ -1,14 +1,13 @@
 -- Objects changed in the middle of a list.
-use Rattle.std.proofs.Common.{◌≡◌, ◌∙◌, ℕ, ◌+◌, ◌<◌, ◌≤◌, Bool, true, false, cond, eqb, Option, Some, None, List, [], ◌∷◌, ◌++◌, length, All, rules, refl, sym, ap, subst, ⊎_elim, arith}
+use Rattle.std.proofs.Common.{◌≡◌, ◌∙◌, ℕ, ◌<◌, ◌≤◌, Bool, true, false, cond, eqb, Option, Some, None, List, [], ◌∷◌, ◌++◌, length, All, rules, refl, sym, ap, subst, ⊎_elim, arith}
 use Rattle.std.proofs.lemmas.Bool.{cases_eq}
 use Rattle.std.proofs.lemmas.Bool.Decides.{nat_tests}
 use Rattle.std.proofs.lemmas.List.Elements.{All-append, All-cons, All-head, All-tail}
 use Rattle.box_math.specs.Objects.{Object}
 use Rattle.bucket_page.specs.Layout.{Entry}
-use Rattle.id_table.specs.Table.{kept_in, times_in}
-use Rattle.id_table.proofs.AddLemmas.{none_times}
+use Rattle.id_table.specs.Table.{kept_in}
 use Rattle.id_table.proofs.CheckLemmas.{times-append}
-use Rattle.id_tree.specs.Steps.{Keeps, Step, adds, puts, drops, Turns, come, gone, kept_after}
+use Rattle.id_tree.specs.Steps.{Keeps, Step, adds, Turns, kept_after}
 
 -- ---- all of two lists
 

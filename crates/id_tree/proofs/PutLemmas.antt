@@ -1,5 +1,5 @@
 -- An object put in place of one that is there.
-use Rattle.std.proofs.Common.{◌≡◌, ◌∙◌, ℕ, zero, suc, ◌+◌, ◌-◌, ◌<◌, ◌≤◌, Bool, true, false, cond, eqb, is_some, Option, Some, None, IsSome, List, [], ◌∷◌, ◌++◌, length, get_or, set, All, refl, sym, ap, subst, inl, arith}
+use Rattle.std.proofs.Common.{◌≡◌, ◌∙◌, ℕ, zero, suc, ◌+◌, ◌-◌, ◌<◌, ◌≤◌, Bool, true, false, cond, eqb, is_some, Option, Some, None, List, [], ◌∷◌, ◌++◌, length, get_or, set, refl, sym, ap, subst, inl, arith}
 use Rattle.std.proofs.lemmas.Bool.Decides.{nat_tests}
 use Rattle.std.proofs.lemmas.List.{append-nil, length-set}
 use Rattle.std.proofs.lemmas.List.Elements.{All-cons, All-tail}
@@ -10,13 +10,12 @@ use Rattle.page_file.specs.Pages.{SameBut}
 use Rattle.node_page.specs.Standing.{PageMap}
 use Rattle.id_table.specs.Table.{kept_in, times_in}
 use Rattle.id_tree.specs.Changes.{Sets}
-use Rattle.id_tree.specs.Rows.{HasAt, IsBelow, NodeStands, Reaches, here, down}
+use Rattle.id_tree.specs.Rows.{IsBelow, NodeStands, Reaches, here, down}
 use Rattle.id_tree.specs.Steps.{Becomes, Step, puts, Turns}
-use Rattle.id_tree.specs.Tree.{HasNode, IdTree, IsLarge, Row, TreeStands, leaf_in, least_objects, objects_in, objects_of}
+use Rattle.id_tree.specs.Tree.{IdTree, Row, TreeStands, leaf_in, objects_in, objects_of}
 use Rattle.id_tree.proofs.LeafLemmas.{leaf_becomes, reached}
-use Rattle.id_tree.proofs.NodeLemmas.{stands_same}
 use Rattle.id_tree.proofs.ObjectLemmas.{is_other, turns_within}
-use Rattle.id_tree.proofs.RootLemmas.{becomes_root, has, root_stands, sets_from, sets_of, tree_same}
+use Rattle.id_tree.proofs.RootLemmas.{becomes_root, has, root_stands, sets_of}
 use Rattle.id_tree.proofs.SeekLemmas.{some_times}
 use Rattle.id_tree.proofs.WayLemmas.{child_stands, times_below}
 

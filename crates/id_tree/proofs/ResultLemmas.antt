@@ -1,11 +1,11 @@
 -- What the answers of calls say, said in another way.
-use Rattle.std.proofs.Common.{◌≡◌, ◌∙◌, None, Some, true, false, sym, ap, subst}
+use Rattle.std.proofs.Common.{◌≡◌, None, Some, true, false, sym, subst}
 use Rattle.std.specs.Prelude.{Result, Ok, Err, IfOk, IfErr, IsErrAnd, OnOk}
 use Rattle.page_file.specs.declared.fault.Fault.{Fault}
 use Rattle.page_cache.specs.Calls.{AsksUntil, ChangesUntil, asks_changes, changes_in_turn}
 use Rattle.page_cache.specs.Laws.{the_map_is_kept_in_turn}
 use Rattle.page_cache.specs.declared.cache.PageCache.{PageCache}
-use Rattle.node_page.specs.Broken.{Alters, alters_so, cause_in, midway}
+use Rattle.node_page.specs.Broken.{Alters, alters_so, cause_in}
 use Rattle.node_page.specs.declared.broken.Broken.{Broken}
 use Rattle.id_table.specs.Faults.{broken_of}
 use Rattle.id_tree.specs.Steps.{begun_of}

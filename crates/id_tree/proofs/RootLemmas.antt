@@ -1,29 +1,25 @@
 -- The root of a table.
-use Rattle.std.proofs.Common.{◌≡◌, ◌∙◌, ℕ, ◌+◌, ◌-◌, ◌<◌, ◌≤◌, ◌⊎◌, Bool, true, false, cond, eqb, is_some, Option, Some, None, IsSome, List, [], ◌∷◌, ◌++◌, length, refl, sym, ap, subst, ⊎_elim, arith}
+use Rattle.std.proofs.Common.{◌≡◌, ◌∙◌, ℕ, ◌+◌, ◌-◌, ◌<◌, ◌≤◌, ◌⊎◌, Bool, true, false, cond, eqb, is_some, Option, Some, None, IsSome, List, [], length, refl, sym, ap, subst, ⊎_elim, arith}
 use Rattle.std.proofs.lemmas.Bool.{cases_eq}
 use Rattle.std.proofs.lemmas.Bool.Decides.{nat_tests}
 use Rattle.std.proofs.lemmas.Cmp.{nat_cmp_total}
-use Rattle.std.proofs.lemmas.List.{append-nil}
 use Rattle.std.specs.FinMap as map
 use Rattle.std.specs.FinMap.{get-from_entries, get-insert, nat_cmp-IsAntisymmetric, same_map}
-use Rattle.std.specs.Ordering.{nat_cmp}
 use Rattle.box_math.specs.Objects.{Object}
 use Rattle.bucket_page.specs.Layout.{Entry}
-use Rattle.page_file.specs.Pages.{SameBut}
 use Rattle.node_page.specs.Parts.{Moves, no_page, one_page}
 use Rattle.node_page.specs.Standing.{PageMap}
-use Rattle.node_page.proofs.PartLemmas.{moves_from, moves_in_turn, moves_same, one_page_moves, there_not_missing}
-use Rattle.id_page.specs.Fork.{Link, fork_at}
+use Rattle.node_page.proofs.PartLemmas.{moves_from, moves_same, one_page_moves, there_not_missing}
+use Rattle.id_page.specs.Fork.{fork_at}
 use Rattle.id_table.proofs.AddLemmas.{none_times}
 use Rattle.id_table.proofs.TableLemmas.{found_is, same_key}
 use Rattle.id_table.specs.Table.{kept_in, times_in}
 use Rattle.id_tree.specs.Changes.{Makes, Sets}
-use Rattle.id_tree.specs.Writes.{Gives, NamesNew, Starts}
-use Rattle.id_tree.specs.Rows.{HasRoom, NodeStands, part_at}
-use Rattle.id_tree.specs.Steps.{Becomes, IsFullTree, Keeps, MayGrow, Step, adds, puts, drops, Turns, come, gone, kept_after}
-use Rattle.id_tree.specs.Tree.{HasNode, IdTree, IsFilled, IsLarge, IsParted, Row, end, more, object, child, RowStands, TreeStands, at_edge, fork_in, leaf_in, links_of, objects_in, objects_of, occurs, occurs_in, part_of}
-use Rattle.id_tree.proofs.NodeLemmas.{is_there, no_links, node_there, not_there, occurs_here, part_there, row_stays, some_objects, there_of_fork}
-use Rattle.id_tree.proofs.ObjectLemmas.{adds_last, keeps_equal, some_kept, turns_after}
+use Rattle.id_tree.specs.Writes.{Gives, NamesNew}
+use Rattle.id_tree.specs.Rows.{NodeStands, part_at}
+use Rattle.id_tree.specs.Steps.{Becomes, Step, adds, puts, drops, Turns, come, gone, kept_after}
+use Rattle.id_tree.specs.Tree.{HasNode, IdTree, IsFilled, IsParted, Row, end, more, child, RowStands, TreeStands, fork_in, leaf_in, links_of, objects_in, objects_of, occurs, part_of}
+use Rattle.id_tree.proofs.NodeLemmas.{is_there, node_there, not_there, occurs_here, part_there, row_stays, there_of_fork}
 
 -- what the table has is what its root has
 pub has : (t : IdTree) (id : ℕ) → map.get (objects_of t) id ≡ kept_in id (objects_in t.row)

@@ -1,14 +1,13 @@
 -- Rows of children taken apart and put together.
-use Rattle.std.proofs.Common.{◌≡◌, ◌∙◌, ℕ, zero, suc, ◌+◌, ◌-◌, ◌<◌, ◌≤◌, Bool, true, false, cond, eqb, nat_lt, List, [], ◌∷◌, ◌++◌, length, get_or, All, Option, Some, None, rules, refl, sym, ap, subst, ⊎_elim, arith, append_assoc, length-append}
+use Rattle.std.proofs.Common.{◌≡◌, ◌∙◌, ℕ, zero, suc, ◌+◌, ◌-◌, ◌<◌, ◌≤◌, Bool, true, false, cond, List, [], ◌∷◌, ◌++◌, length, get_or, All, Some, rules, refl, sym, ap, subst, ⊎_elim, arith, append_assoc}
 use Rattle.std.proofs.lemmas.Bool.{cases_lt}
-use Rattle.std.proofs.lemmas.Bool.Decides.{nat_tests}
-use Rattle.std.proofs.lemmas.List.Elements.{All-append, All-head, All-tail, All-weaker}
+use Rattle.std.proofs.lemmas.List.Elements.{All-append, All-head, All-weaker}
 use Rattle.node_page.specs.Standing.{PageMap}
 use Rattle.bucket_page.specs.Layout.{Entry}
 use Rattle.id_page.specs.Fork.{AreAscending, Link, child_from, passed_from, route, route_place}
 use Rattle.id_page.proofs.Ways.{is_from, is_less}
 use Rattle.id_tree.specs.Rows.{At, Begins, Passes, Stops, joined, next_key}
-use Rattle.id_tree.specs.Tree.{HasNode, IsFilled, IsLarge, IsParted, Parts, Row, end, more, object, child, RowStands, at_edge, links_of, objects_in, occurs}
+use Rattle.id_tree.specs.Tree.{IsFilled, IsParted, Row, end, more, object, child, RowStands, links_of, objects_in, occurs}
 use Rattle.id_tree.proofs.ObjectLemmas.{all_left, all_right}
 
 -- ---- two rows one after the other

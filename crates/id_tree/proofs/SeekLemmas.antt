@@ -1,14 +1,12 @@
 -- A search in a tree.
-use Rattle.std.proofs.Common.{◌≡◌, ◌∙◌, ℕ, zero, suc, ◌+◌, ◌-◌, ◌<◌, ◌≤◌, Bool, true, false, cond, eqb, Option, Some, None, List, [], ◌∷◌, ◌++◌, length, get_or, refl, sym, ap, subst, ⊎_elim, arith}
-use Rattle.std.specs.Prelude.{Result, Ok, Err, IfOk}
+use Rattle.std.proofs.Common.{◌≡◌, ◌∙◌, ℕ, zero, suc, ◌-◌, ◌<◌, ◌≤◌, Bool, true, cond, eqb, Option, Some, None, List, [], ◌∷◌, length, get_or, refl, ap, subst, ⊎_elim, arith}
 use Rattle.std.proofs.lemmas.Bool.{cases_eq}
-use Rattle.std.proofs.lemmas.Bool.Decides.{nat_tests}
 use Rattle.box_math.specs.Objects.{Object}
 use Rattle.bucket_page.specs.Layout.{Entry}
-use Rattle.id_page.specs.Fork.{AreAscending, ForkContent, Link, route}
+use Rattle.id_page.specs.Fork.{AreAscending, Link, route}
 use Rattle.node_page.specs.Standing.{PageMap}
 use Rattle.id_table.specs.Table.{kept_in, times_in}
-use Rattle.id_tree.specs.Rows.{At, HasAt, IsBelow, IsFoundAt, IsFoundBelow, MaySeek, NodeStands, Reaches, here, down}
+use Rattle.id_tree.specs.Rows.{At, HasAt, IsBelow, IsFoundBelow, MaySeek, NodeStands, here, down}
 use Rattle.id_tree.specs.Tree.{IdTree, Row, end, more, object, child, RowStands, TreeStands, at_edge, links_of, objects_in}
 use Rattle.id_tree.proofs.NodeLemmas.{stands_same}
 use Rattle.id_tree.proofs.ObjectLemmas.{is_other, is_same}

@@ -1,27 +1,25 @@
 -- A full child cut in two has room.
-use Rattle.std.proofs.Common.{◌≡◌, ◌∙◌, ℕ, suc, ◌+◌, ◌-◌, ◌<◌, ◌≤◌, Bool, true, false, cond, eqb, Option, Some, None, IsSome, List, [], ◌∷◌, ◌++◌, length, All, refl, sym, ap, subst, ⊎_elim, arith, append_assoc, length-append}
+use Rattle.std.proofs.Common.{◌≡◌, ◌∙◌, ℕ, ◌+◌, ◌-◌, ◌<◌, ◌≤◌, Bool, false, cond, eqb, Some, IsSome, List, ◌∷◌, ◌++◌, length, All, refl, sym, ap, subst, ⊎_elim, arith, append_assoc, length-append}
 use Rattle.std.proofs.lemmas.Bool.{cases_eq}
 use Rattle.std.proofs.lemmas.List.{append-nil}
 use Rattle.std.proofs.lemmas.List.Edits.{insert-append_right}
-use Rattle.std.proofs.lemmas.List.Elements.{All-append}
 use Rattle.std.specs.List.{insert}
 use Rattle.bucket_page.specs.Layout.{Entry}
-use Rattle.id_page.specs.Fork.{ForkContent, Link, fork_at, route_place, with_links}
+use Rattle.id_page.specs.Fork.{ForkContent, Link, fork_at, with_links}
 use Rattle.page_file.specs.Pages.{SameBut}
 use Rattle.node_page.specs.Parts.{Moves}
 use Rattle.node_page.specs.Standing.{PageMap}
 use Rattle.node_page.proofs.PartLemmas.{moves_from, there_not_missing}
-use Rattle.id_table.specs.Table.{times_in}
-use Rattle.id_tree.specs.Cutting.{Cuts, Splits, SpellsNode}
-use Rattle.id_tree.specs.Rows.{At, NodeStands, joined, part_at}
+use Rattle.id_tree.specs.Cutting.{Cuts, SpellsNode}
+use Rattle.id_tree.specs.Rows.{NodeStands, joined, part_at}
 use Rattle.id_tree.specs.Steps.{Keeps, MakesRoom, MayHalve, MaySplit}
 use Rattle.id_tree.specs.Writes.{GivesAndPuts}
-use Rattle.id_tree.specs.Tree.{HasNode, IsFilled, IsParted, Row, end, more, object, child, RowStands, at_edge, fork_in, leaf_in, links_of, objects_in, occurs}
-use Rattle.id_tree.proofs.NodeLemmas.{below_there, fork_bytes, is_there, node_there, not_there, occurs_here, row_stays, stands_same}
-use Rattle.id_tree.proofs.ObjectLemmas.{all_left, all_right, keeps_within}
+use Rattle.id_tree.specs.Tree.{HasNode, IsFilled, IsParted, Row, end, more, child, RowStands, at_edge, fork_in, leaf_in, links_of, objects_in, occurs}
+use Rattle.id_tree.proofs.NodeLemmas.{below_there, is_there, node_there, not_there, occurs_here, row_stays, stands_same}
+use Rattle.id_tree.proofs.ObjectLemmas.{keeps_within}
 use Rattle.id_tree.proofs.RowLemmas.{joined-joined, links-joined, objects-joined, passes-more}
 use Rattle.id_tree.proofs.SwapLemmas.{KeepsBounds, Renamed, Swapped, Swaps, swapped, swapped_written}
-use Rattle.id_tree.proofs.WayLemmas.{child_stands, links_here, objects_here, on_front, on_tail, page_apart, place_here, times_below}
+use Rattle.id_tree.proofs.WayLemmas.{child_stands, links_here, objects_here, on_tail, place_here, times_below}
 
 -- a child more after one of a list
 link_more : (front rest : List Link) (here new : Link) → insert (front ++ here ∷ rest) (length front + 1) new ≡ front ++ here ∷ new ∷ rest

@@ -1,16 +1,16 @@
 -- Children of a fork next to one another, that became others.
-use Rattle.std.proofs.Common.{◌≡◌, ◌∙◌, ℕ, ◌+◌, ◌-◌, ◌<◌, ◌≤◌, Bool, true, false, cond, eqb, Option, Some, None, IsSome, List, [], ◌∷◌, ◌++◌, length, All, refl, sym, ap, subst, ⊎_elim, arith}
+use Rattle.std.proofs.Common.{◌≡◌, ◌∙◌, ℕ, ◌+◌, ◌<◌, ◌≤◌, Bool, cond, eqb, Some, IsSome, List, ◌++◌, All, refl, sym, ap, subst, ⊎_elim, arith}
 use Rattle.std.proofs.lemmas.Bool.{cases_eq}
 use Rattle.std.proofs.lemmas.List.Elements.{All-append}
 use Rattle.bucket_page.specs.Layout.{Entry}
 use Rattle.page_file.specs.Pages.{SameBut}
 use Rattle.node_page.specs.Parts.{Moves, Part, both}
 use Rattle.node_page.specs.Standing.{PageMap}
-use Rattle.node_page.proofs.PartLemmas.{moves_beside, moves_in_turn, moves_same, the_rest_stays}
+use Rattle.node_page.proofs.PartLemmas.{moves_beside, moves_same, the_rest_stays}
 use Rattle.id_page.specs.Fork.{Link}
 use Rattle.id_tree.specs.Rows.{Begins, NodeStands, joined, part_at}
-use Rattle.id_tree.specs.Tree.{HasNode, IsFilled, IsParted, Row, end, more, object, child, RowStands, at_edge, fork_in, links_of, objects_in, occurs}
-use Rattle.id_tree.proofs.NodeLemmas.{node_stays, occurs_here, part_there, row_stays, there_of_fork}
+use Rattle.id_tree.specs.Tree.{IsFilled, IsParted, Row, end, more, object, child, RowStands, at_edge, fork_in, links_of, objects_in, occurs}
+use Rattle.id_tree.proofs.NodeLemmas.{occurs_here, part_there, row_stays, there_of_fork}
 use Rattle.id_tree.proofs.ObjectLemmas.{all_left, all_right}
 use Rattle.id_tree.proofs.RowLemmas.{AreApart, behind_from, filled-behind, filled-front, filled-joined, front_below, joined-end, objects-joined, occurs-joined, parted-behind, parted-front, parted-joined, stands-behind, stands-front, stands-joined}
 

@@ -1,22 +1,19 @@
 -- The child of a node where an identifier is, and a node of which that child changed.
-use Rattle.std.proofs.Common.{◌≡◌, ◌∙◌, ℕ, ◌+◌, ◌-◌, ◌<◌, ◌≤◌, ◌&&◌, ◌==◌, Bool, true, false, cond, eqb, Option, Some, None, IsSome, List, [], ◌∷◌, ◌++◌, length, All, refl, sym, ap, subst, ⊎_elim, arith, length-append}
-use Rattle.std.proofs.lemmas.Bool.{cases_eq}
+use Rattle.std.proofs.Common.{◌≡◌, ◌∙◌, ℕ, ◌+◌, ◌-◌, ◌<◌, ◌≤◌, ◌&&◌, ◌==◌, Bool, true, false, cond, eqb, Some, None, [], ◌∷◌, ◌++◌, length, All, refl, sym, ap, subst, arith, length-append}
 use Rattle.std.proofs.lemmas.List.{append-nil}
 use Rattle.std.proofs.lemmas.Bool.Decides.{nat_tests}
-use Rattle.bucket_page.specs.Layout.{Entry}
-use Rattle.id_page.specs.Fork.{Link, route, route_place}
-use Rattle.node_page.specs.Parts.{Moves, Part}
+use Rattle.id_page.specs.Fork.{route, route_place}
 use Rattle.node_page.specs.Standing.{PageMap}
 use Rattle.node_page.proofs.PartLemmas.{moves_same}
 use Rattle.id_table.specs.Table.{kept_in, times_in}
 use Rattle.id_table.proofs.CheckLemmas.{times-append}
-use Rattle.id_tree.specs.Rows.{At, Begins, NodeStands, Passes, Reaches, here, down, Stops, joined, part_at}
-use Rattle.id_tree.specs.Steps.{Becomes, Step, Turns, gone}
-use Rattle.id_tree.specs.Tree.{HasNode, IsFilled, IsLarge, IsParted, Row, end, more, object, child, RowStands, at_edge, fork_in, links_of, objects_in, occurs}
-use Rattle.id_tree.proofs.NodeLemmas.{node_there, occurs_here}
-use Rattle.id_tree.proofs.ObjectLemmas.{none_behind, none_below, none_from, none_of, or_else, kept-append, turns_within}
-use Rattle.id_tree.proofs.RowLemmas.{at_route, behind_from, filled-behind, front_below, links-joined, objects-joined, occurs-joined, parted-behind, passes_last, place_of_way, stands-behind, stands-front}
-use Rattle.id_tree.proofs.SwapLemmas.{KeepsBounds, Swapped, Swaps, swapped, swapped_as_is}
+use Rattle.id_tree.specs.Rows.{At, Begins, NodeStands, Passes, Stops, joined, part_at}
+use Rattle.id_tree.specs.Steps.{Becomes, Step, Turns}
+use Rattle.id_tree.specs.Tree.{IsFilled, IsLarge, IsParted, Row, end, more, object, child, RowStands, at_edge, links_of, objects_in, occurs}
+use Rattle.id_tree.proofs.NodeLemmas.{occurs_here}
+use Rattle.id_tree.proofs.ObjectLemmas.{none_behind, none_below, none_from, or_else, kept-append, turns_within}
+use Rattle.id_tree.proofs.RowLemmas.{at_route, filled-behind, front_below, links-joined, objects-joined, occurs-joined, parted-behind, passes_last, place_of_way, stands-behind, stands-front}
+use Rattle.id_tree.proofs.SwapLemmas.{KeepsBounds, Swaps, swapped, swapped_as_is}
 
 pub stops_before : (id key : ℕ) (rest : Row) → Stops id rest → Begins key rest → id < key
 stops_before id key end stops begins = absurd begins

@@ -1,5 +1,5 @@
 -- Pages given out and put, one after the other.
-use Rattle.std.proofs.Common.{◌≡◌, ◌∙◌, ℕ, ◌<◌, Option, Some, None, IsSome, List, refl, sym, ap, subst}
+use Rattle.std.proofs.Common.{◌≡◌, ◌∙◌, ℕ, IsSome, List, sym, ap, subst}
 use Rattle.node_page.specs.Standing.{PageMap}
 use Rattle.node_page.proofs.PartLemmas.{there_not_missing}
 use Rattle.id_tree.specs.Writes.{Gives}

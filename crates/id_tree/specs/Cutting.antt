@@ -1,8 +1,8 @@
 -- Nodes cut in two, as bytes of pages.
-use Rattle.std.specs.Prelude.{◌≡◌, ℕ, ◌+◌, ◌-◌, ◌<◌, ◌≤◌, Bool, false, List, ◌++◌, length, take, drop, slice_index_or, insert, All, Some, None}
+use Rattle.std.specs.Prelude.{◌≡◌, ℕ, ◌+◌, ◌<◌, ◌≤◌, Bool, false, List, ◌++◌, length, take, drop, slice_index_or, insert, All, Some}
 use Rattle.bucket_page.specs.Layout.{Entry}
 use Rattle.id_page.specs.Fork.{ForkContent, Link, fork_at, with_links}
-use Rattle.id_page.specs.Leaf.{leaf_at, most_objects}
+use Rattle.id_page.specs.Leaf.{leaf_at}
 use Rattle.page_file.specs.Pages.{SameBut}
 use Rattle.node_page.specs.Standing.{PageMap}
 use Rattle.id_tree.specs.Halving.{from_key, under_key}

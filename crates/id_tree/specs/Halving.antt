@@ -1,5 +1,5 @@
 -- The objects of a leaf on both sides of a key.
-use Rattle.std.specs.Prelude.{◌≡◌, ℕ, nat_lt, List, [], ◌∷◌, if◌then◌else◌}
+use Rattle.std.specs.Prelude.{ℕ, nat_lt, List, [], ◌∷◌, if◌then◌else◌}
 use Rattle.bucket_page.specs.Layout.{Entry}
 
 abbrev pub under_key : ℕ → List Entry → List Entry

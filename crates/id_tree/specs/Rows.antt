@@ -1,12 +1,12 @@
 -- Rows of children taken apart at the child where an identifier is, and nodes that stand in pages.
-use Rattle.std.specs.Prelude.{◌≡◌, ℕ, ◌+◌, ◌-◌, ◌<◌, ◌≤◌, Bool, false, List, [], ◌∷◌, ◌++◌, length, slice_index_or, All, Option, Some, None, ⊤, if◌then◌else◌, ◌==◌}
+use Rattle.std.specs.Prelude.{◌≡◌, ℕ, ◌+◌, ◌-◌, ◌<◌, ◌≤◌, Bool, List, length, slice_index_or, Option, Some, None, ⊤, if◌then◌else◌, ◌==◌}
 use Rattle.box_math.specs.Objects.{Object}
 use Rattle.bucket_page.specs.Layout.{Entry}
 use Rattle.id_table.specs.Table.{kept_in, times_in}
 use Rattle.id_page.specs.Leaf.{most_objects}
 use Rattle.node_page.specs.Parts.{Part}
 use Rattle.node_page.specs.Standing.{PageMap}
-use Rattle.id_tree.specs.Tree.{HasNode, IsFilled, IsLarge, IsParted, Row, end, more, object, child, RowStands, at_edge, links_of, objects_in, occurs}
+use Rattle.id_tree.specs.Tree.{HasNode, IsFilled, IsParted, Row, end, more, object, child, RowStands, links_of, objects_in, occurs}
 
 -- two rows one after the other
 abbrev pub joined : Row → Row → Row

@@ -1,11 +1,11 @@
 -- What the steps of a change make of nodes and of their objects.
-use Rattle.std.specs.Prelude.{◌≡◌, ℕ, ◌+◌, ◌-◌, ◌<◌, ◌≤◌, Bool, true, false, List, ◌++◌, length, All, Option, Some, None, ⊤, if◌then◌else◌, ◌==◌, Result, Ok, Err}
+use Rattle.std.specs.Prelude.{◌≡◌, ℕ, ◌+◌, ◌-◌, ◌<◌, ◌≤◌, Bool, true, false, List, length, All, Option, Some, None, if◌then◌else◌, ◌==◌, Result, Ok, Err}
 use Rattle.box_math.specs.Objects.{Object}
 use Rattle.bucket_page.specs.Layout.{Entry}
-use Rattle.id_page.specs.Fork.{route, route_place}
+use Rattle.id_page.specs.Fork.{route_place}
 use Rattle.node_page.specs.Broken.{midway}
 use Rattle.node_page.specs.declared.broken.Broken.{Broken}
-use Rattle.node_page.specs.Parts.{Moves, both}
+use Rattle.node_page.specs.Parts.{Moves}
 use Rattle.node_page.specs.Standing.{PageMap}
 use Rattle.id_table.specs.Table.{kept_in, times_in}
 use Rattle.id_tree.specs.Rows.{At, HasRoom, IsFull, NodeStands, part_at}

@@ -6,7 +6,7 @@ use Rattle.std.specs.Ordering.{nat_cmp}
 use Rattle.box_math.specs.Objects.{Object}
 use Rattle.bucket_page.specs.Layout.{Entry}
 use Rattle.id_page.specs.Fork.{ForkContent, Link, fork_at}
-use Rattle.id_page.specs.Leaf.{leaf_at, most_objects}
+use Rattle.id_page.specs.Leaf.{leaf_at}
 use Rattle.id_table.specs.Table.{times_in}
 use Rattle.node_page.specs.Parts.{Part}
 use Rattle.node_page.specs.Standing.{PageMap}

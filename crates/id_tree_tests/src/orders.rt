@@ -7,7 +7,7 @@ ghost use Rattle.page_cache.specs.Cache.{gate_of};
 
 use block_device::MemoryDevice;
 use box_math::BBox;
-use id_tree::{add, fill, get, make, update};
+use id_tree::{add, fill, free_all, get, make, update};
 use page_file::Fault;
 use std::alloc::Global;
 use std::collections::BTreeMap;
@@ -33,7 +33,9 @@ fn id_of(order: Order, number: u32) -> u64 {
         Order::Ascending => number,
         Order::Descending => u64::MAX - number,
         Order::Random => number.wrapping_mul(11400714819323198485),
-        Order::Clustered => (number % 64).wrapping_mul(288230376151711744).wrapping_add(number / 64),
+        Order::Clustered => (number % 64)
+            .wrapping_mul(288230376151711744)
+            .wrapping_add(number / 64),
     }
 }
 
@@ -57,7 +59,13 @@ fn new_table<const D: usize>(cache: &mut Cache) -> Result<u32, Fault>
     make::<D, _, _>(cache).map_err(|broken| broken.cause)
 }
 
-fn put<const D: usize>(cache: &mut Cache, table: u32, id: u64, at: i32, tag: u32) -> Result<(), Fault>
+fn put<const D: usize>(
+    cache: &mut Cache,
+    table: u32,
+    id: u64,
+    at: i32,
+    tag: u32,
+) -> Result<(), Fault>
     requires dims { IsDims D }
     requires open { gate_of cache.old ≡ Open }
     ensures open { gate_of cache.new ≡ Open }
@@ -88,7 +96,9 @@ fn add_all<const D: usize>(
     for number in 0..count {
         let id = id_of(order, number);
         put::<D>(cache, table, id, 7, tag_of(number))?;
-        let _ = plain.insert(id, (7, tag_of(number))).map_err(|_| Fault::Memory)?;
+        let _ = plain
+            .insert(id, (7, tag_of(number)))
+            .map_err(|_| Fault::Memory)?;
     }
     Ok(())
 }
@@ -106,7 +116,9 @@ fn objects_of<const D: usize>(
     for number in 0..count {
         let id = id_of(order, number);
         objects.push((id, (point::<D>(7)?, tag_of(number))))?;
-        let _ = plain.insert(id, (7, tag_of(number))).map_err(|_| Fault::Memory)?;
+        let _ = plain
+            .insert(id, (7, tag_of(number)))
+            .map_err(|_| Fault::Memory)?;
     }
     Ok(objects)
 }
@@ -127,7 +139,9 @@ fn move_all<const D: usize>(
         if number % 3 == 0 {
             let id = id_of(order, number);
             shift::<D>(cache, table, id, -9)?;
-            let _ = plain.insert(id, (-9, tag_of(number))).map_err(|_| Fault::Memory)?;
+            let _ = plain
+                .insert(id, (-9, tag_of(number)))
+                .map_err(|_| Fault::Memory)?;
         }
     }
     Ok(())
@@ -216,5 +230,10 @@ fn many_objects_are_added_at_once(rt: HostRuntime) -> Result<(), Fail> {
     let alike = count_alike::<2>(&mut cache, table, &plain, Order::Ascending, 12000)?;
     assert_eq!(rt; alike, 12000);
     assert!(rt; cache.next_number() <= 48);
+    free_all::<2, _, _>(&mut cache, table).map_err(|broken| broken.cause)?;
+    assert_eq!(rt;
+        u64::from(cache.free_count()) + 3,
+        u64::from(cache.next_number())
+    );
     Ok(())
 }

@@ -1,7 +1,6 @@
 -- The object goes on to the child where it belongs, which is split first if it is full.
-use Rattle.std.proofs.Common.{◌≡◌, ◌∙◌, ◌-◌, ◌<◌, ◌≤◌, ℕ, None, Some, inl, ap, subst, sym, arith}
+use Rattle.std.proofs.Common.{◌<◌, ℕ, None, inl, subst, sym, arith}
 use Rattle.page_file.specs.Fault.{IsOfDevice}
-use Rattle.page_file.specs.declared.fault.Fault.{Fault}
 use Rattle.page_cache.specs.Cache.{pages}
 use Rattle.page_cache.specs.Calls.{asks_changes, changes_in_turn, no_call_asks}
 use Rattle.node_page.specs.Broken.{asks_and_alters, asks_and_breaks}

@@ -1,5 +1,5 @@
 -- A root that has no room is not so high that its level can't rise.
-use Rattle.std.proofs.Common.{◌≡◌, ◌∙◌, ◌+◌, ◌<◌, ◌≤◌, ℕ, true, None, inl, arith}
+use Rattle.std.proofs.Common.{arith}
 use Rattle.page_cache.specs.Cache.{pages}
 use Rattle.page_cache.specs.Calls.{no_call_asks}
 use Rattle.page_cache.specs.Laws.{a_live_page_was_given_out}
@@ -7,7 +7,7 @@ use Rattle.node_page.specs.Faults.{IsNoDamage}
 use Rattle.node_page.proofs.NodeLemmas.{on_ok}
 use Rattle.id_table.proofs.Results.{refused_so}
 use Rattle.id_tree.specs.Changes.{Sets}
-use Rattle.id_tree.specs.Tree.{Row, end, more, child}
+use Rattle.id_tree.specs.Tree.{end, more, child}
 use Rattle.id_tree.proofs.AddLemmas.{full_below_root, sets_deep}
 use Rattle.id_tree.proofs.CountLemmas.{below_limit, not_so_high}
 use Rattle.id_tree.proofs.ResultLemmas.{alters_passed, begun_alters, begun_err, begun_ok}

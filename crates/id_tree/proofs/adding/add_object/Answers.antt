@@ -1,15 +1,13 @@
 -- The root takes the object as its count and its level tell.
-use Rattle.std.proofs.Common.{◌≡◌, ◌∙◌, ◌+◌, ◌<◌, ◌≤◌, ℕ, true, None, length, inl, sym, ap, subst, arith}
+use Rattle.std.proofs.Common.{inl, arith}
 use Rattle.page_cache.specs.Cache.{pages}
-use Rattle.page_cache.specs.Calls.{asks_changes, no_call_asks}
+use Rattle.page_cache.specs.Calls.{no_call_asks}
 use Rattle.node_page.specs.Broken.{asks_and_alters, asks_and_breaks}
 use Rattle.node_page.specs.Faults.{IsNoDamage}
 use Rattle.node_page.proofs.NodeLemmas.{on_ok}
 use Rattle.id_table.proofs.Results.{alters_after, broken_err, broken_ok, refused_before}
 use Rattle.id_tree.specs.Changes.{Sets}
-use Rattle.id_tree.specs.Steps.{Becomes, IsFullTree, MayGrow}
-use Rattle.id_tree.specs.Steps.Step.{adds}
-use Rattle.id_tree.specs.Tree.{TreeStands, links_of}
+use Rattle.id_tree.specs.Tree.{links_of}
 use Rattle.id_tree.proofs.AddLemmas.{grow_root, sets_root, started_root}
 use Rattle.id_tree.proofs.RootLemmas.{absent_of, root_fork, root_live, sets_from, tree_same}
 use Rattle.id_tree.proofs.adding.add_object.Goals as goal

@@ -1,5 +1,5 @@
 -- The half where the identifier is takes the object.
-use Rattle.std.proofs.Common.{◌≡◌, ◌∙◌, ◌-◌, ◌<◌, ◌≤◌, ℕ, true, None}
+use Rattle.std.proofs.Common.{true}
 use Rattle.page_cache.specs.Cache.{pages}
 use Rattle.page_cache.specs.Calls.{no_call_asks}
 use Rattle.node_page.specs.Faults.{IsNoDamage}

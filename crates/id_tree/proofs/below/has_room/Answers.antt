@@ -1,7 +1,7 @@
 -- The count in the page is that of the node.
-use Rattle.std.proofs.Common.{◌≡◌, ◌∙◌, ◌<◌, ◌≤◌, arith}
+use Rattle.std.proofs.Common.{◌≡◌, ◌<◌, ◌≤◌, arith}
 use Rattle.std.proofs.lemmas.Bool.Decides.{nat_tests}
-use Rattle.std.proofs.Common.{ℕ, Bool, true, false, nat_lt, Some, List}
+use Rattle.std.proofs.Common.{ℕ, true, false, nat_lt}
 use Rattle.page_cache.specs.Cache.{pages}
 use Rattle.id_tree.proofs.AddLemmas.{fork_counted, leaf_counted}
 use Rattle.id_tree.proofs.NodeLemmas.{there_bytes}

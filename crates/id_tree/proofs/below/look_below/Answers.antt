@@ -1,10 +1,9 @@
 -- The child that the page names is the one on the way.
-use Rattle.std.proofs.Common.{◌≡◌, ◌∙◌, ◌-◌, ◌<◌, ℕ, None, Some, length, ap, subst, sym, arith}
+use Rattle.std.proofs.Common.{◌∙◌, ◌-◌, sym, arith}
 use Rattle.page_file.specs.Fault.{IsOfDevice}
 use Rattle.page_cache.specs.Cache.{pages}
 use Rattle.node_page.proofs.NodeLemmas.{at_error}
-use Rattle.id_page.specs.Fork.{ForkContent}
-use Rattle.id_tree.specs.Tree.{HasNode, links_of}
+use Rattle.id_tree.specs.Tree.{links_of}
 use Rattle.id_tree.proofs.NodeLemmas.{node_stays}
 use Rattle.id_tree.proofs.SeekLemmas.{keys_ascend, no_route}
 use Rattle.id_tree.proofs.WayLemmas.{child_stands, last_here, way_of}

@@ -1,5 +1,5 @@
 -- The root is freed as a node.
-use Rattle.std.proofs.Common.{◌≡◌, ◌∙◌, ℕ, None, Some, ap, subst, sym}
+use Rattle.std.proofs.Common.{ℕ, subst, sym}
 use Rattle.page_file.specs.Fault.{IsOfDevice}
 use Rattle.page_cache.specs.Cache.{pages}
 use Rattle.page_cache.specs.Calls.{no_call_asks}
@@ -8,7 +8,7 @@ use Rattle.node_page.specs.Parts.{Moves, no_page}
 use Rattle.node_page.proofs.NodeLemmas.{on_ok}
 use Rattle.node_page.proofs.PartLemmas.{moves_from}
 use Rattle.id_table.proofs.Results.{alters_after, broken_err, broken_ok, refused_before}
-use Rattle.id_tree.specs.Rows.{NodeStands, part_at}
+use Rattle.id_tree.specs.Rows.{part_at}
 use Rattle.id_tree.specs.Tree.{links_of, part_of}
 use Rattle.id_tree.proofs.FreeLemmas.{root_node}
 use Rattle.id_tree.proofs.RootLemmas.{root_fork}

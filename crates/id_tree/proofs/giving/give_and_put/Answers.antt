@@ -1,5 +1,5 @@
 -- The page given out is not the one that is put.
-use Rattle.std.proofs.Common.{◌≡◌, ◌∙◌, IsSome, sym, ap, subst}
+use Rattle.std.proofs.Common.{◌∙◌}
 use Rattle.page_cache.specs.Cache.{pages}
 use Rattle.id_tree.proofs.WriteLemmas.{gives_apart, still_live}
 use Rattle.id_tree.proofs.giving.give_and_put.Goals as goal

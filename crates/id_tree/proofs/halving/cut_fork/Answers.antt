@@ -1,6 +1,5 @@
 -- Both pages are made of the children on their sides of a place.
-use Rattle.std.proofs.Common.{◌≡◌, ◌∙◌, ◌+◌, ◌<◌, ◌≤◌, List, Some, length, get_or, take, sym, ap, arith}
-use Rattle.id_page.specs.Fork.{ForkContent, Link}
+use Rattle.std.proofs.Common.{◌∙◌, Some, take, sym, ap, arith}
 use Rattle.id_page.proofs.ForkReading.{count_of_fork}
 use Rattle.id_tree.proofs.halving.cut_fork.Goals as goal
 

@@ -1,5 +1,5 @@
 -- Both pages are made of the objects on their sides of a key with so many below it.
-use Rattle.std.proofs.Common.{◌≡◌, ◌+◌, ◌<◌, ◌≤◌, length, arith}
+use Rattle.std.proofs.Common.{arith}
 use Rattle.id_page.proofs.LeafReading.{count_of_leaf}
 use Rattle.id_tree.proofs.CutLemmas.{sizes}
 use Rattle.id_tree.proofs.HalvingLemmas.{both_lengths}

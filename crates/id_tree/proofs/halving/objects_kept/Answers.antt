@@ -1,5 +1,5 @@
 -- Half of the places, or all but one, are enough.
-use Rattle.std.proofs.Common.{◌≡◌, ◌+◌, ◌-◌, ◌/◌, ◌<◌, ◌≤◌, false, arith}
+use Rattle.std.proofs.Common.{arith}
 use Rattle.id_tree.proofs.CutLemmas.{sizes}
 use Rattle.id_tree.proofs.halving.objects_kept.Goals as goal
 

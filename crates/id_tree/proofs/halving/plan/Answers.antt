@@ -1,13 +1,8 @@
 -- The node that the page spells is the one that is cut.
-use Rattle.std.proofs.Common.{◌≡◌, ◌∙◌, ◌<◌, ◌≤◌, List, Some, length, refl, sym, ap, subst, arith}
+use Rattle.std.proofs.Common.{◌∙◌, ◌<◌, refl, sym, arith}
 use Rattle.page_file.specs.Fault.{IsOfDevice}
 use Rattle.page_cache.specs.Cache.{pages}
 use Rattle.node_page.proofs.NodeLemmas.{at_error}
-use Rattle.id_page.proofs.ForkReading.{count_of_fork}
-use Rattle.id_page.proofs.LeafReading.{count_of_leaf, leaf_spells}
-use Rattle.id_tree.specs.Cutting.{Cuts}
-use Rattle.id_tree.specs.Rows.{NodeStands}
-use Rattle.id_tree.specs.Steps.{MayHalve}
 use Rattle.id_tree.specs.Tree.{links_of, objects_in}
 use Rattle.id_tree.proofs.CutLemmas.{cut_of_fork, cut_of_leaf, fork_full, leaf_full}
 use Rattle.id_tree.proofs.NodeLemmas.{node_there}

@@ -1,5 +1,5 @@
 -- The object is read in the place where its identifier was found.
-use Rattle.std.proofs.Common.{◌≡◌, ◌∙◌, ◌<◌, Some, None, Option, length, get_or, refl, sym, ap, arith}
+use Rattle.std.proofs.Common.{◌≡◌, ◌∙◌, ◌<◌, Some, Option, length, get_or, refl, sym, ap, arith}
 use Rattle.bucket_page.specs.Layout.{Entry}
 use Rattle.id_page.proofs.LeafReading.{count_of_leaf, no_leaf}
 use Rattle.id_tree.proofs.ObjectLemmas.{none_in}

@@ -1,5 +1,4 @@
 -- The fork that the page spells is the one that is looked at.
-use Rattle.std.proofs.Common.{◌≡◌}
 use Rattle.page_cache.specs.Cache.{pages}
 use Rattle.id_page.proofs.ForkReading.{no_fork}
 use Rattle.id_tree.proofs.NodeLemmas.{fork_bytes, there_of_fork}

@@ -1,5 +1,5 @@
 -- A leaf page has no more objects than fit.
-use Rattle.std.proofs.Common.{◌<◌, ◌≤◌, arith}
+use Rattle.std.proofs.Common.{arith}
 use Rattle.id_page.proofs.LeafReading.{leaf_spells}
 use Rattle.id_tree.proofs.moving.set_where_there.Goals as goal
 

@@ -1,5 +1,5 @@
 -- Each object that is below the key is counted.
-use Rattle.std.proofs.Common.{◌≡◌, ◌∙◌, ◌+◌, ◌<◌, ◌≤◌, ◌∷◌, [], List, length, get_or, take, sym, ap, arith, length-append}
+use Rattle.std.proofs.Common.{◌∙◌, ◌<◌, ◌≤◌, ◌∷◌, [], List, length, get_or, take, ap, arith, length-append}
 use Rattle.std.proofs.lemmas.List.{take_all}
 use Rattle.bucket_page.specs.Layout.{Entry}
 use Rattle.id_tree.specs.Halving.{under_key}

@@ -1,6 +1,5 @@
 -- The keys come together until one follows the other.
-use Rattle.std.proofs.Common.{◌≡◌, ◌∙◌, ℕ, ◌+◌, ◌-◌, ◌<◌, ◌≤◌, length, sym, ap, arith}
-use Rattle.id_table.specs.Table.{times_in}
+use Rattle.std.proofs.Common.{◌≡◌, ◌∙◌, ℕ, ◌+◌, ◌<◌, ◌≤◌, length, ap, arith}
 use Rattle.id_tree.specs.Halving.{under_key}
 use Rattle.id_tree.proofs.HalvingLemmas.{none_below_zero, one_key_more}
 use Rattle.id_tree.proofs.PartingLemmas.{most_below}

@@ -1,5 +1,5 @@
 -- An empty leaf has room for all that are from the key on.
-use Rattle.std.proofs.Common.{◌+◌, ◌≤◌, [], length, arith}
+use Rattle.std.proofs.Common.{[], arith}
 use Rattle.id_page.proofs.LeafReading.{count_of_leaf}
 use Rattle.id_tree.proofs.HalvingLemmas.{both_lengths}
 use Rattle.id_tree.proofs.parting.leaf_from.Goals as goal

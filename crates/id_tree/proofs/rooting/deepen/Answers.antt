@@ -1,6 +1,5 @@
 -- What the root had is read first.
-use Rattle.std.proofs.Common.{◌≡◌, ◌∙◌, ◌+◌, ◌<◌, ◌≤◌, ℕ, inl, ap, subst, sym, arith, List}
-use Rattle.page_file.specs.Fault.{IsOfDevice}
+use Rattle.std.proofs.Common.{◌+◌, inl}
 use Rattle.page_cache.specs.Cache.{pages}
 use Rattle.page_cache.specs.Calls.{no_call_asks}
 use Rattle.node_page.specs.Broken.{asks_and_breaks}

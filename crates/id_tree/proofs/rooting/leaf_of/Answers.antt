@@ -1,5 +1,5 @@
 -- The object comes into an empty leaf.
-use Rattle.std.proofs.Common.{◌<◌, [], arith, rules}
+use Rattle.std.proofs.Common.{[], arith, rules}
 use Rattle.id_tree.proofs.CutLemmas.{sizes}
 use Rattle.id_tree.proofs.rooting.leaf_of.Goals as goal
 

@@ -1,5 +1,5 @@
 -- The page given out is not that of the root.
-use Rattle.std.proofs.Common.{◌≡◌, ◌∙◌, sym, ap}
+use Rattle.std.proofs.Common.{◌∙◌, ap}
 use Rattle.page_cache.specs.Cache.{pages}
 use Rattle.id_tree.specs.Tree.{fork_in}
 use Rattle.id_tree.proofs.WriteLemmas.{gives_apart, still_live}

@@ -1,5 +1,4 @@
 -- The leaf of the object is the only child.
-use Rattle.page_cache.specs.Cache.{pages}
 use Rattle.id_tree.proofs.rooting.start.Goals as goal
 
 pub returns-clause-started : goal.returns-clause-started

@@ -1,10 +1,8 @@
 -- A search goes on in the child where the identifier is.
-use Rattle.std.proofs.Common.{◌≡◌, ◌∙◌, ◌-◌, ◌<◌, ℕ, None, Some, ap, subst, sym, arith}
-use Rattle.std.specs.Prelude.{IfOk, IfErr}
-use Rattle.page_file.specs.Fault.{IsOfDevice}
+use Rattle.std.proofs.Common.{◌∙◌, ◌-◌, ◌<◌, ℕ, subst, sym, arith}
+use Rattle.std.specs.Prelude.{IfOk}
 use Rattle.page_cache.specs.Cache.{pages}
 use Rattle.page_cache.specs.Calls.{asks_in_turn, fault_in}
-use Rattle.id_page.specs.Fork.{ForkContent}
 use Rattle.id_tree.specs.Rows.{IsFoundBelow, MaySeek}
 use Rattle.id_tree.specs.Tree.{links_of}
 use Rattle.id_tree.proofs.ResultLemmas.{if_ok}

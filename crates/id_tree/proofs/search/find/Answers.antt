@@ -1,6 +1,6 @@
 -- A search begins at the root.
-use Rattle.std.proofs.Common.{◌≡◌, ◌∙◌, ◌-◌, ◌<◌, ℕ, true, None, Some, ap, subst, sym, arith}
-use Rattle.std.specs.Prelude.{IfOk, IfErr}
+use Rattle.std.proofs.Common.{◌≡◌, ◌∙◌, ◌-◌, ℕ, true, ap, subst, sym}
+use Rattle.std.specs.Prelude.{IfOk}
 use Rattle.page_cache.specs.Cache.{pages}
 use Rattle.page_cache.specs.Calls.{asks_in_turn, fault_in}
 use Rattle.id_tree.specs.Rows.{IsFoundBelow, MaySeek}

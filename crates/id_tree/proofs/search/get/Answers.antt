@@ -1,5 +1,5 @@
 -- What is kept of the object that was found.
-use Rattle.std.proofs.Common.{◌≡◌, ◌∙◌, subst, sym}
+use Rattle.std.proofs.Common.{◌∙◌, subst, sym}
 use Rattle.id_tree.specs.Rows.{IsFoundBelow}
 use Rattle.id_tree.proofs.RootLemmas.{has}
 use Rattle.id_tree.proofs.search.get.Goals as goal

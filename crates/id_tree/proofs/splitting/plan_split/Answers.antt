@@ -1,5 +1,5 @@
 -- The fork and its child are those that stand.
-use Rattle.std.proofs.Common.{◌≡◌, ◌∙◌, ◌-◌, ◌<◌, ◌≤◌, Some, length, sym, ap, arith}
+use Rattle.std.proofs.Common.{arith}
 use Rattle.page_file.specs.Fault.{IsOfDevice}
 use Rattle.page_cache.specs.Cache.{pages}
 use Rattle.node_page.proofs.NodeLemmas.{at_error}

@@ -1,5 +1,5 @@
 -- The fork is named once both halves are put.
-use Rattle.std.proofs.Common.{◌≡◌, ◌∙◌, IsSome, sym, ap, subst}
+use Rattle.std.proofs.Common.{◌∙◌, ap}
 use Rattle.page_cache.specs.Cache.{pages}
 use Rattle.id_tree.specs.Tree.{fork_in}
 use Rattle.id_tree.proofs.SplitLemmas.{given_live}

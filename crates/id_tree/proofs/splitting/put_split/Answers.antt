@@ -1,5 +1,5 @@
 -- The half where the identifier is has room.
-use Rattle.std.proofs.Common.{◌≤◌, arith}
+use Rattle.std.proofs.Common.{arith}
 use Rattle.page_cache.specs.Cache.{pages}
 use Rattle.id_tree.proofs.NodeLemmas.{node_there}
 use Rattle.id_tree.proofs.SplitLemmas.{child_live, room_left, room_right}

@@ -1,13 +1,11 @@
 -- A split that was looked out is made.
-use Rattle.std.proofs.Common.{◌≡◌, Bool, ℕ, None, inl, sym, ap, subst}
-use Rattle.page_file.specs.Fault.{IsOfDevice}
+use Rattle.std.proofs.Common.{inl}
 use Rattle.page_cache.specs.Cache.{pages}
 use Rattle.node_page.specs.Faults.{IsNoDamage}
-use Rattle.id_table.proofs.Results.{alters_after, broken_err, broken_if, refused_before}
+use Rattle.id_table.proofs.Results.{alters_after, broken_err, refused_before}
 use Rattle.id_tree.specs.Steps.{MakesRoom}
-use Rattle.id_tree.specs.Tree.{Row}
 use Rattle.id_tree.proofs.NodeLemmas.{node_there}
-use Rattle.id_tree.proofs.ResultLemmas.{broken_ok_if, if_ok}
+use Rattle.id_tree.proofs.ResultLemmas.{broken_ok_if}
 use Rattle.id_tree.proofs.SplitLemmas.{child_live, live_same, makes_from, split_again}
 use Rattle.id_tree.proofs.WayLemmas.{page_apart}
 use Rattle.id_tree.proofs.splitting.split.Goals as goal
