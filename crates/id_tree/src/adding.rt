@@ -100,13 +100,16 @@ fn add_deeper<const D: usize, B: BlockDevice, A: Allocator + Copy>(
     requires dims { IsDims D }
     requires open { gate_of cache.old ≡ Open }
     ensures alters { Alters cache.old cache.new result }
-    ensures sound { IsPageMap cache.old → (t : IdTree) → t.page ≡ root → IsFullTree D (pages cache.old) t level
+    ensures sound { IsPageMap cache.old → (t : IdTree) → t.page ≡ root
+        → IsFullTree D (pages cache.old) t level
         → map.contains_key (objects_of t) object.now.0 ≡ false → IsPageMap cache.new }
-    ensures added { IsPageMap cache.old → (t : IdTree) → t.page ≡ root → IsFullTree D (pages cache.old) t level
+    ensures added { IsPageMap cache.old → (t : IdTree) → t.page ≡ root
+        → IsFullTree D (pages cache.old) t level
         → map.contains_key (objects_of t) object.now.0 ≡ false
         → OnOk result (Sets D (pages cache.old) (pages cache.new) t object.now.0 object.now.1) }
     ensures grows { Grows most_added_pages cache.old cache.new }
-    ensures faults { IsPageMap cache.old → (t : IdTree) → t.page ≡ root → IsFullTree D (pages cache.old) t level
+    ensures faults { IsPageMap cache.old → (t : IdTree) → t.page ≡ root
+        → IsFullTree D (pages cache.old) t level
         → map.contains_key (objects_of t) object.now.0 ≡ false
         → IfErr result (λ b. IsNoDamage cache.new b.cause) }
     ensures other_faults { IfErr result (λ b. IsNoDamage cache.new b.cause ⊎ IsDamage b.cause) }
@@ -130,13 +133,16 @@ fn add_split<const D: usize, B: BlockDevice, A: Allocator + Copy>(
     requires open { gate_of cache.old ≡ Open }
     requires high { 0 < level }
     ensures alters { Alters cache.old cache.new result }
-    ensures grown { IsPageMap cache.old → (row : Row) → IsFullBelow D (pages cache.old) root level row object.now.0 child
+    ensures grown { IsPageMap cache.old → (row : Row)
+        → IsFullBelow D (pages cache.old) root level row object.now.0 child
         → OnOk result (Widens D (pages cache.old) (pages cache.new) root level row object.now.0
         (adds object.now.1)) }
-    ensures sound { IsPageMap cache.old → (row : Row) → IsFullBelow D (pages cache.old) root level row object.now.0 child
+    ensures sound { IsPageMap cache.old → (row : Row)
+        → IsFullBelow D (pages cache.old) root level row object.now.0 child
         → IsPageMap cache.new }
     ensures grows { Grows level cache.old cache.new }
-    ensures faults { IsPageMap cache.old → (row : Row) → IsFullBelow D (pages cache.old) root level row object.now.0 child
+    ensures faults { IsPageMap cache.old → (row : Row)
+        → IsFullBelow D (pages cache.old) root level row object.now.0 child
         → IfErr result (λ b. IsNoDamage cache.new b.cause) }
     ensures other_faults { IfErr result (λ b. IsNoDamage cache.new b.cause ⊎ IsDamage b.cause) }
 {
@@ -156,13 +162,16 @@ pub(crate) fn add_below<const D: usize, B: BlockDevice, A: Allocator + Copy>(
     requires dims { IsDims D }
     requires open { gate_of cache.old ≡ Open }
     ensures alters { Alters cache.old cache.new result }
-    ensures grown { IsPageMap cache.old → (row : Row) → MayGrow D (pages cache.old) page level edge row object.now.0
+    ensures grown { IsPageMap cache.old → (row : Row)
+        → MayGrow D (pages cache.old) page level edge row object.now.0
         → OnOk result (Becomes D (pages cache.old) (pages cache.new) page level edge row object.now.0
         (adds object.now.1)) }
-    ensures sound { IsPageMap cache.old → (row : Row) → MayGrow D (pages cache.old) page level edge row object.now.0
+    ensures sound { IsPageMap cache.old → (row : Row)
+        → MayGrow D (pages cache.old) page level edge row object.now.0
         → IsPageMap cache.new }
     ensures grows { Grows level cache.old cache.new }
-    ensures faults { IsPageMap cache.old → (row : Row) → MayGrow D (pages cache.old) page level edge row object.now.0
+    ensures faults { IsPageMap cache.old → (row : Row)
+        → MayGrow D (pages cache.old) page level edge row object.now.0
         → IfErr result (λ b. IsNoDamage cache.new b.cause) }
     ensures other_faults { IfErr result (λ b. IsNoDamage cache.new b.cause ⊎ IsDamage b.cause) }
 {
@@ -196,13 +205,16 @@ fn push_in<const D: usize, B: BlockDevice, A: Allocator + Copy>(
     requires dims { IsDims D }
     requires open { gate_of cache.old ≡ Open }
     ensures alters { Alters cache.old cache.new result }
-    ensures grown { IsPageMap cache.old → (row : Row) → MayGrow D (pages cache.old) page 0 edge row object.now.0
+    ensures grown { IsPageMap cache.old → (row : Row)
+        → MayGrow D (pages cache.old) page 0 edge row object.now.0
         → OnOk result (Becomes D (pages cache.old) (pages cache.new) page 0 edge row object.now.0
         (adds object.now.1)) }
-    ensures sound { IsPageMap cache.old → (row : Row) → MayGrow D (pages cache.old) page 0 edge row object.now.0
+    ensures sound { IsPageMap cache.old → (row : Row)
+        → MayGrow D (pages cache.old) page 0 edge row object.now.0
         → IsPageMap cache.new }
     ensures grows { Grows 0 cache.old cache.new }
-    ensures faults { IsPageMap cache.old → (row : Row) → MayGrow D (pages cache.old) page 0 edge row object.now.0
+    ensures faults { IsPageMap cache.old → (row : Row)
+        → MayGrow D (pages cache.old) page 0 edge row object.now.0
         → IfErr result (λ b. IsOfDevice b.cause) }
     ensures other_faults { IfErr result (λ b. IsOfDevice b.cause ⊎ IsDamage b.cause) }
 {

@@ -37,7 +37,8 @@ pub(crate) struct Way {
 fn way_on(page: &[u8; 4096], id: u64) -> Way
     requires few { number_at 2 2 page.now ≤ 340 }
     ensures level { (dims : ℕ) (c : ForkContent) → fork_at dims page.now ≡ Some c → result.level ≡ c.level }
-    ensures count { (dims : ℕ) (c : ForkContent) → fork_at dims page.now ≡ Some c → result.count ≡ length c.links }
+    ensures count { (dims : ℕ) (c : ForkContent) → fork_at dims page.now ≡ Some c
+        → result.count ≡ length c.links }
     ensures child { (dims : ℕ) (c : ForkContent) → fork_at dims page.now ≡ Some c → AreAscending c.links
         → result.child ≡ route id c.links }
     ensures place { (dims : ℕ) (c : ForkContent) → fork_at dims page.now ≡ Some c → AreAscending c.links
@@ -121,9 +122,11 @@ pub(crate) fn look<const D: usize, B: BlockDevice, A: Allocator + Copy>(
 ) -> Result<Option<(usize, (BBox<D>, u32))>, Fault>
     requires dims { IsDims D }
     ensures asks { Asks cache.old cache.new result }
-    ensures found { IsHonest cache.old → (objects : List Entry) → leaf_in D (pages cache.old number) ≡ Some objects
+    ensures found { IsHonest cache.old → (objects : List Entry)
+        → leaf_in D (pages cache.old number) ≡ Some objects
         → IfOk result (IsFoundAt id objects) }
-    ensures there { IsHonest cache.old → (objects : List Entry) → leaf_in D (pages cache.old number) ≡ Some objects
+    ensures there { IsHonest cache.old → (objects : List Entry)
+        → leaf_in D (pages cache.old number) ≡ Some objects
         → IfErr result IsOfDevice }
     ensures other_faults { IfErr result (λ f. IsOfDevice f ⊎ IsDamage f) }
 {

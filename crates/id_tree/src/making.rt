@@ -30,7 +30,8 @@ pub fn make<const D: usize, B: BlockDevice, A: Allocator + Copy>(
     requires open { gate_of cache.old ≡ Open }
     ensures alters { Alters cache.old cache.new result }
     ensures sound { IsPageMap cache.old → IsPageMap cache.new }
-    ensures made { IsPageMap cache.old → IfOk result (λ root. Makes D (pages cache.old) (pages cache.new) root) }
+    ensures made { IsPageMap cache.old
+        → IfOk result (λ root. Makes D (pages cache.old) (pages cache.new) root) }
     ensures number { IfOk result (λ root. (3 ≤ root) × (root < next_of cache.new)) }
     ensures grows { Grows 1 cache.old cache.new }
     ensures faults { IsPageMap cache.old → IfErr result (λ b. IsNoDamage cache.new b.cause) }
@@ -47,7 +48,8 @@ fn make_page<const D: usize, B: BlockDevice, A: Allocator + Copy>(
     requires open { gate_of cache.old ≡ Open }
     ensures changes { Changes cache.old cache.new result }
     ensures sound { IsPageMap cache.old → IsPageMap cache.new }
-    ensures made { IsPageMap cache.old → IfOk result (λ root. Makes D (pages cache.old) (pages cache.new) root) }
+    ensures made { IsPageMap cache.old
+        → IfOk result (λ root. Makes D (pages cache.old) (pages cache.new) root) }
     ensures number { IfOk result (λ root. (3 ≤ root) × (root < next_of cache.new)) }
     ensures grows { Grows 1 cache.old cache.new }
     ensures faults { IsPageMap cache.old → IfErr result (IsNoDamage cache.new) }

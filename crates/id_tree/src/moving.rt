@@ -30,7 +30,8 @@ pub(crate) fn move_at<const D: usize, B: BlockDevice, A: Allocator + Copy>(
     requires open { gate_of cache.old ≡ Open }
     ensures changes { Changes cache.old cache.new result }
     ensures refused { OnErr result (KeepsMap cache.old cache.new) }
-    ensures written { IsHonest cache.old → (objects : List Entry) → leaf_in D (pages cache.old number) ≡ Some objects
+    ensures written { IsHonest cache.old → (objects : List Entry)
+        → leaf_in D (pages cache.old number) ≡ Some objects
         → place < length objects
         → OnOk result (leaf_in D (pages cache.new number) ≡ Some (slice_set objects place object.now)) }
     ensures others { IsHonest cache.old → IsLive cache.old number

@@ -29,7 +29,8 @@ pub(crate) fn push<const D: usize, B: BlockDevice, A: Allocator + Copy>(
     requires open { gate_of cache.old ≡ Open }
     ensures changes { Changes cache.old cache.new result }
     ensures refused { OnErr result (KeepsMap cache.old cache.new) }
-    ensures written { IsHonest cache.old → (objects : List Entry) → leaf_in D (pages cache.old number) ≡ Some objects
+    ensures written { IsHonest cache.old → (objects : List Entry)
+        → leaf_in D (pages cache.old number) ≡ Some objects
         → length objects < most_objects D
         → OnOk result (leaf_in D (pages cache.new number) ≡ Some (objects ++ object.now ∷ [])) }
     ensures others { IsHonest cache.old → IsLive cache.old number
@@ -43,7 +44,8 @@ pub(crate) fn push<const D: usize, B: BlockDevice, A: Allocator + Copy>(
         number,
         |page: &mut [u8; 4096]|
             requires { IsDims D }
-            ensures { (objects : List Entry) → leaf_at D page.old ≡ Some objects → length objects < most_objects D
+            ensures { (objects : List Entry) → leaf_at D page.old ≡ Some objects
+                → length objects < most_objects D
                 → leaf_at D page.new ≡ Some (objects ++ object.entry.now ∷ []) }
         { push_where_room(page, object) },
     )

@@ -73,9 +73,11 @@ fn seek<const D: usize, B: BlockDevice, A: Allocator + Copy>(
 ) -> Result<Option<(u32, usize, (BBox<D>, u32))>, Fault>
     requires dims { IsDims D }
     ensures asks { Asks cache.old cache.new result }
-    ensures found { IsHonest cache.old → (edge : Bool) (row : Row) → MaySeek D (pages cache.old) page level edge row
+    ensures found { IsHonest cache.old → (edge : Bool) (row : Row)
+        → MaySeek D (pages cache.old) page level edge row
         → IfOk result (IsFoundBelow page level id row) }
-    ensures stands { IsHonest cache.old → (edge : Bool) (row : Row) → MaySeek D (pages cache.old) page level edge row
+    ensures stands { IsHonest cache.old → (edge : Bool) (row : Row)
+        → MaySeek D (pages cache.old) page level edge row
         → IfErr result IsOfDevice }
     ensures other_faults { IfErr result (λ f. IsOfDevice f ⊎ IsDamage f) }
 {
@@ -101,9 +103,11 @@ fn seek_leaf<const D: usize, B: BlockDevice, A: Allocator + Copy>(
 ) -> Result<Option<(u32, usize, (BBox<D>, u32))>, Fault>
     requires dims { IsDims D }
     ensures asks { Asks cache.old cache.new result }
-    ensures found { IsHonest cache.old → (edge : Bool) (row : Row) → MaySeek D (pages cache.old) page 0 edge row
+    ensures found { IsHonest cache.old → (edge : Bool) (row : Row)
+        → MaySeek D (pages cache.old) page 0 edge row
         → IfOk result (IsFoundBelow page 0 id row) }
-    ensures stands { IsHonest cache.old → (edge : Bool) (row : Row) → MaySeek D (pages cache.old) page 0 edge row
+    ensures stands { IsHonest cache.old → (edge : Bool) (row : Row)
+        → MaySeek D (pages cache.old) page 0 edge row
         → IfErr result IsOfDevice }
     ensures other_faults { IfErr result (λ f. IsOfDevice f ⊎ IsDamage f) }
 {
