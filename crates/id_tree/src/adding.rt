@@ -32,8 +32,8 @@ const MOST_LEVELS: u8 = 6;
 
 /// Adds an object to the table, which does not have its identifier. The gate has to be open.
 ///
-/// With a sound map, where the pages stand for a table at that root, a refusal is `Memory` or `Device`, or `NoPages`
-/// where each page number is live.
+/// With a sound map, where the pages stand for a table at that root, a refusal is `Memory` or `Device`, or
+/// `NoPages` where each page number is live.
 pub fn add<const D: usize, B: BlockDevice, A: Allocator + Copy>(
     cache: &mut PageCache<B, A>,
     root: u32,
@@ -150,8 +150,8 @@ fn add_split<const D: usize, B: BlockDevice, A: Allocator + Copy>(
     after_begun(add_below(cache, half, level - 1, half_last, object))
 }
 
-// Adds an object at or below the node of that level at a page, which has room and some object: on the way down each full
-// child is split. The flag says whether the node is at the edge of its tree.
+// Adds an object at or below the node of that level at a page, which has room and some object: on the way
+// down each full child is split. The flag says whether the node is at the edge of its tree.
 pub(crate) fn add_below<const D: usize, B: BlockDevice, A: Allocator + Copy>(
     cache: &mut PageCache<B, A>,
     page: u32,

@@ -15,8 +15,8 @@ use page_cache::PageCache;
 use page_file::Fault;
 use std::alloc::Allocator;
 
-/// The child of a fork where an identifier is: its page and its place, whether it is at the edge of the tree, and whether
-/// it has room.
+/// The child of a fork where an identifier is: its page and its place, whether it is at the edge of the tree,
+/// and whether it has room.
 #[derive(Clone, Copy, Drop)]
 pub(crate) struct Below {
     pub(crate) child: u32,
@@ -25,8 +25,8 @@ pub(crate) struct Below {
     pub(crate) room: bool,
 }
 
-// Looks for the child of the fork of that level at a page where an identifier is. A page that is none, and one of no
-// children, is `Damaged`.
+// Looks for the child of the fork of that level at a page where an identifier is. A page that is none, and
+// one of no children, is `Damaged`.
 #[tactic(auto, using(page_cache::specs::Calls::turns))]
 pub(crate) fn look_below<const D: usize, B: BlockDevice, A: Allocator + Copy>(
     cache: &mut PageCache<B, A>,

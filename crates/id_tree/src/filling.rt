@@ -19,11 +19,11 @@ use node_page::Broken;
 use page_cache::PageCache;
 use std::alloc::Allocator;
 
-/// Adds objects to the table, none of which has an identifier that is there or that one before it has. In the order of
-/// their identifiers they leave full leaves. The gate has to be open.
+/// Adds objects to the table, none of which has an identifier that is there or that one before it has. In the
+/// order of their identifiers they leave full leaves. The gate has to be open.
 ///
-/// With a sound map, where the pages stand for a table at that root, a refusal is `Memory` or `Device`, or `NoPages`
-/// where each page number is live. It is untouched where the first object was refused so.
+/// With a sound map, where the pages stand for a table at that root, a refusal is `Memory` or `Device`, or
+/// `NoPages` where each page number is live. It is untouched where the first object was refused so.
 pub fn fill<const D: usize, B: BlockDevice, A: Allocator + Copy>(
     cache: &mut PageCache<B, A>,
     root: u32,

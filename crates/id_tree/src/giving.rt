@@ -13,7 +13,8 @@ use page_cache::PageCache;
 use page_file::Fault;
 use std::alloc::Allocator;
 
-// Gives out a page with these bytes. After a refusal a page that was not live may be live, and all others are as before.
+// Gives out a page with these bytes. After a refusal a page that was not live may be live, and all others are
+// as before.
 #[tactic(auto, using(page_cache::specs::Calls::turns))]
 pub(crate) fn give_page<B: BlockDevice, A: Allocator + Copy>(
     cache: &mut PageCache<B, A>,

@@ -30,8 +30,8 @@ pub(crate) struct Cut {
     pub(crate) second: [u8; 4096],
 }
 
-// Looks where the full node of that level at a page is to be cut before an identifier comes. A page that does not begin
-// as a full one is `Damaged`.
+// Looks where the full node of that level at a page is to be cut before an identifier comes. A page that does
+// not begin as a full one is `Damaged`.
 #[tactic(auto, using(page_cache::specs::Calls::ends_so))]
 pub(crate) fn plan<const D: usize, B: BlockDevice, A: Allocator + Copy>(
     cache: &mut PageCache<B, A>,
@@ -79,8 +79,8 @@ fn cut_leaf<const D: usize>(page: &[u8; 4096], edge: bool, id: u64) -> Cut
     }
 }
 
-// How many of its objects a full leaf keeps: half of them, or all but the last at the edge of its tree where the
-// identifier is above all.
+// How many of its objects a full leaf keeps: half of them, or all but the last at the edge of its tree where
+// the identifier is above all.
 fn objects_kept<const D: usize>(page: &[u8; 4096], edge: bool, id: u64) -> usize
     requires dims { IsDims D }
     requires few { number_at 2 2 page.now ≤ most_objects D }

@@ -1,5 +1,5 @@
-//! The identifier table of a layer as a tree of pages: the box and the tag of each identifier, in leaves that are found
-//! by the keys of forks (docs/FORMAT.md).
+//! The identifier table of a layer as a tree of pages: the box and the tag of each identifier, in leaves that
+//! are found by the keys of forks (docs/FORMAT.md).
 #![tactic(auto)]
 
 mod adding;

@@ -23,8 +23,8 @@ use page_cache::PageCache;
 use page_file::Fault;
 use std::alloc::Allocator;
 
-/// What a fork says of the way to an identifier: its level, how many children it has, and the place and the page of the
-/// child where the identifier is.
+/// What a fork says of the way to an identifier: its level, how many children it has, and the place and the
+/// page of the child where the identifier is.
 #[derive(Clone, Copy, Drop)]
 pub(crate) struct Way {
     pub(crate) level: u8,
@@ -65,7 +65,8 @@ fn way_on(page: &[u8; 4096], id: u64) -> Way
     }
 }
 
-// The way to an identifier in the fork at a page, in one look. A page that is none of this dimension is `Damaged`.
+// The way to an identifier in the fork at a page, in one look. A page that is none of this dimension is
+// `Damaged`.
 #[tactic(auto, using(page_cache::specs::Calls::ends_so))]
 pub(crate) fn step<const D: usize, B: BlockDevice, A: Allocator + Copy>(
     cache: &mut PageCache<B, A>,
@@ -94,8 +95,8 @@ pub(crate) fn step<const D: usize, B: BlockDevice, A: Allocator + Copy>(
     Ok(way_on(page, id))
 }
 
-// The place of an identifier in a leaf page and what is kept of its object, if it is there. `None` where the page
-// begins as no leaf of this dimension, or that object has no box.
+// The place of an identifier in a leaf page and what is kept of its object, if it is there. `None` where the
+// page begins as no leaf of this dimension, or that object has no box.
 fn found_on<const D: usize>(page: &[u8; 4096], id: u64) -> Option<Option<(usize, (BBox<D>, u32))>>
     requires dims { IsDims D }
     ensures of_leaf { (objects : List Entry) → leaf_at D page.now ≡ Some objects

@@ -18,8 +18,8 @@ use page_cache::PageCache;
 use page_file::Fault;
 use std::alloc::Allocator;
 
-// Writes another object into the place of one of the leaf at a live page, where it lies in memory. After a refusal the
-// map is as before.
+// Writes another object into the place of one of the leaf at a live page, where it lies in memory. After a
+// refusal the map is as before.
 pub(crate) fn move_at<const D: usize, B: BlockDevice, A: Allocator + Copy>(
     cache: &mut PageCache<B, A>,
     number: u32,
@@ -69,8 +69,8 @@ fn set_where_there<const D: usize>(
     }
 }
 
-// Takes the object in a place of the leaf at a live page, where it lies in memory: the last one fills the place. After a
-// refusal the map is as before.
+// Takes the object in a place of the leaf at a live page, where it lies in memory: the last one fills the
+// place. After a refusal the map is as before.
 pub(crate) fn take_at<const D: usize, B: BlockDevice, A: Allocator + Copy>(
     cache: &mut PageCache<B, A>,
     number: u32,

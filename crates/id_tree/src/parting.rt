@@ -1,5 +1,5 @@
-//! The objects of a leaf page on both sides of a key, and the children of a fork page on both sides of a place, as pages
-//! of their own.
+//! The objects of a leaf page on both sides of a key, and the children of a fork page on both sides of a
+//! place, as pages of their own.
 
 ghost use Rattle.std.specs.Prelude.{◌≡◌, ℕ, ◌+◌, ◌<◌, ◌-◌, ◌≤◌, Some, List, [], ◌∷◌, ◌++◌, length, take, drop};
 ghost use Rattle.std.specs.Prelude.{slice_index_or};
@@ -34,8 +34,8 @@ pub(crate) fn count_under<const D: usize>(page: &[u8; 4096], key: u64) -> usize
     count
 }
 
-// The key with so many objects of a leaf page below it, where each has an identifier of its own and there are more. It
-// is looked for by halves of all keys.
+// The key with so many objects of a leaf page below it, where each has an identifier of its own and there are
+// more. It is looked for by halves of all keys.
 pub(crate) fn key_with<const D: usize>(page: &[u8; 4096], many: usize) -> u64
     requires dims { IsDims D }
     requires few { number_at 2 2 page.now ≤ most_objects D }
@@ -87,7 +87,8 @@ pub(crate) fn append_under<const D: usize>(page: &mut [u8; 4096], other: &[u8; 4
     }
 }
 
-// Adds the objects of another leaf page with an identifier from a key on to a leaf page that has room for them.
+// Adds the objects of another leaf page with an identifier from a key on to a leaf page that has room for
+// them.
 pub(crate) fn append_from<const D: usize>(page: &mut [u8; 4096], other: &[u8; 4096], key: u64)
     requires dims { IsDims D }
     requires few { number_at 2 2 other.now ≤ most_objects D }

@@ -18,8 +18,8 @@ use page_cache::PageCache;
 use page_file::Fault;
 use std::alloc::Allocator;
 
-// Adds an object to the leaf at a live page, which has room: it is written where the page lies in memory. After a
-// refusal the map is as before.
+// Adds an object to the leaf at a live page, which has room: it is written where the page lies in memory.
+// After a refusal the map is as before.
 pub(crate) fn push<const D: usize, B: BlockDevice, A: Allocator + Copy>(
     cache: &mut PageCache<B, A>,
     number: u32,

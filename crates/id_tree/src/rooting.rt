@@ -24,8 +24,8 @@ use page_cache::PageCache;
 use page_file::Fault;
 use std::alloc::Allocator;
 
-// Gives out a page with these bytes, and makes the live page of a root a fork of that level with that page as its only
-// child.
+// Gives out a page with these bytes, and makes the live page of a root a fork of that level with that page as
+// its only child.
 #[tactic(auto, using(page_cache::specs::Calls::turns))]
 pub(crate) fn name_new<const D: usize, B: BlockDevice, A: Allocator + Copy>(
     cache: &mut PageCache<B, A>,
@@ -95,8 +95,8 @@ fn leaf_of<const D: usize>(object: &(u64, (BBox<D>, u32))) -> [u8; 4096]
     leaf
 }
 
-// Makes the live page of a root, a fork of that level, one on the next level, with what it had in a new page as its only
-// child. Answers that page.
+// Makes the live page of a root, a fork of that level, one on the next level, with what it had in a new page
+// as its only child. Answers that page.
 pub(crate) fn deepen<const D: usize, B: BlockDevice, A: Allocator + Copy>(
     cache: &mut PageCache<B, A>,
     root: u32,

@@ -18,8 +18,8 @@ use std::alloc::Allocator;
 
 /// The box and the tag of an object, if the table has its identifier. It looks at one page of each level.
 ///
-/// On an honest device, where the pages stand for a table at that root, a refusal is `Memory` or `Device`. Map and gate
-/// stay, also after a refusal.
+/// On an honest device, where the pages stand for a table at that root, a refusal is `Memory` or `Device`.
+/// Map and gate stay, also after a refusal.
 pub fn get<const D: usize, B: BlockDevice, A: Allocator + Copy>(
     cache: &mut PageCache<B, A>,
     root: u32,

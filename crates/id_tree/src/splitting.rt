@@ -25,8 +25,8 @@ use page_cache::PageCache;
 use page_file::Fault;
 use std::alloc::Allocator;
 
-// Splits the full child in a place of a fork, where an identifier is. Answers the page of the half where it is then, and
-// whether that one is at the edge of the tree, if the child was.
+// Splits the full child in a place of a fork, where an identifier is. Answers the page of the half where it
+// is then, and whether that one is at the edge of the tree, if the child was.
 pub(crate) fn split<const D: usize, B: BlockDevice, A: Allocator + Copy>(
     cache: &mut PageCache<B, A>,
     page: u32,

@@ -20,11 +20,11 @@ use page_cache::PageCache;
 use page_file::Fault;
 use std::alloc::Allocator;
 
-/// Gives the object with that identifier, which the table has, another box, where it lies: one page is written, and one
-/// of each level is looked at. Its tag stays. The gate has to be open.
+/// Gives the object with that identifier, which the table has, another box, where it lies: one page is
+/// written, and one of each level is looked at. Its tag stays. The gate has to be open.
 ///
-/// With a sound map, where the pages stand for a table at that root, a refusal is `Memory` or `Device`. After one the map
-/// is as before.
+/// With a sound map, where the pages stand for a table at that root, a refusal is `Memory` or `Device`. After
+/// one the map is as before.
 #[tactic(auto, using(page_cache::specs::Calls::turns))]
 pub fn update<const D: usize, B: BlockDevice, A: Allocator + Copy>(
     cache: &mut PageCache<B, A>,
