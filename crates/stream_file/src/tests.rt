@@ -89,13 +89,16 @@ fn a_journal_is_asked_for(rt: HostRuntime) -> Result<(), Fail> {
     let alloc = rt.alloc();
     let mut input = input_of(alloc, &[&[0, 2, 1]])?;
     let mut output = Vec::new(alloc);
-    assert_eq!(rt; ask_journal(&mut input, &mut output, JournalWish::Remove), Ok(()));
-    assert_eq!(
-        rt; ask_journal(&mut input, &mut output, JournalWish::Make),
+    assert_eq!(rt;
+        ask_journal(&mut input, &mut output, JournalWish::Remove),
+        Ok(())
+    );
+    assert_eq!(rt;
+        ask_journal(&mut input, &mut output, JournalWish::Make),
         Err(OpenError::InUse)
     );
-    assert_eq!(
-        rt; ask_journal(&mut input, &mut output, JournalWish::Open),
+    assert_eq!(rt;
+        ask_journal(&mut input, &mut output, JournalWish::Open),
         Err(OpenError::Refused)
     );
     assert_eq!(rt; [output[0], output[10], output[20]], [b'x', b'm', b'o']);
