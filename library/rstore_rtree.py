@@ -17,7 +17,8 @@ What is other, each told by a clear error where it would matter:
   rounded outwards, so that nothing is missed, and what is off by less than 1/scale may be found, too. A number beyond
   2^31 / scale, 214.7 at that scale, is an `RTreeError`: give a smaller scale, as 1_000 for metres. `bbox` shows what is kept.
 - **An identifier is unique**: a second insertion of it is an `RTreeError`.
-- **Objects are kept beside an index in memory, and not pickled**: an object for an index in a file is an `RTreeError`.
+- **Objects are kept beside an index in memory, and not pickled** (with the box as it was given, for `bbox`): an object for an
+  index in a file is an `RTreeError`.
 - There are no TPR trees, custom storages, `leaves`, result limits, and indexes are not pickled. Properties of the tree's
   making (capacities, fill factor, variant ..) are taken and have no effect.
 - A file of name `x` is `x.rst`, a store of the layer `rtree`, which other programs may read by rstore.
@@ -106,7 +107,8 @@ class Index:
             raise RTreeError("an index has two or three dimensions")
         self.interleaved = bool(kwargs.get("interleaved", True))
         self._scale = int(kwargs.get("scale") or SCALE)
-        self._objects: "dict[int, Any]" = {}
+        # of entries with an object: it, and the box that was given
+        self._objects: "dict[int, tuple[Any, tuple[float, ...]]]" = {}
         self._negative = False
         self._folder: Optional[str] = None
         name, stream = None, None
@@ -175,6 +177,11 @@ class Index:
                 f"a coordinate of {box} is beyond the scale {scale}, at most {(1 << 31) / scale:g}: give Index(scale=..)"
             ) from None
 
+    def _given(self, coordinates: Any) -> "tuple[float, ...]":
+        """A box as it was given, the lows and then the highs."""
+        box = tuple(coordinates) if self.interleaved else tuple(Index.interleave(tuple(coordinates)))
+        return tuple(float(x) for x in (box + box if len(box) == self._dims else box))
+
     def _clipped(self, coordinates: Any) -> bytes:
         """A box that is asked for: what is beyond the scale has no objects."""
         try:
@@ -240,7 +247,7 @@ class Index:
         except rstore.Duplicate:
             raise RTreeError(f"an entry of the identifier {id} is there: in rstore_rtree they are unique") from None
         if obj is not None:
-            self._objects[key] = obj
+            self._objects[key] = (obj, self._given(coordinates))
         self._grow(numbers)
 
     add = insert
@@ -274,7 +281,7 @@ class Index:
             if obj is not None:
                 if self._in_file:
                     raise RTreeError("rstore_rtree keeps no objects in a file: keep them by their identifiers elsewhere")
-                objects[key] = obj
+                objects[key] = (obj, self._given(coordinates))
             data += form.pack(key, *unpack(self._numbers(coordinates)), 0)
         try:
             layer.load_rows(data)
@@ -311,8 +318,12 @@ class Index:
     def _items(self, rows: Any, objects: Any) -> Iterator[Any]:
         """Entries as rtree shows them."""
         if objects == "raw":
-            return iter([self._objects.get(key) for key, _, _ in rows])
-        return iter([Item(self._back([key])[0], box, self._objects.get(key)) for key, box, _ in rows])
+            return iter([self._objects.get(key, (None, None))[0] for key, _, _ in rows])
+        made = []
+        for key, box, _ in rows:
+            obj, given = self._objects.get(key, (None, box))
+            made.append(Item(key - (1 << 64) if key >> 63 else key, given, obj))
+        return iter(made)
 
     def count(self, coordinates: Any) -> int:
         """How many entries meet the box.
