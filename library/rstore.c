@@ -1,5 +1,5 @@
-/* The C side of rstore.h, which no proof covers: it tests arguments, opens, locks and serves the files, makes arrays, and
- * calls the proved functions of librstore_c.a. docs/LIBRARY.md tells of the streams. */
+/* The C side of rstore.h, which no proof covers: it tests arguments, opens, locks and serves the files, makes arrays,
+ * and calls the proved functions of librstore_c.a. docs/LIBRARY.md tells of the streams. */
 #define _GNU_SOURCE
 #include "rstore.h"
 
@@ -26,7 +26,6 @@ static _Thread_local rstore *serving;
 static _Thread_local uint64_t refused_detail;
 
 /* ---- files, as crates/file_device opens them; the numbers are those of OpenError in crates/stream_file */
-
 enum { DONE = 0, REFUSED = 1, IN_USE = 2, NO_LOCKS = 3, NO_MEMORY = 4 };
 
 /* The folder of a path, open; or -1. */
@@ -86,7 +85,6 @@ static int block(rstore *db, void *into, const void *from) {
 
 /* ---- the streams. In librstore_c.a the calls of read(0) and write(1) have the names of these two functions, which
  * build.sh gives them, so they reach no standard stream. */
-
 /* A request of ten bytes, or after 'w' the block. */
 ssize_t rstore_stream_write(int fd, const void *bytes, size_t count) {
     rstore *db = serving;
@@ -121,52 +119,46 @@ ssize_t rstore_stream_read(int fd, void *into, size_t count) {
         db->outcome = (unsigned char)block(db, into, NULL);
     } else if (db && fd == 0 && count == 8 && db->letter == 's') {
         db->outcome = fstat(db->fd[db->side], &found) ? REFUSED : DONE;
-        for (int k = 0; k < 8; k++) ((unsigned char *)into)[k] = db->outcome ? 0 : (unsigned char)((uint64_t)found.st_size >> 8 * k);
+        uint64_t size = db->outcome ? 0 : (uint64_t)found.st_size;
+        for (int k = 0; k < 8; k++) ((unsigned char *)into)[k] = (unsigned char)(size >> 8 * k);
     } else { errno = EINVAL; return -1; }
     return (ssize_t)count;
 }
 
 /* ---- the proved functions. A slice of theirs is a pointer that is not null and a length. */
-
 #include "rstore_c.h" /* written by exports.py, from crates/rstore_c */
 
 #define TEXT(s) (const uint8_t *)(s), strlen(s)
 #define ASK(condition) do { if (!(condition)) return RSTORE_MISUSE; } while (0)
 #define NAMED(layer) ((layer) && *(layer))
 #define AXES(axes) ((axes) == 2 || (axes) == 3)
-/* A call that may read or write the files of db. */
+/* A call that may read or write the files of db, and a function that is one. */
 #define DO(call) (serving = db, (int)(call))
+#define CALL(condition, call) { ASK(condition); return DO(call); }
 
 /* ---- errors */
-
 const char *rstore_version(void) { return RSTORE_VERSION; }
 
 const char *rstore_errstr(int error) {
-    static const char *const refusals[] = {
-        "ok", "not a layer name", "a layer of that name is there", "no layer of that name",
-        "a layer has two or three axes", "a fanout is 4 to 100", "there are 60 layers", "a low is above its high",
-        "another number of axes than the layer", "an object of that identifier is there",
+    static const char *const refusals[] = { "ok", "not a layer name", "a layer of that name is there",
+        "no layer of that name", "a layer has two or three axes", "a fanout is 4 to 100", "there are 60 layers",
+        "a low is above its high", "another number of axes than the layer", "an object of that identifier is there",
         "no object of that identifier", "there would be more than 2^30 objects", "the layer has objects",
-        "an identifier stands twice in the load", "a count is 1 to 1000000",
-        "the layers have different numbers of axes", "no memory", "the device failed", "a page is damaged",
-        "the store failed", "the file was not closed", "not a store", "a version that is not known",
-        "a cache holds 8 to 4096 pages", "not a command", "no page number is left",
-    };
-    static const char *const own[] = {
-        "cannot open the file", "the file is in use", "the store is closed",
+        "an identifier stands twice in the load", "a count is 1 to 1000000", "the layers have different numbers of axes",
+        "no memory", "the device failed", "a page is damaged", "the store failed", "the file was not closed",
+        "not a store", "a version that is not known", "a cache holds 8 to 4096 pages", "not a command",
+        "no page number is left" };
+    static const char *const own[] = { "cannot open the file", "the file is in use", "the store is closed",
         "a null pointer, an empty name, or numbers that are no box, point or query", "the store is only read",
         "the file cannot be locked", "the journal beside the file is missing, or is no journal",
-        "the journal beside the file is that of another file",
-    };
+        "the journal beside the file is that of another file" };
     if (error >= 0 && error < (int)(sizeof refusals / sizeof *refusals)) return refusals[error];
-    if (error > 100 && error <= 100 + (int)(sizeof own / sizeof *own)) return own[error - 101];
-    return "not an error of rstore";
+    return error > 100 && error <= 108 ? own[error - 101] : "not an error of rstore";
 }
 
 uint64_t rstore_detail(rstore *db) { return db ? rstore_c_detail(db) : refused_detail; }
 
 /* ---- opening and closing */
-
 /* Opens the file, and knows the path of its journal, which lies beside the file itself and not beside a link to it. */
 static int open_files(rstore *db, const char *path, int flags) {
     static const int numbers[] = { RSTORE_OK, RSTORE_CANNOT_OPEN, RSTORE_BUSY, RSTORE_NO_LOCKS, RSTORE_MEMORY };
@@ -188,9 +180,7 @@ static int let_go(rstore *db) {
     int failed = 0;
     for (int side = 1; side >= 0; side--)
         if (db->fd[side] >= 0 && close(db->fd[side])) failed = RSTORE_DEVICE;
-    free(db->journal);
-    free(db->session);
-    free(db);
+    free(db->journal), free(db->session), free(db);
     serving = NULL;
     return failed;
 }
@@ -216,18 +206,14 @@ int rstore_close(rstore *db) {
     return error ? error : failed;
 }
 
-int rstore_commit(rstore *db) { ASK(db); return DO(rstore_c_commit(db)); }
-int rstore_check(rstore *db) { ASK(db); return DO(rstore_c_check(db)); }
+int rstore_commit(rstore *db) CALL(db, rstore_c_commit(db))
+int rstore_check(rstore *db) CALL(db, rstore_c_check(db))
 
-/* ---- layers */
-
-int rstore_create_layer(rstore *db, const char *layer, uint32_t axes, uint32_t fanout) {
-    ASK(db && NAMED(layer) && AXES(axes));
-    return DO(rstore_c_create_layer(db, TEXT(layer), axes, fanout));
-}
-
-int rstore_drop_layer(rstore *db, const char *layer) { ASK(db && NAMED(layer)); return DO(rstore_c_drop_layer(db, TEXT(layer))); }
-
+/* ---- layers and changes */
+int rstore_create_layer(rstore *db, const char *layer, uint32_t axes, uint32_t fanout)
+    CALL(db && NAMED(layer) && AXES(axes), rstore_c_create_layer(db, TEXT(layer), axes, fanout))
+int rstore_drop_layer(rstore *db, const char *layer)
+    CALL(db && NAMED(layer), rstore_c_drop_layer(db, TEXT(layer)))
 int rstore_layers(rstore *db, rstore_layer **layers, size_t *count) {
     ASK(db && layers && count);
     size_t found = 0;
@@ -238,23 +224,13 @@ int rstore_layers(rstore *db, rstore_layer **layers, size_t *count) {
     *count = found;
     return RSTORE_OK;
 }
-
-int rstore_count(rstore *db, const char *layer, uint64_t *count) { ASK(db && NAMED(layer) && count); return DO(rstore_c_count(db, TEXT(layer), count)); }
-
-/* ---- changes */
-
-int rstore_insert(rstore *db, const char *layer, uint64_t id, const int32_t *box, uint32_t axes, uint32_t tag) {
-    ASK(db && NAMED(layer) && box && AXES(axes));
-    return DO(rstore_c_insert(db, TEXT(layer), id, box, 2 * (size_t)axes, tag));
-}
-
-int rstore_move(rstore *db, const char *layer, uint64_t id, const int32_t *box, uint32_t axes) {
-    ASK(db && NAMED(layer) && box && AXES(axes));
-    return DO(rstore_c_move(db, TEXT(layer), id, box, 2 * (size_t)axes));
-}
-
-int rstore_delete(rstore *db, const char *layer, uint64_t id) { ASK(db && NAMED(layer)); return DO(rstore_c_delete(db, TEXT(layer), id)); }
-
+int rstore_insert(rstore *db, const char *layer, uint64_t id, const int32_t *box, uint32_t axes, uint32_t tag)
+    CALL(db && NAMED(layer) && box && AXES(axes),
+         rstore_c_insert(db, TEXT(layer), id, box, 2 * (size_t)axes, tag))
+int rstore_move(rstore *db, const char *layer, uint64_t id, const int32_t *box, uint32_t axes)
+    CALL(db && NAMED(layer) && box && AXES(axes), rstore_c_move(db, TEXT(layer), id, box, 2 * (size_t)axes))
+int rstore_delete(rstore *db, const char *layer, uint64_t id)
+    CALL(db && NAMED(layer), rstore_c_delete(db, TEXT(layer), id))
 int rstore_load(rstore *db, const char *layer, uint32_t axes, const rstore_row *rows, size_t count) {
     static const rstore_row none;
     ASK(db && NAMED(layer) && AXES(axes) && (rows || count == 0) && count <= PTRDIFF_MAX / sizeof *rows);
@@ -262,20 +238,24 @@ int rstore_load(rstore *db, const char *layer, uint32_t axes, const rstore_row *
 }
 
 /* ---- questions */
-
-int rstore_get(rstore *db, const char *layer, uint64_t id, rstore_row *row) { ASK(db && NAMED(layer) && row); return DO(rstore_c_get(db, TEXT(layer), id, row)); }
-
-int rstore_range_into(rstore *db, const char *layer, int kind, const int32_t *numbers, uint32_t axes, const uint32_t *tag, rstore_row *rows, size_t room, size_t *count) {
-    ASK(db && NAMED(layer) && numbers && AXES(axes) && count && (rows || room == 0) && kind >= RSTORE_WINDOW && kind <= RSTORE_POINT);
-    size_t found = 0;
-    int error = DO(rstore_c_range(db, TEXT(layer), (uint32_t)kind, numbers, kind == RSTORE_POINT ? axes : 2 * (size_t)axes, tag != NULL, tag ? *tag : 0, &found));
+int rstore_count(rstore *db, const char *layer, uint64_t *count)
+    CALL(db && NAMED(layer) && count, rstore_c_count(db, TEXT(layer), count))
+int rstore_get(rstore *db, const char *layer, uint64_t id, rstore_row *row)
+    CALL(db && NAMED(layer) && row, rstore_c_get(db, TEXT(layer), id, row))
+int rstore_range_into(rstore *db, const char *layer, int kind, const int32_t *numbers, uint32_t axes,
+                      const uint32_t *tag, rstore_row *rows, size_t room, size_t *count) {
+    ASK(db && NAMED(layer) && numbers && AXES(axes) && count && (rows || room == 0));
+    ASK(kind >= RSTORE_WINDOW && kind <= RSTORE_POINT && room <= PTRDIFF_MAX / sizeof *rows);
+    size_t found = 0, length = kind == RSTORE_POINT ? axes : 2 * (size_t)axes;
+    int error = DO(rstore_c_range(db, TEXT(layer), (uint32_t)kind, numbers, length, tag, tag ? *tag : 0, &found));
     if (error) return error;
     if (room && found) rstore_c_rows(db, 0, rows, found < room ? found : room);
     *count = found;
     return RSTORE_OK;
 }
-
-size_t rstore_more(rstore *db, size_t from, rstore_row *rows, size_t room) { return db && rows && room ? rstore_c_rows(db, from, rows, room) : 0; }
+size_t rstore_more(rstore *db, size_t from, rstore_row *rows, size_t room) {
+    return db && rows && room && room <= PTRDIFF_MAX / sizeof *rows ? rstore_c_rows(db, from, rows, room) : 0;
+}
 
 /* The rows that a question has left, as an array, which the proved code takes as memory that has a value. */
 #define HAND_OUT(fetch) do { \
@@ -283,38 +263,38 @@ size_t rstore_more(rstore *db, size_t from, rstore_row *rows, size_t room) { ret
         if (found && !made) return RSTORE_MEMORY; \
         if (found) fetch(db, 0, made, found); \
         *rows = made; \
-        *count = found; \
-        return RSTORE_OK; \
+        return *count = found, RSTORE_OK; \
     } while (0)
 
-static int range(rstore *db, const char *layer, int kind, const int32_t *numbers, uint32_t axes, const uint32_t *tag, rstore_row **rows, size_t *count) {
-    size_t found = 0;
-    ASK(rows && count);
-    int error = rstore_range_into(db, layer, kind, numbers, axes, tag, NULL, 0, &found);
-    if (error) return error;
-    HAND_OUT(rstore_c_rows);
-}
-
-#define RANGE(name, kind) int name(rstore *db, const char *layer, const int32_t *box, uint32_t axes, const uint32_t *tag, rstore_row **rows, size_t *count) { return range(db, layer, kind, box, axes, tag, rows, count); }
+/* The four range queries. */
+#define RANGE(name, kind) \
+    int name(rstore *db, const char *layer, const int32_t *box, uint32_t axes, const uint32_t *tag, rstore_row **rows, \
+             size_t *count) { \
+        size_t found = 0; \
+        ASK(rows && count); \
+        int error = rstore_range_into(db, layer, kind, box, axes, tag, NULL, 0, &found); \
+        if (error) return error; \
+        HAND_OUT(rstore_c_rows); \
+    }
 RANGE(rstore_window, RSTORE_WINDOW)
 RANGE(rstore_inside, RSTORE_INSIDE)
 RANGE(rstore_around, RSTORE_AROUND)
 RANGE(rstore_point, RSTORE_POINT)
 
-int rstore_nearest(rstore *db, const char *layer, uint64_t k, const int32_t *point, uint32_t axes, rstore_near **rows, size_t *count) {
+int rstore_nearest(rstore *db, const char *layer, uint64_t k, const int32_t *point, uint32_t axes, rstore_near **rows,
+                   size_t *count) {
     ASK(db && NAMED(layer) && point && AXES(axes) && rows && count);
     size_t found = 0;
     int error = DO(rstore_c_nearest(db, TEXT(layer), k, point, axes, &found));
     if (error) return error;
     HAND_OUT(rstore_c_near_rows);
 }
-
-int rstore_join(rstore *db, const char *first, const char *second, uint64_t squared_distance, rstore_pair **rows, size_t *count) {
+int rstore_join(rstore *db, const char *first, const char *second, uint64_t squared_distance, rstore_pair **rows,
+                size_t *count) {
     ASK(db && NAMED(first) && NAMED(second) && rows && count);
     size_t found = 0;
     int error = DO(rstore_c_join(db, TEXT(first), TEXT(second), squared_distance, &found));
     if (error) return error;
     HAND_OUT(rstore_c_pair_rows);
 }
-
 void rstore_free(void *rows) { free(rows); }
