@@ -1,6 +1,5 @@
 -- Rows of answers, and objects of a load, as C has them. Our rule, docs/LIBRARY.md.
 use Rattle.std.specs.Prelude.{ℕ, ℤ, pos, List, [], ◌∷◌, ◌/◌, ◌%◌, ◌^◌, ◌==◌, if◌then◌else◌, take}
-use Rattle.box_math.specs.Bounds.{Bounds}
 use Rattle.plain_table.specs.Boxes.{shown_bounds}
 use Rattle.plain_table.specs.declared.boxes.AnyBox.{AnyBox}
 use Rattle.plain_table.specs.declared.boxes.AnyBox.TheVariants as any
