@@ -15,13 +15,18 @@ if [ -n "$missing" ]; then
   exit 1
 fi
 kit="$(dirname "$(rt doc)")"
-(cd "$crates/rstore_c" && rt lib --jobs "${JOBS:-1}" >&2)
+# The proved code, anew where a source that it may be made of is newer.
+built="$crates/rstore_c/out/librstore_c.a"
+if [ ! -f "$built" ] || [ -n "$(find "$crates/../crates.txt" "$crates"/*/src "$crates"/*/specs "$crates"/*/proofs \
+  -type f -newer "$built" -print -quit 2>/dev/null)" ]; then
+  (cd "$crates/rstore_c" && rt lib --jobs "${JOBS:-1}" >&2)
+fi
 work="$(mktemp -d)"
 trap 'rm -rf "$work"' EXIT
 # The proved code has its files by streams: its read(0) and write(1) get the names of rstore.c's functions, in that one
 # object. The kit's C functions that it calls (malloc, errno) come with it.
 mkdir "$work/proved" "$work/kit"
-(cd "$work/proved" && ar x "$crates/rstore_c/out/librstore_c.a")
+(cd "$work/proved" && ar x "$built")
 objcopy --redefine-sym read=rstore_stream_read --redefine-sym write=rstore_stream_write "$work/proved/rstore_c.o"
 (cd "$work/kit" && ar x "$kit/c/libos_c.a" && ar x "$kit/c/liblibc_c.a")
 python3 "$here/exports.py" "$crates" >"$work/rstore_c.h"

@@ -72,9 +72,13 @@ abbrev pub HasObject : ℕ → Row → Row → Result (AnyBox × ℕ) Refusal �
 HasObject id old new (Ok object) = new ≡ row_of (id, object.0, object.1)
 HasObject id old new (Err r) = new ≡ old
 
+-- an array with these layers in the place of its first ones, as many as it has room for
+abbrev pub listed : List LayerInfo → List Layer → List Layer
+listed layers old = map layer_of (take (min (length layers) (length old)) layers) ++ drop (min (length layers) (length old)) old
+
 -- layers go out, as many as there is room for, and how many there are
 abbrev pub HasListed : List Layer → List Layer → ℕ → ℕ → Result (ArrayVec LayerInfo) Refusal → Type 0
-HasListed old new count count' (Ok layers) = (count' ≡ length layers.items) × (new ≡ map layer_of (take (length old) layers.items) ++ drop (length layers.items) old)
+HasListed old new count count' (Ok layers) = (count' ≡ length layers.items) × (new ≡ listed layers.items old)
 HasListed old new count count' (Err r) = (new ≡ old) × (count' ≡ count)
 
 -- the tag that is asked for, if one is
