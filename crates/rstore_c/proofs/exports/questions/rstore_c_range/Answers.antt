@@ -9,4 +9,4 @@ use Rattle.rstore_c.proofs.exports.questions.rstore_c_range.Goals as goal
 
 -- the session is the one that the handle holds
 pub returns-clause-asks : goal.returns-clause-asks
-returns-clause-asks c = subst (λ (held : Held). AsksWith held.session c.range.new.self (raw_query c.args.kind c.args.numbers.now) (λ query. Range c.args.layer.now query (tag_of c.args.tagged c.args.tag)) boxes_answer with_boxes c.range.result) c.held.ensures.value c.range.ensures
+returns-clause-asks c = subst (λ (held : Held). AsksWith held.session c.range-number.new.self (raw_query c.args.kind c.args.numbers.now) (λ query. Range c.args.layer.now query (tag_of c.args.tagged c.args.tag)) boxes_answer with_boxes c.range-number.result) c.held.ensures.value c.range-number.ensures
