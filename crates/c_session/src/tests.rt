@@ -49,7 +49,10 @@ fn questions_keep_their_rows(rt: HostRuntime) -> Result<(), Fail> {
         distance_high: 0,
     }];
     assert_eq!(rt; session.fetch_near(0, &mut near), 1);
-    assert_eq!(rt; [near[0].id, near[0].distance, near[0].distance_high], [2, 2, 0]);
+    assert_eq!(rt;
+        [near[0].id, near[0].distance, near[0].distance_high],
+        [2, 2, 0]
+    );
     assert_eq!(rt; session.join(b"a", b"a", 0), 0);
     assert_eq!(rt; session.pairs_len(), 5);
     let mut pairs = [Pair {
@@ -67,7 +70,10 @@ fn refusals_are_numbers(rt: HostRuntime) -> Result<(), Fail> {
     let mut session = session_with_three(alloc)?;
     assert_eq!(rt; session.insert(b"a", 3, &[1, 1, 2, 2], 0), 9);
     assert_eq!(rt; session.insert(b"a", 4, &[1, 1, 2], 0), BAD_NUMBERS);
-    assert_eq!(rt; session.range(b"a", 4, &[1, 1, 2, 2], false, 0), BAD_NUMBERS);
+    assert_eq!(rt;
+        session.range(b"a", 4, &[1, 1, 2, 2], false, 0),
+        BAD_NUMBERS
+    );
     assert_eq!(rt; session.create_layer(b"b", 3, 100), 0);
     let row = Row { id: 5, ..EMPTY };
     assert_eq!(rt; session.load(alloc, b"b", 3, &[row, row]), 13);

@@ -20,10 +20,7 @@ impl<D: BlockDevice, A: Allocator + Copy> Session<D, A> {
             return READ_ONLY;
         }
         match &mut self.store {
-            Some(store) => number_of(
-                store.create(layer, dims, fanout),
-                &mut self.detail,
-            ),
+            Some(store) => number_of(store.create(layer, dims, fanout), &mut self.detail),
             None => CLOSED,
         }
     }
@@ -52,10 +49,7 @@ impl<D: BlockDevice, A: Allocator + Copy> Session<D, A> {
             return BAD_NUMBERS;
         };
         match &mut self.store {
-            Some(store) => number_of(
-                store.insert(layer, id, bounds, tag),
-                &mut self.detail,
-            ),
+            Some(store) => number_of(store.insert(layer, id, bounds, tag), &mut self.detail),
             None => CLOSED,
         }
     }
@@ -71,10 +65,7 @@ impl<D: BlockDevice, A: Allocator + Copy> Session<D, A> {
             return BAD_NUMBERS;
         };
         match &mut self.store {
-            Some(store) => number_of(
-                store.move_object(layer, id, bounds),
-                &mut self.detail,
-            ),
+            Some(store) => number_of(store.move_object(layer, id, bounds), &mut self.detail),
             None => CLOSED,
         }
     }
@@ -104,10 +95,7 @@ impl<D: BlockDevice, A: Allocator + Copy> Session<D, A> {
             return CLOSED;
         };
         match objects_of(alloc, axes, rows) {
-            Ok(objects) => number_of(
-                store.load(layer, objects.as_slice()),
-                &mut self.detail,
-            ),
+            Ok(objects) => number_of(store.load(layer, objects.as_slice()), &mut self.detail),
             Err(_) => tell(Refusal::Memory, &mut self.detail),
         }
     }

@@ -55,14 +55,7 @@ impl<D: BlockDevice, A: Allocator + Copy> Session<D, A> {
 
     /// Asks for the objects that meet a window (0), lie within it (1), enclose it (2), or hold a point (3), where it is
     /// tagged only for those that have the tag. The session keeps them.
-    pub fn range(
-        &mut self,
-        layer: &[u8],
-        kind: u32,
-        numbers: &[i32],
-        tagged: bool,
-        tag: u32,
-    ) -> u32
+    pub fn range(&mut self, layer: &[u8], kind: u32, numbers: &[i32], tagged: bool, tag: u32) -> u32
         ensures { AsksWith self.old self.new (raw_query kind numbers.now)
             (λ query. Range layer.now query (tag_of tagged tag)) boxes_answer with_boxes result }
     {

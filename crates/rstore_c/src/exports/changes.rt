@@ -47,12 +47,7 @@ pub extern "C" fn rstore_c_insert(
 
 /// Gives an object another box.
 #[unsafe(no_mangle)]
-pub extern "C" fn rstore_c_move(
-    handle: &mut Handle,
-    layer: &[u8],
-    id: u64,
-    numbers: &[i32],
-) -> u32
+pub extern "C" fn rstore_c_move(handle: &mut Handle, layer: &[u8], id: u64, numbers: &[i32]) -> u32
     ensures { ChangesWith handle.old.value.session handle.new.value.session (raw_box numbers.now)
         (λ b. Move layer.now id b) result }
 {

@@ -139,11 +139,7 @@ pub extern "C" fn rstore_c_check(handle: &mut Handle) -> u32
 
 /// The layers, ascending by name: as many as there is room for, and how many there are.
 #[unsafe(no_mangle)]
-pub extern "C" fn rstore_c_layers(
-    handle: &mut Handle,
-    out: &mut [Layer],
-    count: &mut usize,
-) -> u32
+pub extern "C" fn rstore_c_layers(handle: &mut Handle, out: &mut [Layer], count: &mut usize) -> u32
     ensures { TellsBy handle.old.value.session handle.new.value.session Layers layers_answer
         (HasListed out.old out.new count.old count.new) result }
 {

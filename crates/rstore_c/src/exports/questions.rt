@@ -23,12 +23,7 @@ pub extern "C" fn rstore_c_count(handle: &mut Handle, layer: &[u8], count: &mut 
 
 /// An object as a row.
 #[unsafe(no_mangle)]
-pub extern "C" fn rstore_c_get(
-    handle: &mut Handle,
-    layer: &[u8],
-    id: u64,
-    row: &mut Row,
-) -> u32
+pub extern "C" fn rstore_c_get(handle: &mut Handle, layer: &[u8], id: u64, row: &mut Row) -> u32
     ensures { TellsBy handle.old.value.session handle.new.value.session (Get layer.now id) (object_answer id)
         (HasObject id row.old row.new) result }
 {
