@@ -26,8 +26,6 @@ cc -std=c11 $warnings -I"$lib" "$here/test/example.c" -L"$lib" -lrstore -Wl,-rpa
 echo '#include "rstore.h"' >header.cpp
 c++ -std=c++11 $warnings -fsyntax-only -I"$lib" header.cpp
 [ ! -e a-journal ] && cmp a b && cmp a c
-# Standard streams are not touched, and the shared library needs the C library alone.
-./shared d </dev/null 2>&1 >/dev/full | diff - /dev/null || true
 nm -D --undefined-only "$lib/librstore.so" | grep -w -e abort -e exit -e printf && { echo "test.sh: it may end a program" >&2; exit 1; }
 [ "$(nm -D --defined-only "$lib/librstore.so" | grep -vc ' rstore_' || true)" = 0 ]
 cc -std=c11 $warnings -I"$lib" "$here/test/misuse.c" "$lib/librstore.a" -o misuse
