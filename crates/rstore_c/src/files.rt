@@ -22,6 +22,13 @@ pub struct Streams {
     pub output: Stdout,
 }
 
+impl Streams {
+    /// These two.
+    pub fn of(input: Stdin, output: Stdout) -> Streams {
+        Streams { input, output }
+    }
+}
+
 /// Why no store was opened.
 #[derive(Clone, Copy, PartialEq, Eq, Debug)]
 pub enum Unopened {
@@ -78,7 +85,7 @@ pub fn open_to_read(
     base: Streams,
     journal: Streams,
     cache: u32,
-) -> Result<Store<Device>, Unopened> {
+) -> Result<(Store<Device>, bool), Unopened> {
     let none = StreamFile::none(journal.input, journal.output);
     let Ok(none) = FileDevice::over(none) else {
         return Err(Unopened::File(OpenError::Refused));
@@ -94,7 +101,7 @@ pub fn open_to_read(
         Err((error, _)) => return Err(Unopened::File(error)),
     };
     match open_store(alloc, device, cache) {
-        Ok(store) => Ok(store),
+        Ok(store) => Ok((store, false)),
         Err((refusal, _)) => Err(Unopened::Store(refusal)),
     }
 }

@@ -7,11 +7,11 @@ ghost use Rattle.c_session.specs.Keeping.{as_it_is};
 
 use crate::files::{self, Streams, Unopened};
 use crate::handle::Handle;
-use crate::held::Held;
+use crate::held::{Device, Held};
 use c_rows::{Layer, tell};
 use c_session::Session;
 use file_device::OpenError;
-use layer_store::Refusal;
+use layer_store::{Refusal, Store};
 use std::alloc::Global;
 use std::rt::{Stdin, Stdout};
 
@@ -54,42 +54,37 @@ pub extern "C" fn rstore_c_open(
     at: &mut *mut u8,
     detail: &mut u64,
 ) -> u32 {
-    let base = Streams {
-        input: base_input,
-        output: base_output,
-    };
-    let journal = Streams {
-        input: journal_input,
-        output: journal_output,
-    };
-    let anew = Streams {
-        input: anew_input,
-        output: anew_output,
-    };
-    let mut ask = Streams {
-        input: ask_input,
-        output: ask_output,
-    };
+    let base = Streams::of(base_input, base_output);
+    let journal = Streams::of(journal_input, journal_output);
+    let anew = Streams::of(anew_input, anew_output);
+    let mut ask = Streams::of(ask_input, ask_output);
     let opened = if flags == 2 {
-        match files::open_to_read(alloc, base, journal, cache) {
-            Ok(store) => Ok((store, false)),
-            Err(why) => Err(why),
-        }
+        files::open_to_read(alloc, base, journal, cache)
     } else {
         files::open(alloc, base, journal, anew, &mut ask, flags == 1, cache)
     };
     match opened {
-        Ok((store, unended)) => {
-            let session = Session::over(alloc, store, flags == 2, u64::from(unended));
-            match Box::new(alloc, Held { session }) {
-                Ok(held) => {
-                    *at = Box::into_raw(held) as *mut u8;
-                    0
-                }
-                Err(_) => tell(Refusal::Memory, detail),
-            }
-        }
+        Ok((store, unended)) => hand_out(alloc, store, flags == 2, unended, at, detail),
         Err(why) => unopened(why, detail),
+    }
+}
+
+// Puts a session over the store behind an address, which it gives.
+fn hand_out(
+    alloc: Global,
+    store: Store<Device>,
+    read_only: bool,
+    unended: bool,
+    at: &mut *mut u8,
+    detail: &mut u64,
+) -> u32 {
+    let session = Session::over(alloc, store, read_only, u64::from(unended));
+    match Box::new(alloc, Held { session }) {
+        Ok(held) => {
+            *at = Box::into_raw(held) as *mut u8;
+            0
+        }
+        Err(_) => tell(Refusal::Memory, detail),
     }
 }
 
@@ -106,7 +101,7 @@ pub extern "C" fn rstore_c_close(
     let (number, device) = session.close(alloc);
     if let Some(device) = device {
         if !read_only {
-            files::end(device, &mut Streams { input, output });
+            files::end(device, &mut Streams::of(input, output));
         }
     }
     number
