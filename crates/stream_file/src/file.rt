@@ -1,5 +1,5 @@
 //! A file by its streams.
-ghost use Rattle.std.specs.Prelude.{◌≡◌, [], true, false, IsErr, IfOk};
+ghost use Rattle.std.specs.Prelude.{◌≡◌, ◌≤◌, [], true, false, IsErr, IfOk};
 
 use crate::request::{FileSide, outcome, send};
 use file_device::DiskFile;
@@ -7,8 +7,8 @@ use std::io::{self, ErrorKind, Read, Write};
 
 /// A file of a store, or its journal, by the streams of who serves both.
 ///
-/// A file of `none` has two blocks of zeros and takes no bytes: so a store that is only read has a journal with a title
-/// and no entries, and asks no stream for it.
+/// A file of `none` begins with two blocks of zeros, reads as zeros, and takes two blocks more, which it forgets: so a
+/// store that is only read has a journal that can be opened and have no entry, and asks no stream for it.
 #[derive(Drop)]
 pub struct StreamFile<I, O> {
     input: I,
@@ -72,6 +72,19 @@ impl<I: Read + Drop, O: Write + Drop> StreamFile<I, O> {
         outcome(&mut self.input)
     }
 
+    // Takes a block of a file that is none, unless it has four.
+    fn forget(&mut self, at: u64) -> io::Result<()>
+        ensures lost { self.new.lost ≡ self.old.lost }
+        ensures none { self.new.none ≡ self.old.none }
+        ensures few { self.old.size ≤ 16384 → self.new.size ≤ 16384 }
+    {
+        if at > 12288 {
+            return Err(io::Error::from(ErrorKind::ReadOnlyFilesystem));
+        }
+        self.size = self.size.max(at + 4096);
+        Ok(())
+    }
+
     // Has the disk take what was written.
     fn settle(&mut self) -> io::Result<()> {
         send(&mut self.output, b'y', self.side, 0)?;
@@ -120,7 +133,7 @@ impl<I: Read + Drop, O: Write + Drop> DiskFile for StreamFile<I, O> {
     // A write that failed may have made the file longer, so its size is asked for.
     fn write_at(&mut self, at: u64, from: &[u8; 4096]) -> io::Result<()> {
         if self.none {
-            return Err(io::Error::from(ErrorKind::ReadOnlyFilesystem));
+            return self.forget(at);
         }
         let answer = self.put(at, from);
         if answer.is_ok() {

@@ -79,7 +79,11 @@ fn no_file_has_two_blocks_of_zeros(rt: HostRuntime) -> Result<(), Fail> {
     assert!(rt; file.size().is_ok_and(|n| n == 8192));
     assert!(rt; file.read_at(4096, &mut into).is_ok());
     assert!(rt; into == [0; 4096]);
-    assert!(rt; file.write_at(0, &into).is_err());
+    assert!(rt; file.write_at(12288, &[7; 4096]).is_ok());
+    assert!(rt; file.size().is_ok_and(|n| n == 16384));
+    assert!(rt; file.read_at(12288, &mut into).is_ok());
+    assert!(rt; into == [0; 4096]);
+    assert!(rt; file.write_at(16384, &into).is_err());
     assert!(rt; file.sync().is_ok());
     Ok(())
 }
