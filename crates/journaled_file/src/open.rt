@@ -8,6 +8,7 @@ ghost use Rattle.journaled_file.specs.Judged.{IsJudged, IsNoJournal};
 ghost use Rattle.journaled_file.specs.Opened.{LeavesRead, read_of};
 ghost use Rattle.journaled_file.specs.declared.judging.Found.TheVariants.{Ended};
 ghost use Rattle.journaled_device.specs.Journaled.{inner_of, pair_of};
+ghost use Rattle.journaled_device.specs.declared.pair.open.OpenFault.TheVariants.{Malformed};
 ghost use Rattle.journaled_device.specs.Standing.{commits_of, shown_of, IsHonest};
 ghost use Rattle.marked_pair.specs.Behind.{LeavesBase};
 ghost use Rattle.marked_pair.specs.Pair.{pair_of as titled_of};
@@ -193,13 +194,17 @@ pub fn open_over<P: DevicePair + Drop, A: Allocator + Copy>(
     };
     match JournaledDevice::open(marked, alloc) {
         Ok(device) => Ok(device),
-        Err((OpenFault::Malformed, left)) => Err((
-            OpenError::NoJournal,
-            left.into_pair().into_pair(),
-        )),
-        Err((OpenFault::Device(_), left)) => Err((
-            OpenError::Refused,
-            left.into_pair().into_pair(),
-        )),
+        Err((fault, left)) => Err((told(fault), left.into_pair().into_pair())),
+    }
+}
+
+// What is told of a fault of the journal's opening.
+fn told(fault: OpenFault) -> OpenError
+    ensures is { (result ≡ error.NoJournal) ⊎ (result ≡ error.Refused) }
+    ensures malformed { result ≡ error.NoJournal → fault ≡ Malformed }
+{
+    match fault {
+        OpenFault::Malformed => OpenError::NoJournal,
+        OpenFault::Device(_) => OpenError::Refused,
     }
 }

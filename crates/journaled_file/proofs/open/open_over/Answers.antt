@@ -60,18 +60,18 @@ returns-in-Ok-open-clause-stops g c = λ h t a e le left.
     (λ x y is. third.before t x y le2 is)
     a e left)
 
-pub returns-in-Err-Malformed-default-clause-refused_stops : goal.returns-in-Err-Malformed-default-clause-refused_stops
-returns-in-Err-Malformed-default-clause-refused_stops g c = λ h t a e le left.
+pub returns-in-Err-open-clause-refused_stops : goal.returns-in-Err-open-clause-refused_stops
+returns-in-Err-open-clause-refused_stops g c = λ h t a e le left.
     let p = g.P.DevicePair in
     let w = g.met.P.DevicePair in
     let h1 = c.in-Ok.ensures.honest.0 h in
     let h2 = c.in-Ok-over.ensures.honest.0 h1 in
     let first = c.in-Ok.ensures.stops h in
     let second = c.in-Ok-over.ensures.stops h1 in
-    let third = c.in-Err-Malformed-default.ensures.refused_stops h2 in
+    let third = c.in-Err-open.ensures.refused_stops h2 in
     let p1 = files_of c.in-Ok.titled in
     let p2 = files_of (titled_of c.in-Ok-over.marked) in
-    let p3 = files_of (titled_of c.in-Err-Malformed-default.left) in
+    let p3 = files_of (titled_of c.in-Err-open.left) in
     let le1 : t ≤ p.moment p1 = omega (arith, le, first.later) in
     let le2 : t ≤ p.moment p2 = omega (arith, le1, second.later) in
     let base : p.base p2 ≡ p.base c.args.pair = c.in-Ok-over.ensures.base h1 ∙ c.in-Ok.ensures.base h in
@@ -90,36 +90,4 @@ returns-in-Err-Malformed-default-clause-refused_stops g c = λ h t a e le left.
     (p.left_since p3 t) (recovered (unmarked (p.base p2)) (untitled (p.journal p2)))
     (λ x y is. third.before t x y le2 is)
     a e (subst (λ x. p.left_since x t a e)
-    (c.into_pair-in-Err-Malformed-default-2.ensures ∙ ap files_of c.into_pair-in-Err-Malformed-default.ensures) left))
-
-pub returns-in-Err-Device-default-clause-refused_stops : goal.returns-in-Err-Device-default-clause-refused_stops
-returns-in-Err-Device-default-clause-refused_stops g c = λ h t a e le left.
-    let p = g.P.DevicePair in
-    let w = g.met.P.DevicePair in
-    let h1 = c.in-Ok.ensures.honest.0 h in
-    let h2 = c.in-Ok-over.ensures.honest.0 h1 in
-    let first = c.in-Ok.ensures.stops h in
-    let second = c.in-Ok-over.ensures.stops h1 in
-    let third = c.in-Err-Device-default.ensures.refused_stops h2 in
-    let p1 = files_of c.in-Ok.titled in
-    let p2 = files_of (titled_of c.in-Ok-over.marked) in
-    let p3 = files_of (titled_of c.in-Err-Device-default.left) in
-    let le1 : t ≤ p.moment p1 = omega (arith, le, first.later) in
-    let le2 : t ≤ p.moment p2 = omega (arith, le1, second.later) in
-    let base : p.base p2 ≡ p.base c.args.pair = c.in-Ok-over.ensures.base h1 ∙ c.in-Ok.ensures.base h in
-    let journal : untitled (p.journal p2) ≡ untitled (p.journal c.args.pair) =
-    c.in-Ok-over.ensures.journal h1 ∙ ap untitled (c.in-Ok.ensures.journal h) in
-    subst (λ blocks. LeavesRead (p.left_since c.args.pair t) blocks a e)
-    (ap (λ x. recovered (unmarked x) (untitled (p.journal p2))) base
-    ∙ ap (recovered (unmarked (p.base c.args.pair))) journal)
-    (back_from_pair (p.left_since c.args.pair t) (p.left_since p1 t) (p.left_since p2 t)
-    (p.may_leave c.args.pair) (p.may_leave p1) (p.may_leave p2)
-    (λ x y now. w.counts_now c.args.pair t x y h le now)
-    (λ x y now. w.counts_now p1 t x y h1 le1 now)
-    (λ x y now. w.counts_now p2 t x y h2 le2 now)
-    (λ x y is. first.before t x y le is)
-    (λ x y is. second.before t x y le1 is)
-    (p.left_since p3 t) (recovered (unmarked (p.base p2)) (untitled (p.journal p2)))
-    (λ x y is. third.before t x y le2 is)
-    a e (subst (λ x. p.left_since x t a e)
-    (c.into_pair-in-Err-Device-default-2.ensures ∙ ap files_of c.into_pair-in-Err-Device-default.ensures) left))
+    (c.into_pair-in-Err-open-2.ensures ∙ ap files_of c.into_pair-in-Err-open.ensures) left))
